@@ -1,7 +1,8 @@
 -- What contracts see of the page allocator, as a state.
-use Rattle.std.proofs.Common.{◌≡◌, ℕ, ◌*◌, ◌==◌, Bool, true, false, cond, is_some, Option, Some, None, IsSome, List, [], ◌∷◌, refl, sym, ◌∙◌, ap, subst, inl, inr, arith}
-use Rattle.std.proofs.lemmas.Bool.{cases_lt, eqb-true}
+use Rattle.std.proofs.Common.{◌≡◌, ℕ, ◌*◌, ◌==◌, Bool, true, false, cond, is_some, Option, Some, None, IsSome, List, [], ◌∷◌, refl, sym, ◌∙◌, ap, subst, arith}
+use Rattle.std.proofs.lemmas.Bool.{eqb-true}
 use Rattle.std.proofs.lemmas.Bool.Decides.{nat_tests}
+use Rattle.std.proofs.lemmas.Cmp.{ranked}
 use Rattle.std.specs.declared.cmp.Ordering.{Ordering}
 use Rattle.std.specs.declared.cmp.Ordering.TheVariants.{Less, Equal, Greater}
 use Rattle.std.specs.Ordering.{nat_cmp, match_ordering}
@@ -38,13 +39,7 @@ changed id q what held o is = is ∙ ap (λ b. cond b what (held q)) (key_is id 
 
 -- an entry that is put at its place
 cmp_equal : (m n : ℕ) → nat_cmp m n ≡ Equal → m ≡ n
-cmp_equal m n h = elim (cases_lt m n) as (λ _. m ≡ n) [
-  | inl lt ↦ let less : nat_cmp m n ≡ Less = grind (arith, nat_tests) in cc
-  | inr ge ↦ elim (cases_lt n m) as (λ _. m ≡ n) [
-    | inl gt ↦ let more : nat_cmp m n ≡ Greater = grind (arith, nat_tests) in cc
-    | inr le ↦ omega arith
-  ]
-]
+cmp_equal m n h = ranked m n Equal (sym h)
 
 cmp_self : (n : ℕ) → nat_cmp n n ≡ Equal
 cmp_self n = grind (arith, nat_tests)

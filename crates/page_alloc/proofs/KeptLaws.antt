@@ -145,197 +145,180 @@ picked_set f order first node zone low is = elim (found_or_none (picked f node z
 ]
 
 -- a set leaves, and an ID that holds nothing gets it
-taken_kept : (s : State) (id order first node : ℕ) → order ≤ 10 → AreHeldApart s → IsFreeSet s.frames order first node
-    → AreHeldApart (record {
-      frames = without_set order first s.frames;
-      held = with_held id (Some (record { first = first; order = order; node = node })) s.held;
-    })
-taken_kept s id order first node small keeps set =
-    let made : Held = record { first = first; order = order; node = node } in
-    let new : State = record { frames = without_set order first s.frames; held = with_held id (Some made) s.held } in
-    let without = without_is order first s.frames in
-    let stays_none : (x : ℕ) → s.frames x ≡ None → new.frames x ≡ None =
-    λ x was. elim (in_set_or_not order first x) as (λ _. new.frames x ≡ None) [
-      | inl inside ↦ without.gone x inside
-      | inr other ↦ without.kept x other ∙ was
-    ] in
-    let not_in_set : (i : ℕ) (h : Held) → s.held i ≡ Some h → (x : ℕ) → IsInSet h.order h.first x → IsInSet order first x → ⊥ =
-    λ i h is x in_h inside. cc (sym ((keeps.well i h is).taken x in_h) ∙ set.free x inside) in
-    record {
-      low = λ x high. stays_none x (keeps.low x high);
-      well = λ i h is. ⊎_elim
-          (λ (mine : (id ≡ i) × (Some made ≡ Some h)).
-          let same : made ≡ h = let both = mine.1 in cc in
-          subst (λ (g : Held). IsWell new g) same
-          (let it : IsWell new made = record { small = small; aligned = set.aligned; low = set.low; taken = without.gone } in it))
-          (λ (other : ((id == i) ≡ false) × (s.held i ≡ Some h)).
-          let was = keeps.well i h other.1 in
-          let it : IsWell new h = record {
-            small = was.small;
-            aligned = was.aligned;
-            low = was.low;
-            taken = λ x inside. stays_none x (was.taken x inside);
-          } in it)
-          (had id i (Some made) s.held h is).either;
-      apart = λ i j g h is_i is_j x in_g in_h. ⊎_elim
-          (λ (mine : (id ≡ i) × (Some made ≡ Some g)). ⊎_elim
-          (λ (too : (id ≡ j) × (Some made ≡ Some h)). sym mine.0 ∙ too.0)
-          (λ (other : ((id == j) ≡ false) × (s.held j ≡ Some h)).
-          let same : made ≡ g = let both = mine.1 in cc in
-          let inside : IsInSet order first x = subst (λ (k : Held). IsInSet k.order k.first x) (sym same) in_g in
-          absurd (not_in_set j h other.1 x in_h inside))
-          (had id j (Some made) s.held h is_j).either)
-          (λ (one : ((id == i) ≡ false) × (s.held i ≡ Some g)). ⊎_elim
-          (λ (mine : (id ≡ j) × (Some made ≡ Some h)).
-          let same : made ≡ h = let both = mine.1 in cc in
-          let inside : IsInSet order first x = subst (λ (k : Held). IsInSet k.order k.first x) (sym same) in_h in
-          absurd (not_in_set i g one.1 x in_g inside))
-          (λ (two : ((id == j) ≡ false) × (s.held j ≡ Some h)). keeps.apart i j g h one.1 two.1 x in_g in_h)
-          (had id j (Some made) s.held h is_j).either)
-          (had id i (Some made) s.held g is_i).either;
-    }
+module _ (s : State) (id order first node : ℕ) where
+  abbrev made : Held
+  made = record { first = first; order = order; node = node }
 
-taken_goes : (f : Frames) (s : State) (id order first node : ℕ) → order ≤ 10 → Goes f s → s.held id ≡ None
-    → IsFreeSet s.frames order first node
-    → Goes f (record {
-      frames = without_set order first s.frames;
-      held = with_held id (Some (record { first = first; order = order; node = node })) s.held;
-    })
-taken_goes f s id order first node small goes none set =
-    let made : Held = record { first = first; order = order; node = node } in
-    let new : State = record { frames = without_set order first s.frames; held = with_held id (Some made) s.held } in
-    let without = without_is order first s.frames in
-    record {
-      kept = taken_kept s id order first node small goes.kept set;
-      shares = record {
-        free = λ x n is. goes.shares.free x n (was_there s.frames new.frames order first x n without is);
-        held = λ i h is x inside. ⊎_elim
+  abbrev taken : State
+  taken = record { frames = without_set order first s.frames; held = with_held id (Some made) s.held }
+
+  in_made : (h : Held) (x : ℕ) → Some made ≡ Some h → IsInSet h.order h.first x → IsInSet order first x
+  in_made h x is inside = let same : made ≡ h = cc in subst (λ (k : Held). IsInSet k.order k.first x) (sym same) inside
+
+  taken_kept : order ≤ 10 → AreHeldApart s → IsFreeSet s.frames order first node → AreHeldApart taken
+  taken_kept small keeps set =
+      let without = without_is order first s.frames in
+      let stays_none : (x : ℕ) → s.frames x ≡ None → taken.frames x ≡ None =
+      λ x was. elim (in_set_or_not order first x) as (λ _. taken.frames x ≡ None) [
+        | inl inside ↦ without.gone x inside
+        | inr other ↦ without.kept x other ∙ was
+      ] in
+      let not_in_set : (i : ℕ) (h : Held) → s.held i ≡ Some h → (x : ℕ) → IsInSet h.order h.first x → IsInSet order first x → ⊥ =
+      λ i h is x in_h inside. cc (sym ((keeps.well i h is).taken x in_h) ∙ set.free x inside) in
+      record {
+        low = λ x high. stays_none x (keeps.low x high);
+        well = λ i h is. ⊎_elim
             (λ (mine : (id ≡ i) × (Some made ≡ Some h)).
             let same : made ≡ h = let both = mine.1 in cc in
-            let in_made : IsInSet order first x = subst (λ (k : Held). IsInSet k.order k.first x) (sym same) inside in
-            goes.shares.free x node (set.free x in_made) ∙ ap (λ (k : Held). Some k.node) same)
-            (λ (other : ((id == i) ≡ false) × (s.held i ≡ Some h)). goes.shares.held i h other.1 x inside)
+            subst (λ (g : Held). IsWell taken g) same
+            (let it : IsWell taken made = record { small = small; aligned = set.aligned; low = set.low; taken = without.gone } in it))
+            (λ (other : ((id == i) ≡ false) × (s.held i ≡ Some h)).
+            let was = keeps.well i h other.1 in
+            let it : IsWell taken h = record {
+              small = was.small;
+              aligned = was.aligned;
+              low = was.low;
+              taken = λ x inside. stays_none x (was.taken x inside);
+            } in it)
             (had id i (Some made) s.held h is).either;
-        all = λ x n is. ⊎_elim
-            (λ (was : s.frames x ≡ Some n). elim (in_set_or_not order first x) as (λ _. (new.frames x ≡ Some n)
-            ⊎ ((i : ℕ) × HoldsFrame new i x)) [
-              | inl inside ↦ inr (
-                id,
-                let it : HoldsFrame new id x = record {
-                  what = made;
-                  is = with_here id (Some made) s.held;
-                  inside = inside;
-                } in it,
-              )
-              | inr other ↦ inl (without.kept x other ∙ was)
-            ])
-            (λ (some : (i : ℕ) × HoldsFrame s i x). elim (with_or_not id some.0) as (λ _. (new.frames x ≡ Some n)
-            ⊎ ((i : ℕ) × HoldsFrame new i x)) [
-              | inl same ↦
-                  let had_one = some.1.is in
-                  let here : s.held id ≡ Some some.1.what = ap s.held same ∙ had_one in
-                  absurd (cc (sym none ∙ here))
-              | inr other ↦ inr (
-                some.0,
-                let it : HoldsFrame new some.0 x = record {
-                  what = some.1.what;
-                  is = with_there id some.0 (Some made) s.held other ∙ some.1.is;
-                  inside = some.1.inside;
-                } in it,
-              )
-            ])
-            (goes.shares.all x n is);
-      };
-    }
+        apart = λ i j g h is_i is_j x in_g in_h. ⊎_elim
+            (λ (mine : (id ≡ i) × (Some made ≡ Some g)). ⊎_elim
+            (λ (too : (id ≡ j) × (Some made ≡ Some h)). sym mine.0 ∙ too.0)
+            (λ (other : ((id == j) ≡ false) × (s.held j ≡ Some h)).
+            absurd (not_in_set j h other.1 x in_h (in_made g x mine.1 in_g)))
+            (had id j (Some made) s.held h is_j).either)
+            (λ (one : ((id == i) ≡ false) × (s.held i ≡ Some g)). ⊎_elim
+            (λ (mine : (id ≡ j) × (Some made ≡ Some h)). absurd (not_in_set i g one.1 x in_g (in_made h x mine.1 in_h)))
+            (λ (two : ((id == j) ≡ false) × (s.held j ≡ Some h)). keeps.apart i j g h one.1 two.1 x in_g in_h)
+            (had id j (Some made) s.held h is_j).either)
+            (had id i (Some made) s.held g is_i).either;
+      }
 
--- what an ID holds comes back
-given_kept : (s : State) (id : ℕ) (what : Held) → AreHeldApart s → s.held id ≡ Some what
-    → AreHeldApart (record { frames = with_set what.order what.first what.node s.frames; held = with_held id None s.held })
-given_kept s id what keeps is_held =
-    let new : State = record { frames = with_set what.order what.first what.node s.frames; held = with_held id None s.held } in
-    let well = keeps.well id what is_held in
-    let back : (x : ℕ) → IsInSet what.order what.first x → new.frames x ≡ Some what.node = λ x inside.
-    rw (set_covers what.order what.first x inside) refl in
-    let kept : (x : ℕ) → (IsInSet what.order what.first x → ⊥) → new.frames x ≡ s.frames x = λ x other.
-    rw (covers_set what.order what.first x other) refl in
-    let still : (i : ℕ) (h : Held) → new.held i ≡ Some h → ((id == i) ≡ false) × (s.held i ≡ Some h) = λ i h is. ⊎_elim
-    (λ (mine : (id ≡ i) × (None ≡ Some h)). let both = mine.1 in cc)
-    (λ (other : ((id == i) ≡ false) × (s.held i ≡ Some h)). other)
-    (had id i None s.held h is).either in
-    let other_set : (i : ℕ) (h : Held) → new.held i ≡ Some h → (x : ℕ) → IsInSet h.order h.first x → IsInSet what.order what.first x → ⊥ =
-    λ i h is x in_h inside.
-    let other = still i h is in
-    differ id i other.0 (keeps.apart id i what h is_held other.1 x inside in_h) in
-    record {
-      low = λ x high. elim (in_set_or_not what.order what.first x) as (λ _. new.frames x ≡ None) [
-        | inl inside ↦
-            let until = set_until (2 ^ what.order) what.first x (pow_pos what.order) inside in
-            let aligned = well.aligned in
-            let most = well.low in
-            absurd (omega (arith, until, aligned, most, high))
-        | inr other ↦ kept x other ∙ keeps.low x high
-      ];
-      well = λ i h is.
-          let was = keeps.well i h (still i h is).1 in
-          let it : IsWell new h = record {
-            small = was.small;
-            aligned = was.aligned;
-            low = was.low;
-            taken = λ x inside. kept x (other_set i h is x inside) ∙ was.taken x inside;
-          } in it;
-      apart = λ i j g h is_i is_j x in_g in_h. keeps.apart i j g h (still i g is_i).1 (still j h is_j).1 x in_g in_h;
-    }
-
-given_goes : (f : Frames) (s : State) (id : ℕ) (what : Held) → Goes f s → s.held id ≡ Some what
-    → Goes f (record { frames = with_set what.order what.first what.node s.frames; held = with_held id None s.held })
-given_goes f s id what goes is_held =
-    let new : State = record { frames = with_set what.order what.first what.node s.frames; held = with_held id None s.held } in
-    let back : (x : ℕ) → IsInSet what.order what.first x → new.frames x ≡ Some what.node = λ x inside.
-    rw (set_covers what.order what.first x inside) refl in
-    let kept : (x : ℕ) → (IsInSet what.order what.first x → ⊥) → new.frames x ≡ s.frames x = λ x other.
-    rw (covers_set what.order what.first x other) refl in
-    let still : (i : ℕ) (h : Held) → new.held i ≡ Some h → ((id == i) ≡ false) × (s.held i ≡ Some h) = λ i h is. ⊎_elim
-    (λ (mine : (id ≡ i) × (None ≡ Some h)). let both = mine.1 in cc)
-    (λ (other : ((id == i) ≡ false) × (s.held i ≡ Some h)). other)
-    (had id i None s.held h is).either in
-    record {
-      kept = given_kept s id what goes.kept is_held;
-      shares = record {
-        free = λ x n is. elim (in_set_or_not what.order what.first x) as (λ _. f x ≡ Some n) [
-          | inl inside ↦ goes.shares.held id what is_held x inside ∙ sym (back x inside) ∙ is
-          | inr other ↦ goes.shares.free x n (sym (kept x other) ∙ is)
-        ];
-        held = λ i h is x inside. goes.shares.held i h (still i h is).1 x inside;
-        all = λ x n is. elim (in_set_or_not what.order what.first x) as (λ _. (new.frames x ≡ Some n) ⊎ ((i : ℕ) × HoldsFrame new i x)) [
-          | inl inside ↦ inl (back x inside ∙ sym (goes.shares.held id what is_held x inside) ∙ is)
-          | inr other ↦ ⊎_elim
-              (λ (was : s.frames x ≡ Some n). inl (kept x other ∙ was))
-              (λ (some : (i : ℕ) × HoldsFrame s i x). elim (with_or_not id some.0) as (λ _. (new.frames x ≡ Some n)
-              ⊎ ((i : ℕ) × HoldsFrame new i x)) [
+  taken_goes : (f : Frames) → order ≤ 10 → Goes f s → s.held id ≡ None → IsFreeSet s.frames order first node → Goes f taken
+  taken_goes f small goes none set =
+      let without = without_is order first s.frames in
+      record {
+        kept = taken_kept small goes.kept set;
+        shares = record {
+          free = λ x n is. goes.shares.free x n (was_there s.frames taken.frames order first x n without is);
+          held = λ i h is x inside. ⊎_elim
+              (λ (mine : (id ≡ i) × (Some made ≡ Some h)).
+              goes.shares.free x node (set.free x (in_made h x mine.1 inside)) ∙ ap (option_map (λ (k : Held). k.node)) mine.1)
+              (λ (other : ((id == i) ≡ false) × (s.held i ≡ Some h)). goes.shares.held i h other.1 x inside)
+              (had id i (Some made) s.held h is).either;
+          all = λ x n is. ⊎_elim
+              (λ (was : s.frames x ≡ Some n). elim (in_set_or_not order first x) as (λ _. (taken.frames x ≡ Some n)
+              ⊎ ((i : ℕ) × HoldsFrame taken i x)) [
+                | inl inside ↦ inr (
+                  id,
+                  let it : HoldsFrame taken id x = record {
+                    what = made;
+                    is = with_here id (Some made) s.held;
+                    inside = inside;
+                  } in it,
+                )
+                | inr other ↦ inl (without.kept x other ∙ was)
+              ])
+              (λ (some : (i : ℕ) × HoldsFrame s i x). elim (with_or_not id some.0) as (λ _. (taken.frames x ≡ Some n)
+              ⊎ ((i : ℕ) × HoldsFrame taken i x)) [
                 | inl same ↦
-                    let here : s.held id ≡ Some some.1.what = let h = some.1.is in ap s.held same ∙ h in
-                    let one : some.1.what ≡ what = let both : Some some.1.what ≡ Some what = sym here ∙ is_held in cc in
-                    absurd (other (subst (λ (k : Held). IsInSet k.order k.first x) one some.1.inside))
-                | inr differs ↦ inr (
+                    let had_one = some.1.is in
+                    let here : s.held id ≡ Some some.1.what = ap s.held same ∙ had_one in
+                    absurd (cc (sym none ∙ here))
+                | inr other ↦ inr (
                   some.0,
-                  let it : HoldsFrame new some.0 x = record {
+                  let it : HoldsFrame taken some.0 x = record {
                     what = some.1.what;
-                    is = with_there id some.0 None s.held differs ∙ some.1.is;
+                    is = with_there id some.0 (Some made) s.held other ∙ some.1.is;
                     inside = some.1.inside;
                   } in it,
                 )
               ])
-              (goes.shares.all x n is)
+              (goes.shares.all x n is);
+        };
+      }
+
+-- what an ID holds comes back
+module _ (s : State) (id : ℕ) (what : Held) where
+  abbrev given : State
+  given = record { frames = with_set what.order what.first what.node s.frames; held = with_held id None s.held }
+
+  back : (x : ℕ) → IsInSet what.order what.first x → given.frames x ≡ Some what.node
+  back x inside = rw (set_covers what.order what.first x inside) refl
+
+  kept : (x : ℕ) → (IsInSet what.order what.first x → ⊥) → given.frames x ≡ s.frames x
+  kept x other = rw (covers_set what.order what.first x other) refl
+
+  still : (i : ℕ) (h : Held) → given.held i ≡ Some h → ((id == i) ≡ false) × (s.held i ≡ Some h)
+  still i h is = ⊎_elim
+      (λ (mine : (id ≡ i) × (None ≡ Some h)). let both = mine.1 in cc)
+      (λ (other : ((id == i) ≡ false) × (s.held i ≡ Some h)). other)
+      (had id i None s.held h is).either
+
+  given_kept : AreHeldApart s → s.held id ≡ Some what → AreHeldApart given
+  given_kept keeps is_held =
+      let well = keeps.well id what is_held in
+      record {
+        low = λ x high. elim (in_set_or_not what.order what.first x) as (λ _. given.frames x ≡ None) [
+          | inl inside ↦
+              let until = set_until (2 ^ what.order) what.first x (pow_pos what.order) inside in
+              let aligned = well.aligned in
+              let most = well.low in
+              absurd (omega (arith, until, aligned, most, high))
+          | inr other ↦ kept x other ∙ keeps.low x high
         ];
-      };
-    }
+        well = λ i h is.
+            let other = still i h is in
+            let was = keeps.well i h other.1 in
+            let it : IsWell given h = record {
+              small = was.small;
+              aligned = was.aligned;
+              low = was.low;
+              taken = λ x inside.
+                  kept x (λ mine. differ id i other.0 (keeps.apart id i what h is_held other.1 x mine inside)) ∙ was.taken x inside;
+            } in it;
+        apart = λ i j g h is_i is_j x in_g in_h. keeps.apart i j g h (still i g is_i).1 (still j h is_j).1 x in_g in_h;
+      }
+
+  given_goes : (f : Frames) → Goes f s → s.held id ≡ Some what → Goes f given
+  given_goes f goes is_held = record {
+    kept = given_kept goes.kept is_held;
+    shares = record {
+      free = λ x n is. elim (in_set_or_not what.order what.first x) as (λ _. f x ≡ Some n) [
+        | inl inside ↦ goes.shares.held id what is_held x inside ∙ sym (back x inside) ∙ is
+        | inr other ↦ goes.shares.free x n (sym (kept x other) ∙ is)
+      ];
+      held = λ i h is x inside. goes.shares.held i h (still i h is).1 x inside;
+      all = λ x n is. elim (in_set_or_not what.order what.first x) as (λ _. (given.frames x ≡ Some n) ⊎ ((i : ℕ) × HoldsFrame given i x)) [
+        | inl inside ↦ inl (back x inside ∙ sym (goes.shares.held id what is_held x inside) ∙ is)
+        | inr other ↦ ⊎_elim
+            (λ (was : s.frames x ≡ Some n). inl (kept x other ∙ was))
+            (λ (some : (i : ℕ) × HoldsFrame s i x). elim (with_or_not id some.0) as (λ _. (given.frames x ≡ Some n)
+            ⊎ ((i : ℕ) × HoldsFrame given i x)) [
+              | inl same ↦
+                  let here : s.held id ≡ Some some.1.what = let h = some.1.is in ap s.held same ∙ h in
+                  let one : some.1.what ≡ what = let both : Some some.1.what ≡ Some what = sym here ∙ is_held in cc in
+                  absurd (other (subst (λ (k : Held). IsInSet k.order k.first x) one some.1.inside))
+              | inr differs ↦ inr (
+                some.0,
+                let it : HoldsFrame given some.0 x = record {
+                  what = some.1.what;
+                  is = with_there id some.0 None s.held differs ∙ some.1.is;
+                  inside = some.1.inside;
+                } in it,
+              )
+            ])
+            (goes.shares.all x n is)
+      ];
+    };
+  }
 
 -- each line
 served_goes : (f : Frames) (s : State) (id order node : ℕ) (zone : Zone) (o : Option ℕ) → order ≤ 10 → Goes f s → s.held id ≡ None
     → first_picked s.frames node zone order ≡ o → Goes f (served s id order node o).1
 served_goes f s id order node zone None small goes none is = goes
 served_goes f s id order node zone (Some first) small goes none is =
-    taken_goes f s id order first node small goes none (picked_set s.frames order first node zone goes.kept.low is)
+    taken_goes s id order first node f small goes none (picked_set s.frames order first node zone goes.kept.low is)
 
 asked_goes : (f : Frames) (s : State) (id order node : ℕ) (zone : Zone) (o : Option Held) → order ≤ 10 → Goes f s → s.held id ≡ o
     → Goes f (unless_taken s id order node zone o).1
@@ -345,7 +328,7 @@ asked_goes f s id order node zone None small goes is =
 
 back_goes : (f : Frames) (s : State) (id : ℕ) (o : Option Held) → Goes f s → s.held id ≡ o → Goes f (given_back s id o).1
 back_goes f s id None goes is = goes
-back_goes f s id (Some what) goes is = given_goes f s id what goes is
+back_goes f s id (Some what) goes is = given_goes s id what f goes is
 
 pub step_goes : (f : Frames) (s : State) (act : PageAct) → HasOrder act → Goes f s → Goes f (step s act).1
 step_goes f s (acts.Pages id order node zone) small goes = asked_goes f s id order node zone (s.held id) small goes refl
