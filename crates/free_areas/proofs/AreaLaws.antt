@@ -30,37 +30,6 @@ has_none b low x bs c = (
 pub lacks_none : (b : Block) (low x : ℕ) (bs : List Block) → LacksBuddies b low low x bs bs
 lacks_none b low x bs c = (λ has. (λ it. no_buddy b c low x it, has), λ both. both.1)
 
--- where the loop over the orders has ended
-pub has_all : (b : Block) (low at x : ℕ) (old new : List Block) → (at ≤ b.order) ⊎ (at ≡ low) → b.order ≤ at → HasBuddies b low at x old new
-    → HasBuddies b low b.order x old new
-has_all b low at x old new (inl most) end done =
-    let here : at ≡ b.order = omega (arith, most, end) in
-    subst (λ (p : ℕ). HasBuddies b low p x old new) here done
-has_all b low at x old new (inr none) end done = λ c. (
-  λ has. ⊎_elim
-      (λ (it : IsBuddy b low at x c). let below = it.below in let from = it.from in absurd (omega (arith, below, from, none)))
-      (λ (had : Lists old c). inr had)
-      ((done c).0 has),
-  λ either. (done c).1 (⊎_elim
-      (λ (it : IsBuddy b low b.order x c). let below = it.below in let from = it.from in absurd (omega (arith, below, from, none, end)))
-      (λ (had : Lists old c). inr had)
-      either),
-)
-
-pub lacks_all : (b : Block) (low at x : ℕ) (old new : List Block) → (at ≤ b.order) ⊎ (at ≡ low) → b.order ≤ at
-    → LacksBuddies b low at x old new → LacksBuddies b low b.order x old new
-lacks_all b low at x old new (inl most) end done =
-    let here : at ≡ b.order = omega (arith, most, end) in
-    subst (λ (p : ℕ). LacksBuddies b low p x old new) here done
-lacks_all b low at x old new (inr none) end done = λ c. (
-  λ has. (
-    λ it. let below = it.below in let from = it.from in absurd (omega (arith, below, from, none, end)),
-    ((done c).0 has).1,
-  ),
-  λ both. (done c).1
-      (λ it. let below = it.below in let from = it.from in absurd (omega (arith, below, from, none)), both.1),
-)
-
 -- the block itself isn't outside of itself
 away : (b c : Block) → (IsInBlock b c.first → ⊥) → c ≢ b
 away b c outside same = outside (subst (λ (d : Block). IsInBlock b d.first) (sym same) refl)
@@ -361,9 +330,6 @@ lead_none rs i b all has =
 pub record HasLeads (rs : List BlockRow) (i : ℕ) (bs : List Block) : Type 0 where
   pub sound : (b : Block) → Lists bs b → Lists (leads rs) b
   pub complete : (b : Block) → Lists (leads rs) b → Lists bs b ⊎ Lists (leads (drop i rs)) b
-
-pub leads_none : (rs : List BlockRow) → HasLeads rs 0 []
-leads_none rs = record { sound = λ b has. absurd has; complete = λ b has. inr has }
 
 pub leads_more : (rs : List BlockRow) (i : ℕ) (d : BlockRow) (k : Block) (now next : List Block) → i < length rs
     → k ≡ lead (get_or rs i d) → HasLeads rs i now → ((b : Block) → Lists next b ↔ ((b ≡ k) ⊎ Lists now b)) → HasLeads rs (i + 1) next

@@ -1,15 +1,9 @@
 use Rattle.std.proofs.Common.{List, sym, ◌∙◌, ap, subst}
 use Rattle.address_runs.specs.Runs.{value_at}
-use Rattle.frame_blocks.specs.declared.block.Block.{Block}
 use Rattle.frame_blocks.specs.declared.block.BlockRow.{BlockRow}
 use Rattle.frame_blocks.specs.Rows.{blocks_of_rows, AreRows}
-use Rattle.free_areas.proofs.AreaLaws.{HasLeads, leads_none, leads_more, leads_all}
+use Rattle.free_areas.proofs.AreaLaws.{leads_more, leads_all}
 use Rattle.free_areas.proofs.areas.Areas.of.Goals as goal
-
-pub loop-row-init : goal.loop-row-init
-loop-row-init c =
-    let rows = c.deref-row-items.result.now in
-    subst (λ (bs : List Block). HasLeads rows 0 bs) (sym c.new-blocks.ensures.empty) (leads_none rows)
 
 pub loop-row-preserved : goal.loop-row-preserved
 loop-row-preserved c =
