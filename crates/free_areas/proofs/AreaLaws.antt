@@ -1,6 +1,6 @@
 -- An index of blocks where a set leaves a block, where it comes back, and where it is made from rows.
-use Rattle.std.proofs.Common.{◌≡◌, ◌≢◌, ◌⊎◌, ◌↔◌, ℕ, zero, suc, ◌+◌, ◌-◌, ◌/◌, ◌^◌, ◌<◌, ◌≤◌, ◌==◌, Option, Some, List, [], ◌∷◌, ◌++◌, length, get_or, drop, drop-cons, refl, sym, ◌∙◌, ap, subst, inl, inr, ⊎_elim, arith}
-use Rattle.std.proofs.lemmas.Bool.{cases_Bool, eqb-true, eq-eqb}
+use Rattle.std.proofs.Common.{◌≡◌, ◌≢◌, ◌⊎◌, ◌↔◌, ℕ, zero, suc, ◌+◌, ◌-◌, ◌/◌, ◌^◌, ◌<◌, ◌≤◌, Option, Some, List, [], ◌∷◌, ◌++◌, length, get_or, drop, drop-cons, refl, sym, ◌∙◌, ap, subst, inl, inr, ⊎_elim, arith}
+use Rattle.std.proofs.lemmas.Bool.{cases_eq}
 use Rattle.std.proofs.lemmas.List.{at_drop_all}
 use Rattle.std.proofs.lemmas.Nat.{pow_pos}
 use Rattle.bm_base.specs.declared.zone.Zone.{Zone}
@@ -38,12 +38,6 @@ away b c outside same = outside (subst (λ (d : Block). IsInBlock b d.first) (sy
 abbrev front : Block → Block
 front c = record c { first = c.first - 1024 }
 
-same_first : (b c : Block) → (b.first ≡ c.first) ⊎ (b.first ≢ c.first)
-same_first b c = elim (cases_Bool (b.first == c.first)) as (λ _. (b.first ≡ c.first) ⊎ (b.first ≢ c.first)) [
-  | inl same ↦ inl (eqb-true b.first c.first same)
-  | inr other ↦ inr (λ same. cc (sym (eq-eqb b.first c.first same) ∙ other))
-]
-
 -- the frame behind a block of the greatest order isn't in it
 behind_differs : (f : Frames) (b c : Block) → IsBlock f b → IsLike b c → IsInBlock c (b.first + 2 ^ b.order) → c ≡ b → ⊥
 behind_differs f b c block like inner same =
@@ -77,7 +71,7 @@ split_areas f g low x b behind bs ms cs areas without block inner order next sou
     | inr outside ↦
         let was = others_were f g low x b c without block inner order is outside in ⊎_elim
         (λ (has : Lists bs c). inl ((buddies c).1 (inr (kept c (away b c outside) has))))
-        (λ (follows : IsRightBehind f c). elim (same_first (front c) b) as (λ _. Lists cs c ⊎ IsRightBehind g c) [
+        (λ (follows : IsRightBehind f c). elim (cases_eq (front c).first b.first) as (λ _. Lists cs c ⊎ IsRightBehind g c) [
           | inl same ↦
               let one = one_at f (front c) b follows.before block same in
               let order_is : b.order ≡ 10 = sym (ap (λ (d : Block). d.order) one) ∙ follows.great in
@@ -155,27 +149,16 @@ pub record IsLed (bs : List Block) (c : Block) : Type 0 where
   pub order : leader.order ≡ c.order
   pub first : leader.first ≤ c.first
 
+led_itself : (bs : List Block) (c : Block) → Lists bs c → IsLed bs c
+led_itself bs c has = record { leader = c; has = has; node = refl; zone = refl; order = refl; first = omega arith }
+
 led_by : (k : ℕ) (f : Frames) (bs : List Block) (c : Block) → AreAreas f bs → IsBlock f c → c.first ≤ k → IsLed bs c
 led_by zero f bs c areas is low = ⊎_elim
-    (λ (has : Lists bs c). let led : IsLed bs c = record {
-      leader = c;
-      has = has;
-      node = refl;
-      zone = refl;
-      order = refl;
-      first = omega arith;
-    } in led)
+    (λ (has : Lists bs c). led_itself bs c has)
     (λ (follows : IsRightBehind f c). let room = follows.room in absurd (omega (arith, room, low)))
     (areas.complete c is)
 led_by (suc k) f bs c areas is low = ⊎_elim
-    (λ (has : Lists bs c). let led : IsLed bs c = record {
-      leader = c;
-      has = has;
-      node = refl;
-      zone = refl;
-      order = refl;
-      first = omega arith;
-    } in led)
+    (λ (has : Lists bs c). led_itself bs c has)
     (λ (follows : IsRightBehind f c).
     let room = follows.room in
     let less : (front c).first ≤ k = omega (arith, room, low) in
