@@ -1,7 +1,7 @@
 -- What the first records of a list say of a frame, and what one record more adds.
 use Rattle.std.proofs.Common.{◌≡◌, ℕ, suc, ◌+◌, ◌-◌, ◌*◌, ◌/◌, ◌<◌, ◌≤◌, nat_le, nat_lt, true, false, ◌&&◌, Option, Some, None, List, [], ◌∷◌, ◌++◌, length, get_or, take, if◌then◌else◌, refl, sym, ◌∙◌, ap, inl, inr, arith}
 use Rattle.std.proofs.lemmas.Bool.Decides.{nat_tests}
-use Rattle.std.proofs.lemmas.Bool.{cases_Bool}
+use Rattle.std.proofs.lemmas.Bool.{cases_Bool, false_from_ne_true}
 use Rattle.std.proofs.Math.Seq.{take-suc}
 use Rattle.address_runs.specs.Runs.{RunOf, run_end, lies_in, value_at}
 use Rattle.address_runs.proofs.RunsLaws.{inside}
@@ -52,15 +52,10 @@ node_more b ms i x d ascend whole few =
       | inr away ↦
           let alone : value_at (r ∷ []) y ≡ None = rw away refl in
           let value : value_at (take i ms ++ r ∷ []) y ≡ value_at (take i ms) y = value_append_left (take i ms) (r ∷ []) y alone in
-          let test : (nat_le (frames_of r).first x && nat_lt x (frames_of r).end) ≡ false =
-          elim (cases_Bool (nat_le (frames_of r).first x && nat_lt x (frames_of r).end)) as (λ _. (nat_le
-          (frames_of r).first x && nat_lt x (frames_of r).end) ≡ false) [
-            | inl holds ↦
-                let parts = tests_both (frames_of r).first x (frames_of r).end holds in
-                let bytes = first_byte r x some sizes.0 sizes.1 parts.0 parts.1 in
-                absurd (cc (sym (inside r y bytes.0 bytes.1) ∙ away))
-            | inr fails ↦ fails
-          ] in
+          let test : (nat_le (frames_of r).first x && nat_lt x (frames_of r).end) ≡ false = false_from_ne_true _ (λ holds.
+          let parts = tests_both (frames_of r).first x (frames_of r).end holds in
+          let bytes = first_byte r x some sizes.0 sizes.1 parts.0 parts.1 in
+          cc (sym (inside r y bytes.0 bytes.1) ∙ away)) in
           let chosen : shown ≡ node_of_frame (value_at (take i ms)) x = rw test refl in
           from_list ∙ ap node_told value ∙ sym chosen
     ]
