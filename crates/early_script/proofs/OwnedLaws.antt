@@ -1,7 +1,7 @@
 -- The tests on ranges tell what they are named for.
 use Rattle.std.proofs.Common.{◌≡◌, ℕ, ◌<◌, ◌≤◌, ◌↔◌, Bool, true, false, ◌||◌, Option, Some, None, List, refl, sym, ◌∙◌, ap, subst, arith, inl, inr, IsTrue}
 use Rattle.std.specs.Prelude.{min, max}
-use Rattle.std.proofs.lemmas.Bool.{cases_Bool, and_from}
+use Rattle.std.proofs.lemmas.Bool.{cases_Bool, and_from, or_left, or_right}
 use Rattle.std.proofs.lemmas.Bool.Decides.{nat_tests}
 use Rattle.bm_base.specs.Extent.{Extent, end_of, covers, Meet}
 use Rattle.bm_base.proofs.EachLaws.{each_in-all, each_in-each}
@@ -40,14 +40,6 @@ owned-is own who range false tells =
       | inl holds ↦ holds ∙ sym (tells.1 (λ x low high. owned-each own who range holds x low high))
       | inr fails ↦ fails
     ]
-
-or_left : (a b : Bool) → a ≡ true → (a || b) ≡ true
-or_left true b h = refl
-or_left false b h = cc
-
-or_right : (a b : Bool) → b ≡ true → (a || b) ≡ true
-or_right true b h = refl
-or_right false b h = h
 
 or_other : (a b : Bool) → a ≡ false → (a || b) ≡ true → b ≡ true
 or_other true b none h = cc

@@ -1,7 +1,7 @@
 -- Two tables in one store: while one is edited, the other stays.
 use Rattle.std.proofs.Common.{◌≡◌, ℕ, ◌+◌, ◌*◌, ◌^◌, ◌<◌, ◌≤◌, Bool, true, false, ◌||◌, Option, Some, None, List, refl, sym, ◌∙◌, ap, subst, arith, inl, inr}
 use Rattle.std.specs.Prelude.{unwrap_or}
-use Rattle.std.proofs.lemmas.Bool.{cases_Bool, and_from}
+use Rattle.std.proofs.lemmas.Bool.{cases_Bool, and_from, or_right}
 use Rattle.std.proofs.lemmas.Bool.Decides.{nat_tests}
 use Rattle.bm_base.specs.Extent.{Extent, covers, Meet}
 use Rattle.phys_store.specs.Bytes.{Stored, byte_of, is_ready, Wrote}
@@ -217,10 +217,6 @@ filled_stay s t m r range g both w apart =
     (λ meet. apart (which.Reserved, swapped range (bytes_by r) meet)) lies in
     w.outside x (grind (arith, nat_tests)))
     (λ x was. w.ready x ∙ was)
-
-or_right : (a b : Bool) → b ≡ true → (a || b) ≡ true
-or_right true b is = refl
-or_right false b is = is
 
 -- more is prepared, and no byte changes
 pub prepared_stay : (s t : List Stored) (m r : Head) (range : Extent) → AreTables s m r → ((x : ℕ) → byte_of t x ≡ byte_of s x) →

@@ -1,6 +1,6 @@
 -- One extent in place of those that it covers.
 use Rattle.std.proofs.Common.{◌≡◌, ℕ, zero, suc, ◌+◌, ◌-◌, ◌^◌, ◌<◌, ◌≤◌, Bool, true, false, ◌||◌, List, [], ◌∷◌, ◌++◌, length, min, max, get_or, take, drop, map, refl, sym, ◌∙◌, ap, subst, arith, inl, inr, IsTrue}
-use Rattle.std.proofs.lemmas.Bool.{cases_Bool, cases_lt}
+use Rattle.std.proofs.lemmas.Bool.{cases_Bool, cases_lt, or_right}
 use Rattle.std.proofs.lemmas.Bool.Decides.{nat_tests}
 use Rattle.std.proofs.lemmas.List.{get_or_default, get_or-map, get_or-take, get_or-drop, length-take, take-map, drop-map, drop-drop}
 use Rattle.std.specs.List.{remove}
@@ -146,10 +146,6 @@ reaches ps a i j apart less count reach =
       | inl before_it ↦ let far = before 0 ps i j apart before_it count in omega arith
       | inr same ↦ let is : j ≡ i = omega arith in rw is reach
     ]
-
-or_right : (a b : Bool) → b ≡ true → (a || b) ≡ true
-or_right true b is = refl
-or_right false b is = is
 
 -- the next extent, which begins by the end of what they make, is joined to them
 pub hull_more : (ps : List Stored) (r : Extent) (first behind from to : ℕ) → Apart 0 ps → behind < length ps →
