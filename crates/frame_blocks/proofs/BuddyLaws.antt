@@ -1,7 +1,7 @@
 -- The blocks of frames from which a set has left one block: that block's buddies take its place, and the others stay.
-use Rattle.std.proofs.Common.{◌≡◌, ◌≢◌, ◌⊎◌, ◌↔◌, ℕ, zero, suc, ◌+◌, ◌-◌, ◌/◌, ◌%◌, ◌^◌, ◌<◌, ◌≤◌, ◌==◌, true, false, Option, Some, None, refl, sym, ◌∙◌, ap, subst, inl, inr, ⊎_elim, arith}
+use Rattle.std.proofs.Common.{◌≡◌, ◌≢◌, ◌⊎◌, ◌↔◌, ℕ, zero, suc, ◌+◌, ◌-◌, ◌/◌, ◌%◌, ◌^◌, ◌<◌, ◌≤◌, true, false, Option, Some, None, refl, sym, ◌∙◌, ap, subst, inl, inr, ⊎_elim, arith}
 use Rattle.std.proofs.lemmas.Bool.Decides.{nat_tests}
-use Rattle.std.proofs.lemmas.Bool.{cases_lt, cases_Bool, eqb-true, eq-eqb}
+use Rattle.std.proofs.lemmas.Bool.{cases_eq, false_from_ne_true}
 use Rattle.std.proofs.lemmas.Nat.{pow_pos}
 use Rattle.std.proofs.Math.Nat.{mul-mod_left, div-div-eq-div-mul, pow-suc, mul-div_left}
 use Rattle.bm_base.specs.Extent.{covers}
@@ -20,24 +20,13 @@ set_covers o x y same =
     grind (arith, nat_tests)
 
 pub covers_set : (o x y : ℕ) → (IsInSet o x y → ⊥) → covers (set_around o x) y ≡ false
-covers_set o x y other =
-    elim (cases_Bool (covers (set_around o x) y)) as (λ _. covers (set_around o x) y ≡ false) [
-      | inr off ↦ off
-      | inl on ↦ elim (cases_lt y (x - x % 2 ^ o)) as (λ _. covers (set_around o x) y ≡ false) [
-        | inl lt ↦ grind (arith, nat_tests)
-        | inr low ↦ elim (cases_lt y (x - x % 2 ^ o + 2 ^ o)) as (λ _. covers (set_around o x) y ≡ false) [
-          | inl high ↦ absurd (other (in_set (2 ^ o) x y low high))
-          | inr ge ↦ grind (arith, nat_tests)
-        ]
-      ]
-    ]
+covers_set o x y other = false_from_ne_true (covers (set_around o x) y) (λ on.
+    let low : x - x % 2 ^ o ≤ y = grind (arith, nat_tests) in
+    let high : y < x - x % 2 ^ o + 2 ^ o = grind (arith, nat_tests) in
+    other (in_set (2 ^ o) x y low high))
 
 pub in_set_or_not : (o x y : ℕ) → IsInSet o x y ⊎ (IsInSet o x y → ⊥)
-in_set_or_not o x y =
-    elim (cases_Bool (y / 2 ^ o == x / 2 ^ o)) as (λ _. IsInSet o x y ⊎ (IsInSet o x y → ⊥)) [
-      | inl same ↦ inl (eqb-true (y / 2 ^ o) (x / 2 ^ o) same)
-      | inr other ↦ inr (λ same. cc (sym (eq-eqb (y / 2 ^ o) (x / 2 ^ o) same) ∙ other))
-    ]
+in_set_or_not o x y = cases_eq (y / 2 ^ o) (x / 2 ^ o)
 
 -- a set that has left, and one that has come back
 pub without_is : (order x : ℕ) (f : Frames) → IsWithout f (without_set order x f) order x
@@ -80,7 +69,7 @@ others_stay f g low x b c without block inner order was other = record {
   whole = λ less good. was.whole less (λ y same. (was_there f g low x y c.node without (good y same).0, (good y same).1));
 }
 
-found_or_none : (o : Option Block) → (o ≡ None) ⊎ ((b : Block) × (o ≡ Some b))
+pub found_or_none : (o : Option Block) → (o ≡ None) ⊎ ((b : Block) × (o ≡ Some b))
 found_or_none None = inl refl
 found_or_none (Some b) = inr (b, refl)
 

@@ -2,8 +2,7 @@
 use Rattle.std.proofs.Common.{◌≡◌, ◌≢◌, ◌⊎◌, ◌↔◌, ℕ, zero, suc, ◌+◌, ◌-◌, ◌*◌, ◌%◌, ◌^◌, ◌<◌, ◌≤◌, ◌==◌, Bool, true, false, ◌&&◌, cond, Some, List, [], ◌∷◌, length, get_or, drop, refl, sym, ◌∙◌, ap, subst, inl, inr, arith}
 use Rattle.std.specs.Bool.{IsTrue}
 use Rattle.std.specs.List.{count_by}
-use Rattle.std.proofs.lemmas.Bool.Decides.{nat_tests}
-use Rattle.std.proofs.lemmas.Bool.{cases_Bool, eq-eqb, eqb-true, true≢false}
+use Rattle.std.proofs.lemmas.Bool.{and_right, cases_Bool, cond_both, eq-eqb, eqb-true, false_from_ne_true, ne_eqb, true≢false}
 use Rattle.std.proofs.lemmas.Nat.{pow_pos}
 use Rattle.std.proofs.lemmas.List.Sums.{sum_by-cons, sum_by-append, count_by-le-length}
 use Rattle.std.proofs.Math.Nat.{add-mul-mod_self_right, suc-mul, mul-le-mul_left}
@@ -29,7 +28,7 @@ zone_self zone.Dma = refl
 zone_self zone.Dma32 = refl
 zone_self zone.Normal = refl
 
-zone_is : (a b : Zone) → same_zone a b ≡ true → a ≡ b
+pub zone_is : (a b : Zone) → same_zone a b ≡ true → a ≡ b
 zone_is zone.Dma zone.Dma h = refl
 zone_is zone.Dma zone.Dma32 h = cc
 zone_is zone.Dma zone.Normal h = cc
@@ -132,16 +131,10 @@ alike_is o order z wanted same zones =
     rw (orders, tells) refl
 
 pub alike_not : (o order : ℕ) (z wanted : Zone) → ((o ≢ order) ⊎ (z ≢ wanted)) → if_alike o z order wanted ≡ 0
-alike_not o order z wanted (inl other) =
-    elim (cases_Bool (o == order)) as (λ _. if_alike o z order wanted ≡ 0) [
-      | inl same ↦ absurd (other (eqb-true o order same))
-      | inr differs ↦ rw differs refl
-    ]
+alike_not o order z wanted (inl other) = rw (ne_eqb o order other) refl
 alike_not o order z wanted (inr other) =
-    elim (cases_Bool (same_zone z wanted)) as (λ _. if_alike o z order wanted ≡ 0) [
-      | inl same ↦ absurd (other (zone_is z wanted same))
-      | inr differs ↦ let none : ((o == order) && same_zone z wanted) ≡ false = rw differs (grind (arith, nat_tests)) in rw none refl
-    ]
+    let differs : same_zone z wanted ≡ false = false_from_ne_true (same_zone z wanted) (λ same. other (zone_is z wanted same)) in
+    rw (and_right (o == order) (same_zone z wanted) differs) refl
 
 pub alike_told : (r : Bool) (o order : ℕ) (z wanted : Zone) → (IsTrue r ↔ ((o ≡ order) × (z ≡ wanted)))
     → if_alike o z order wanted ≡ cond r 1 0
@@ -168,23 +161,15 @@ no_count f rs i p all = ap (λ (bs : List Block). count_by p bs) (listed_none f 
 pub other_run : (f : Frames) (r : RunOf ℕ) (node order : ℕ) (wanted : Zone) → IsRun f r.base (run_end r) r.value → r.value ≢ node
     → count_by (is_of node wanted order) (blocks_from f r.base (run_end r - r.base)) ≡ 0
 other_run f r node order wanted run other =
-    let differs : (r.value == node) ≡ false =
-    elim (cases_Bool (r.value == node)) as (λ _. (r.value == node) ≡ false) [
-      | inl same ↦ absurd (other (eqb-true r.value node same))
-      | inr away ↦ away
-    ] in
-    other_node f r.value node order wanted r.base (run_end r - r.base) differs (λ y above below. run.inside y above (omega arith))
+    other_node f r.value node order wanted r.base (run_end r - r.base) (ne_eqb r.value node other)
+    (λ y above below. run.inside y above (omega arith))
 
 pub many : (k s o : ℕ) → s ≡ 2 ^ o → k ≤ k * s
 many k s o size = let some = pow_pos o in let positive : 1 ≤ s = omega (arith, some, size) in let h = mul-le-mul_left k positive in omega
     (arith, h)
 
 pub at_most_one : (o order : ℕ) (z wanted : Zone) → if_alike o z order wanted ≤ 1
-at_most_one o order z wanted =
-    elim (cases_Bool ((o == order) && same_zone z wanted)) as (λ _. if_alike o z order wanted ≤ 1) [
-      | inl holds ↦ rw holds (omega arith)
-      | inr fails ↦ rw fails (omega arith)
-    ]
+at_most_one o order z wanted = cond_both ((o == order) && same_zone z wanted) 1 0 (λ n. n ≤ 1) (λ _. omega arith) (λ _. omega arith)
 
 pub mul_one_most : (k v : ℕ) → v ≤ 1 → k * v ≤ k
 mul_one_most k v one = let h = mul-le-mul_left k one in omega (arith, h)

@@ -1,7 +1,6 @@
 -- The list of the blocks that begin in a stretch of frames.
 use Rattle.std.proofs.Common.{◌≡◌, ℕ, zero, suc, ◌+◌, ◌-◌, ◌%◌, ◌^◌, ◌<◌, ◌≤◌, ◌==◌, true, false, Option, Some, None, List, [], ◌∷◌, ◌++◌, length, refl, ◌∙◌, ap, subst, inl, inr, arith}
-use Rattle.std.proofs.lemmas.Bool.Decides.{nat_tests}
-use Rattle.std.proofs.lemmas.Bool.{cases_Bool, eq-eqb}
+use Rattle.std.proofs.lemmas.Bool.{cases_Bool, eq-eqb, ne_eqb}
 use Rattle.std.proofs.lemmas.Nat.{pow_pos}
 use Rattle.bm_base.specs.Zones.{zone_of}
 use Rattle.frame_blocks.specs.declared.block.Block.{Block}
@@ -56,14 +55,10 @@ not_first-inner f o x y n small whole free above below bs =
     let p : ℕ = order_up_to f y n 10 in
     let most : o ≤ p = up_most f y n 10 o small (free-around f o x y n same free) in
     let base : (y - y % 2 ^ p) % 2 ^ o ≡ 0 = multiple o p (y - y % 2 ^ p) most (base_whole (2 ^ p) y) in
-    let other : ((y - y % 2 ^ p) == y) ≡ false =
-    elim (cases_Bool ((y - y % 2 ^ p) == y)) as (λ _. ((y - y % 2 ^ p) == y) ≡ false) [
-      | inl here ↦
-          let at : y % 2 ^ o ≡ 0 = subst (λ (z : ℕ). z % 2 ^ o ≡ 0) (grind (arith, nat_tests)) base in
-          let far = apart (2 ^ o) x y whole at above in
-          absurd (omega (arith, far))
-      | inr away ↦ away
-    ] in
+    let other : ((y - y % 2 ^ p) == y) ≡ false = ne_eqb (y - y % 2 ^ p) y (λ here.
+    let at : y % 2 ^ o ≡ 0 = subst (λ (z : ℕ). z % 2 ^ o ≡ 0) here base in
+    let far = apart (2 ^ o) x y whole at above in
+    omega (arith, far)) in
     ap (λ v. led_by_block y (block_for f y v) bs) is ∙ rw other refl
 
 -- the frames of a block list it

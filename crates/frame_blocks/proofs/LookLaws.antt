@@ -1,6 +1,6 @@
 -- The runs of a canonical list: each is a run of what the list gives, a look-up finds the one with a frame, and the blocks of all of them
 -- are the blocks of what the list gives.
-use Rattle.std.proofs.Common.{◌≡◌, ℕ, zero, suc, ◌+◌, ◌-◌, ◌%◌, ◌^◌, ◌<◌, ◌≤◌, Some, None, List, [], ◌∷◌, ◌++◌, length, get_or, drop, refl, sym, ◌∙◌, ap, subst, inl, inr, arith, append_assoc, drop-cons}
+use Rattle.std.proofs.Common.{◌≡◌, ℕ, zero, suc, ◌+◌, ◌-◌, ◌%◌, ◌^◌, ◌<◌, ◌≤◌, Some, None, List, [], ◌∷◌, ◌++◌, length, get_or, drop, refl, sym, ◌∙◌, ap, subst, inl, inr, le_of_suc-le-suc, lt_of_not-le, arith, append_assoc, drop-cons}
 use Rattle.std.proofs.lemmas.Bool.{cases_lt}
 use Rattle.std.proofs.lemmas.List.{at_drop_all, at_drop_more}
 use Rattle.bm_base.specs.Zones.{zone_of}
@@ -106,12 +106,9 @@ nothing_behind : (b : ℕ) (r : RunOf ℕ) (rs : List (RunOf ℕ)) → AreRuns (
     → (run_end r ≤ b) × NothingFrom b (value_at rs)
 nothing_behind b r rs runs none =
     let some : 0 < r.size = runs.0 in
-    let low : run_end r ≤ b = elim (cases_lt b (run_end r)) as (λ _. run_end r ≤ b) [
-      | inl lt ↦
-          let last : value_at (r ∷ rs) (run_end r - 1) ≡ Some r.value = value_inside r rs (run_end r - 1) (omega arith) (omega arith) in
-          absurd (cc (sym last ∙ none (run_end r - 1) (omega arith)))
-      | inr ge ↦ ge
-    ] in (low, λ x high. sym (value_behind r rs x (omega arith)) ∙ none x high)
+    let low : run_end r ≤ b = le_of_suc-le-suc (lt_of_not-le (λ lt.
+    let last : value_at (r ∷ rs) (run_end r - 1) ≡ Some r.value = value_inside r rs (run_end r - 1) (omega arith) (omega arith) in
+    cc (sym last ∙ none (run_end r - 1) (omega arith)))) in (low, λ x high. sym (value_behind r rs x (omega arith)) ∙ none x high)
 
 -- they are the blocks of all frames
 listed_from : (f : Frames) (b at : ℕ) (rs : List (RunOf ℕ)) → AreRuns rs → StartFrom at rs → NothingFrom b (value_at rs) → at ≤ b

@@ -1,9 +1,8 @@
 -- The function that picks a block gives the block that is picked by the sentence, and none where none serves.
-use Rattle.std.proofs.Common.{◌≡◌, ◌⊎◌, ℕ, zero, suc, ◌+◌, ◌-◌, ◌<◌, ◌≤◌, ◌==◌, Bool, true, false, ◌&&◌, Option, Some, None, List, [], ◌∷◌, refl, sym, ◌∙◌, ap, inl, inr, ⊎_elim, arith}
-use Rattle.std.proofs.lemmas.Bool.{cases_lt, cases_Bool, eqb-true, eq-eqb}
+use Rattle.std.proofs.Common.{◌≡◌, ◌⊎◌, ℕ, zero, suc, ◌+◌, ◌-◌, ◌<◌, ◌≤◌, ◌==◌, Bool, true, ◌&&◌, Some, None, List, [], ◌∷◌, refl, sym, ◌∙◌, ap, inl, inr, ⊎_elim, arith}
+use Rattle.std.proofs.lemmas.Bool.{and_parts, cases_lt, cases_Bool, eqb-true, eq-eqb}
 use Rattle.std.specs.List.{find}
 use Rattle.bm_base.specs.declared.zone.Zone.{Zone}
-use Rattle.bm_base.specs.declared.zone.Zone.TheVariants as zone
 use Rattle.address_runs.specs.Edits.{NothingFrom}
 use Rattle.frame_blocks.specs.declared.block.Block.{Block}
 use Rattle.frame_blocks.specs.declared.run.TheConstants.{MAX_FRAMES}
@@ -11,35 +10,15 @@ use Rattle.frame_blocks.specs.Frames.{Frames}
 use Rattle.frame_blocks.specs.Listed.{blocks_of, same_zone, is_of, Lists, AscendFrom}
 use Rattle.frame_blocks.specs.Picked.{Serves, IsPicked, NoneServes, picked_up, picked}
 use Rattle.frame_blocks.proofs.BlockLaws.{listed_sound, listed_complete, listed_ascends}
-use Rattle.frame_blocks.proofs.BuddyLaws.{one_at}
-
--- the test of a zone tells
-zone_same : (a b : Zone) → same_zone a b ≡ true → a ≡ b
-zone_same zone.Dma zone.Dma h = refl
-zone_same zone.Dma zone.Dma32 h = cc
-zone_same zone.Dma zone.Normal h = cc
-zone_same zone.Dma32 zone.Dma h = cc
-zone_same zone.Dma32 zone.Dma32 h = refl
-zone_same zone.Dma32 zone.Normal h = cc
-zone_same zone.Normal zone.Dma h = cc
-zone_same zone.Normal zone.Dma32 h = cc
-zone_same zone.Normal zone.Normal h = refl
-
-zone_self : (a : Zone) → same_zone a a ≡ true
-zone_self zone.Dma = refl
-zone_self zone.Dma32 = refl
-zone_self zone.Normal = refl
-
-both_true : (p q : Bool) → (p && q) ≡ true → (p ≡ true) × (q ≡ true)
-both_true true q h = (refl, h)
-both_true false q h = cc
+use Rattle.frame_blocks.proofs.BuddyLaws.{found_or_none, one_at}
+use Rattle.frame_blocks.proofs.CountLaws.{zone_is, zone_self}
 
 -- the test of a block tells
 pub is_of_tells : (n : ℕ) (z : Zone) (order : ℕ) (b : Block) → is_of n z order b ≡ true → (b.node ≡ n) × (b.order ≡ order) × (b.zone ≡ z)
 is_of_tells n z order b h =
-    let one = both_true (b.node == n) ((b.order == order) && same_zone b.zone z) h in
-    let two = both_true (b.order == order) (same_zone b.zone z) one.1 in
-    (eqb-true b.node n one.0, eqb-true b.order order two.0, zone_same b.zone z two.1)
+    let one = and_parts (b.node == n) ((b.order == order) && same_zone b.zone z) h in
+    let two = and_parts (b.order == order) (same_zone b.zone z) one.1 in
+    (eqb-true b.node n one.0, eqb-true b.order order two.0, zone_is b.zone z two.1)
 
 pub is_of_told : (n : ℕ) (z : Zone) (order : ℕ) (b : Block) → b.node ≡ n → b.order ≡ order → b.zone ≡ z → is_of n z order b ≡ true
 is_of_told n z order b node_is order_is zone_is =
@@ -99,11 +78,6 @@ none_in p (b ∷ bs) c is has passes =
           (λ (inner : Lists bs c). none_in p bs c (rw off at is) inner passes)
           has
     ]
-
--- a search finds something, or nothing
-found_or_none : (o : Option Block) → (o ≡ None) ⊎ ((b : Block) × (o ≡ Some b))
-found_or_none None = inl refl
-found_or_none (Some b) = inr (b, refl)
 
 -- of several orders none has a block that serves
 none_up : (f : Frames) (n : ℕ) (z : Zone) (order k : ℕ) (c : Block) → picked_up f n z order k ≡ None → Lists (blocks_of f) c
@@ -190,6 +164,10 @@ none_tells f n z order low is b block serves =
     let enough = serves.enough in
     none_up f n z order (11 - order) b is (listed_complete f b low block) serves.node serves.zone enough (omega (arith, small, enough))
 
+-- of two that are least by order and first frame neither begins before the other
+both_least : (o p x y : ℕ) → (o < p) ⊎ ((o ≡ p) × (x ≤ y)) → (p < o) ⊎ ((p ≡ o) × (y ≤ x)) → x ≡ y
+both_least o p x y one other = grind arith
+
 -- and the other way round: there is one such block at most
 pub picked_is : (f : Frames) (n : ℕ) (z : Zone) (order : ℕ) (b : Block) → NothingFrom MAX_FRAMES f → IsPicked f n z order b
     → picked f n z order ≡ Some b
@@ -199,18 +177,7 @@ picked_is f n z order b low is =
       | inr some ↦
           let it = picked_tells f n z order some.0 low some.1 in
           let same_first : some.0.first ≡ b.first =
-          ⊎_elim
-          (λ (less : some.0.order < b.order). ⊎_elim
-          (λ (other : b.order < some.0.order). absurd (omega (arith, less, other)))
-          (λ (other : (b.order ≡ some.0.order) × (b.first ≤ some.0.first)).
-          let same = other.0 in absurd (omega (arith, less, same)))
-          (is.least some.0 it.block it.serves))
-          (λ (same : (some.0.order ≡ b.order) × (some.0.first ≤ b.first)). ⊎_elim
-          (λ (other : b.order < some.0.order). let order_is = same.0 in absurd (omega (arith, other, order_is)))
-          (λ (other : (b.order ≡ some.0.order) × (b.first ≤ some.0.first)).
-          let one = same.1 in let two = other.1 in omega (arith, one, two))
-          (is.least some.0 it.block it.serves))
-          (it.least b is.block is.serves) in
+          both_least some.0.order b.order some.0.first b.first (it.least b is.block is.serves) (is.least some.0 it.block it.serves) in
           some.1 ∙ ap (λ (d : Block). Some d) (one_at f some.0 b it.block is.block same_first)
     ]
 

@@ -1,5 +1,5 @@
 -- Cutting the frames of a run into blocks.
-use Rattle.std.proofs.Common.{◌≡◌, ℕ, zero, suc, ◌+◌, ◌-◌, ◌*◌, ◌/◌, ◌%◌, ◌^◌, ◌<◌, ◌≤◌, List, [], ◌∷◌, ◌++◌, sym, ◌∙◌, ap, subst, inl, inr, arith}
+use Rattle.std.proofs.Common.{◌≡◌, ℕ, zero, suc, ◌+◌, ◌-◌, ◌*◌, ◌/◌, ◌%◌, ◌^◌, ◌<◌, ◌≤◌, List, [], ◌∷◌, ◌++◌, sym, ◌∙◌, ap, subst, inl, inr, le_of_suc-le-suc, lt_of_not-le, arith}
 use Rattle.std.proofs.lemmas.Bool.{cases_lt}
 use Rattle.std.proofs.lemmas.Nat.{pow_pos}
 use Rattle.std.proofs.lemmas.List.{append-nil}
@@ -26,16 +26,10 @@ pub inside_free : (f : Frames) (first end n o x : ℕ) → IsRun f first end n �
 inside_free f first end n o x run above below free =
     let small : x % 2 ^ o < 2 ^ o = mod-lt x (pow_pos o) in
     record {
-      above = elim (cases_lt (x - x % 2 ^ o) first) as (λ _. first ≤ x - x % 2 ^ o) [
-        | inl lt ↦
-            let next : suc (first - 1) ≡ first = omega arith in
-            absurd (run.before (first - 1) next (free (first - 1) (in_set (2 ^ o) x (first - 1) (omega arith) (omega arith))))
-        | inr ge ↦ ge
-      ];
-      below = elim (cases_lt end (x - x % 2 ^ o + 2 ^ o)) as (λ _. x - x % 2 ^ o + 2 ^ o ≤ end) [
-        | inl lt ↦ absurd (run.behind (free end (in_set (2 ^ o) x end (omega arith) lt)))
-        | inr ge ↦ ge
-      ];
+      above = le_of_suc-le-suc (lt_of_not-le (λ lt.
+          let next : suc (first - 1) ≡ first = omega arith in
+          run.before (first - 1) next (free (first - 1) (in_set (2 ^ o) x (first - 1) (omega arith) (omega arith)))));
+      below = le_of_suc-le-suc (lt_of_not-le (λ lt. run.behind (free end (in_set (2 ^ o) x end (omega arith) lt))));
     }
 
 -- so the greatest set that fits is the one that is found
