@@ -1,6 +1,6 @@
 -- Tests over several numbers that follow one another, and over the addresses of a range.
 use Rattle.std.proofs.Common.{◌≡◌, ℕ, zero, suc, ◌+◌, ◌<◌, ◌≤◌, Bool, true, false, refl, sym, ◌∙◌, subst, inl, inr, arith}
-use Rattle.std.proofs.lemmas.Bool.{cases_lt, cases_Bool, true≢false, and_from, and_parts}
+use Rattle.std.proofs.lemmas.Bool.{cases_lt, false_from_ne_true, true≢false, and_from, and_parts}
 use Rattle.bm_base.specs.Extent.{Extent}
 use Rattle.bm_base.specs.Each.{each_from, each_in}
 
@@ -33,10 +33,7 @@ each_in-each r p h = each_from-each p r.base r.size h
 -- one address that fails
 pub each_in-fails : (r : Extent) (p : ℕ → Bool) (y : ℕ) → r.base ≤ y → y < r.base + r.size → p y ≡ false → each_in r p ≡ false
 each_in-fails r p y above below fails =
-    elim (cases_Bool (each_in r p)) as (λ _. each_in r p ≡ false) [
-      | inl holds ↦ absurd (true≢false (sym (each_in-each r p holds y above below) ∙ fails))
-      | inr fails_too ↦ fails_too
-    ]
+    false_from_ne_true (each_in r p) (λ holds. true≢false (sym (each_in-each r p holds y above below) ∙ fails))
 
 -- tests that agree at each of the numbers agree on them all
 pub each_from-same : (p q : ℕ → Bool) (x n : ℕ) → ((y : ℕ) → x ≤ y → y < x + n → p y ≡ q y) → each_from p x n ≡ each_from q x n

@@ -1,11 +1,11 @@
 -- Laws of the numbers in texts.
-use Rattle.std.proofs.Common.{◌≡◌, ℕ, ◌+◌, ◌*◌, ◌^◌, ◌<◌, ◌≤◌, ◌==◌, ◌&&◌, ◌||◌, Bool, true, false, nat_lt, if◌then◌else◌, List, [], ◌∷◌, ◌++◌, length, drop, length-drop, get_or, zero, suc, refl, ap, ◌∙◌, Ok, Err, arith}
+use Rattle.std.proofs.Common.{◌≡◌, ℕ, ◌+◌, ◌*◌, ◌^◌, ◌<◌, ◌≤◌, ◌==◌, ◌&&◌, ◌||◌, Bool, true, false, nat_lt, if◌then◌else◌, List, [], ◌∷◌, ◌++◌, length, drop, length-drop, get_or, zero, suc, refl, ap, sym, ◌∙◌, Ok, Err, arith}
 use Rattle.bm_base.specs.declared.size.NumFault.TheVariants.{NoDigits}
 use Rattle.std.proofs.Math.Bool.{and-false}
 use Rattle.std.proofs.Math.Nat.{mul-le-mul_left, zero-add}
 use Rattle.std.proofs.Math.Seq.{drop-length}
 use Rattle.std.specs.Char.{digit_value, is_digit}
-use Rattle.std.proofs.lemmas.Bool.{ne_eqb, and_left}
+use Rattle.std.proofs.lemmas.Bool.{ne_eqb, and_left, cond_both, true≢false}
 use Rattle.std.proofs.lemmas.Bool.Decides.{nat_tests}
 use Rattle.std.proofs.lemmas.List.{drop-append-le}
 use Rattle.std.proofs.lemmas.Fmt.{decimal_is_IsNumeral, first_decimal, decimal_digit}
@@ -31,10 +31,7 @@ is_digit-mark mark radix small is = general (digit_value mark) is
 
 -- and it isn't a byte that is one
 pub mark-other : (mark b : ℕ) → is_digit mark 36 ≡ false → is_digit b 36 ≡ true → mark == b ≡ false
-mark-other mark b is digit = ne_eqb mark b (λ same. differ (rw same at is))
-  where
-    differ : is_digit b 36 ≡ false → ⊥
-    differ isnt = cc
+mark-other mark b is digit = ne_eqb mark b (λ same. true≢false (sym digit ∙ (rw same at is)))
 
 -- the digits at the front end before such a byte
 pub front_digits-mark : (radix : ℕ) (text : List ℕ) (mark : ℕ) (rest : List ℕ)
@@ -78,32 +75,24 @@ pub prefix_of-mark : (text : List ℕ) (mark : ℕ) (rest : List ℕ)
 prefix_of-mark text mark rest is = rw (is_hexadecimal-mark text mark rest is) refl
 
 pub radix_of-le : (text : List ℕ) → radix_of text ≤ 36
-radix_of-le text = by_tests (is_hexadecimal text) (begins_with_zero text)
-  where
-    by_tests : (h z : Bool) → (if h then 16 else (if z then 8 else 10)) ≤ 36
-    by_tests true z = omega arith
-    by_tests false true = omega arith
-    by_tests false false = omega arith
+radix_of-le text =
+    cond_both (is_hexadecimal text) 16 (if begins_with_zero text then 8 else 10) (λ r. r ≤ 36) (λ _. omega arith)
+    (λ _. cond_both (begins_with_zero text) 8 10 (λ r. r ≤ 36) (λ _. omega arith) (λ _. omega arith))
 
 -- the prefix and the digits lie in the text
 pub prefix_of-le : (text : List ℕ) → prefix_of text ≤ length text
 prefix_of-le [] = omega arith
 prefix_of-le (z ∷ []) = omega arith
 prefix_of-le (z ∷ x ∷ []) = omega arith
-prefix_of-le (z ∷ x ∷ d ∷ rest) = by_test (is_hexadecimal (z ∷ x ∷ d ∷ rest))
-  where
-    by_test : (t : Bool) → (if t then 2 else 0) ≤ length (z ∷ x ∷ d ∷ rest)
-    by_test true = omega arith
-    by_test false = omega arith
+prefix_of-le (z ∷ x ∷ d ∷ rest) =
+    cond_both (is_hexadecimal (z ∷ x ∷ d ∷ rest)) 2 0 (λ n. n ≤ length (z ∷ x ∷ d ∷ rest)) (λ _. omega arith) (λ _. omega arith)
 
 pub front_digits-le : (radix : ℕ) (text : List ℕ) → length (front_digits radix text) ≤ length text
 front_digits-le radix [] = omega arith
-front_digits-le radix (b ∷ bs) = by_test (is_digit b radix) (front_digits-le radix bs)
-  where
-    by_test : (t : Bool) → length (front_digits radix bs) ≤ length bs
-        → length (if t then b ∷ front_digits radix bs else []) ≤ length (b ∷ bs)
-    by_test true rest = omega arith
-    by_test false rest = omega arith
+front_digits-le radix (b ∷ bs) =
+    let rest = front_digits-le radix bs in
+    cond_both (is_digit b radix) (b ∷ front_digits radix bs) [] (λ (ds : List ℕ). length ds ≤ length (b ∷ bs)) (λ _. omega arith)
+    (λ _. omega arith)
 
 pub drop-prefix-mark : (text : List ℕ) (mark : ℕ) (rest : List ℕ) → is_digit mark 36 ≡ false
     → drop (prefix_of (text ++ (mark ∷ rest))) (text ++ (mark ∷ rest)) ≡ drop (prefix_of text) text ++ (mark ∷ rest)
