@@ -9,9 +9,6 @@ returns-then-not-is_whole_entry c =
     let broken : is_whole c.loop-at.at c.args.bytes.now ≡ false = grind (arith, common_steps) in
     sym (broken_fault c.loop-at.at c.args.bytes.now c.loop-at-test.true broken) ∙ c.loop-at.invariant.sound_before
 
-pub read_entry-requires-clause-header : goal.read_entry-requires-clause-header
-read_entry-requires-clause-header c = let from = c.loop-at.invariant.behind_header in omega arith
-
 pub returns-then-is_too_far : goal.returns-then-is_too_far
 returns-then-is_too_far c =
     let whole : is_whole c.loop-at.at c.args.bytes.now ≡ true = grind (arith, common_steps) in

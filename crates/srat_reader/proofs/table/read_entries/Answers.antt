@@ -7,9 +7,6 @@ use Rattle.srat_reader.specs.Table.{processor_of, srat_block_of, processor_at, b
 use Rattle.srat_reader.proofs.ChainLaws.{rest_from, whole_bounds, whole_here, near_here, sound_behind, told_here, told_end, some_told}
 use Rattle.srat_reader.proofs.table.read_entries.Goals as goal
 
-pub read_entry-requires-clause-header : goal.read_entry-requires-clause-header
-read_entry-requires-clause-header c = let from = c.loop-at.invariant.behind_header in omega arith
-
 pub read_entry-requires-clause-whole : goal.read_entry-requires-clause-whole
 read_entry-requires-clause-whole c = whole_here c.loop-at.at c.args.bytes.now c.loop-at-test.true c.loop-at.invariant.sound
 
