@@ -1,6 +1,6 @@
 -- The chain of entries: what is left of it from an offset on, and that the bound on its steps never matters.
 use Rattle.std.proofs.Common.{◌≡◌, ◌≢◌, ℕ, zero, suc, ◌+◌, ◌<◌, ◌≤◌, Bool, true, false, List, [], ◌∷◌, ◌++◌, length, length-append, Option, Some, None, IsSome, option_to_list, append_assoc, refl, sym, ap, ◌∙◌, arith}
-use Rattle.std.proofs.lemmas.Bool.{false≢true}
+use Rattle.std.proofs.lemmas.Bool.{false_from_ne_true, false≢true, true_from_ne_false}
 use Rattle.std.proofs.lemmas.Bool.Decides.{nat_tests}
 use Rattle.std.proofs.lemmas.List.{append-nil}
 use Rattle.std.specs.List.{filter_map}
@@ -95,17 +95,13 @@ no_fault at bytes ended = rw (rest_end at bytes ended) refl
 -- where no fault is left, the entry here is whole and near, and there is none behind it
 pub whole_here : (at : ℕ) (bytes : List ℕ) → at < length bytes → first_fault bytes (rest_from at bytes) ≡ None
     → is_whole at bytes ≡ true
-whole_here at bytes before none = by (is_whole at bytes) refl where
-  by : (whole : Bool) → is_whole at bytes ≡ whole → is_whole at bytes ≡ true
-  by true whole = whole
-  by false broken = let fault = broken_fault at bytes before broken in absurd (cc)
+whole_here at bytes before none =
+    true_from_ne_false (is_whole at bytes) (λ broken. let fault = broken_fault at bytes before broken in cc)
 
 pub near_here : (at : ℕ) (bytes : List ℕ) → at < length bytes → first_fault bytes (rest_from at bytes) ≡ None
     → is_far (said_at at bytes) ≡ false
-near_here at bytes before none = by (is_far (said_at at bytes)) refl where
-  by : (far : Bool) → is_far (said_at at bytes) ≡ far → is_far (said_at at bytes) ≡ false
-  by true far = let fault = far_fault at bytes before (whole_here at bytes before none) far in absurd (cc)
-  by false near = near
+near_here at bytes before none =
+    false_from_ne_true (is_far (said_at at bytes)) (λ far. let fault = far_fault at bytes before (whole_here at bytes before none) far in cc)
 
 pub sound_behind : (at : ℕ) (bytes : List ℕ) → at < length bytes → first_fault bytes (rest_from at bytes) ≡ None
     → first_fault bytes (rest_from (at + length_at at bytes) bytes) ≡ None
