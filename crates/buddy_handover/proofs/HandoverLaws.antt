@@ -1,9 +1,9 @@
 -- The steps of the handover: one stretch of unclaimed frames, and one record of memory.
 use Rattle.std.proofs.Common.{◌≡◌, ℕ, ◌+◌, ◌-◌, ◌*◌, ◌<◌, ◌≤◌, nat_le, nat_lt, Bool, true, false, ◌&&◌, min, Option, Some, None, List, length, get_or, take, if◌then◌else◌, refl, sym, ◌∙◌, ap, inl, inr, arith}
 use Rattle.std.proofs.lemmas.Bool.Decides.{nat_tests}
-use Rattle.std.proofs.lemmas.Bool.{cases_lt, cases_Bool}
+use Rattle.std.proofs.lemmas.Bool.{cases_Bool}
 use Rattle.std.proofs.Math.Seq.{take-length}
-use Rattle.bm_base.specs.Extent.{Extent, covers}
+use Rattle.bm_base.specs.Extent.{Extent}
 use Rattle.address_runs.specs.Runs.{RunOf, value_at}
 use Rattle.address_runs.specs.Edits.{replaced}
 use Rattle.memblock_model.specs.Labels.{Label, Labels}
@@ -30,33 +30,8 @@ pub freed_more : (first at from until end cut next node : ℕ) (reserved : Label
     → ((x : ℕ) → h x ≡ replaced (let r : Extent = record { base = at; size = cut - at } in r) node g x)
     → (x : ℕ) → h x ≡ freed first next node reserved f x
 freed_more first at from until end cut next node reserved f g h cut_is next_is above inner order some bare held known put x =
-    let r : Extent = record { base = at; size = cut - at } in
-    elim (cases_lt x at) as (λ _. h x ≡ freed first next node reserved f x) [
-      | inl before ↦
-          let off : covers r x ≡ false = grind (arith, nat_tests) in
-          let same : (nat_le first x && nat_lt x at) ≡ (nat_le first x && nat_lt x next) = grind (arith, nat_tests) in
-          put x ∙ rw off (known x ∙ ap (λ b. if b && is_unclaimed reserved x then Some node else f x) same)
-      | inr here ↦ elim (cases_lt x cut) as (λ _. h x ≡ freed first next node reserved f x) [
-        | inl within ↦
-            let on : covers r x ≡ true = grind (arith, nat_tests) in
-            let is : is_unclaimed reserved x ≡ true = bare x here (omega arith) (omega arith) in
-            let in_range : (nat_le first x && nat_lt x next) ≡ true = grind (arith, nat_tests) in
-            put x ∙ rw on (rw (in_range, is) refl)
-        | inr past ↦
-            let off : covers r x ≡ false = grind (arith, nat_tests) in
-            let not_yet : (nat_le first x && nat_lt x at) ≡ false = grind (arith, nat_tests) in
-            let was : g x ≡ f x = known x ∙ rw not_yet refl in
-            elim (cases_lt x next) as (λ _. h x ≡ freed first next node reserved f x) [
-              | inl claimed ↦
-                  let is_held : is_unclaimed reserved x ≡ false = held x (omega arith) (omega arith) (omega arith) in
-                  let in_range : (nat_le first x && nat_lt x next) ≡ true = grind (arith, nat_tests) in
-                  put x ∙ rw off (was ∙ rw (in_range, is_held) refl)
-              | inr after ↦
-                  let out : (nat_le first x && nat_lt x next) ≡ false = grind (arith, nat_tests) in
-                  put x ∙ rw off (was ∙ rw out refl)
-            ]
-      ]
-    ]
+    let was = known x in let now = put x in let free = bare x in let claimed = held x in
+    grind (arith, nat_tests, was, now, free, claimed)
 
 -- so the frames of one record more, where it has a node, and where it has none
 pub record_freed : (b : ℕ) (ms : List (RunOf Label)) (reserved : Labels) (i n : ℕ) (d : RunOf Label) (f g : Frames) → AscendBelow b ms
