@@ -40,29 +40,8 @@ pub record_freed : (b : ℕ) (ms : List (RunOf Label)) (reserved : Labels) (i n 
     → ((x : ℕ) → g x ≡ freed (frames_of (get_or ms i d)).first (frames_of (get_or ms i d)).end n reserved f x)
     → (x : ℕ) → g x ≡ unclaimed (value_at (take (i + 1) ms)) reserved x
 record_freed b ms reserved i n d f g ascend whole few is known put x =
-    let fs : RecordFrames = frames_of (get_or ms i d) in
-    let inner : Bool = nat_le fs.first x && nat_lt x fs.end in
-    let more = node_more b ms i x d ascend whole few in
-    elim (cases_Bool (is_unclaimed reserved x)) as (λ _. g x ≡ unclaimed (value_at (take (i + 1) ms)) reserved x) [
-      | inl bare ↦
-          let was : f x ≡ node_of_frame (value_at (take i ms)) x = known x ∙ rw bare refl in
-          elim (cases_Bool inner) as (λ _. g x ≡ unclaimed (value_at (take (i + 1) ms)) reserved x) [
-            | inl lies ↦
-                let here : node_of_frame (value_at (take (i + 1) ms)) x ≡ Some n = more ∙ rw lies is in
-                put x ∙ rw (lies, bare) (sym here)
-            | inr away ↦
-                let there : node_of_frame (value_at (take (i + 1) ms)) x ≡ node_of_frame (value_at (take i ms)) x = more ∙ rw away refl in
-                put x ∙ rw (away, bare) (was ∙ sym there)
-          ]
-      | inr held ↦
-          let was : f x ≡ None = known x ∙ rw held refl in
-          let none : (inner && is_unclaimed reserved x) ≡ false = elim (cases_Bool inner) as (λ _. (inner && is_unclaimed reserved x)
-          ≡ false) [
-            | inl lies ↦ rw (lies, held) refl
-            | inr away ↦ rw away refl
-          ] in
-          put x ∙ rw none (was ∙ sym (rw held refl))
-    ]
+    let more = node_more b ms i x d ascend whole few in let was = known x in let now = put x in
+    grind (arith, nat_tests, more, is, was, now)
 
 pub record_left : (b : ℕ) (ms : List (RunOf Label)) (reserved : Labels) (i : ℕ) (d : RunOf Label) (f : Frames) → AscendBelow b ms
     → AreWholeFrames ms → i < length ms → (frames_of (get_or ms i d)).node ≡ None
