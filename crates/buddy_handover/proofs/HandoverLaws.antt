@@ -1,11 +1,9 @@
 -- The steps of the handover: one stretch of unclaimed frames, and one record of memory.
-use Rattle.std.proofs.Common.{◌≡◌, ℕ, ◌+◌, ◌-◌, ◌*◌, ◌<◌, ◌≤◌, nat_le, nat_lt, Bool, true, false, ◌&&◌, min, Option, Some, None, List, length, get_or, take, if◌then◌else◌, refl, sym, ◌∙◌, ap, inl, inr, arith}
+use Rattle.std.proofs.Common.{◌≡◌, ℕ, ◌+◌, ◌*◌, ◌<◌, nat_le, nat_lt, Bool, true, ◌&&◌, Option, Some, None, List, length, get_or, take, if◌then◌else◌, refl, sym, ◌∙◌, ap, inl, inr, arith}
 use Rattle.std.proofs.lemmas.Bool.Decides.{nat_tests}
 use Rattle.std.proofs.lemmas.Bool.{cases_Bool}
 use Rattle.std.proofs.Math.Seq.{take-length}
-use Rattle.bm_base.specs.Extent.{Extent}
 use Rattle.address_runs.specs.Runs.{RunOf, value_at}
-use Rattle.address_runs.specs.Edits.{replaced}
 use Rattle.memblock_model.specs.Labels.{Label, Labels}
 use Rattle.frame_blocks.specs.Frames.{Frames}
 use Rattle.table_frames.specs.declared.frames.RecordFrames.{RecordFrames}
@@ -15,23 +13,6 @@ use Rattle.table_frames.proofs.RecordLaws.{ascend_at, taken_none}
 use Rattle.table_frames.proofs.WholeLaws.{whole_at, first_byte, free_by_first}
 use Rattle.table_frames.proofs.TakeLaws.{tests_both, node_more}
 use Rattle.buddy_handover.specs.Handover.{freed, unclaimed}
-
--- nothing is freed up to the first frame
-pub freed_none : (first node : ℕ) (reserved : Labels) (f : Frames) (x : ℕ) → f x ≡ freed first first node reserved f x
-freed_none first node reserved f x =
-    let none : (nat_le first x && nat_lt x first) ≡ false = grind (arith, nat_tests) in rw none refl
-
--- one stretch of unclaimed frames, and the claimed ones behind it
-pub freed_more : (first at from until end cut next node : ℕ) (reserved : Labels) (f g h : Frames) → cut ≡ min from end
-    → next ≡ min until end → first ≤ at → at < end → at ≤ from → from ≤ until
-    → ((x : ℕ) → at ≤ x → x < from → x < end → is_unclaimed reserved x ≡ true)
-    → ((x : ℕ) → from ≤ x → x < until → x < end → is_unclaimed reserved x ≡ false)
-    → ((x : ℕ) → g x ≡ freed first at node reserved f x)
-    → ((x : ℕ) → h x ≡ replaced (let r : Extent = record { base = at; size = cut - at } in r) node g x)
-    → (x : ℕ) → h x ≡ freed first next node reserved f x
-freed_more first at from until end cut next node reserved f g h cut_is next_is above inner order some bare held known put x =
-    let was = known x in let now = put x in let free = bare x in let claimed = held x in
-    grind (arith, nat_tests, was, now, free, claimed)
 
 -- so the frames of one record more, where it has a node, and where it has none
 pub record_freed : (b : ℕ) (ms : List (RunOf Label)) (reserved : Labels) (i n : ℕ) (d : RunOf Label) (f g : Frames) → AscendBelow b ms
