@@ -2,7 +2,7 @@
 use Rattle.std.proofs.Common.{◌≡◌, ◌^◌, ℕ, zero, suc, ◌+◌, ◌-◌, ◌*◌, ◌<◌, ◌≤◌, ◌==◌, nat_le, nat_lt, true, false, ◌&&◌, Option, Some, None, List, [], ◌∷◌, ◌++◌, length, get_or, drop, refl, sym, ◌∙◌, ap, inl, inr, arith, append_assoc}
 use Rattle.std.specs.Option.{option_to_list}
 use Rattle.std.proofs.lemmas.Bool.Decides.{nat_tests}
-use Rattle.std.proofs.lemmas.Bool.{cases_lt, cases_Bool, eqb-true, eq-eqb, true≢false}
+use Rattle.std.proofs.lemmas.Bool.{and_parts, cases_lt, cases_Bool, eqb-true, eq-eqb, false_from_ne_true, true≢false}
 use Rattle.bm_base.specs.declared.zone.Zone.{Zone}
 use Rattle.bm_base.specs.declared.zone.Zone.TheVariants as zone
 use Rattle.bm_base.specs.Zones.{zone_of}
@@ -53,13 +53,9 @@ same_in f g n x z same = ap (λ (o : Option ℕ). is_node o n && same_zone (zone
 other_in : (n k x : ℕ) (z w : Zone) → zone_of x ≡ w → ((k ≡ n) → (w ≡ z) → ⊥) → (is_node (Some k) n && same_zone (zone_of x) z) ≡ false
 other_in n k x z w zone other =
     ap (λ y. is_node (Some k) n && same_zone y z) zone
-    ∙ elim (cases_Bool (k == n)) as (λ _. ((k == n) && same_zone w z) ≡ false) [
-      | inr differs ↦ rw differs refl
-      | inl same ↦ elim (cases_Bool (same_zone w z)) as (λ _. ((k == n) && same_zone w z) ≡ false) [
-        | inl equal ↦ absurd (other (eqb-true k n same) (zone_is w z equal))
-        | inr apart ↦ rw (same, apart) refl
-      ]
-    ]
+    ∙ false_from_ne_true ((k == n) && same_zone w z) (λ both.
+    let parts = and_parts (k == n) (same_zone w z) both in
+    other (eqb-true k n parts.0) (zone_is w z parts.1))
 
 -- a stretch of frames of the node and the zone, where nothing is told from there on
 span_grown : (f : Frames) (n at until m : ℕ) (w : Zone) → NothingFrom at f → at < until → until ≤ m
@@ -96,9 +92,8 @@ span_other f n k at until m z w nothing zones other =
       | inl before ↦ same_in g f n x z (run_below at until k x f before)
       | inr above ↦ elim (cases_lt x until) as (λ _. is_in g n z x ≡ is_in f n z x) [
         | inl inner ↦
-            let out : is_in f n z x ≡ false = bare_out f n x z (nothing x above) in
             ap (λ (o : Option ℕ). is_node o n && same_zone (zone_of x) z) (run_inside at until k x f above inner)
-            ∙ other_in n k x z w (zones x above inner) other ∙ sym out
+            ∙ other_in n k x z w (zones x above inner) other ∙ sym (bare_out f n x z (nothing x above))
         | inr after ↦ same_in g f n x z (run_behind at until k x f after)
       ]
     ])

@@ -31,9 +31,7 @@ skip f n z m (suc k) none =
 same_span : (n start e d p q : ℕ) (z : Zone) → e ≡ d → p ≡ q
     → (let s : Span = record { node = n; zone = z; start = start; end = e; present = p } in s)
     ≡ record { node = n; zone = z; start = start; end = d; present = q }
-same_span n start e d p q z ends counts =
-    ap (λ x. let s : Span = record { node = n; zone = z; start = start; end = x; present = p } in s) ends
-    ∙ ap (λ x. let s : Span = record { node = n; zone = z; start = start; end = d; present = x } in s) counts
+same_span n start e d p q z ends counts = cc
 
 -- one frame more behind some
 one_more : (n : ℕ) (z : Zone) (m k : ℕ) (o : Option Span)
