@@ -1,6 +1,6 @@
 -- Searches along rows and columns.
 use Rattle.std.proofs.Common.{◌≡◌, ◌⊎◌, ℕ, zero, suc, ◌+◌, ◌-◌, ◌<◌, ◌≤◌, Bool, true, false, nat_lt, Option, Some, None, List, ◌∷◌, refl, sym, ◌∙◌, ap, subst, inl, inr, arith}
-use Rattle.std.proofs.lemmas.Bool.{cases_Bool}
+use Rattle.std.proofs.lemmas.Bool.{cases_Bool, cases_lt}
 use Rattle.std.proofs.lemmas.Bool.Decides.{nat_tests}
 use Rattle.std.specs.List.{find, cons_option, filter_map, range_with_len}
 use Rattle.std.specs.Option.{option_map}
@@ -35,9 +35,9 @@ found p a (suc n) c is = elim (cases_Bool (p a)) as (λ _. IsFound p a (suc n) c
         from = let low = rest.from in omega (arith, low);
         until = let high = rest.until in omega (arith, high);
         passes = rest.passes;
-        first = λ x low high. elim (cases_Bool (nat_lt a x)) as (λ _. p x ≡ false) [
-          | inl lt ↦ rest.first x (grind (arith, nat_tests, lt)) high
-          | inr ge ↦ let same : a ≡ x = grind (arith, nat_tests, ge, low) in subst (λ y. p y ≡ false) same off
+        first = λ x low high. elim (cases_lt a x) as (λ _. p x ≡ false) [
+          | inl lt ↦ rest.first x (omega (arith, lt)) high
+          | inr ge ↦ let same : a ≡ x = omega (arith, ge, low) in subst (λ y. p y ≡ false) same off
         ];
       }
 ]
@@ -123,25 +123,14 @@ bad_least m row column is =
       low = let high = at.until in omega (arith, high);
       left = let high = in_it.until in omega (arith, high);
       bad = in_it.passes;
-      least = λ r c low left bad. elim (cases_Bool (nat_lt r row)) as (λ _. (row < r) ⊎ ((row ≡ r) × (column ≤ c))) [
-        | inl lt ↦
-            let none = not_found (is_bad m r) 0 m.count c (at.first r (omega arith) (grind (arith, nat_tests, lt))) (omega arith)
-            (omega (arith, left)) in
-            cc (bad, none)
-        | inr ge ↦ elim (cases_Bool (nat_lt row r)) as (λ _. (row < r) ⊎ ((row ≡ r) × (column ≤ c))) [
-          | inl lt ↦ inl (grind (arith, nat_tests, lt))
+      least = λ r c low left bad. elim (cases_lt r row) as (λ _. (row < r) ⊎ ((row ≡ r) × (column ≤ c))) [
+        | inl lt ↦ cc (bad, not_found (is_bad m r) 0 m.count c (at.first r (omega arith) lt) (omega arith) (omega (arith, left)))
+        | inr ge ↦ elim (cases_lt row r) as (λ _. (row < r) ⊎ ((row ≡ r) × (column ≤ c))) [
+          | inl lt ↦ inl lt
           | inr le ↦
-              let same : row ≡ r = grind (arith, nat_tests, ge, le) in
-              inr (
-                same,
-                elim (cases_Bool (nat_lt c column)) as (λ _. column ≤ c) [
-                  | inl lt ↦
-                      let off = in_it.first c (omega arith) (grind (arith, nat_tests, lt)) in
-                      let on : is_bad m row c ≡ true = subst (λ y. is_bad m y c ≡ true) (sym same) bad in
-                      cc (on, off)
-                  | inr up ↦ grind (arith, nat_tests, up)
-                ],
-              )
+              let same : row ≡ r = omega (arith, ge, le) in
+              let on : is_bad m row c ≡ true = subst (λ y. is_bad m y c ≡ true) (sym same) bad in
+              inr (same, elim (cases_lt c column) as (λ _. column ≤ c) [ inl lt ↦ cc (on, in_it.first c (omega arith) lt) | inr up ↦ up ])
         ]
       ];
     }
