@@ -27,19 +27,20 @@ use Rattle.boot_inputs.specs.declared.refusal.InputRefusal.{InputRefusal}
 use Rattle.boot_inputs.specs.declared.refusal.InputRefusal.TheVariants as refusals
 use Rattle.boot_inputs.specs.declared.refusal.InputError.TheVariants as errors
 use Rattle.boot_inputs.specs.Answers.{ComesTo, FitsAnswer, FitsRefusal, Gives, HasCause, IsCaused, IsOf, Passes, RefusalHasCause, RoseAt, input_of}
-use Rattle.boot_inputs.specs.CommandLine.{command_line, options_said, options_take, put_options}
-use Rattle.boot_inputs.specs.Extension.{entries_said, extension_file, put_extension}
-use Rattle.boot_inputs.specs.Efi.{efi_file, efi_given, efi_said, efi_takes, put_efi}
-use Rattle.boot_inputs.specs.Faults.{IsOfBytes}
+use Rattle.boot_inputs.specs.CommandLine.{command_line, command_line_diagnostic, options_said, options_take, put_options}
+use Rattle.boot_inputs.specs.Diagnostic.{Diagnostic}
+use Rattle.boot_inputs.specs.Extension.{entries_said, extension_diagnostic, extension_file, put_extension}
+use Rattle.boot_inputs.specs.Efi.{efi_diagnostic, efi_file, efi_given, efi_said, efi_takes, put_efi}
+use Rattle.boot_inputs.specs.Faults.{IsOfBytes, diagnostic_of}
 use Rattle.boot_inputs.specs.File.{unless_fault, with_value}
 use Rattle.boot_inputs.specs.Input.{place, word_for}
 use Rattle.boot_inputs.specs.Inputs.{Held, Named, file_step, given_in, input_files, inputs_of, named_step, or_faulty, or_unread, step_if, takes_held, takes_memory, within}
-use Rattle.boot_inputs.specs.Pages.{pages_file, pages_said, pages_take, put_pages}
+use Rattle.boot_inputs.specs.Pages.{pages_diagnostic, pages_file, pages_said, pages_take, put_pages}
 use Rattle.boot_inputs.specs.Reading.{IsIn, WantsMemory, are_behind, ascend}
-use Rattle.boot_inputs.specs.Script.{lines_said, lines_take, put_lines, script_file}
-use Rattle.boot_inputs.specs.Slit.{distances_said, distances_take, put_distances, slit_file}
-use Rattle.boot_inputs.specs.Srat.{put_domains, srat_file, table_said, table_takes}
-use Rattle.boot_inputs.specs.ZeroPage.{page_said, put_page, zero_page}
+use Rattle.boot_inputs.specs.Script.{lines_said, lines_take, put_lines, script_diagnostic, script_file}
+use Rattle.boot_inputs.specs.Slit.{distances_said, distances_take, put_distances, slit_diagnostic, slit_file}
+use Rattle.boot_inputs.specs.Srat.{put_domains, srat_diagnostic, srat_file, table_said, table_takes}
+use Rattle.boot_inputs.specs.ZeroPage.{page_said, put_page, zero_page, zero_page_diagnostic}
 
 -- a zero page of so many entries, of which these 40 bytes are the first two
 abbrev page : ℕ → List ℕ → List ℕ
@@ -136,7 +137,38 @@ efi_gives = refl
 
 -- a reader's want of memory isn't of the bytes
 of_bytes : IsOfBytes (faults.Srat srat.Short) × IsOfBytes faults.TooLong × (IsOfBytes (faults.Srat srat.Memory) → ⊥)
-of_bytes = (λ is. cc is, tt, λ of. of refl)
+of_bytes = (refl, refl, λ of. cc of)
+
+-- what is told of a fault
+tables_told : (srat_diagnostic (srat.EntryLength 48) ≡ Some (Diagnostic.Offset (codes "entry length") 48))
+    × (srat_diagnostic (srat.BlockTooFar 1048) ≡ Some (Diagnostic.Offset (codes "block too far") 1048))
+    × (srat_diagnostic srat.Checksum ≡ Some (Diagnostic.Whole (codes "checksum"))) × (srat_diagnostic srat.Memory ≡ None)
+    × (slit_diagnostic slit.Short ≡ Some (Diagnostic.Whole (codes "short")))
+    × (slit_diagnostic slit.Localities ≡ Some (Diagnostic.Whole (codes "localities")))
+tables_told = (refl, refl, refl, refl, refl, refl)
+
+entries_told : (zero_page_diagnostic (zero.EntryTooFar 3) ≡ Diagnostic.Far (codes "entry") 3)
+    × (zero_page_diagnostic zero.InitrdTooFar ≡ Diagnostic.Whole (codes "initrd too far"))
+    × (extension_diagnostic (extension.EntryTooFar 3071) ≡ Some (Diagnostic.Far (codes "entry") 3071))
+    × (efi_diagnostic (efi.TooFar 3) ≡ Some (Diagnostic.Far (codes "descriptor") 3))
+    × (efi_diagnostic efi.Length ≡ Some (Diagnostic.Whole (codes "length")))
+entries_told = (refl, refl, refl, refl, refl)
+
+words_told : (command_line_diagnostic (options.UserMapInvalid 12) ≡ Some (Diagnostic.Word 12 (codes "user map")))
+    × (command_line_diagnostic (options.BadMem 1) ≡ Some (Diagnostic.Word 1 (codes "mem")))
+    × (command_line_diagnostic (options.BadCrash 1) ≡ Some (Diagnostic.Word 1 (codes "crashkernel")))
+    × (command_line_diagnostic options.TooLong ≡ Some (Diagnostic.Whole (codes "line too long")))
+words_told = (refl, refl, refl, refl)
+
+lines_told : (script_diagnostic (script.ZeroSize 12) ≡ Some (Diagnostic.Line 12 (codes "zero size")))
+    × (script_diagnostic (script.BadLine 1) ≡ Some (Diagnostic.Line 1 (codes "form")))
+    × (pages_diagnostic (pages.BadNumber 2) ≡ Some (Diagnostic.Line 2 (codes "number"))) × (pages_diagnostic pages.Memory ≡ None)
+lines_told = (refl, refl, refl, refl)
+
+faults_told : (diagnostic_of faults.TooLong ≡ Some (Diagnostic.Whole (codes "too long")))
+    × (diagnostic_of (faults.ZeroPage zero.TooFew) ≡ Some (Diagnostic.Whole (codes "too few entries")))
+    × (diagnostic_of (faults.Efi efi.Memory) ≡ None)
+faults_told = (refl, refl, refl)
 
 -- a file is within its limit, held, and of its input
 limit_examples : (within 3 (1 ∷ 2 ∷ 3 ∷ []) ≡ Ok (1 ∷ 2 ∷ 3 ∷ [])) × (within 2 (1 ∷ 2 ∷ 3 ∷ []) ≡ Err faults.TooLong)

@@ -1,6 +1,6 @@
 -- What is said of a list of files, from what is said of its first and of those behind it. The work behind a file goes beyond it,
 -- whatever it comes to, since the files ascend.
-use Rattle.std.proofs.Common.{◌≡◌, ℕ, ◌<◌, ◌≤◌, ◌⊎◌, inl, inr, Bool, true, ◌&&◌, nat_lt, List, [], ◌∷◌, Option, Some, None, Result, Ok, Err, refl, ap, sym, ◌∙◌, subst, arith}
+use Rattle.std.proofs.Common.{◌≡◌, ℕ, ◌<◌, ◌≤◌, ◌⊎◌, inl, inr, nat_lt, List, [], ◌∷◌, Option, Some, None, Result, Ok, Err, refl, ap, sym, ◌∙◌, subst, arith}
 use Rattle.std.specs.Prelude.{IfSome, IsErrOf, IsErrAnd, IsNone, IsOk, IsTrue, OnOk}
 use Rattle.std.proofs.lemmas.Bool.{and_parts, ltb-true}
 use Rattle.bm_base.specs.ResultSteps.{◌>>=◌}
@@ -17,7 +17,7 @@ use Rattle.boot_inputs.specs.Answers.{ComesTo, FitsAnswer, Gives, HasCause, IsOf
 use Rattle.boot_inputs.specs.File.{File}
 use Rattle.boot_inputs.specs.Input.{place}
 use Rattle.boot_inputs.specs.Inputs.{Held, Named, file_step, given_in, or_faulty, or_unread, step_if, takes_memory, within}
-use Rattle.boot_inputs.specs.Reading.{AreRead, IsIn, WantsMemory, are_behind, ascend}
+use Rattle.boot_inputs.specs.Reading.{AreRead, WantsMemory, are_behind, ascend}
 
 -- a fault of a later file
 faulty_passes : (input other : Input) (answer : Result Given Fault) → place input < place other → Passes input (or_faulty other answer)

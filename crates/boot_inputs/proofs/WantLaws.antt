@@ -1,5 +1,5 @@
 -- No bytes are judged to want memory: each fault that the definitions give is another one.
-use Rattle.std.proofs.Common.{◌≡◌, ◌≢◌, ℕ, ◌+◌, Bool, true, false, nat_lt, List, [], ◌∷◌, length, Option, Some, None, Result, Ok, Err, codes, refl}
+use Rattle.std.proofs.Common.{◌≡◌, ◌≢◌, ℕ, ◌+◌, Bool, true, false, nat_lt, List, [], ◌∷◌, length, Option, Some, None, Result, Ok, Err, codes, refl, arith}
 use Rattle.std.specs.Prelude.{All, IfErr, IsErrOf, if◌then◌else◌}
 use Rattle.std.specs.Option.{option_and_then, option_map, option_or}
 use Rattle.std.specs.Str.{bytes_eq}
@@ -255,22 +255,22 @@ SaysOfBytes file = (bytes : List ℕ) (given : Given) → IfErr (file.says bytes
 
 pub files_other : All SaysOfBytes input_files
 files_other = All-from_recursion SaysOfBytes input_files (
-  λ bytes given. fault_of_bytes faults.ZeroPage put_page given (zero_fault bytes) _ (λ fault is. tt),
+  λ bytes given. fault_of_bytes faults.ZeroPage put_page given (zero_fault bytes) _ (λ fault is. refl),
   (
     λ bytes given. fault_of_bytes faults.Extension put_extension given (ext_fault bytes) _
-        (λ fault is same. extension_other bytes (cc (is, same))),
+        (λ fault is. let other : fault ≢ extension.Memory = (λ same. extension_other bytes (cc (is, same))) in grind arith),
     (
-      says_of_bytes faults.CommandLine options.Memory put_options options_of (λ fault other. other) options_other,
+      says_of_bytes faults.CommandLine options.Memory put_options options_of (λ fault other. grind arith) options_other,
       (
-        says_of_bytes faults.Srat srat.Memory put_domains srat_of (λ fault other. other) srat_other,
+        says_of_bytes faults.Srat srat.Memory put_domains srat_of (λ fault other. grind arith) srat_other,
         (
-          says_of_bytes faults.Script script.Memory put_lines script_of (λ fault other. other) script_other,
+          says_of_bytes faults.Script script.Memory put_lines script_of (λ fault other. grind arith) script_other,
           (
-            says_of_bytes faults.Pages pages.Memory put_pages pages_of (λ fault other. other) pages_other,
+            says_of_bytes faults.Pages pages.Memory put_pages pages_of (λ fault other. grind arith) pages_other,
             (
-              says_of_bytes faults.Slit slit.Memory put_distances slit_of (λ fault other. other) slit_other,
+              says_of_bytes faults.Slit slit.Memory put_distances slit_of (λ fault other. grind arith) slit_other,
               (
-                says_of_bytes faults.Efi efi.Memory put_efi efi_of (λ fault other. other) efi_other,
+                says_of_bytes faults.Efi efi.Memory put_efi efi_of (λ fault other. grind arith) efi_other,
                 tt,
               ),
             ),
@@ -292,7 +292,7 @@ then_if P (Ok a) f first rest = rest a
 then_if P (Err error) f first rest = first
 
 within_other : (long : Bool) (bytes : List ℕ) → IfErr (if long then Err faults.TooLong else Ok bytes) IsOfBytes
-within_other true bytes = tt
+within_other true bytes = refl
 within_other false bytes = tt
 
 faulty_other : (input : Input) (x : Result Given Fault) → IfErr x IsOfBytes → IfErr (or_faulty input x) RefusedOfBytes

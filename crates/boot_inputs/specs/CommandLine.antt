@@ -1,12 +1,14 @@
 -- The command line of the kernel.
-use Rattle.std.specs.Prelude.{ℕ, Bool, false, ◌||◌, nat_lt, is_some, List, length, Result, Ok, Err}
+use Rattle.std.specs.Prelude.{ℕ, Bool, false, ◌||◌, nat_lt, is_some, List, length, codes, Option, Some, None, Result, Ok, Err}
 use Rattle.bm_base.specs.ResultSteps.{with_error}
 use Rattle.boot_options.specs.declared.fault.OptionFault.{OptionFault}
+use Rattle.boot_options.specs.declared.fault.OptionFault.TheVariants as options
 use Rattle.boot_options.specs.Options.{Chosen, options_of}
 use Rattle.boot_model.specs.Boot.{Given}
 use Rattle.boot_inputs.specs.declared.fault.Fault.{Fault}
 use Rattle.boot_inputs.specs.declared.fault.Fault.TheVariants as faults
 use Rattle.boot_inputs.specs.declared.input.Input.TheVariants as inputs
+use Rattle.boot_inputs.specs.Diagnostic.{Diagnostic}
 use Rattle.boot_inputs.specs.File.{File, with_value}
 
 abbrev pub options_said : List ℕ → Result Chosen Fault
@@ -28,3 +30,14 @@ command_line = record {
   takes = λ bytes. options_take (options_of bytes);
   says = λ bytes given. with_value put_options given (options_said bytes);
 }
+
+-- what is told of a fault: nothing of want of memory, which is no fault of the bytes
+abbrev pub command_line_diagnostic : OptionFault → Option Diagnostic
+command_line_diagnostic options.TooLong = Some (Diagnostic.Whole (codes "line too long"))
+command_line_diagnostic options.OpenQuote = Some (Diagnostic.Whole (codes "open quote"))
+command_line_diagnostic (options.BadMem word) = Some (Diagnostic.Word word (codes "mem"))
+command_line_diagnostic (options.BadMemmap word) = Some (Diagnostic.Word word (codes "memmap"))
+command_line_diagnostic (options.BadCrash word) = Some (Diagnostic.Word word (codes "crashkernel"))
+command_line_diagnostic (options.UserMapInvalid word) = Some (Diagnostic.Word word (codes "user map"))
+command_line_diagnostic (options.BadNuma word) = Some (Diagnostic.Word word (codes "numa"))
+command_line_diagnostic options.Memory = None

@@ -1,12 +1,15 @@
 -- The EFI memory map.
-use Rattle.std.specs.Prelude.{ℕ, Bool, nat_lt, List, length, map, Some, Result}
+use Rattle.std.specs.Prelude.{ℕ, Bool, nat_lt, List, length, map, codes, Option, Some, None, Result}
 use Rattle.bm_base.specs.ResultSteps.{with_error}
+use Rattle.efi_map.specs.declared.efi.EfiFault.{EfiFault}
+use Rattle.efi_map.specs.declared.efi.EfiFault.TheVariants as efi
 use Rattle.efi_map.specs.Map.{Efi, descriptors_of, efi_of}
 use Rattle.boot_model.specs.Boot.{EfiGiven, Given}
 use Rattle.boot_model.specs.Mirrors.{frames_in}
 use Rattle.boot_inputs.specs.declared.fault.Fault.{Fault}
 use Rattle.boot_inputs.specs.declared.fault.Fault.TheVariants as faults
 use Rattle.boot_inputs.specs.declared.input.Input.TheVariants as inputs
+use Rattle.boot_inputs.specs.Diagnostic.{Diagnostic}
 use Rattle.boot_inputs.specs.File.{File, with_value}
 
 -- what the map gives: its entries, and its mirrors as frames
@@ -31,3 +34,10 @@ efi_file = record {
   takes = efi_takes;
   says = λ bytes given. with_value put_efi given (efi_said bytes);
 }
+
+-- what is told of a fault: nothing of want of memory, which is no fault of the bytes
+abbrev pub efi_diagnostic : EfiFault → Option Diagnostic
+efi_diagnostic efi.Header = Some (Diagnostic.Whole (codes "header"))
+efi_diagnostic efi.Length = Some (Diagnostic.Whole (codes "length"))
+efi_diagnostic (efi.TooFar index) = Some (Diagnostic.Far (codes "descriptor") index)
+efi_diagnostic efi.Memory = None

@@ -1,12 +1,15 @@
 -- The E820 extension (`setup_data` of the type `SETUP_E820_EXT`).
-use Rattle.std.specs.Prelude.{ℕ, nat_lt, List, length, Result}
+use Rattle.std.specs.Prelude.{ℕ, nat_lt, List, length, codes, Option, Some, None, Result}
 use Rattle.std.specs.Option.{option_map}
 use Rattle.e820_model.specs.declared.entry.Entry.{Entry}
+use Rattle.e820_table.specs.declared.extension.ExtFault.{ExtFault}
+use Rattle.e820_table.specs.declared.extension.ExtFault.TheVariants as extension
 use Rattle.e820_table.specs.Extension.{ext_entries_of, ext_fault}
 use Rattle.boot_model.specs.Boot.{Given}
 use Rattle.boot_inputs.specs.declared.fault.Fault.{Fault}
 use Rattle.boot_inputs.specs.declared.fault.Fault.TheVariants as faults
 use Rattle.boot_inputs.specs.declared.input.Input.TheVariants as inputs
+use Rattle.boot_inputs.specs.Diagnostic.{Diagnostic}
 use Rattle.boot_inputs.specs.File.{File, unless_fault, with_value}
 
 abbrev pub entries_said : List ℕ → Result (List Entry) Fault
@@ -23,3 +26,10 @@ extension_file = record {
   takes = λ bytes. nat_lt 0 (length (ext_entries_of bytes));
   says = λ bytes given. with_value put_extension given (entries_said bytes);
 }
+
+-- what is told of a fault: nothing of want of memory, which is no fault of the bytes
+abbrev pub extension_diagnostic : ExtFault → Option Diagnostic
+extension_diagnostic (extension.EntryTooFar index) = Some (Diagnostic.Far (codes "entry") index)
+extension_diagnostic extension.ExtHeader = Some (Diagnostic.Whole (codes "header"))
+extension_diagnostic extension.ExtLength = Some (Diagnostic.Whole (codes "length"))
+extension_diagnostic extension.Memory = None

@@ -1,23 +1,29 @@
--- What bytes can have wrong.
-use Rattle.std.specs.Prelude.{◌≢◌}
-use Rattle.boot_options.specs.declared.fault.OptionFault.TheVariants as options
-use Rattle.e820_table.specs.declared.extension.ExtFault.TheVariants as extension
-use Rattle.efi_map.specs.declared.efi.EfiFault.TheVariants as efi
-use Rattle.page_alloc.specs.declared.fault.PageFault.TheVariants as pages
-use Rattle.script_reader.specs.declared.fault.ScriptFault.TheVariants as script
-use Rattle.slit_zonelists.specs.declared.table.SlitFault.TheVariants as slit
-use Rattle.srat_reader.specs.declared.table.SratFault.TheVariants as srat
+-- What is told of the faults of files.
+use Rattle.std.specs.Prelude.{codes, Option, Some, IsSome}
 use Rattle.boot_inputs.specs.declared.fault.Fault.{Fault}
 use Rattle.boot_inputs.specs.declared.fault.Fault.TheVariants as faults
+use Rattle.boot_inputs.specs.CommandLine.{command_line_diagnostic}
+use Rattle.boot_inputs.specs.Diagnostic.{Diagnostic}
+use Rattle.boot_inputs.specs.Efi.{efi_diagnostic}
+use Rattle.boot_inputs.specs.Extension.{extension_diagnostic}
+use Rattle.boot_inputs.specs.Pages.{pages_diagnostic}
+use Rattle.boot_inputs.specs.Script.{script_diagnostic}
+use Rattle.boot_inputs.specs.Slit.{slit_diagnostic}
+use Rattle.boot_inputs.specs.Srat.{srat_diagnostic}
+use Rattle.boot_inputs.specs.ZeroPage.{zero_page_diagnostic}
 
--- the fault isn't a reader's want of memory, which no bytes are judged to have
+-- of any file that it is longer than its limit, and of each what is told of its own faults
+abbrev pub diagnostic_of : Fault → Option Diagnostic
+diagnostic_of faults.TooLong = Some (Diagnostic.Whole (codes "too long"))
+diagnostic_of (faults.ZeroPage fault) = Some (zero_page_diagnostic fault)
+diagnostic_of (faults.Extension fault) = extension_diagnostic fault
+diagnostic_of (faults.CommandLine fault) = command_line_diagnostic fault
+diagnostic_of (faults.Srat fault) = srat_diagnostic fault
+diagnostic_of (faults.Script fault) = script_diagnostic fault
+diagnostic_of (faults.Pages fault) = pages_diagnostic fault
+diagnostic_of (faults.Slit fault) = slit_diagnostic fault
+diagnostic_of (faults.Efi fault) = efi_diagnostic fault
+
+-- something is told of the fault: it isn't a reader's want of memory, which no bytes are judged to have
 abbrev pub IsOfBytes : Fault → Type 0
-IsOfBytes faults.TooLong = Unit {0}
-IsOfBytes (faults.ZeroPage fault) = Unit {0}
-IsOfBytes (faults.Extension fault) = fault ≢ extension.Memory
-IsOfBytes (faults.CommandLine fault) = fault ≢ options.Memory
-IsOfBytes (faults.Srat fault) = fault ≢ srat.Memory
-IsOfBytes (faults.Script fault) = fault ≢ script.Memory
-IsOfBytes (faults.Pages fault) = fault ≢ pages.Memory
-IsOfBytes (faults.Slit fault) = fault ≢ slit.Memory
-IsOfBytes (faults.Efi fault) = fault ≢ efi.Memory
+IsOfBytes fault = IsSome (diagnostic_of fault)

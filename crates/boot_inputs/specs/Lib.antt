@@ -1,5 +1,6 @@
 pub mod Answers
 pub mod CommandLine
+pub mod Diagnostic
 pub mod Extension
 pub mod Efi
 pub mod Faults

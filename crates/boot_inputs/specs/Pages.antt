@@ -1,13 +1,15 @@
 -- The page script.
-use Rattle.std.specs.Prelude.{ℕ, Bool, false, nat_lt, List, length, Result, Ok, Err}
+use Rattle.std.specs.Prelude.{ℕ, Bool, false, nat_lt, List, length, codes, Option, Some, None, Result, Ok, Err}
 use Rattle.bm_base.specs.ResultSteps.{with_error}
 use Rattle.page_alloc.specs.declared.act.PageLine.{PageLine}
 use Rattle.page_alloc.specs.declared.fault.PageFault.{PageFault}
+use Rattle.page_alloc.specs.declared.fault.PageFault.TheVariants as pages
 use Rattle.page_alloc.specs.Reading.{pages_of}
 use Rattle.boot_model.specs.Boot.{Given}
 use Rattle.boot_inputs.specs.declared.fault.Fault.{Fault}
 use Rattle.boot_inputs.specs.declared.fault.Fault.TheVariants as faults
 use Rattle.boot_inputs.specs.declared.input.Input.TheVariants as inputs
+use Rattle.boot_inputs.specs.Diagnostic.{Diagnostic}
 use Rattle.boot_inputs.specs.File.{File, with_value}
 
 abbrev pub pages_said : List ℕ → Result (List PageLine) Fault
@@ -29,3 +31,9 @@ pages_file = record {
   takes = λ bytes. pages_take (pages_of bytes);
   says = λ bytes given. with_value put_pages given (pages_said bytes);
 }
+
+-- what is told of a fault: nothing of want of memory, which is no fault of the bytes
+abbrev pub pages_diagnostic : PageFault → Option Diagnostic
+pages_diagnostic (pages.BadLine line) = Some (Diagnostic.Line line (codes "form"))
+pages_diagnostic (pages.BadNumber line) = Some (Diagnostic.Line line (codes "number"))
+pages_diagnostic pages.Memory = None

@@ -1,13 +1,15 @@
 -- The script of early allocations.
-use Rattle.std.specs.Prelude.{ℕ, Bool, false, nat_lt, List, length, Result, Ok, Err}
+use Rattle.std.specs.Prelude.{ℕ, Bool, false, nat_lt, List, length, codes, Option, Some, None, Result, Ok, Err}
 use Rattle.bm_base.specs.ResultSteps.{with_error}
 use Rattle.script_reader.specs.declared.act.Line.{Line}
 use Rattle.script_reader.specs.declared.fault.ScriptFault.{ScriptFault}
+use Rattle.script_reader.specs.declared.fault.ScriptFault.TheVariants as script
 use Rattle.script_reader.specs.Script.{script_of}
 use Rattle.boot_model.specs.Boot.{Given}
 use Rattle.boot_inputs.specs.declared.fault.Fault.{Fault}
 use Rattle.boot_inputs.specs.declared.fault.Fault.TheVariants as faults
 use Rattle.boot_inputs.specs.declared.input.Input.TheVariants as inputs
+use Rattle.boot_inputs.specs.Diagnostic.{Diagnostic}
 use Rattle.boot_inputs.specs.File.{File, with_value}
 
 abbrev pub lines_said : List ℕ → Result (List Line) Fault
@@ -29,3 +31,13 @@ script_file = record {
   takes = λ bytes. lines_take (script_of bytes);
   says = λ bytes given. with_value put_lines given (lines_said bytes);
 }
+
+-- what is told of a fault: nothing of want of memory, which is no fault of the bytes
+abbrev pub script_diagnostic : ScriptFault → Option Diagnostic
+script_diagnostic (script.BadLine line) = Some (Diagnostic.Line line (codes "form"))
+script_diagnostic (script.BadNumber line) = Some (Diagnostic.Line line (codes "number"))
+script_diagnostic (script.BadAlign line) = Some (Diagnostic.Line line (codes "alignment"))
+script_diagnostic (script.ZeroSize line) = Some (Diagnostic.Line line (codes "zero size"))
+script_diagnostic (script.SecondSections line) = Some (Diagnostic.Line line (codes "second sections"))
+script_diagnostic (script.TooFar line) = Some (Diagnostic.Line line (codes "too far"))
+script_diagnostic script.Memory = None

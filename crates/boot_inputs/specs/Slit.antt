@@ -1,13 +1,15 @@
 -- The firmware's table of distances (the ACPI table SLIT).
-use Rattle.std.specs.Prelude.{ℕ, Bool, false, nat_lt, List, Some, Result, Ok, Err}
+use Rattle.std.specs.Prelude.{ℕ, Bool, false, nat_lt, List, codes, Option, Some, None, Result, Ok, Err}
 use Rattle.bm_base.specs.ResultSteps.{with_error}
 use Rattle.slit_zonelists.specs.declared.table.SlitFault.{SlitFault}
+use Rattle.slit_zonelists.specs.declared.table.SlitFault.TheVariants as slit
 use Rattle.slit_zonelists.specs.Matrix.{Matrix}
 use Rattle.slit_zonelists.specs.Table.{slit_of}
 use Rattle.boot_model.specs.Boot.{Given}
 use Rattle.boot_inputs.specs.declared.fault.Fault.{Fault}
 use Rattle.boot_inputs.specs.declared.fault.Fault.TheVariants as faults
 use Rattle.boot_inputs.specs.declared.input.Input.TheVariants as inputs
+use Rattle.boot_inputs.specs.Diagnostic.{Diagnostic}
 use Rattle.boot_inputs.specs.File.{File, with_value}
 
 abbrev pub distances_said : List ℕ → Result Matrix Fault
@@ -29,3 +31,12 @@ slit_file = record {
   takes = λ bytes. distances_take (slit_of bytes);
   says = λ bytes given. with_value put_distances given (distances_said bytes);
 }
+
+-- what is told of a fault: nothing of want of memory, which is no fault of the bytes
+abbrev pub slit_diagnostic : SlitFault → Option Diagnostic
+slit_diagnostic slit.Short = Some (Diagnostic.Whole (codes "short"))
+slit_diagnostic slit.Signature = Some (Diagnostic.Whole (codes "signature"))
+slit_diagnostic slit.Length = Some (Diagnostic.Whole (codes "length"))
+slit_diagnostic slit.Checksum = Some (Diagnostic.Whole (codes "checksum"))
+slit_diagnostic slit.Localities = Some (Diagnostic.Whole (codes "localities"))
+slit_diagnostic slit.Memory = None

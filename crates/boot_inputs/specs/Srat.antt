@@ -1,12 +1,14 @@
 -- The firmware's table of domains (the ACPI table SRAT).
-use Rattle.std.specs.Prelude.{ℕ, Bool, false, ◌||◌, nat_lt, List, length, Some, Result, Ok, Err}
+use Rattle.std.specs.Prelude.{ℕ, Bool, false, ◌||◌, nat_lt, List, length, codes, Option, Some, None, Result, Ok, Err}
 use Rattle.bm_base.specs.ResultSteps.{with_error}
 use Rattle.srat_reader.specs.declared.table.SratFault.{SratFault}
+use Rattle.srat_reader.specs.declared.table.SratFault.TheVariants as srat
 use Rattle.srat_reader.specs.Table.{Affinity, srat_of}
 use Rattle.boot_model.specs.Boot.{Given}
 use Rattle.boot_inputs.specs.declared.fault.Fault.{Fault}
 use Rattle.boot_inputs.specs.declared.fault.Fault.TheVariants as faults
 use Rattle.boot_inputs.specs.declared.input.Input.TheVariants as inputs
+use Rattle.boot_inputs.specs.Diagnostic.{Diagnostic}
 use Rattle.boot_inputs.specs.File.{File, with_value}
 
 abbrev pub table_said : List ℕ → Result Affinity Fault
@@ -28,3 +30,13 @@ srat_file = record {
   takes = λ bytes. table_takes (srat_of bytes);
   says = λ bytes given. with_value put_domains given (table_said bytes);
 }
+
+-- what is told of a fault: nothing of want of memory, which is no fault of the bytes
+abbrev pub srat_diagnostic : SratFault → Option Diagnostic
+srat_diagnostic srat.Short = Some (Diagnostic.Whole (codes "short"))
+srat_diagnostic srat.Signature = Some (Diagnostic.Whole (codes "signature"))
+srat_diagnostic srat.Length = Some (Diagnostic.Whole (codes "length"))
+srat_diagnostic srat.Checksum = Some (Diagnostic.Whole (codes "checksum"))
+srat_diagnostic (srat.EntryLength offset) = Some (Diagnostic.Offset (codes "entry length") offset)
+srat_diagnostic (srat.BlockTooFar offset) = Some (Diagnostic.Offset (codes "block too far") offset)
+srat_diagnostic srat.Memory = None

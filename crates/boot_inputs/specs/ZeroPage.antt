@@ -1,11 +1,14 @@
 -- The zero page (`struct boot_params`).
-use Rattle.std.specs.Prelude.{ℕ, false, List, Result}
+use Rattle.std.specs.Prelude.{ℕ, false, List, codes, Result}
 use Rattle.std.specs.Option.{option_map}
+use Rattle.e820_table.specs.declared.zero_page.ZeroFault.{ZeroFault}
+use Rattle.e820_table.specs.declared.zero_page.ZeroFault.TheVariants as zero
 use Rattle.e820_table.specs.ZeroPage.{Page, page_of, zero_fault}
 use Rattle.boot_model.specs.Boot.{Given}
 use Rattle.boot_inputs.specs.declared.fault.Fault.{Fault}
 use Rattle.boot_inputs.specs.declared.fault.Fault.TheVariants as faults
 use Rattle.boot_inputs.specs.declared.input.Input.TheVariants as inputs
+use Rattle.boot_inputs.specs.Diagnostic.{Diagnostic}
 use Rattle.boot_inputs.specs.File.{File, unless_fault, with_value}
 
 abbrev pub page_said : List ℕ → Result Page Fault
@@ -23,3 +26,11 @@ zero_page = record {
   takes = λ bytes. false;
   says = λ bytes given. with_value put_page given (page_said bytes);
 }
+
+-- what is told of a fault
+abbrev pub zero_page_diagnostic : ZeroFault → Diagnostic
+zero_page_diagnostic zero.WrongLength = Diagnostic.Whole (codes "wrong length")
+zero_page_diagnostic zero.TooFew = Diagnostic.Whole (codes "too few entries")
+zero_page_diagnostic zero.TooMany = Diagnostic.Whole (codes "too many entries")
+zero_page_diagnostic (zero.EntryTooFar index) = Diagnostic.Far (codes "entry") index
+zero_page_diagnostic zero.InitrdTooFar = Diagnostic.Whole (codes "initrd too far")

@@ -1,11 +1,14 @@
 //! The command line of the kernel as an input. Nothing of the line goes on but its options.
 
 ghost use Rattle.std.specs.Prelude.{◌≡◌, ◌≤◌, length, IsErrOf, IsOk, IsTrue};
+ghost use Rattle.std.specs.Option.{option_map};
 ghost use Rattle.bm_base.specs.Answers.{Answers};
 ghost use Rattle.bm_base.specs.ResultSteps.{with_error};
 ghost use Rattle.boot_model.specs.View.{inputs_view};
-ghost use Rattle.boot_inputs.specs.CommandLine.{command_line};
+ghost use Rattle.boot_inputs.specs.Diagnostic.{diagnostic_view};
+ghost use Rattle.boot_inputs.specs.CommandLine.{command_line, command_line_diagnostic};
 
+use crate::diagnostic::Diagnostic;
 use crate::fault::{Fault, Misread};
 use crate::input::Input;
 use crate::reader::Reader;
@@ -36,5 +39,21 @@ impl Reader for CommandLines {
             Err(OptionFault::Memory) => Err(Misread::Memory),
             Err(fault) => Err(Misread::Fault(Fault::CommandLine(fault))),
         }
+    }
+}
+
+/// What is told of a fault: nothing of want of memory, which is no fault of the bytes.
+pub(crate) fn command_line_diagnostic(fault: OptionFault) -> Option<Diagnostic>
+    ensures { option_map diagnostic_view result ≡ command_line_diagnostic fault }
+{
+    match fault {
+        OptionFault::TooLong => Some(Diagnostic::Whole("line too long")),
+        OptionFault::OpenQuote => Some(Diagnostic::Whole("open quote")),
+        OptionFault::BadMem { word } => Some(Diagnostic::Word(word, "mem")),
+        OptionFault::BadMemmap { word } => Some(Diagnostic::Word(word, "memmap")),
+        OptionFault::BadCrash { word } => Some(Diagnostic::Word(word, "crashkernel")),
+        OptionFault::UserMapInvalid { word } => Some(Diagnostic::Word(word, "user map")),
+        OptionFault::BadNuma { word } => Some(Diagnostic::Word(word, "numa")),
+        OptionFault::Memory => None,
     }
 }

@@ -1,11 +1,14 @@
 //! The firmware's own map of memory as an input.
 
 ghost use Rattle.std.specs.Prelude.{◌≡◌, ◌≤◌, length, IsErrOf, IsOk, IsTrue};
+ghost use Rattle.std.specs.Option.{option_map};
 ghost use Rattle.bm_base.specs.Answers.{Answers};
 ghost use Rattle.bm_base.specs.ResultSteps.{with_error};
 ghost use Rattle.boot_model.specs.View.{inputs_view};
-ghost use Rattle.boot_inputs.specs.Efi.{efi_file};
+ghost use Rattle.boot_inputs.specs.Diagnostic.{diagnostic_view};
+ghost use Rattle.boot_inputs.specs.Efi.{efi_diagnostic, efi_file};
 
+use crate::diagnostic::Diagnostic;
 use crate::fault::{Fault, Misread};
 use crate::input::Input;
 use crate::reader::Reader;
@@ -37,5 +40,17 @@ impl Reader for EfiMaps {
             Err(EfiFault::Memory) => Err(Misread::Memory),
             Err(fault) => Err(Misread::Fault(Fault::Efi(fault))),
         }
+    }
+}
+
+/// What is told of a fault: nothing of want of memory, which is no fault of the bytes.
+pub(crate) fn efi_diagnostic(fault: EfiFault) -> Option<Diagnostic>
+    ensures { option_map diagnostic_view result ≡ efi_diagnostic fault }
+{
+    match fault {
+        EfiFault::Header => Some(Diagnostic::Whole("header")),
+        EfiFault::Length => Some(Diagnostic::Whole("length")),
+        EfiFault::TooFar { index } => Some(Diagnostic::Far("descriptor", index)),
+        EfiFault::Memory => None,
     }
 }

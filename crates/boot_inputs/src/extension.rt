@@ -2,11 +2,14 @@
 //! on with (`setup_data`); so it is a file of its own, with its own limit and its own faults.
 
 ghost use Rattle.std.specs.Prelude.{◌≡◌, ◌≤◌, length, IsErrOf, IsOk, IsTrue};
+ghost use Rattle.std.specs.Option.{option_map};
 ghost use Rattle.bm_base.specs.Answers.{Answers};
 ghost use Rattle.bm_base.specs.ResultSteps.{with_error};
 ghost use Rattle.boot_model.specs.View.{inputs_view};
-ghost use Rattle.boot_inputs.specs.Extension.{extension_file};
+ghost use Rattle.boot_inputs.specs.Diagnostic.{diagnostic_view};
+ghost use Rattle.boot_inputs.specs.Extension.{extension_diagnostic, extension_file};
 
+use crate::diagnostic::Diagnostic;
 use crate::fault::{Fault, Misread};
 use crate::input::Input;
 use crate::reader::Reader;
@@ -39,5 +42,17 @@ impl Reader for Extensions {
             Err(ExtFault::Memory) => Err(Misread::Memory),
             Err(fault) => Err(Misread::Fault(Fault::Extension(fault))),
         }
+    }
+}
+
+/// What is told of a fault: nothing of want of memory, which is no fault of the bytes.
+pub(crate) fn extension_diagnostic(fault: ExtFault) -> Option<Diagnostic>
+    ensures { option_map diagnostic_view result ≡ extension_diagnostic fault }
+{
+    match fault {
+        ExtFault::EntryTooFar { index } => Some(Diagnostic::Far("entry", index)),
+        ExtFault::ExtHeader => Some(Diagnostic::Whole("header")),
+        ExtFault::ExtLength => Some(Diagnostic::Whole("length")),
+        ExtFault::Memory => None,
     }
 }

@@ -5,7 +5,7 @@
 //! and the firmware's own map of memory (EFI). What the program does with a file is the same for all of them: look up its name, fetch
 //! it up to its limit, and read it into the inputs ([`add_file`]). So an input file is one value in one module, an
 //! implementation of [`Reader`]: which [`Input`] it is, the most bytes that it has, and how they are read. Its
-//! definition is one value too, a `File` of `specs/File.antt`.
+//! definition is one value too, a `File` of `specs/File.antt`. Beside it stands what is told of the file's faults ([`Diagnostic`]).
 //!
 //! The files in the order of work, zero page, extension, command line, SRAT, script, page script, SLIT, EFI map, are a list in the code
 //! (`src/inputs.rt`) and one in the definition (`input_files` of `specs/Inputs.antt`). [`Readers`] walks any list, and what
@@ -21,6 +21,7 @@
 #![tactic(auto)]
 
 mod command_line;
+mod diagnostic;
 mod efi;
 mod extension;
 mod fault;
@@ -38,6 +39,7 @@ mod slit;
 mod srat;
 mod zero_page;
 
+pub use diagnostic::Diagnostic;
 pub use fault::{Fault, Misread};
 pub use fetching::add_file;
 pub use input::Input;

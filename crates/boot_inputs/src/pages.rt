@@ -1,11 +1,14 @@
 //! The page script as an input: what is asked of the page allocator behind the boot.
 
 ghost use Rattle.std.specs.Prelude.{◌≡◌, ◌≤◌, length, IsErrOf, IsOk, IsTrue};
+ghost use Rattle.std.specs.Option.{option_map};
 ghost use Rattle.bm_base.specs.Answers.{Answers};
 ghost use Rattle.bm_base.specs.ResultSteps.{with_error};
 ghost use Rattle.boot_model.specs.View.{inputs_view};
-ghost use Rattle.boot_inputs.specs.Pages.{pages_file};
+ghost use Rattle.boot_inputs.specs.Diagnostic.{diagnostic_view};
+ghost use Rattle.boot_inputs.specs.Pages.{pages_diagnostic, pages_file};
 
+use crate::diagnostic::Diagnostic;
 use crate::fault::{Fault, Misread};
 use crate::input::Input;
 use crate::reader::Reader;
@@ -36,5 +39,16 @@ impl Reader for PageScripts {
             Err(PageFault::Memory) => Err(Misread::Memory),
             Err(fault) => Err(Misread::Fault(Fault::Pages(fault))),
         }
+    }
+}
+
+/// What is told of a fault: nothing of want of memory, which is no fault of the bytes.
+pub(crate) fn pages_diagnostic(fault: PageFault) -> Option<Diagnostic>
+    ensures { option_map diagnostic_view result ≡ pages_diagnostic fault }
+{
+    match fault {
+        PageFault::BadLine { line } => Some(Diagnostic::Line(line, "form")),
+        PageFault::BadNumber { line } => Some(Diagnostic::Line(line, "number")),
+        PageFault::Memory => None,
     }
 }

@@ -2,11 +2,14 @@
 //! the reader doesn't promise: a law of `early_script` is called here that tells it.
 
 ghost use Rattle.std.specs.Prelude.{◌≡◌, ◌≤◌, length, IsErrOf, IsOk, IsTrue};
+ghost use Rattle.std.specs.Option.{option_map};
 ghost use Rattle.bm_base.specs.Answers.{Answers};
 ghost use Rattle.bm_base.specs.ResultSteps.{with_error};
 ghost use Rattle.boot_model.specs.View.{inputs_view};
-ghost use Rattle.boot_inputs.specs.Script.{script_file};
+ghost use Rattle.boot_inputs.specs.Diagnostic.{diagnostic_view};
+ghost use Rattle.boot_inputs.specs.Script.{script_diagnostic, script_file};
 
+use crate::diagnostic::Diagnostic;
 use crate::fault::{Fault, Misread};
 use crate::input::Input;
 use crate::reader::Reader;
@@ -39,5 +42,20 @@ impl Reader for Scripts {
             Err(ScriptFault::Memory) => Err(Misread::Memory),
             Err(fault) => Err(Misread::Fault(Fault::Script(fault))),
         }
+    }
+}
+
+/// What is told of a fault: nothing of want of memory, which is no fault of the bytes.
+pub(crate) fn script_diagnostic(fault: ScriptFault) -> Option<Diagnostic>
+    ensures { option_map diagnostic_view result ≡ script_diagnostic fault }
+{
+    match fault {
+        ScriptFault::BadLine { line } => Some(Diagnostic::Line(line, "form")),
+        ScriptFault::BadNumber { line } => Some(Diagnostic::Line(line, "number")),
+        ScriptFault::BadAlign { line } => Some(Diagnostic::Line(line, "alignment")),
+        ScriptFault::ZeroSize { line } => Some(Diagnostic::Line(line, "zero size")),
+        ScriptFault::SecondSections { line } => Some(Diagnostic::Line(line, "second sections")),
+        ScriptFault::TooFar { line } => Some(Diagnostic::Line(line, "too far")),
+        ScriptFault::Memory => None,
     }
 }

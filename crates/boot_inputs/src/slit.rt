@@ -1,11 +1,14 @@
 //! The firmware's table of distances between domains as an input.
 
 ghost use Rattle.std.specs.Prelude.{◌≡◌, ◌≤◌, length, IsErrOf, IsOk, IsTrue};
+ghost use Rattle.std.specs.Option.{option_map};
 ghost use Rattle.bm_base.specs.Answers.{Answers};
 ghost use Rattle.bm_base.specs.ResultSteps.{with_error};
 ghost use Rattle.boot_model.specs.View.{inputs_view};
-ghost use Rattle.boot_inputs.specs.Slit.{slit_file};
+ghost use Rattle.boot_inputs.specs.Diagnostic.{diagnostic_view};
+ghost use Rattle.boot_inputs.specs.Slit.{slit_diagnostic, slit_file};
 
+use crate::diagnostic::Diagnostic;
 use crate::fault::{Fault, Misread};
 use crate::input::Input;
 use crate::reader::Reader;
@@ -36,5 +39,19 @@ impl Reader for Slits {
             Err(SlitFault::Memory) => Err(Misread::Memory),
             Err(fault) => Err(Misread::Fault(Fault::Slit(fault))),
         }
+    }
+}
+
+/// What is told of a fault: nothing of want of memory, which is no fault of the bytes.
+pub(crate) fn slit_diagnostic(fault: SlitFault) -> Option<Diagnostic>
+    ensures { option_map diagnostic_view result ≡ slit_diagnostic fault }
+{
+    match fault {
+        SlitFault::Short => Some(Diagnostic::Whole("short")),
+        SlitFault::Signature => Some(Diagnostic::Whole("signature")),
+        SlitFault::Length => Some(Diagnostic::Whole("length")),
+        SlitFault::Checksum => Some(Diagnostic::Whole("checksum")),
+        SlitFault::Localities => Some(Diagnostic::Whole("localities")),
+        SlitFault::Memory => None,
     }
 }

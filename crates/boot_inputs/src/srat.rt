@@ -2,11 +2,14 @@
 //! `absent`.
 
 ghost use Rattle.std.specs.Prelude.{◌≡◌, ◌≤◌, length, IsErrOf, IsOk, IsTrue};
+ghost use Rattle.std.specs.Option.{option_map};
 ghost use Rattle.bm_base.specs.Answers.{Answers};
 ghost use Rattle.bm_base.specs.ResultSteps.{with_error};
 ghost use Rattle.boot_model.specs.View.{inputs_view};
-ghost use Rattle.boot_inputs.specs.Srat.{srat_file};
+ghost use Rattle.boot_inputs.specs.Diagnostic.{diagnostic_view};
+ghost use Rattle.boot_inputs.specs.Srat.{srat_diagnostic, srat_file};
 
+use crate::diagnostic::Diagnostic;
 use crate::fault::{Fault, Misread};
 use crate::input::Input;
 use crate::reader::Reader;
@@ -37,5 +40,20 @@ impl Reader for Srats {
             Err(SratFault::Memory) => Err(Misread::Memory),
             Err(fault) => Err(Misread::Fault(Fault::Srat(fault))),
         }
+    }
+}
+
+/// What is told of a fault: nothing of want of memory, which is no fault of the bytes.
+pub(crate) fn srat_diagnostic(fault: SratFault) -> Option<Diagnostic>
+    ensures { option_map diagnostic_view result ≡ srat_diagnostic fault }
+{
+    match fault {
+        SratFault::Short => Some(Diagnostic::Whole("short")),
+        SratFault::Signature => Some(Diagnostic::Whole("signature")),
+        SratFault::Length => Some(Diagnostic::Whole("length")),
+        SratFault::Checksum => Some(Diagnostic::Whole("checksum")),
+        SratFault::EntryLength { offset } => Some(Diagnostic::Offset("entry length", offset)),
+        SratFault::BlockTooFar { offset } => Some(Diagnostic::Offset("block too far", offset)),
+        SratFault::Memory => None,
     }
 }

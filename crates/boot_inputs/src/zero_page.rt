@@ -5,13 +5,15 @@ ghost use Rattle.std.specs.Prelude.{◌≡◌, ◌≤◌, length, IsErrOf, IsOk,
 ghost use Rattle.bm_base.specs.Answers.{Answers};
 ghost use Rattle.bm_base.specs.ResultSteps.{with_error};
 ghost use Rattle.boot_model.specs.View.{inputs_view};
-ghost use Rattle.boot_inputs.specs.ZeroPage.{zero_page};
+ghost use Rattle.boot_inputs.specs.Diagnostic.{diagnostic_view};
+ghost use Rattle.boot_inputs.specs.ZeroPage.{zero_page, zero_page_diagnostic};
 
+use crate::diagnostic::Diagnostic;
 use crate::fault::{Fault, Misread};
 use crate::input::Input;
 use crate::reader::Reader;
 use boot_model::Inputs;
-use e820_table::read_zero_page;
+use e820_table::{ZeroFault, read_zero_page};
 use std::alloc::Global;
 
 /// Reads a zero page: its entries, and its initrd, if there is one.
@@ -36,5 +38,18 @@ impl Reader for ZeroPages {
             }
             Err(fault) => Err(Misread::Fault(Fault::ZeroPage(fault))),
         }
+    }
+}
+
+/// What is told of a fault.
+pub(crate) fn zero_page_diagnostic(fault: ZeroFault) -> Diagnostic
+    ensures { diagnostic_view result ≡ zero_page_diagnostic fault }
+{
+    match fault {
+        ZeroFault::WrongLength => Diagnostic::Whole("wrong length"),
+        ZeroFault::TooFew => Diagnostic::Whole("too few entries"),
+        ZeroFault::TooMany => Diagnostic::Whole("too many entries"),
+        ZeroFault::EntryTooFar { index } => Diagnostic::Far("entry", index),
+        ZeroFault::InitrdTooFar => Diagnostic::Whole("initrd too far"),
     }
 }

@@ -1,18 +1,13 @@
 -- The ways in which the program ends, and the line of each, computed.
 use Rattle.std.proofs.Common.{◌≡◌, codes, [], Some, None, Ok, Err, refl}
 use Rattle.std.specs.Fmt.{digits}
-use Rattle.boot_options.specs.declared.fault.OptionFault.TheVariants as options
 use Rattle.e820_table.specs.declared.extension.ExtFault.TheVariants as extension
 use Rattle.e820_table.specs.declared.zero_page.ZeroFault.TheVariants as zero
-use Rattle.efi_map.specs.declared.efi.EfiFault.TheVariants as efi
-use Rattle.page_alloc.specs.declared.fault.PageFault.TheVariants as pages
-use Rattle.script_reader.specs.declared.fault.ScriptFault.TheVariants as script
-use Rattle.slit_zonelists.specs.declared.table.SlitFault.TheVariants as slit
-use Rattle.srat_reader.specs.declared.table.SratFault.TheVariants as srat
 use Rattle.boot_inputs.specs.declared.fault.Fault.TheVariants as faults
 use Rattle.boot_inputs.specs.declared.input.Input.TheVariants as inputs
 use Rattle.boot_inputs.specs.declared.refusal.InputError.TheVariants as errors
 use Rattle.boot_inputs.specs.declared.refusal.InputRefusal.TheVariants as refusals
+use Rattle.boot_inputs.specs.Diagnostic.{Diagnostic}
 use Rattle.memblock_model.specs.declared.which.Which.TheVariants as which
 use Rattle.memblock_grow.specs.declared.stop.What.TheVariants as what
 use Rattle.boot_model.specs.declared.stop.Cause.TheVariants as causes
@@ -20,7 +15,7 @@ use Rattle.boot_model.specs.declared.stop.Stop.TheVariants as stops
 use Rattle.program_run.specs.declared.failure.Reason.TheVariants as reasons
 use Rattle.program_run.specs.declared.failure.Failure.TheVariants as failures
 use Rattle.program_run.specs.Status.{refusal_status, reason_status, status_of, status_of_end, failure_by, failure_of_input, failure_of_stop}
-use Rattle.program_run.specs.Line.{memory_line, zero_fault_line, extension_fault_line, option_fault_line, srat_fault_line, script_fault_line, page_fault_line, slit_fault_line, efi_fault_line, fault_line, thing_line, place_line, table_line, table_name, cause_line, refusal_line, reason_line, failure_line, name_text}
+use Rattle.program_run.specs.Line.{memory_line, diagnostic_line, fault_line, thing_line, place_line, table_line, table_name, cause_line, refusal_line, reason_line, failure_line, name_text}
 use Rattle.program_run.proofs.OutcomeExamples.{wanting}
 
 -- the status of each way to end
@@ -51,50 +46,32 @@ input_error_examples : (failure_of_input (errors.Refused (refusals.Unread inputs
     × (failure_of_input errors.Memory ≡ failures.Memory)
 input_error_examples = (refl, refl)
 
+-- what is told of a fault, in each form
+told_lines : (diagnostic_line (codes "zeropage") (Some (Diagnostic.Whole (codes "initrd too far")))
+    ≡ codes "bootmem: zeropage: initrd too far\n")
+    × (diagnostic_line (codes "efi") (Some (Diagnostic.Far (codes "descriptor") 3)) ≡ codes "bootmem: efi: descriptor 3 too far\n")
+    × (diagnostic_line (codes "pages") None ≡ memory_line)
+unfolding digits
+told_lines = (refl, refl, refl)
+
+numbered_lines : (diagnostic_line (codes "cmdline") (Some (Diagnostic.Word 12 (codes "user map")))
+    ≡ codes "bootmem: cmdline: word 12: user map\n")
+    × (diagnostic_line (codes "script") (Some (Diagnostic.Line 12 (codes "zero size"))) ≡ codes "bootmem: script: line 12: zero size\n")
+    × (diagnostic_line (codes "srat") (Some (Diagnostic.Offset (codes "block too far") 1048))
+    ≡ codes "bootmem: srat: block too far at 1048\n")
+unfolding digits
+numbered_lines = (refl, refl, refl)
+
 -- the line of each way to end
 entry_lines : (fault_line (codes "zeropage") (faults.ZeroPage (zero.EntryTooFar 3)) ≡ codes "bootmem: zeropage: entry 3 too far\n")
-    × (extension_fault_line (codes "e820ext") (extension.EntryTooFar 3071) ≡ codes "bootmem: e820ext: entry 3071 too far\n")
-    × (zero_fault_line (codes "zeropage") zero.InitrdTooFar ≡ codes "bootmem: zeropage: initrd too far\n")
+    × (fault_line (codes "e820ext") (faults.Extension (extension.EntryTooFar 3071)) ≡ codes "bootmem: e820ext: entry 3071 too far\n")
+    × (fault_line (codes "e820ext") (faults.Extension extension.ExtHeader) ≡ codes "bootmem: e820ext: header\n")
 unfolding digits
 entry_lines = (refl, refl, refl)
 
-word_lines : (fault_line (codes "cmdline") (faults.CommandLine (options.UserMapInvalid 12)) ≡ codes "bootmem: cmdline: word 12: user map\n")
-    × (option_fault_line (codes "cmdline") (options.BadMem 1) ≡ codes "bootmem: cmdline: word 1: mem\n")
-    × (fault_line (codes "cmdline") (faults.CommandLine (options.BadCrash 1)) ≡ codes "bootmem: cmdline: word 1: crashkernel\n")
-unfolding digits
-word_lines = (refl, refl, refl)
-
-script_lines : (fault_line (codes "script") (faults.Script (script.ZeroSize 12)) ≡ codes "bootmem: script: line 12: zero size\n")
-    × (script_fault_line (codes "script") (script.BadLine 1) ≡ codes "bootmem: script: line 1: form\n")
-    × (fault_line (codes "pages") (faults.Pages (pages.BadNumber 2)) ≡ codes "bootmem: pages: line 2: number\n")
-unfolding digits
-script_lines = (refl, refl, refl)
-
-efi_lines : (fault_line (codes "efi") (faults.Efi (efi.TooFar 3)) ≡ codes "bootmem: efi: descriptor 3 too far\n")
-    × (fault_line (codes "slit") (faults.Slit slit.Localities) ≡ codes "bootmem: slit: localities\n")
-unfolding digits
-efi_lines = (refl, refl)
-
-srat_lines : (refusal_line None (refusals.Faulty inputs.Srat (faults.Srat (srat.EntryLength 48)))
-    ≡ codes "bootmem: srat: entry length at 48\n")
-    × (srat_fault_line (codes "srat") (srat.BlockTooFar 1048) ≡ codes "bootmem: srat: block too far at 1048\n")
-    × (fault_line (codes "srat") (faults.Srat srat.Checksum) ≡ codes "bootmem: srat: checksum\n")
-unfolding digits
-srat_lines = (refl, refl, refl)
-
--- a file of too many bytes, and a line of too many
-long_lines : (refusal_line None (refusals.Faulty inputs.CommandLine faults.TooLong) ≡ codes "bootmem: cmdline: too long\n")
-    × (refusal_line None (refusals.Faulty inputs.CommandLine (faults.CommandLine options.TooLong))
-    ≡ codes "bootmem: cmdline: line too long\n")
-long_lines = (refl, refl)
-
-plain_lines : (refusal_line None (refusals.Faulty inputs.ZeroPage (faults.ZeroPage zero.TooFew))
-    ≡ codes "bootmem: zeropage: too few entries\n")
-    × (fault_line (codes "e820ext") (faults.Extension extension.ExtHeader) ≡ codes "bootmem: e820ext: header\n")
-    × (slit_fault_line (codes "slit") slit.Short ≡ codes "bootmem: slit: short\n")
-    × (efi_fault_line (codes "efi") efi.Length ≡ codes "bootmem: efi: length\n")
-    × (page_fault_line (codes "pages") pages.Memory ≡ memory_line)
-plain_lines = (refl, refl, refl, refl, refl)
+whole_lines : (refusal_line None (refusals.Faulty inputs.CommandLine faults.TooLong) ≡ codes "bootmem: cmdline: too long\n")
+    × (refusal_line None (refusals.Faulty inputs.ZeroPage (faults.ZeroPage zero.TooFew)) ≡ codes "bootmem: zeropage: too few entries\n")
+whole_lines = (refl, refl)
 
 cause_lines : (cause_line (causes.MapFull 3201) ≡ codes "bootmem: stopped: 3201 map runs\n")
     × (cause_line causes.NoRam ≡ codes "bootmem: stopped: no usable frame\n")

@@ -1,5 +1,5 @@
 -- Bytes that were fetched are read, and no fault was counted for them; a failed fetch was counted.
-use Rattle.std.proofs.Common.{◌≡◌, ◌≤◌, Err, ap, inl, inr, length, rules}
+use Rattle.std.proofs.Common.{◌≤◌, Err, ap, inl, inr, length, rules}
 use Rattle.bm_io.specs.declared.reading.Fetch.{Fetch}
 use Rattle.boot_model.specs.View.{inputs_view}
 use Rattle.boot_inputs.proofs.FileLaws.{comes_to_own, on_ok, read_given, read_wanting}

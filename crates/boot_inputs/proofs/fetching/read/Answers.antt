@@ -1,7 +1,5 @@
 -- What the reader answers is said of all of the bytes.
-use Rattle.std.proofs.Common.{Err, ap}
 use Rattle.boot_model.specs.View.{inputs_view}
-use Rattle.boot_inputs.specs.declared.fault.Misread.{Misread}
 use Rattle.boot_inputs.proofs.FileLaws.{fault_given, value_given}
 use Rattle.boot_inputs.proofs.fetching.read.Goals as goal
 

@@ -1,5 +1,0 @@
--- The chunks of the line are the line.
-use Rattle.program_run.proofs.tell.tell_offset.Goals as goal
-
-pub returns : goal.returns
-returns g c = rw (← c.format-offset.ensures.text) c.put_line.ensures

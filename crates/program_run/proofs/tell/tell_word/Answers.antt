@@ -1,5 +1,0 @@
--- The chunks of the line are the line.
-use Rattle.program_run.proofs.tell.tell_word.Goals as goal
-
-pub returns : goal.returns
-returns g c = rw (← c.format-word.ensures.text) c.put_line.ensures
