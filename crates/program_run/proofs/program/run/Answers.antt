@@ -24,8 +24,8 @@ returns-in-Err-Usage-clause-ran g c =
         unfailed = λ wanting. refl;
         said = usage_fits (g.F.Files.holds c.args.files.now) (accepted (texts c.args.words.now)) (g.S.Sink.written c.args.out.now)
             none;
-        line = c.tell_usage.ensures;
       },
+      c.tell_usage.ensures,
     )
 
 pub returns-in-Err-Memory-clause-ran : goal.returns-in-Err-Memory-clause-ran
