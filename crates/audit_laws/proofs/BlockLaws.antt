@@ -13,6 +13,7 @@ use Rattle.bm_base.proofs.EachLaws.{each_in-all, each_in-each}
 use Rattle.table_frames.proofs.TakeLaws.{both_tests, tests_both}
 use Rattle.frame_blocks.specs.declared.block.Block.{Block}
 use Rattle.frame_blocks.specs.Listed.{Lists}
+use Rattle.frame_blocks.proofs.CountLaws.{zone_is}
 use Rattle.memblock_model.specs.declared.item.Item.{Item}
 use Rattle.boot_model.specs.Boot.{Given}
 use Rattle.conservation.specs.Headline.{AreAllFree, IsFreeFor, IsMaximal, IsWhole, has_frame, with_buddy}
@@ -25,17 +26,6 @@ zone_same : (z : Zone) → same_zone z z ≡ true
 zone_same zones.Dma = refl
 zone_same zones.Dma32 = refl
 zone_same zones.Normal = refl
-
-same_is : (y z : Zone) → same_zone y z ≡ true → y ≡ z
-same_is zones.Dma zones.Dma same = refl
-same_is zones.Dma zones.Dma32 same = cc
-same_is zones.Dma zones.Normal same = cc
-same_is zones.Dma32 zones.Dma same = cc
-same_is zones.Dma32 zones.Dma32 same = refl
-same_is zones.Dma32 zones.Normal same = cc
-same_is zones.Normal zones.Dma same = cc
-same_is zones.Normal zones.Dma32 same = cc
-same_is zones.Normal zones.Normal same = refl
 
 -- the address of a multiple is a multiple
 by_frames : (n s : ℕ) → n % s ≡ 0 → (4096 * n) % (4096 * s) ≡ 0
@@ -72,7 +62,7 @@ kin_found b (c ∷ cs) frame found =
           block = c;
           listed = inl refl;
           node = sym (eqb-true b.node c.node kin.0);
-          zone = sym (same_is b.zone c.zone kin.1);
+          zone = sym (zone_is b.zone c.zone kin.1);
           inside = sym (frame_told c frame) ∙ parts.1;
         }
     by_first false is some rest =

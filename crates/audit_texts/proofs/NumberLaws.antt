@@ -19,6 +19,7 @@ use Rattle.audit_lines.specs.Fields.{address_in, at_most, behind, is_address, is
 use Rattle.audit_lines.proofs.FieldLaws.{behind_front}
 use Rattle.report_texts.specs.Lines.{range_text}
 use Rattle.audit_texts.proofs.SplitLaws.{IsOneLine, one_line-append}
+use Rattle.stage_texts.proofs.SheetLaws.{hex_length}
 
 -- a hexadecimal digit in lower case
 abbrev pub IsGlyph : ℕ → Type 0
@@ -44,11 +45,6 @@ unfolding hex_onto
 hex_glyphs zero n rest glyphs = glyphs
 hex_glyphs (suc k) n rest glyphs =
     hex_glyphs k (n / 16) (digit_glyph false (n % 16) ∷ rest) (glyph_is (n % 16) (omega arith), glyphs)
-
-hex_length : (k n : ℕ) (rest : List ℕ) → length (hex_onto k n rest) ≡ k + length rest
-unfolding hex_onto
-hex_length zero n rest = omega arith
-hex_length (suc k) n rest = hex_length k (n / 16) (digit_glyph false (n % 16) ∷ rest) ∙ omega arith
 
 front_glyphs : (ds : List ℕ) → AreGlyphs ds → front_digits 16 ds ≡ ds
 front_glyphs [] glyphs = refl

@@ -21,10 +21,6 @@ module _ {A B C D E : Type 0} (memory : E) (view : A → B) (shown : C → D) wh
   one_step (Ok a) rest said step answers behind = goes_on a said step (rest a) answers (behind a refl)
   one_step (Err error) rest said step answers behind = stops error said step answers
 
--- want of memory answers for everything
-pub want_of_memory : {A B E : Type 0} (memory : E) (view : A → B) (said : Result B E) → Answers memory view (Err memory) said
-want_of_memory memory view said other = absurd (other refl)
-
 module _ {A B E F : Type 0} (convert : E → F) (memory : E) (view : A → B) where
   -- an error that becomes one of another type on its way (`map_err`, or `?` by `From`)
   pub converted : (answer : Result A E) (said : Result B E)

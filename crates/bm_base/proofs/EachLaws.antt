@@ -1,6 +1,6 @@
 -- Tests over several numbers that follow one another, and over the addresses of a range.
 use Rattle.std.proofs.Common.{◌≡◌, ℕ, zero, suc, ◌+◌, ◌<◌, ◌≤◌, Bool, true, false, refl, sym, ◌∙◌, subst, inl, inr, arith}
-use Rattle.std.proofs.lemmas.Bool.{cases_lt, false_from_ne_true, true≢false, and_from, and_parts}
+use Rattle.std.proofs.lemmas.Bool.{cases_Bool, cases_lt, false_from_ne_true, true≢false, and_from, and_parts}
 use Rattle.bm_base.specs.Extent.{Extent}
 use Rattle.bm_base.specs.Each.{each_from, each_in}
 
@@ -21,6 +21,30 @@ each_from-each p x (suc n) h y above below =
       | inl lt ↦ each_from-each p (x + 1) n (and_parts (p x) (each_from p (x + 1) n) h).1 y (omega arith) (omega arith)
       | inr ge ↦ let here : x ≡ y = omega arith in subst (λ (z : ℕ). p z ≡ true) here (and_parts (p x) (each_from p (x + 1) n) h).0
     ]
+
+-- a number that fails, where not all pass
+pub record IsFailing (p : ℕ → Bool) (x n : ℕ) : Type 0 where
+  pub at : ℕ
+  pub above : x ≤ at
+  pub below : at < x + n
+  pub fails : p at ≡ false
+
+pub failing_from : (p : ℕ → Bool) (x n : ℕ) → each_from p x n ≡ false → IsFailing p x n
+unfolding each_from
+failing_from p x zero not_all = absurd (cc not_all)
+failing_from p x (suc n) not_all =
+    elim (cases_Bool (p x)) as (λ _. IsFailing p x (suc n)) [
+      | inl passes ↦
+          (let rest : IsFailing p (x + 1) n = failing_from p (x + 1) n (rw passes at not_all) in
+          let above = rest.above in
+          let below = rest.below in
+          record { at = rest.at; above = omega (arith, above); below = omega (arith, below); fails = rest.fails })
+      | inr fails ↦ record { at = x; above = omega arith; below = omega arith; fails = fails }
+    ]
+
+pub failing_in : (r : Extent) (p : ℕ → Bool) → each_in r p ≡ false → IsFailing p r.base r.size
+unfolding each_in
+failing_in r p not_all = failing_from p r.base r.size not_all
 
 pub each_in-all : (r : Extent) (p : ℕ → Bool) → ((y : ℕ) → r.base ≤ y → y < r.base + r.size → p y ≡ true) → each_in r p ≡ true
 unfolding each_in

@@ -1,6 +1,5 @@
 pub mod AnswerLaws
 pub mod EachLaws
 mod Examples
-pub mod FrameLaws
 pub mod SizeLaws
 pub mod TextLaws

@@ -5,11 +5,11 @@ use Rattle.std.proofs.lemmas.Grind.{flat_map-append}
 use Rattle.std.proofs.Math.Seq.{take-append-add}
 use Rattle.std.specs.List.{flat_map}
 use Rattle.std.specs.Io.KnownBytes.{Appends}
+use Rattle.std.proofs.KnownBytes.{Appends-trans}
 use Rattle.bm_io.specs.Told.{AppendsFront}
 use Rattle.bm_io.specs.Puts.{Puts}
 use Rattle.bm_io.specs.declared.writing.Put.{Put}
 use Rattle.bm_io.specs.declared.writing.Sink.{Ghosts as SinkOf}
-use Rattle.bm_io.proofs.StreamLaws.{appends_twice}
 
 -- the bytes of one more chunk stand behind those of the chunks before it
 pub joined_more : {P : Type 0} (bytes : P → List ℕ) (chunks : List P) (i : ℕ) (d : P) → i < length chunks
@@ -44,7 +44,7 @@ front_then old mid new first bytes rest before front =
     ap (λ (t : List ℕ). first ++ t) (sym (take-append-le n bytes rest front.1)) ∙ sym (take-append-add first (bytes ++ rest) n) in (
       length first + n,
       rw (length-append first (bytes ++ rest), length-append bytes rest) (omega (arith, front.1)),
-      rw (← out) (appends_twice old mid new first (take n bytes) before front.2),
+      rw (← out) (Appends-trans old mid new first (take n bytes) before front.2),
     )
 
 -- bytes that went out whole wanted no memory

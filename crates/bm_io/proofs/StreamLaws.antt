@@ -1,24 +1,7 @@
 -- Known bytes that grow chunk by chunk.
-use Rattle.std.proofs.Common.{◌≡◌, ℕ, ◌+◌, ◌-◌, ◌≤◌, List, ◌++◌, length, take, drop, Option, Some, None, sym, ◌∙◌, ap, arith, length-drop, append_assoc, take_all, take-add, drop-drop}
-use Rattle.std.specs.Io.KnownBytes.{Appends, Consumes}
-
--- two chunks that follow one another
-pub appends_twice : (old mid new : Option (List ℕ)) (first second : List ℕ)
-    → Appends old mid first → Appends mid new second → Appends old new (first ++ second)
-appends_twice None mid new first second a b = tt
-appends_twice (Some xs) None new first second a b = absurd a
-appends_twice (Some xs) (Some ys) None first second a b = absurd b
-appends_twice (Some xs) (Some ys) (Some zs) first second a b =
-    b ∙ ap (λ t. t ++ second) a ∙ append_assoc xs first second
-
--- two reads that follow one another
-pub consumes_twice : (old mid new : Option (List ℕ)) (first second : List ℕ)
-    → Consumes old mid first → Consumes mid new second → Consumes old new (first ++ second)
-consumes_twice None mid new first second a b = tt
-consumes_twice (Some xs) None new first second a b = absurd a
-consumes_twice (Some xs) (Some ys) None first second a b = absurd b
-consumes_twice (Some xs) (Some ys) (Some zs) first second a b =
-    a ∙ ap (λ t. first ++ t) b ∙ sym (append_assoc first second zs)
+use Rattle.std.proofs.Common.{◌≡◌, ℕ, ◌+◌, ◌-◌, ◌≤◌, List, ◌++◌, length, take, drop, Option, sym, ◌∙◌, ap, arith, length-drop, take_all, take-add, drop-drop}
+use Rattle.std.specs.Io.KnownBytes.{Appends}
+use Rattle.std.proofs.KnownBytes.{Appends-trans}
 
 -- what is left once k more bytes are gone, as a slice of the rest has it
 abbrev pub left_of : List ℕ → ℕ → List ℕ
@@ -53,4 +36,4 @@ front_more old mid new chunk rest k before left small more =
     let whole : take n chunk ++ take k rest ≡ take (length chunk - length (left_of rest k)) chunk =
     ap (λ (t : List ℕ). take n chunk ++ take k t) left ∙ sym (take-add n k chunk)
     ∙ sym (ap (λ (m : ℕ). take m chunk) (gone_more chunk rest k left small)) in
-    rw (← whole) (appends_twice old mid new (take n chunk) (take k rest) before more)
+    rw (← whole) (Appends-trans old mid new (take n chunk) (take k rest) before more)

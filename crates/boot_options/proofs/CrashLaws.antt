@@ -1,20 +1,13 @@
 -- Ranges of `crashkernel=` that are read one by one: what is left to read, behind those that are kept.
-use Rattle.std.proofs.Common.{◌≡◌, ℕ, Option, Some, None, List, [], ◌∷◌, ◌++◌, Result, Vec, Global, refl, ap, append_assoc}
-use Rattle.std.proofs.lemmas.List.{append-nil}
+use Rattle.std.proofs.Common.{◌≡◌, ℕ, Option, Some, None, List, [], ◌∷◌, ◌++◌, refl, ap, append_assoc}
 use Rattle.bm_base.specs.OptionSteps.{◌>>=◌}
-use Rattle.bm_base.specs.declared.memory.Memory.{Memory}
 use Rattle.boot_options.specs.declared.crash.CrashRange.{CrashRange}
 use Rattle.boot_options.specs.Crash.{crash_range_of, crash_ranges_of}
-use Rattle.boot_options.specs.Kept.{KeepsItems, KeepsRanges}
 
 -- these ranges in front of the others, where there are others
 abbrev pub in_front : List CrashRange → Option (List CrashRange) → Option (List CrashRange)
 in_front kept None = None
 in_front kept (Some ranges) = Some (kept ++ ranges)
-
-pub in_front-none : (ranges : Option (List CrashRange)) → in_front [] ranges ≡ ranges
-in_front-none None = refl
-in_front-none (Some ranges) = refl
 
 -- one range more
 pub in_front-one : (kept : List CrashRange) (text : List ℕ) (texts : List (List ℕ)) (range : CrashRange) → crash_range_of text ≡ Some range
@@ -25,16 +18,3 @@ in_front-one kept text texts range is = rw is (by_others (crash_ranges_of texts)
         → in_front (kept ++ range ∷ []) others ≡ in_front kept (others >>= λ ranges. Some (range ∷ ranges))
     by_others None = refl
     by_others (Some others) = ap (λ (rs : List CrashRange). Some rs) (append_assoc kept (range ∷ []) others)
-
--- a text that is no range
-pub in_front-malformed : (kept : List CrashRange) (text : List ℕ) (texts : List (List ℕ)) → crash_range_of text ≡ None
-    → in_front kept (crash_ranges_of (text ∷ texts)) ≡ None
-in_front-malformed kept text texts is = rw is refl
-
--- none is left
-pub in_front-all : (kept : List CrashRange) → in_front kept (crash_ranges_of []) ≡ Some kept
-in_front-all kept = ap (λ (rs : List CrashRange). Some rs) (append-nil kept)
-
-pub kept-all : (read : Result (Vec CrashRange Global) Memory) (kept : List CrashRange) (said : Option (List CrashRange))
-    → KeepsItems read kept → said ≡ Some kept → KeepsRanges (Some read) said
-kept-all read kept said keeps is = rw is keeps

@@ -39,7 +39,8 @@ edits-all st ((number, NumaOff) ∷ said) = edits-all (after number st NumaOff) 
 edits-all st ((number, AddEfi) ∷ said) = edits-all (after number st AddEfi) said
 
 -- what one map option leaves as it is, those of a word leave
-pub same-map_options : {X : Type 0} (part : State → X) → ((number : ℕ) (st : State) (p : MapOption) → part (after_map_option number st p) ≡ part st)
+pub same-map_options : {X : Type 0} (part : State → X)
+    → ((number : ℕ) (st : State) (p : MapOption) → part (after_map_option number st p) ≡ part st)
     → (number : ℕ) (st : State) (ps : List MapOption) → part (after_map_options number st ps) ≡ part st
 same-map_options part same number st [] = refl
 same-map_options part same number st (p ∷ ps) =

@@ -21,7 +21,7 @@ use Rattle.boot_model.proofs.MemoryLaws.{crash_labels, lines_labels, section_lab
 use Rattle.boot_model.proofs.NodedLaws.{nodes_known}
 use Rattle.boot_model.proofs.ReachLaws.{reach-small}
 use Rattle.boot_stages.specs.Boots.{AreRun, Comes, HoldsWith, LaterMade, at_memblock, begun_with, made_by_lines}
-use Rattle.boot_stages.proofs.BytesLaws.{holds-on}
+use Rattle.boot_stages.proofs.BytesLaws.{holds-lent}
 use Rattle.boot_stages.proofs.LaterLaws.{link-on}
 use Rattle.boot_stages.proofs.ScriptLaws.{lines-run}
 
@@ -32,10 +32,6 @@ noded-within near far f noded low = record {
   nodes = noded.nodes;
   within = λ x past. noded.within x (omega (arith, past, low));
 }
-
--- the bytes behind a call that was lent memblock
-pub lent-holds : (fills : List Filled) (old new : Contents) → GoesOn old new → HoldsWith fills old → HoldsWith fills new
-lent-holds fills old new lent holds = holds-on fills old new lent.kernel lent.bytes holds
 
 -- what is made behind nodes, and behind the crash area
 abbrev pub behind_nodes : BootSoFar → Contents → Contents → Noded → BootSoFar
@@ -70,7 +66,7 @@ up_to_lines given made start mid second m nodes area live ids told answers befor
     let s1 : BootSoFar = behind_nodes made start mid nodes in
     let s2 : BootSoFar = behind_crash made start mid second nodes area in
     let second_kernel : second.kernel ≡ given.kernel = crash_lent.kernel ∙ nodes_lent.kernel ∙ kernel in
-    let here : HoldsWith [] second = lent-holds [] mid second crash_lent (lent-holds [] start mid nodes_lent holds) in
+    let here : HoldsWith [] second = holds-lent [] mid second crash_lent (holds-lent [] start mid nodes_lent holds) in
     let reached = run [] here in
     let lines_end = lines-run given.kernel before s2 second m live ids [] told answers second_kernel reached in
     let s3 : BootSoFar = made_by_lines s2 m ids lines_end.fills answers in
@@ -115,7 +111,7 @@ all_run given made start mid second m next last nodes area places ids final answ
     let s3 : BootSoFar = made_by_lines s2 m ids up.fills answers in
     let s4 : BootSoFar = put_sections places (at_memblock s3 next) in
     let kernel : next.kernel ≡ given.kernel = lent.kernel ∙ up.kernel in
-    let here : HoldsWith up.fills next = lent-holds up.fills m next lent up.holds in
+    let here : HoldsWith up.fills next = holds-lent up.fills m next lent up.holds in
     let lines_end = lines-run given.kernel behind s4 next last ids final up.fills answers told kernel (run up.fills here) in
     let s5 : BootSoFar = made_by_lines s4 last final lines_end.fills told in
     let comes : runs_lines given.kernel (behind_sections given.lines) s4 ≡ Ok s5 =

@@ -1,10 +1,11 @@
 -- What a run over lent words and files leaves, by the outcome.
 use Rattle.std.proofs.Common.{◌≡◌, ◌≢◌, ℕ, suc, Bool, true, false, List, [], ◌∷◌, ◌++◌, Option, Some, Result, Ok, Err, String, string_bytes, Global, map, refl, inl, inr, ap, arith, subst, sym, ◌∙◌}
-use Rattle.std.specs.Prelude.{◌⊎◌, ◌&&◌, if◌then◌else◌}
+use Rattle.std.specs.Prelude.{◌⊎◌, if◌then◌else◌}
 use Rattle.std.specs.List.{All}
 use Rattle.std.specs.Str.{IsUtf8, is_utf8}
 use Rattle.std.proofs.lemmas.Str.{IsUtf8-from_is_utf8, is_utf8-from_IsUtf8}
 use Rattle.std.proofs.lemmas.List.Elements.{All-cons}
+use Rattle.std.proofs.lemmas.Bool.{and_parts}
 use Rattle.bm_io.specs.Counts.{Rose}
 use Rattle.bm_io.specs.HeldFiles.{HeldFile, bytes_of}
 use Rattle.bm_base.specs.ResultSteps.{◌>>=◌}
@@ -38,14 +39,10 @@ are-utf8 [] all = refl
 are-utf8 (word ∷ words) all =
     rw (is_utf8-from_IsUtf8 word (all 0 word (omega arith)), are-utf8 words (λ k d below. all (suc k) d (omega (arith, below)))) refl
 
-both : (a b : Bool) → (a && b) ≡ true → (a ≡ true) × (b ≡ true)
-both true b is = (refl, is)
-both false b is = absurd (cc)
-
 pub all-utf8 : (words : List (List ℕ)) → are_utf8 words ≡ true → All IsUtf8 words
 all-utf8 [] is = λ k d below. absurd (omega (arith, below))
 all-utf8 (word ∷ words) is =
-    let parts = both (is_utf8 word) (are_utf8 words) is in
+    let parts = and_parts (is_utf8 word) (are_utf8 words) is in
     All-cons IsUtf8 word words (IsUtf8-from_is_utf8 word parts.0) (all-utf8 words parts.1)
 
 -- the status

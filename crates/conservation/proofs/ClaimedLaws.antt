@@ -1,12 +1,12 @@
 -- Owners and the claims that the journal has for them; frames that are touched, and those that aren't.
-use Rattle.std.proofs.Common.{◌≡◌, ◌⊎◌, ℕ, zero, suc, ◌+◌, ◌*◌, ◌<◌, ◌≤◌, Bool, true, false, Option, Some, None, is_none, List, [], ◌∷◌, fold, refl, sym, ◌∙◌, ap, inl, inr, ⊎_elim, arith}
+use Rattle.std.proofs.Common.{◌≡◌, ◌⊎◌, ℕ, ◌+◌, ◌*◌, ◌<◌, ◌≤◌, Bool, true, false, Option, Some, None, is_none, List, [], ◌∷◌, fold, refl, sym, ◌∙◌, ap, inl, inr, ⊎_elim, arith}
 use Rattle.std.specs.List.{list_any}
 use Rattle.std.proofs.lemmas.Bool.Decides.{nat_tests}
 use Rattle.std.proofs.lemmas.Bool.{cases_Bool}
-use Rattle.bm_base.specs.Extent.{Extent, covers}
-use Rattle.bm_base.specs.Each.{each_from, each_in}
+use Rattle.bm_base.specs.Extent.{covers}
+use Rattle.bm_base.specs.Each.{each_in}
 use Rattle.bm_base.specs.Frames.{bytes_of_frame}
-use Rattle.bm_base.proofs.EachLaws.{each_in-each}
+use Rattle.bm_base.proofs.EachLaws.{each_in-each, failing_in}
 use Rattle.memblock_model.specs.Items.{Owners, no_owners, owner_of, owners_after}
 use Rattle.memblock_model.specs.declared.owner.Owner.{Owner}
 use Rattle.memblock_model.specs.declared.item.Item.{Item}
@@ -71,30 +71,6 @@ pub owner_recorded : (items : List Item) (x : ℕ) (who : Owner) → owner_of it
 owner_recorded items x who has =
     ⊎_elim (λ (early : (no_owners x ≡ Some who) × (list_any (λ j. decides j x) items ≡ false)). absurd (cc (early.0)))
     (λ (known : IsRecorded items x who). known) (comes_from no_owners items x who has)
-
--- a number that fails, where not all pass
-pub record IsFailing (p : ℕ → Bool) (x n : ℕ) : Type 0 where
-  pub at : ℕ
-  pub above : x ≤ at
-  pub below : at < x + n
-  pub fails : p at ≡ false
-
-failing_from : (p : ℕ → Bool) (x n : ℕ) → each_from p x n ≡ false → IsFailing p x n
-unfolding each_from
-failing_from p x zero not_all = absurd (cc not_all)
-failing_from p x (suc n) not_all =
-    elim (cases_Bool (p x)) as (λ _. IsFailing p x (suc n)) [
-      | inl passes ↦
-          (let rest : IsFailing p (x + 1) n = failing_from p (x + 1) n (rw passes at not_all) in
-          let above = rest.above in
-          let below = rest.below in
-          record { at = rest.at; above = omega (arith, above); below = omega (arith, below); fails = rest.fails })
-      | inr fails ↦ record { at = x; above = omega arith; below = omega arith; fails = fails }
-    ]
-
-pub failing_in : (r : Extent) (p : ℕ → Bool) → each_in r p ≡ false → IsFailing p r.base r.size
-unfolding each_in
-failing_in r p not_all = failing_from p r.base r.size not_all
 
 -- a byte of a frame lies between the frame's ends, and the other way round
 pub frame_covers : (frame x : ℕ) → 4096 * frame ≤ x → x < 4096 * frame + 4096 → covers (bytes_of_frame frame) x ≡ true

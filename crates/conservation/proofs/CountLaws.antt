@@ -10,6 +10,7 @@ use Rattle.frame_blocks.specs.Frames.{Frames, IsBlock, IsInBlock, IsInSet}
 use Rattle.frame_blocks.specs.Listed.{AscendFrom, Lists, block_around, block_for, block_of, blocks_of, order_up_to}
 use Rattle.frame_blocks.proofs.BlockLaws.{block_found, found_block, listed_ascends, listed_complete, listed_sound}
 use Rattle.frame_blocks.proofs.SetLaws.{in_set, set_from, set_until}
+use Rattle.frame_blocks.proofs.PickLaws.{ascend_behind}
 use Rattle.table_frames.proofs.TakeLaws.{both_tests, tests_both}
 use Rattle.conservation.specs.Headline.{has_frame, blocks_with, with_buddy}
 
@@ -36,14 +37,6 @@ none_counted p (c ∷ cs) fails =
     let rest : count_by p cs ≡ 0 = none_counted p cs (λ b listed. fails b (inr listed)) in
     sum_by-cons (λ (b : Block). cond (p b) 1 0) c cs ∙ ap (λ t. cond t 1 0 + count_by p cs) here ∙ ap (λ n. 0 + n) rest
 
--- each block of an ascending list begins behind where it begins
-behind_start : (from : ℕ) (bs : List Block) (d : Block) → AscendFrom from bs → Lists bs d → from ≤ d.first
-behind_start from [] d ascend listed = absurd listed
-behind_start from (c ∷ cs) d ascend listed =
-    let start = ascend.0 in
-    ⊎_elim (λ (same : c ≡ d). subst (λ (e : Block). from ≤ e.first) same start)
-    (λ (rest : Lists cs d). (let behind = behind_start (c.first + 1) cs d ascend.1 rest in omega (arith, start, behind))) listed
-
 -- and blocks of which one alone does
 one_counted : (p : Block → Bool) (b : Block) (from : ℕ) (bs : List Block) → AscendFrom from bs → Lists bs b → p b ≡ true
     → ((c : Block) → Lists bs c → p c ≡ true → c ≡ b) → count_by p bs ≡ 1
@@ -55,7 +48,7 @@ one_counted p b from (c ∷ cs) ascend listed holds only =
           let others : (d : Block) → Lists cs d → p d ≡ false = λ d in_rest. elim (cases_Bool (p d)) as (λ _. p d ≡ false) [
             | inl passes ↦
                 (let equal : d ≡ c = only d (inr in_rest) passes ∙ sym same in
-                let behind : c.first + 1 ≤ d.first = behind_start (c.first + 1) cs d ascend.1 in_rest in
+                let behind : c.first + 1 ≤ d.first = ascend_behind (c.first + 1) cs d ascend.1 in_rest in
                 let first : d.first ≡ c.first = ap (λ (e : Block). e.first) equal in
                 absurd (omega (arith, behind, first)))
             | inr fails ↦ fails

@@ -6,20 +6,19 @@ use Rattle.std.proofs.lemmas.Option.{same_Some}
 use Rattle.std.specs.Option.{option_map, option_or}
 use Rattle.bm_base.specs.Extent.{Extent, covers, end_of}
 use Rattle.memblock_model.specs.declared.which.Which.TheVariants as which
-use Rattle.memblock_model.specs.declared.owner.Owner.{Owner}
 use Rattle.memblock_model.specs.declared.owner.Owner.TheVariants as owner
 use Rattle.memblock_model.specs.declared.query.Query.{Query}
 use Rattle.memblock_model.specs.declared.item.Item.{Item}
 use Rattle.memblock_model.specs.Items.{memory_of, owner_of}
 use Rattle.memblock_model.specs.Labels.{Label}
-use Rattle.memblock_model.specs.Tables.{table_of, without_owner}
+use Rattle.memblock_model.specs.Tables.{table_of}
 use Rattle.memblock_model.specs.Search.{best, fits}
 use Rattle.memblock_model.proofs.SearchLaws.{IsPlace, fits_in-parts}
 use Rattle.growth_model.specs.declared.refusal.Refusal.{Refusal}
 use Rattle.growth_model.specs.Outcome.{Refused}
 use Rattle.growth_model.specs.Growth.{claimed, freed}
 use Rattle.growth_model.specs.Sound.{Unclaimed}
-use Rattle.growth_model.proofs.FoundLaws.{found-fits}
+use Rattle.growth_model.proofs.FoundLaws.{found-fits, no_owner}
 use Rattle.growth_model.proofs.SeatLaws.{covers-from}
 use Rattle.stage_model.specs.Doing.{Done, going_on, returns}
 use Rattle.stage_model.specs.Requests.{refusal_of}
@@ -36,10 +35,6 @@ use Rattle.crash_kernel.specs.Reserved.{low_part, reserved, with_area, with_low,
 use Rattle.crash_kernel.specs.Told.{HasLowPart, IsArea, IsFree, with_claim}
 
 -- a place that fits is free
-no_owner : (o : Option Owner) → without_owner o ≡ None → o ≡ None
-no_owner None e = refl
-no_owner (Some o) e = cc
-
 free_by : (items : List Item) (r : Extent) (o : Option Label) → is_some o ≡ true
     → ((x : ℕ) → covers r x ≡ true → memory_of items x ≡ o) → Unclaimed (owner_of items) r → IsFree items r
 free_by items r None held each free = absurd (true≢false (sym held))

@@ -184,10 +184,6 @@ pub type_top : (rs : List (RunOf ℕ)) (x : ℕ) → AreClaims rs → type_of (c
 type_top rs x claims =
     greatest_is (claims_of rs x) (top rs x) (top_small rs x claims) (top_among rs x) (λ k higher small. top_above rs x k higher)
 
-pub top_append : (rs ss : List (RunOf ℕ)) (x : ℕ) → top (rs ++ ss) x ≡ max (top rs x) (top ss x)
-top_append [] ss x = omega arith
-top_append (r ∷ rs) ss x = rw (top_append rs ss x) (omega arith)
-
 -- and everywhere
 pub claims_append : (rs ss : List (RunOf ℕ)) → claims_of (rs ++ ss) ≡ with_claims (claims_of rs) (claims_of ss)
 claims_append rs ss = λ i x k. claims_append_at rs ss x k i

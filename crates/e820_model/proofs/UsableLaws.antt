@@ -1,6 +1,6 @@
 -- Laws of counts, and of whole frames.
-use Rattle.std.proofs.Common.{◌≡◌, ℕ, zero, suc, ◌+◌, ◌-◌, ◌*◌, ◌/◌, ◌^◌, ◌<◌, ◌≤◌, ◌∙◌, sym, ap, refl, Bool, true, false, ◌&&◌, ◌||◌, not, nat_le, nat_lt, min, arith, inl, inr}
-use Rattle.std.proofs.lemmas.Bool.{cases_lt, cases_Bool, cases_eq, both_ways}
+use Rattle.std.proofs.Common.{◌≡◌, ℕ, zero, suc, ◌+◌, ◌-◌, ◌*◌, ◌/◌, ◌^◌, ◌<◌, ◌≤◌, ◌∙◌, sym, refl, Bool, true, false, ◌&&◌, ◌||◌, nat_le, nat_lt, min, arith, inl, inr}
+use Rattle.std.proofs.lemmas.Bool.{cases_lt, cases_Bool, both_ways}
 use Rattle.std.proofs.lemmas.Bool.Decides.{nat_tests}
 use Rattle.bm_base.specs.Each.{each_in}
 use Rattle.bm_base.specs.Frames.{bytes_of_frame}
@@ -28,15 +28,6 @@ count_none p (suc n) none =
     let rest : count_below p n ≡ 0 = count_none p n (λ i lt. none i (omega arith)) in
     rw (here, rest) refl
 
--- each number passes
-pub count_all : (p : ℕ → Bool) (n : ℕ) → ((i : ℕ) → i < n → p i ≡ true) → count_below p n ≡ n
-unfolding count_below
-count_all p zero each = refl
-count_all p (suc n) each =
-    let here : p n ≡ true = each n (omega arith) in
-    let rest : count_below p n ≡ n = count_all p n (λ i lt. each i (omega arith)) in
-    rw (here, rest) (omega arith)
-
 -- at most n of them pass
 pub count_at_most : (p : ℕ → Bool) (n : ℕ) → count_below p n ≤ n
 unfolding count_below
@@ -44,34 +35,6 @@ count_at_most p zero = omega arith
 count_at_most p (suc n) =
     let rest : count_below p n ≤ n = count_at_most p n in
     grind (arith, nat_tests, rest)
-
--- a test that holds wherever another does counts at least as many
-pub count_weaker : (p q : ℕ → Bool) (n : ℕ) → ((i : ℕ) → i < n → p i ≡ true → q i ≡ true) → count_below p n ≤ count_below q n
-unfolding count_below
-count_weaker p q zero then = omega arith
-count_weaker p q (suc n) then =
-    let here : p n ≡ true → q n ≡ true = then n (omega arith) in
-    let rest : count_below p n ≤ count_below q n = count_weaker p q n (λ i lt. then i (omega arith)) in
-    elim (cases_Bool (p n)) as (λ _. count_below p (suc n) ≤ count_below q (suc n)) [
-      | inl passes ↦ (let also : q n ≡ true = here passes in rw (passes, also) (omega arith))
-      | inr fails ↦ (rw fails (grind (arith, nat_tests, rest)))
-    ]
-
--- where one passes, the count isn't 0
-pub count_some : (p : ℕ → Bool) (n i : ℕ) → i < n → p i ≡ true → 0 < count_below p n
-unfolding count_below
-count_some p zero i lt passes = absurd (omega arith)
-count_some p (suc n) i lt passes = elim (cases_eq i n) as (λ _. 0 < count_below p (suc n)) [
-  | inl here ↦ (let now : p n ≡ true = ap p (sym here) ∙ passes in rw now (omega arith))
-  | inr other ↦ (let rest : 0 < count_below p n = count_some p n i (omega arith) passes in grind (arith, rest))
-]
-
--- where the count is 0, none passes
-pub count_zero : (p : ℕ → Bool) (n : ℕ) → count_below p n ≡ 0 → (i : ℕ) → i < n → p i ≡ false
-count_zero p n none i lt = elim (cases_Bool (p i)) as (λ _. p i ≡ false) [
-  | inl passes ↦ (let some : 0 < count_below p n = count_some p n i lt passes in absurd (omega arith))
-  | inr here ↦ here
-]
 
 -- one test or another, never both
 pub count_either : (p q : ℕ → Bool) (n : ℕ) → ((i : ℕ) → i < n → p i ≡ true → q i ≡ false)
@@ -85,32 +48,6 @@ count_either p q (suc n) apart =
       | inl passes ↦ (let not_other : q n ≡ false = here passes in rw (passes, not_other) (omega arith))
       | inr fails ↦ (rw fails (grind (arith, nat_tests, rest)))
     ]
-
--- the numbers that pass, by whether they pass another test too
-pub count_parts : (p q : ℕ → Bool) (n : ℕ)
-    → count_below p n ≡ count_below (λ i. p i && q i) n + count_below (λ i. p i && not (q i)) n
-unfolding count_below
-count_parts p q zero = refl
-count_parts p q (suc n) =
-    let rest : count_below p n ≡ count_below (λ i. p i && q i) n + count_below (λ i. p i && not (q i)) n = count_parts p q n in
-    elim (cases_Bool (p n)) as
-    (λ _. count_below p (suc n) ≡ count_below (λ i. p i && q i) (suc n) + count_below (λ i. p i && not (q i)) (suc n)) [
-      | inl passes ↦ (elim (cases_Bool (q n)) as
-          (λ _. count_below p (suc n) ≡ count_below (λ i. p i && q i) (suc n) + count_below (λ i. p i && not (q i)) (suc n)) [
-            | inl too ↦ (rw (passes, too) (omega arith))
-            | inr alone ↦ (rw (passes, alone) (omega arith))
-          ])
-      | inr fails ↦ (rw fails rest)
-    ]
-
--- those below m, and those from m on
-pub count_further : (p : ℕ → Bool) (m n : ℕ) → count_below p (m + n) ≡ count_below p m + count_below (λ i. p (m + i)) n
-unfolding count_below
-count_further p m zero = let no_more : m + zero ≡ m = omega arith in rw no_more (omega arith)
-count_further p m (suc n) =
-    let rest : count_below p (m + n) ≡ count_below p m + count_below (λ i. p (m + i)) n = count_further p m n in
-    let one_more : m + suc n ≡ suc (m + n) = omega arith in
-    rw one_more (grind (arith, nat_tests, rest))
 
 -- the numbers from a up to b
 pub count_interval : (a b n : ℕ) → count_below (λ i. nat_le a i && nat_lt i b) n ≡ min b n - a
@@ -217,10 +154,6 @@ count_split p q gap n apart =
 
 -- usable frames
 
--- two maps that agree have the same usable frames
-pub usable_same : (f g : TypeAt) → ((x : ℕ) → f x ≡ g x) → usable_frames f ≡ usable_frames g
-usable_same f g same = ap usable_frames (λ i x. same x i)
-
 -- a frame is usable where it is whole in memory
 pub usable_whole : (f : TypeAt) (frame : ℕ) → is_usable f frame ≡ all_bytes (λ x. is_memory (f x)) frame
 unfolding is_usable
@@ -241,16 +174,6 @@ pub usable_count : (f : TypeAt) → usable_frames f ≡ count_below (all_bytes (
 unfolding usable_frames
 usable_count f = count_same (is_usable f) (all_bytes (λ x. is_memory (f x))) (2 ^ 52) (λ frame lt. usable_whole f frame)
 
--- there are no more of them than frames
-pub usable_at_most : (f : TypeAt) → usable_frames f ≤ 2 ^ 52
-unfolding usable_frames
-usable_at_most f = count_at_most (is_usable f) (2 ^ 52)
-
--- where no frame is usable, each frame has a byte that isn't memory, and the other way round
-pub usable_none : (f : TypeAt) → usable_frames f ≡ 0 → (frame : ℕ) → frame < 2 ^ 52 → is_usable f frame ≡ false
-unfolding usable_frames
-usable_none f none frame lt = count_zero (is_usable f) (2 ^ 52) none frame lt
-
 -- types as far as they reach
 
 -- memory within reach
@@ -259,26 +182,4 @@ memory_reached limit f x =
     elim (cases_Bool (nat_lt x limit)) as (λ _. is_memory (reachable limit f x) ≡ (is_memory (f x) && nat_lt x limit)) [
       | inl within ↦ rw within (grind (arith, nat_tests))
       | inr past ↦ rw past (grind (arith, nat_tests))
-    ]
-
--- a frame is usable within reach where it is usable and ends by the limit
-pub usable_reached : (limit : ℕ) (f : TypeAt) (frame : ℕ)
-    → is_usable (reachable limit f) frame ≡ (is_usable f frame && nat_le (4096 * frame + 4096) limit)
-usable_reached limit f frame =
-    let goal : Type 0 = is_usable (reachable limit f) frame ≡ (is_usable f frame && nat_le (4096 * frame + 4096) limit) in
-    elim (cases_lt limit (4096 * frame + 4096)) as (λ _. goal) [
-      | inl late ↦
-          (let test : nat_le (4096 * frame + 4096) limit ≡ false = grind (arith, nat_tests) in
-          let fails : is_memory (reachable limit f (4096 * frame + 4095)) ≡ false = memory_reached limit f (4096 * frame + 4095)
-          ∙ grind (arith, nat_tests) in
-          let none : is_usable (reachable limit f) frame ≡ false =
-          usable_but (reachable limit f) frame (4096 * frame + 4095) (omega arith) (omega arith) fails in
-          rw test (none ∙ grind (arith, nat_tests)))
-      | inr ends ↦
-          (let test : nat_le (4096 * frame + 4096) limit ≡ true = grind (arith, nat_tests) in
-          let each : (x : ℕ) → 4096 * frame ≤ x → x < 4096 * frame + 4096 → is_memory (reachable limit f x) ≡ is_memory (f x) =
-          λ x low high. (let within : nat_lt x limit ≡ true = grind (arith, nat_tests) in rw within refl) in
-          let same : is_usable (reachable limit f) frame ≡ is_usable f frame =
-          usable_whole (reachable limit f) frame ∙ each_in-same (bytes_of_frame frame) _ _ each ∙ sym (usable_whole f frame) in
-          rw test (same ∙ grind (arith, nat_tests)))
     ]

@@ -12,6 +12,7 @@ use Rattle.script_reader.specs.declared.act.Line.{Line}
 use Rattle.script_reader.specs.Script.{is_sections}
 use Rattle.growth_model.specs.Sound.{HasBegun}
 use Rattle.growth_model.specs.Bytes.{Filled, byte, Holds}
+use Rattle.growth_model.proofs.SoundLaws.{more-begun}
 use Rattle.memblock_grow.specs.Contents.{Contents}
 use Rattle.early_script.specs.declared.outcome.Outcome.{Outcome}
 use Rattle.early_script.specs.declared.outcome.Answer.{Answer}
@@ -25,12 +26,8 @@ pub after_lines-append : (s : LineStage) (lines : List Line) (line : Line) → a
 after_lines-append s [] line = refl
 after_lines-append s (l ∷ lines) line = after_lines-append (after_line s l) lines line
 
-begun-append : (items more : List Item) → HasBegun items → HasBegun (items ++ more)
-begun-append [] more begun = absurd begun
-begun-append (i ∷ items) more begun = tt
-
 pub begun-along : (items more longer : List Item) → longer ≡ items ++ more → HasBegun items → HasBegun longer
-begun-along items more longer goes begun = subst (λ (is : List Item). HasBegun is) (sym goes) (begun-append items more begun)
+begun-along items more longer goes begun = subst (λ (is : List Item). HasBegun is) (sym goes) (more-begun items more begun)
 
 pub reaches-line : (s : LineStage) (ids after_ids : Ids) (m next : Contents) (answers : List Answer) (line : Line) (outcome : Outcome) →
     Reaches s ids m answers →

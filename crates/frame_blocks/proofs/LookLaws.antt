@@ -66,12 +66,6 @@ pub looked_up : (rs : List (RunOf ℕ)) (i x : ℕ) (d : RunOf ℕ) → i < leng
     → x < run_end (get_or rs i d)
 looked_up rs i x d few rest = subst (λ (ss : List (RunOf ℕ)). EndsBehind x ss) (drop-cons rs i d few) rest.ends
 
-pub nothing_left : (rs : List (RunOf ℕ)) (i x : ℕ) → length rs ≤ i → IsRestFrom (value_at rs) x (drop i rs)
-    → None ≡ block_of (value_at rs) x
-nothing_left rs i x all rest =
-    let none : value_at rs x ≡ None = sym (rest.each x (omega arith)) ∙ at_drop_all (λ (ss : List (RunOf ℕ)). value_at ss x) rs i all in
-    sym (ap (block_for (value_at rs) x) none)
-
 pub begins_later : (rs : List (RunOf ℕ)) (i x : ℕ) (d : RunOf ℕ) → i < length rs → IsRestFrom (value_at rs) x (drop i rs)
     → x < (get_or rs i d).base → None ≡ block_of (value_at rs) x
 begins_later rs i x d few rest later =

@@ -33,7 +33,7 @@ record IsFound (p : Block → Bool) (bs : List Block) (b : Block) : Type 0 where
   pub passes : p b ≡ true
   pub first : (c : Block) → Lists bs c → p c ≡ true → b.first ≤ c.first
 
-ascend_behind : (x : ℕ) (bs : List Block) (c : Block) → AscendFrom x bs → Lists bs c → x ≤ c.first
+pub ascend_behind : (x : ℕ) (bs : List Block) (c : Block) → AscendFrom x bs → Lists bs c → x ≤ c.first
 ascend_behind x [] c ascend has = absurd has
 ascend_behind x (b ∷ bs) c ascend has =
     ⊎_elim (λ (same : b ≡ c). let at = ap (λ (d : Block). d.first) same in let low = ascend.0 in omega (arith, at, low))

@@ -29,7 +29,7 @@ cmp_is b c = refl
 number_self : (n : ℕ) → nat_cmp n n ≡ Equal
 number_self n = grind (arith, nat_tests)
 
-number_equal : (m n : ℕ) → nat_cmp m n ≡ Equal → m ≡ n
+pub number_equal : (m n : ℕ) → nat_cmp m n ≡ Equal → m ≡ n
 number_equal m n h = ranked m n Equal (sym h)
 
 number_less : (m n : ℕ) → nat_cmp m n ≡ Less → m < n

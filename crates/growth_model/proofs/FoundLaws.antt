@@ -37,7 +37,7 @@ top-fits items q mirror place found =
     (top_in-fits (record { mirror = mirror; up = upward_of items }) (table_of which.Memory items)
     (table_of which.Reserved items) q place found)
 
-no_owner : (o : Option Owner) → without_owner o ≡ None → o ≡ None
+pub no_owner : (o : Option Owner) → without_owner o ≡ None → o ≡ None
 no_owner None e = refl
 no_owner (Some o) e = cc
 

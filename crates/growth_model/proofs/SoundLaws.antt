@@ -95,7 +95,7 @@ pub upward-stands : (kernel : Extent) (old new : List Item) (on : Bool) → Stan
 upward-stands kernel old new on stands begun is = λ _. subst (Seated kernel) (sym is) (upward-placed kernel old on (stands begun))
 
 -- what has begun goes on
-more-begun : (items more : List Item) → HasBegun items → HasBegun (items ++ more)
+pub more-begun : (items more : List Item) → HasBegun items → HasBegun (items ++ more)
 more-begun [] more begun = absurd begun
 more-begun (i ∷ is) more begun = tt
 

@@ -7,7 +7,6 @@ use Rattle.std.specs.Option.{option_map, option_or}
 use Rattle.bm_base.specs.Extent.{Extent, covers}
 use Rattle.phys_store.specs.Bytes.{Stored, byte_of, is_ready}
 use Rattle.address_runs.specs.Runs.{value_at}
-use Rattle.memblock_model.specs.declared.which.Which.{Which}
 use Rattle.memblock_model.specs.declared.which.Which.TheVariants as which
 use Rattle.memblock_model.specs.declared.owner.Owner.TheVariants as owner
 use Rattle.memblock_model.specs.declared.query.Query.{Query}
@@ -23,7 +22,7 @@ use Rattle.growth_model.specs.declared.refusal.Refusal.TheVariants as refusal
 use Rattle.growth_model.specs.Growth.{table_query, frames_at}
 use Rattle.growth_model.specs.Request.{Attempt}
 use Rattle.growth_model.specs.Bytes.{table_for, spelled_at}
-use Rattle.growth_model.proofs.FirstLaws.{no_table_full}
+use Rattle.growth_model.proofs.FirstLaws.{no_table_full, nothing_said}
 use Rattle.memblock_grow.specs.declared.aim.Aim.{Aim}
 use Rattle.memblock_grow.specs.Contents.{Contents as Whole}
 use Rattle.memblock_grow.specs.declared.more.More.TheVariants as more
@@ -44,17 +43,13 @@ at_first = record {
   store = [];
 }
 
-no_bytes_yet : (w : Which) (x : ℕ) → table_of w [] x ≡ None
-no_bytes_yet which.Memory x = refl
-no_bytes_yet which.Reserved x = refl
-
 kept_at_first : AreKept image [] at_first (aimed 0 false)
 kept_at_first = record {
   memory = refl;
   reserved = refl;
   limit = refl;
   upward = refl;
-  ends = λ w x le. no_bytes_yet w x;
+  ends = λ w x le. nothing_said w x;
   fits = λ w. no_table_full w;
   far = λ w place moved. cc;
 }

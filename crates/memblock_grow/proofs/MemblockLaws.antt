@@ -1,5 +1,5 @@
 -- What holds of a memblock holds at first, and behind each item and each fill.
-use Rattle.std.proofs.Common.{◌≡◌, ℕ, ◌+◌, ◌-◌, ◌*◌, Bool, true, false, ◌||◌, nat_lt, nat_le, if◌then◌else◌, None, List, [], ◌∷◌, ◌++◌, replicate, get_or, IsTrue, refl, sym, ◌∙◌, ap, subst, inl, inr, arith}
+use Rattle.std.proofs.Common.{◌≡◌, ℕ, ◌+◌, ◌-◌, ◌*◌, Bool, true, false, ◌||◌, nat_lt, nat_le, if◌then◌else◌, List, [], ◌∷◌, ◌++◌, replicate, get_or, IsTrue, refl, sym, ◌∙◌, ap, subst, inl, inr, arith}
 use Rattle.std.proofs.lemmas.Bool.{cases_Bool, cases_lt}
 use Rattle.std.proofs.lemmas.Bool.Decides.{nat_tests}
 use Rattle.std.proofs.lemmas.List.{get_or-replicate, get_or_past, length-replicate}
@@ -19,7 +19,7 @@ use Rattle.memblock_ranges.specs.Tables.{Table, Contents, bytes_of}
 use Rattle.growth_model.specs.Sound.{IsImage, HasBegun, IsAway, Clear}
 use Rattle.growth_model.specs.Bytes.{table_for, spelled_at, shown_by, AreSpelled, byte, Filled, put, Follows}
 use Rattle.growth_model.proofs.SeatLaws.{covers-from}
-use Rattle.growth_model.proofs.FirstLaws.{no_table_full}
+use Rattle.growth_model.proofs.FirstLaws.{no_table_full, nothing_said}
 use Rattle.growth_model.proofs.SoundLaws.{trim-stands, limit-stands, upward-stands}
 use Rattle.growth_model.proofs.FollowLaws.{follows-item, follows-still}
 use Rattle.growth_model.proofs.FillLaws.{fill-spelled}
@@ -56,14 +56,10 @@ shown-empty m r x first second =
 abbrev pub first_table : Which → Extent → Table
 first_table w kernel = record { records = []; place = built_in w kernel; room = 128 }
 
-nothing_at_first : (w : Which) (x : ℕ) → table_of w [] x ≡ None
-nothing_at_first which.Memory x = refl
-nothing_at_first which.Reserved x = refl
-
 no_records_at_first : (w : Which) → records_of w [] ≡ []
 unfolding records_of
-no_records_at_first w = sym (records_for-is (table_of w []) [] (λ x le. nothing_at_first w x)
-    (record { runs = tt; each = λ x. sym (nothing_at_first w x) }))
+no_records_at_first w = sym (records_for-is (table_of w []) [] (λ x le. nothing_said w x)
+    (record { runs = tt; each = λ x. sym (nothing_said w x) }))
 
 first-is : (w : Which) (kernel : Extent) → first_table w kernel ≡ table_for w kernel []
 first-is w kernel = ap (λ (rs : List (RunOf Label)). let t : Table = record { records = rs; place = built_in w kernel; room = 128 } in t)
@@ -80,7 +76,7 @@ whole-new kernel items t image none first second zero =
         reserved = second ∙ first-is which.Reserved kernel;
         limit = refl;
         upward = refl;
-        ends = λ w x le. nothing_at_first w x;
+        ends = λ w x le. nothing_said w x;
         fits = λ w. no_table_full w;
         far = λ w place moved. cc;
       };

@@ -19,9 +19,6 @@ pub node_self : (a : Option ℕ) → same_node a a ≡ true
 node_self None = refl
 node_self (Some n) = eq-eqb n n refl
 
-pub node_tells : Tells same_node
-node_tells = record { true_is_equal = node_yes; equal_is_true = λ a b e. ap (λ (o : Option ℕ). same_node a o) (sym e) ∙ node_self a }
-
 switch_yes : (a b : Bool) → same_switch a b ≡ true → a ≡ b
 switch_yes true true h = refl
 switch_yes true false h = cc

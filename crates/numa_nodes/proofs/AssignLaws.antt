@@ -35,7 +35,7 @@ use Rattle.numa_nodes.specs.Steps.{CanGetNodes}
 abbrev ranges_in : Judgement → List Item → List NumaBlock
 ranges_in found items = ranges_given (limit_of items) found
 
-abbrev behind : Judgement → Unit {0} → Doing StageStop Noded
+abbrev pub behind : Judgement → Unit {0} → Doing StageStop Noded
 behind found done = listed (λ items. nodes_with_memory (memory_of items)) >>= λ nodes. with_data found nodes
 
 abbrev by_ranges : Judgement → List NumaBlock → Doing StageStop Noded

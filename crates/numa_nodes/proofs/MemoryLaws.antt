@@ -21,7 +21,7 @@ use Rattle.growth_model.specs.Outcome.{after as after_change}
 use Rattle.growth_model.proofs.QuietLaws.{memory_growth-quiet, quiet-grown}
 use Rattle.memblock_grow.specs.declared.stop.StageStop.{StageStop}
 use Rattle.memblock_grow.specs.declared.stop.What.TheVariants as what
-use Rattle.stage_model.specs.Doing.{Done, Doing, ◌>>=◌, after, appended, going_on, in_turn, returns, listed}
+use Rattle.stage_model.specs.Doing.{Done, ◌>>=◌, after, appended, going_on, in_turn, returns, listed}
 use Rattle.stage_model.specs.Requests.{placed, refused_growth}
 use Rattle.stage_model.specs.Quiet.{IsQuietStep}
 use Rattle.stage_model.proofs.DoingLaws.{appended-append}
@@ -29,6 +29,7 @@ use Rattle.stage_model.proofs.QuietLaws.{quiet-appended_limit, quiet-appended_me
 use Rattle.node_hulls.specs.Hulls.{NumaBlock}
 use Rattle.node_hulls.specs.Judgement.{Judgement, judged}
 use Rattle.numa_nodes.specs.Assigned.{Noded, assigned, assigned_by, data_placed, given, is_memory, node_data_request, noded_by, nodes_with_memory, ranges_given, with_data}
+use Rattle.numa_nodes.proofs.AssignLaws.{behind}
 
 -- a range that gets its node: the growth before it is quiet
 given-memory_by : (first : Outcome) (r : Option Refused) (items : List Item) (range : Extent) (node : ℕ) → AreQuiet first.steps
@@ -125,9 +126,6 @@ quiet-with_data : (found : Judgement) (nodes : List ℕ) → IsQuietStep (with_d
 quiet-with_data found nodes =
     quiet-bind (in_turn data_placed tt nodes) (λ done. returns (noded_by found nodes)) (quiet-turn data_placed quiet-data tt nodes)
     (λ done. quiet-returns (noded_by found nodes))
-
-abbrev behind : Judgement → Unit {0} → Doing StageStop Noded
-behind found done = listed (λ items. nodes_with_memory (memory_of items)) >>= λ nodes. with_data found nodes
 
 quiet-behind : (found : Judgement) (done : Unit {0}) → IsQuietStep (behind found done)
 quiet-behind found done =

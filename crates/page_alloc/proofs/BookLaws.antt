@@ -2,7 +2,6 @@
 use Rattle.std.proofs.Common.{◌≡◌, ℕ, ◌*◌, ◌==◌, Bool, true, false, cond, is_some, Option, Some, None, IsSome, List, [], ◌∷◌, refl, sym, ◌∙◌, ap, subst, arith}
 use Rattle.std.proofs.lemmas.Bool.{eqb-true}
 use Rattle.std.proofs.lemmas.Bool.Decides.{nat_tests}
-use Rattle.std.proofs.lemmas.Cmp.{ranked}
 use Rattle.std.specs.declared.cmp.Ordering.{Ordering}
 use Rattle.std.specs.declared.cmp.Ordering.TheVariants.{Less, Equal, Greater}
 use Rattle.std.specs.Ordering.{nat_cmp, match_ordering}
@@ -23,6 +22,7 @@ use Rattle.page_alloc.specs.Book.{Book, held_in, state_of}
 use Rattle.page_alloc.specs.Kept.{AreHeldApart}
 use Rattle.page_alloc.specs.Pages.{State, with_held, served, unless_taken, step, HasOrder, TakesMemory}
 use Rattle.page_alloc.proofs.KeptLaws.{step_kept}
+use Rattle.free_areas.proofs.OrderLaws.{number_equal}
 
 -- two states are one where they say the same of each frame and each ID
 pub state_is : (f g : Frames) (h k : ℕ → Option Held) → ((x : ℕ) → f x ≡ g x) → ((i : ℕ) → h i ≡ k i)
@@ -36,10 +36,6 @@ key_is id q = grind (arith, nat_tests)
 pub changed : (id q : ℕ) (what : Option Held) (held : ℕ → Option Held) (o : Option Held) → o ≡ cond (is_at (nat_cmp id) q) what (held q)
     → o ≡ with_held id what held q
 changed id q what held o is = is ∙ ap (λ b. cond b what (held q)) (key_is id q)
-
--- an entry that is put at its place
-cmp_equal : (m n : ℕ) → nat_cmp m n ≡ Equal → m ≡ n
-cmp_equal m n h = ranked m n Equal (sym h)
 
 cmp_self : (n : ℕ) → nat_cmp n n ≡ Equal
 cmp_self n = grind (arith, nat_tests)
@@ -69,7 +65,7 @@ put_in id q what (e ∷ es) = by (nat_cmp id e.0) refl (put_in id q what es)
     by Less is later = refl
     by Equal is later =
         over (is_at (nat_cmp q) e.0) (Some what) (Some e.1) (held_in es q)
-        ∙ ap (λ k. cond (is_at (nat_cmp q) k) (Some what) (held_in (e ∷ es) q)) (sym (cmp_equal id e.0 is))
+        ∙ ap (λ k. cond (is_at (nat_cmp q) k) (Some what) (held_in (e ∷ es) q)) (sym (number_equal id e.0 is))
     by Greater is later =
         ap (λ (o : Option Held). cond (is_at (nat_cmp q) e.0) (Some e.1) o) later
         ∙ swapped (is_at (nat_cmp q) e.0) (is_at (nat_cmp q) id) (Some e.1) (Some what) (held_in es q)

@@ -12,7 +12,7 @@ use Rattle.frame_blocks.specs.Picked.{picked, first_picked}
 use Rattle.frame_blocks.specs.Buddies.{without_set, with_set}
 use Rattle.frame_blocks.proofs.SetLaws.{in_set, set_until, wider, multiple}
 use Rattle.frame_blocks.proofs.BlockLaws.{found_block}
-use Rattle.frame_blocks.proofs.BuddyLaws.{set_covers, covers_set, in_set_or_not, without_is, was_there, block_or_none}
+use Rattle.frame_blocks.proofs.BuddyLaws.{set_covers, covers_set, in_set_or_not, without_is, was_there, block_or_none, found_or_none}
 use Rattle.frame_blocks.proofs.PickLaws.{picked_tells}
 use Rattle.page_alloc.specs.declared.act.PageAct.{PageAct}
 use Rattle.page_alloc.specs.declared.act.PageAct.TheVariants as acts
@@ -108,10 +108,6 @@ pub record IsFreeSet (f : Frames) (order first node : ℕ) : Type 0 where
   pub aligned : first % 2 ^ order ≡ 0
   pub low : first + 2 ^ order ≤ MAX_FRAMES
   pub free : (x : ℕ) → IsInSet order first x → f x ≡ Some node
-
-found_or_none : (o : Option Block) → (o ≡ None) ⊎ ((b : Block) × (o ≡ Some b))
-found_or_none None = inl refl
-found_or_none (Some b) = inr (b, refl)
 
 pub picked_set : (f : Frames) (order first node : ℕ) (zone : Zone) → NothingFrom MAX_FRAMES f → first_picked f node zone order ≡ Some first
     → IsFreeSet f order first node

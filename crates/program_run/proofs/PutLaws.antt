@@ -1,11 +1,11 @@
 -- Bytes that go out part by part: those that went out, and those that are left.
 use Rattle.std.proofs.Common.{◌≡◌, ℕ, ◌≤◌, List, [], ◌++◌, Result, Ok, Err, sym, ap, ◌∙◌, append_assoc, append-nil, arith, inr}
 use Rattle.std.specs.Io.KnownBytes.{Appends}
+use Rattle.std.proofs.KnownBytes.{Appends-trans}
 use Rattle.bm_io.specs.Puts.{Puts}
 use Rattle.bm_io.specs.declared.writing.Put.{Put}
 use Rattle.bm_io.specs.declared.writing.Sink.{Ghosts as SinkOf}
 use Rattle.bm_io.proofs.PutsLaws.{puts_refused, unwanted}
-use Rattle.bm_io.proofs.StreamLaws.{appends_twice}
 
 -- of all bytes those up to the rest went out, and no want was counted
 pub record WentOut {S : Type 0} (sink : SinkOf S) (old now : S) (rest all : List ℕ) : Type 0 where
@@ -20,7 +20,7 @@ pub more_out : {S : Type 0} (sink : SinkOf S) (old mid new : S) (rest part left 
     → rest ≡ part ++ left → Puts sink mid new (Ok tt) part → WentOut sink old new left all
 more_out sink old mid new rest part left all before split puts = record {
   out = before.out ++ part;
-  written = appends_twice (sink.written old) (sink.written mid) (sink.written new) before.out part before.written puts.whole;
+  written = Appends-trans (sink.written old) (sink.written mid) (sink.written new) before.out part before.written puts.whole;
   joined = append_assoc before.out part left ∙ ap (λ t. before.out ++ t) (sym split) ∙ before.joined;
   faults = omega (arith, before.faults, puts.faults_stay);
   wants = unwanted puts ∙ before.wants;

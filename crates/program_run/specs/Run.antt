@@ -15,8 +15,8 @@ abbrev pub IsTold : {E : Type 0} → SinkOf E → Option Wanted → (old new : E
 IsTold errors accepted old new (Ok done) = new ≡ old
 IsTold errors accepted old new (Err failure) = PutsLine errors old new (failure_line accepted failure)
 
--- a run to that end. Nothing here speaks of the error output, so what that answers changes no status. `files` and `sink` are what the objects
--- that it was handed tell; each object is seen before and now
+-- a run to that end. Nothing here speaks of the error output, so what that answers changes no status. `files` and `sink` are
+-- what the objects that it was handed tell; each object is seen before and now
 pub record RanTo {F S : Type 0} (files : FilesOf F) (sink : SinkOf S) (accepted : Option Wanted) (held_before held_now : F)
     (out_before out_now : S) (end : End) : Type 0 where
   -- the end has its cause, whatever the files tell

@@ -8,9 +8,8 @@ use Rattle.bm_base.specs.declared.memory.Memory.{Memory}
 use Rattle.bm_base.specs.ResultSteps.{◌>>=◌}
 use Rattle.script_reader.specs.declared.act.Act.{Act}
 use Rattle.script_reader.specs.declared.act.Line.{Line}
-use Rattle.script_reader.specs.declared.fault.Wrong.{Wrong}
 use Rattle.script_reader.specs.Forms.{HasBounds}
-use Rattle.script_reader.specs.Script.{fault_at, line_at, seen_behind, asked, lines_from}
+use Rattle.script_reader.specs.Script.{line_at, seen_behind, asked, lines_from}
 
 -- lines behind those that are there
 abbrev pub behind : {L E : Type 0} → List L → Result (List L) E → Result (List L) E
@@ -35,11 +34,6 @@ pub line_read : (seen : Bool) (number : ℕ) (front : List Line) (text : List �
     ≡ behind (front ++ option_to_list (line_at number act)) (lines_from (seen_behind seen act) (number + 1) texts)
 line_read seen number front text texts act is =
     rw is (with_others front (line_at number act) (lines_from (seen_behind seen act) (number + 1) texts))
-
--- a line with a fault is the script's fault
-pub line_fault : (seen : Bool) (number : ℕ) (front : List Line) (text : List ℕ) (texts : List (List ℕ)) (wrong : Wrong)
-    → asked seen text ≡ Err wrong → behind front (lines_from seen number (text ∷ texts)) ≡ Err (fault_at number wrong)
-line_fault seen number front text texts wrong is = rw is refl
 
 -- what is left behind a line is less
 pub left_behind : (rest : Option (Bor (List ℕ))) (n : ℕ) → IfSome rest (λ text. length text.now < n) → left rest ≤ n

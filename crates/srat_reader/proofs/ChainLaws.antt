@@ -101,7 +101,8 @@ whole_here at bytes before none =
 pub near_here : (at : ℕ) (bytes : List ℕ) → at < length bytes → first_fault bytes (rest_from at bytes) ≡ None
     → is_far (said_at at bytes) ≡ false
 near_here at bytes before none =
-    false_from_ne_true (is_far (said_at at bytes)) (λ far. let fault = far_fault at bytes before (whole_here at bytes before none) far in cc)
+    false_from_ne_true (is_far (said_at at bytes)) (λ far.
+    let fault = far_fault at bytes before (whole_here at bytes before none) far in cc)
 
 pub sound_behind : (at : ℕ) (bytes : List ℕ) → at < length bytes → first_fault bytes (rest_from at bytes) ≡ None
     → first_fault bytes (rest_from (at + length_at at bytes) bytes) ≡ None

@@ -6,7 +6,8 @@ use Rattle.growth_model.specs.Outcome.{joined}
 use Rattle.growth_model.specs.Ends.{IsCutShort}
 use Rattle.growth_model.specs.Sound.{HasBegun}
 use Rattle.growth_model.proofs.EndLaws.{cut-first, cut-second}
-use Rattle.stage_model.specs.Doing.{Done, Doing, appended, after, returns, listed, going_on, ◌>>=◌, EndsAs, ok_as}
+use Rattle.growth_model.proofs.SoundLaws.{more-begun}
+use Rattle.stage_model.specs.Doing.{Done, Doing, appended, after, returns, listed, going_on, ◌>>=◌, EndsAs}
 
 pub appended-append : (items : List Item) (a b : List (List Item)) → appended items (a ++ b) ≡ appended (appended items a) b
 appended-append items [] b = refl
@@ -79,25 +80,15 @@ module _ {E A : Type 0} where
   pub ends-returns : (a : A) (wanting : E) (items : List Item) → EndsAs wanting (Ok a) items items (returns {E = E} a items)
   ends-returns a wanting items = (refl, refl)
 
--- an error is the same whatever the answer would have been
-pub ends-err : {E A B : Type 0} (e wanting : E) (view : A → B) (r : Result A E) (old new : List Item) (d : Done E B) → r ≡ Err e
-    → EndsAs wanting (ok_as view r) old new d → EndsAs wanting (Err e) old new d
-ends-err e wanting view r old new d is h = subst (λ (t : Result _ _). EndsAs wanting (ok_as view t) old new d) is h
-
--- something has happened, and more happens
-begun-append : (items s : List Item) → HasBegun items → HasBegun (items ++ s)
-begun-append [] s begun = absurd begun
-begun-append (i ∷ is) s begun = tt
-
 pub begun-appended : (items : List Item) (ss : List (List Item)) → HasBegun items → HasBegun (appended items ss)
 begun-appended items [] begun = begun
-begun-appended items (s ∷ ss) begun = begun-appended (items ++ s) ss (begun-append items s begun)
+begun-appended items (s ∷ ss) begun = begun-appended (items ++ s) ss (more-begun items s begun)
 
 begun_by : {E A : Type 0} (e wanting : E) (old new : List Item) (d : Done E A) → HasBegun old
     → ((d.answer ≡ Err e) × (new ≡ after old d)) ⊎ ((e ≡ wanting) × IsCutShort old new d.steps) → HasBegun new
 begun_by e wanting old new d begun (inl told) = subst HasBegun (sym told.1) (begun-appended old d.steps begun)
 begun_by e wanting old new d begun (inr cut) =
-    subst HasBegun (sym cut.1.stands) (begun-append old (joined (take cut.1.count d.steps)) begun)
+    subst HasBegun (sym cut.1.stands) (more-begun old (joined (take cut.1.count d.steps)) begun)
 
 pub ends-begun : {E A : Type 0} (r : Result A E) (wanting : E) (old new : List Item) (d : Done E A) → HasBegun old
     → EndsAs wanting r old new d → HasBegun new

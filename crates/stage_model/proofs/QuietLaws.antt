@@ -9,9 +9,9 @@ use Rattle.memblock_model.specs.declared.request.Request.{Request}
 use Rattle.growth_model.specs.Outcome.{Change}
 use Rattle.growth_model.specs.Growth.{claimed}
 use Rattle.growth_model.specs.Request.{place_for}
-use Rattle.growth_model.specs.Carried.{AreQuiet, memory_items}
+use Rattle.growth_model.specs.Carried.{AreQuiet}
 use Rattle.growth_model.proofs.MemoryItemLaws.{quiet-append}
-use Rattle.growth_model.proofs.QuietLaws.{IsQuiet, claimed-quiet, quiet-memory_items, quiet-memory, quiet-limit}
+use Rattle.growth_model.proofs.QuietLaws.{IsQuiet, claimed-quiet, quiet-memory, quiet-limit}
 use Rattle.memblock_grow.specs.declared.stop.What.{What}
 use Rattle.memblock_grow.specs.declared.stop.StageStop.{StageStop}
 use Rattle.stage_model.specs.Doing.{Done, Doing, appended, after, returns, stops, seen, listed, going_on, ◌>>=◌, in_turn}
@@ -83,11 +83,6 @@ module _ {A : Type 0} where
   }
 
 -- so what the items say of memory and of the limit stays
-
-pub quiet-appended : (items : List Item) (steps : List (List Item)) → AreQuiet steps
-    → memory_items (appended items steps) ≡ memory_items items
-quiet-appended items steps quiet = ap memory_items (appended-joined items steps)
-    ∙ quiet-memory_items items (record { steps = steps; refused = None }) quiet
 
 pub quiet-appended_memory : (items : List Item) (steps : List (List Item)) → AreQuiet steps
     → memory_of (appended items steps) ≡ memory_of items

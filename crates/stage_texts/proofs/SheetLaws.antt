@@ -42,7 +42,7 @@ hex_append (suc k) n rest =
     hex_append k (n / 16) (g ∷ rest) ∙ sym (append_assoc (hex_onto k (n / 16) []) (g ∷ []) rest)
     ∙ ap (λ t. t ++ rest) (sym (hex_append k (n / 16) (g ∷ [])))
 
-hex_length : (k n : ℕ) (rest : List ℕ) → length (hex_onto k n rest) ≡ k + length rest
+pub hex_length : (k n : ℕ) (rest : List ℕ) → length (hex_onto k n rest) ≡ k + length rest
 unfolding hex_onto
 hex_length zero n rest = omega arith
 hex_length (suc k) n rest = let h = hex_length k (n / 16) (digit_glyph false (n % 16) ∷ rest) in omega (arith, h)

@@ -9,8 +9,9 @@ use Rattle.memblock_ranges.specs.declared.region.Head.{Head}
 use Rattle.memblock_ranges.specs.declared.region.Region.{Region}
 use Rattle.memblock_ranges.specs.Spelling.{region_in, run_in}
 use Rattle.memblock_ranges.specs.Tables.{list_in}
+use Rattle.memblock_ranges.proofs.LentLaws.{count_is}
 use Rattle.table_frames.specs.Tables.{AscendBelow, AreWholeFrames}
-use Rattle.table_frames.proofs.RecordLaws.{record_by_bytes, length_by_head}
+use Rattle.table_frames.proofs.RecordLaws.{record_by_bytes}
 
 -- what is left from a record on begins with what was read
 pub left_from : (s : List Stored) (h : Head) (i : ℕ) (g : Region) → i < h.count
@@ -18,7 +19,7 @@ pub left_from : (s : List Stored) (h : Head) (i : ℕ) (g : Region) → i < h.co
     → (r : RunOf Label) × (drop i (list_in s h) ≡ r ∷ drop (i + 1) (list_in s h)) × (r.base ≡ g.base) × (r.size ≡ g.size)
 left_from s h i g few is =
     let r : RunOf Label = run_in (bytes_at (byte_of s) (h.place + 24 * i) 24) in
-    let long = length_by_head s h in
+    let long = count_is s h in
     let inner : i < length (list_in s h) = omega (arith, long, few) in
     let next : suc i ≡ i + 1 = omega arith in
     let left : drop i (list_in s h) ≡ r ∷ drop (i + 1) (list_in s h) =

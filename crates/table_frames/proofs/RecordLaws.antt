@@ -11,7 +11,8 @@ use Rattle.memblock_ranges.specs.declared.region.Head.{Head}
 use Rattle.memblock_ranges.specs.declared.region.Region.{Region}
 use Rattle.memblock_ranges.specs.Spelling.{base_in, size_in, node_in, node_of_field, region_in, run_in}
 use Rattle.memblock_ranges.specs.Tables.{list_in}
-use Rattle.memblock_ranges.proofs.SpellLaws.{get-records_at, length-records_at}
+use Rattle.memblock_ranges.proofs.SpellLaws.{get-records_at}
+use Rattle.memblock_ranges.proofs.LentLaws.{count_is}
 use Rattle.table_frames.specs.declared.frames.RecordFrames.{RecordFrames}
 use Rattle.table_frames.specs.Frames.{node_below, frames_of}
 use Rattle.table_frames.specs.Tables.{AscendBelow, HasRecords}
@@ -20,9 +21,6 @@ use Rattle.table_frames.specs.Tables.{AscendBelow, HasRecords}
 pub record_by_bytes : (s : List Stored) (h : Head) (i : ℕ) (d : RunOf Label) → i < h.count
     → get_or (list_in s h) i d ≡ run_in (bytes_at (byte_of s) (h.place + 24 * i) 24)
 record_by_bytes s h i d few = get-records_at (byte_of s) h.place h.count i d few
-
-pub length_by_head : (s : List Stored) (h : Head) → length (list_in s h) ≡ h.count
-length_by_head s h = length-records_at (byte_of s) h.place h.count
 
 -- the node of a field, where it is below 1,024
 pub field_below : (n : ℕ) → node_below (node_of_field n) ≡ (if nat_lt n 1024 then Some n else None)
@@ -80,7 +78,7 @@ pub region_fits : (s : List Stored) (h : Head) (i : ℕ) (g : Region) → HasRec
     → g ≡ region_in (bytes_at (byte_of s) (h.place + 24 * i) 24) → (0 < g.size) × (g.base + g.size ≤ 2 ^ 64)
 region_fits s h i g known few is =
     let bs = bytes_at (byte_of s) (h.place + 24 * i) 24 in
-    let long = length_by_head s h in
+    let long = count_is s h in
     let at : get_or (list_in s h) i (run_in bs) ≡ run_in bs = record_by_bytes s h i (run_in bs) few in
     let fits = ascend_at (2 ^ 64) (list_in s h) i (run_in bs) known.ascend (omega (arith, long)) in
     let Fit : RunOf Label → Type 0 = λ r. (0 < r.size) × (r.base + r.size ≤ 2 ^ 64) in

@@ -9,7 +9,7 @@ use Rattle.bm_base.specs.Zones.{zone_of}
 use Rattle.address_runs.specs.Edits.{NothingFrom}
 use Rattle.frame_blocks.specs.Frames.{Frames}
 use Rattle.frame_blocks.specs.Listed.{is_node, same_zone}
-use Rattle.frame_blocks.proofs.CountLaws.{zone_self}
+use Rattle.frame_blocks.proofs.CountLaws.{zone_self, zone_is}
 use Rattle.table_frames.specs.declared.frames.TheConstants.{MAX_NODES}
 use Rattle.zone_spans.specs.declared.span.Span.{Span}
 use Rattle.zone_spans.specs.Spans.{is_in, with_frames, span_below, span_of, spans_from, spans_of}
@@ -27,12 +27,6 @@ zone_by_place zone.Dma zone.Dma h = refl
 zone_by_place zone.Dma32 zone.Dma32 h = refl
 zone_by_place zone.Normal zone.Normal h = refl
 zone_by_place a b h = absurd (omega arith)
-
-zone_is : (a b : Zone) → same_zone a b ≡ true → a ≡ b
-zone_is zone.Dma zone.Dma h = refl
-zone_is zone.Dma32 zone.Dma32 h = refl
-zone_is zone.Normal zone.Normal h = refl
-zone_is a b h = cc
 
 -- inside and outside of a run
 run_inside : (at until n x : ℕ) (f : Frames) → at ≤ x → x < until → with_run at until n f x ≡ Some n

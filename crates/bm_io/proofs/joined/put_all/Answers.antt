@@ -1,8 +1,8 @@
 -- One more chunk went out, or was refused: what went out is then a front of all.
 use Rattle.std.proofs.Common.{◌≡◌, ◌∙◌, Err, ap, arith, get_or, sym}
 use Rattle.std.proofs.lemmas.Result.{err_from_is_err_and}
+use Rattle.std.proofs.KnownBytes.{Appends-trans}
 use Rattle.bm_io.specs.declared.writing.Put.{Put}
-use Rattle.bm_io.proofs.StreamLaws.{appends_twice}
 use Rattle.bm_io.proofs.PutsLaws.{joined_more, joined_at, none_first, none_behind, puts_refused, unwanted}
 use Rattle.bm_io.proofs.joined.put_all.Goals as goal
 
@@ -36,7 +36,7 @@ loop-chunk-preserved g c =
     c.as_slice.ensures ∙ ap g.P.AsSlice.items item.is in
     let more = joined_more g.P.AsSlice.items c.args.chunks.now l.chunk-index item.result c.loop-chunk-test.true in
     record {
-      written = rw (more, ← bytes) (appends_twice _ _ _ _ _ l.invariant.written puts.whole);
+      written = rw (more, ← bytes) (Appends-trans _ _ _ _ _ l.invariant.written puts.whole);
       faults = omega (arith, l.invariant.faults, puts.faults_stay);
       wants = unwanted puts ∙ l.invariant.wants;
       untouched = λ none. let parts = sym more ∙ none in

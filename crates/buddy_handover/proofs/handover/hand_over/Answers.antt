@@ -2,9 +2,10 @@ use Rattle.std.proofs.Common.{◌≡◌, ◌<◌, ◌≤◌, ℕ, length, get_or
 use Rattle.address_runs.specs.Runs.{RunOf, value_at}
 use Rattle.memblock_model.specs.Labels.{Label, plain_label}
 use Rattle.memblock_ranges.specs.Tables.{list_in}
+use Rattle.memblock_ranges.proofs.LentLaws.{count_is}
 use Rattle.table_frames.specs.declared.frames.RecordFrames.{RecordFrames}
 use Rattle.table_frames.specs.Frames.{frames_of, IsPassed}
-use Rattle.table_frames.proofs.RecordLaws.{length_by_head, records_higher}
+use Rattle.table_frames.proofs.RecordLaws.{records_higher}
 use Rattle.table_frames.proofs.ClaimLaws.{passed_later}
 use Rattle.table_frames.proofs.TakeLaws.{frames_below, frames_in_order, frames_some}
 use Rattle.buddy_handover.specs.Contents.{Contents, free}
@@ -35,7 +36,7 @@ free_unclaimed-requires-clause-order c =
 pub free_unclaimed-requires-clause-low : goal.free_unclaimed-requires-clause-low
 free_unclaimed-requires-clause-low c =
     let ms = list_in c.args.store.now c.args.heads.now.memory in
-    let long = length_by_head c.args.store.now c.args.heads.now.memory in
+    let long = count_is c.args.store.now c.args.heads.now.memory in
     let few : c.loop-i.i < length ms = let test = c.loop-i-test.true in omega (arith, long, test) in
     frames_below _ _ ms c.loop-i.i nobody _ c.requires.memory.ascend few (c.frames_at-frames.ensures nobody) (omega arith)
 
@@ -44,7 +45,7 @@ loop-i-preserved c =
     let ms = list_in c.args.store.now c.args.heads.now.memory in
     let rs = list_in c.args.store.now c.args.heads.now.reserved in
     let i = c.loop-i.i in
-    let long = length_by_head c.args.store.now c.args.heads.now.memory in
+    let long = count_is c.args.store.now c.args.heads.now.memory in
     let long_too = sym long in
     let few : i < length ms = let test = c.loop-i-test.true in omega (arith, long, test) in
     let is = c.frames_at-frames.ensures nobody in
@@ -94,7 +95,7 @@ loop-i-preserved c =
 pub returns : goal.returns
 returns c =
     let ms = list_in c.args.store.now c.args.heads.now.memory in
-    let long = length_by_head c.args.store.now c.args.heads.now.memory in
+    let long = count_is c.args.store.now c.args.heads.now.memory in
     let all : c.loop-i.i ≡ length ms = let test = c.loop-i-test.false in let most = c.loop-i.auto.i-end in omega
     (arith, long, test, most) in
     all_handed ms (value_at (list_in c.args.store.now c.args.heads.now.reserved)) c.loop-i.i (free c.loop-i.buddy) c.requires.whole all

@@ -1,8 +1,9 @@
 use Rattle.std.proofs.Common.{◌≤◌, ◌+◌, length, drop, arith, refl}
 use Rattle.std.proofs.lemmas.Bool.{false≢true}
 use Rattle.memblock_ranges.specs.Tables.{list_in}
+use Rattle.memblock_ranges.proofs.LentLaws.{count_is}
 use Rattle.table_frames.specs.Tables.{HasRecords}
-use Rattle.table_frames.proofs.RecordLaws.{length_by_head, records_higher}
+use Rattle.table_frames.proofs.RecordLaws.{records_higher}
 use Rattle.table_frames.proofs.CheckLaws.{left_from, one_in_place, out_of_place, all_in_place}
 use Rattle.table_frames.proofs.check.has_records.Goals as goal
 
@@ -38,7 +39,7 @@ loop-i-preserved c =
 pub returns-clause-list : goal.returns-clause-list
 returns-clause-list c =
     let rs = list_in c.args.store.now c.args.head.now in
-    let long = length_by_head c.args.store.now c.args.head.now in
+    let long = count_is c.args.store.now c.args.head.now in
     let all : length rs ≤ c.loop-i.i = let test = c.loop-i-test.false in omega (arith, long, test) in
     let room = c.if-not-has_room.ensures.0 refl in
     let known : HasRecords c.args.store.now c.args.head.now c.args.bound =
@@ -48,7 +49,7 @@ returns-clause-list c =
 pub returns-clause-space : goal.returns-clause-space
 returns-clause-space c = λ is.
     let rs = list_in c.args.store.now c.args.head.now in
-    let long = length_by_head c.args.store.now c.args.head.now in
+    let long = count_is c.args.store.now c.args.head.now in
     let all : length rs ≤ c.loop-i.i = let test = c.loop-i-test.false in omega (arith, long, test) in
     let room = c.if-not-has_room.ensures.0 refl in
     let known : HasRecords c.args.store.now c.args.head.now c.args.bound =

@@ -1,7 +1,7 @@
 use Rattle.std.proofs.Common.{◌≤◌, ◌+◌, ◌%◌, length, drop, sym, ◌∙◌, ap, arith, refl}
 use Rattle.std.proofs.lemmas.Bool.{false≢true}
 use Rattle.memblock_ranges.specs.Tables.{list_in}
-use Rattle.table_frames.proofs.RecordLaws.{length_by_head}
+use Rattle.memblock_ranges.proofs.LentLaws.{count_is}
 use Rattle.table_frames.proofs.CheckLaws.{left_from, one_whole, not_whole, all_whole}
 use Rattle.table_frames.proofs.check.has_whole_frames.Goals as goal
 
@@ -33,6 +33,6 @@ loop-i-preserved c =
 pub returns : goal.returns
 returns c =
     let rs = list_in c.args.store.now c.args.head.now in
-    let long = length_by_head c.args.store.now c.args.head.now in
+    let long = count_is c.args.store.now c.args.head.now in
     let all : length rs ≤ c.loop-i.i = let test = c.loop-i-test.false in omega (arith, long, test) in
     ((λ is. all_whole c.loop-i.i rs c.loop-i.invariant all), (λ whole. refl))

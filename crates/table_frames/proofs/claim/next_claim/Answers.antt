@@ -2,9 +2,10 @@ use Rattle.std.proofs.Common.{◌≡◌, ◌<◌, ◌≤◌, length, get_or, ap,
 use Rattle.address_runs.specs.Runs.{RunOf}
 use Rattle.memblock_model.specs.Labels.{Label, plain_label}
 use Rattle.memblock_ranges.specs.Tables.{list_in}
+use Rattle.memblock_ranges.proofs.LentLaws.{count_is}
 use Rattle.table_frames.specs.declared.frames.RecordFrames.{RecordFrames}
 use Rattle.table_frames.specs.Frames.{frames_of}
-use Rattle.table_frames.proofs.RecordLaws.{length_by_head, frames_order}
+use Rattle.table_frames.proofs.RecordLaws.{frames_order}
 use Rattle.table_frames.proofs.ClaimLaws.{passed_more, unclaimed_end, unclaimed_gap, claimed_by}
 use Rattle.table_frames.proofs.claim.next_claim.Goals as goal
 
@@ -14,7 +15,7 @@ nobody = record { base = 0; size = 0; value = plain_label }
 pub returns-then-at-frames-clause-unclaimed : goal.returns-then-at-frames-clause-unclaimed
 returns-then-at-frames-clause-unclaimed c = λ x above before low.
     let rs = list_in c.args.store.now c.args.head.now in
-    let long = length_by_head c.args.store.now c.args.head.now in
+    let long = count_is c.args.store.now c.args.head.now in
     let few : c.loop-i.i < length rs = let test = c.loop-i-test.true in omega (arith, long, test) in
     let first : c.frames_at-frames.result.first ≡ (frames_of (get_or rs c.loop-i.i nobody)).first =
     ap (λ (f : RecordFrames). f.first) (c.frames_at-frames.ensures nobody) in
@@ -25,7 +26,7 @@ returns-then-at-frames-clause-unclaimed c = λ x above before low.
 pub returns-then-at-frames-clause-claimed : goal.returns-then-at-frames-clause-claimed
 returns-then-at-frames-clause-claimed c = λ x from until low.
     let rs = list_in c.args.store.now c.args.head.now in
-    let long = length_by_head c.args.store.now c.args.head.now in
+    let long = count_is c.args.store.now c.args.head.now in
     let few : c.loop-i.i < length rs = let test = c.loop-i-test.true in omega (arith, long, test) in
     let first : c.frames_at-frames.result.first ≡ (frames_of (get_or rs c.loop-i.i nobody)).first =
     ap (λ (f : RecordFrames). f.first) (c.frames_at-frames.ensures nobody) in
@@ -38,7 +39,7 @@ returns-then-at-frames-clause-claimed c = λ x from until low.
 pub loop-i-preserved : goal.loop-i-preserved
 loop-i-preserved c =
     let rs = list_in c.args.store.now c.args.head.now in
-    let long = length_by_head c.args.store.now c.args.head.now in
+    let long = count_is c.args.store.now c.args.head.now in
     let few : c.loop-i.i < length rs = let test = c.loop-i-test.true in omega (arith, long, test) in
     let end : c.frames_at-frames.result.end ≡ (frames_of (get_or rs c.loop-i.i nobody)).end =
     ap (λ (f : RecordFrames). f.end) (c.frames_at-frames.ensures nobody) in
@@ -52,7 +53,7 @@ loop-i-preserved c =
 pub returns-clause-unclaimed : goal.returns-clause-unclaimed
 returns-clause-unclaimed c = λ x above before low.
     let rs = list_in c.args.store.now c.args.head.now in
-    let long = length_by_head c.args.store.now c.args.head.now in
+    let long = count_is c.args.store.now c.args.head.now in
     let all : length rs ≤ c.loop-i.i = let test = c.loop-i-test.false in omega (arith, long, test) in
     unclaimed_end rs c.loop-i.i c.args.at x all c.loop-i.invariant.passed above
 

@@ -4,10 +4,10 @@ use Rattle.address_runs.specs.Runs.{RunOf, value_at}
 use Rattle.address_runs.specs.Edits.{NothingFrom}
 use Rattle.memblock_model.specs.Labels.{Label, plain_label}
 use Rattle.memblock_ranges.specs.Tables.{list_in}
+use Rattle.memblock_ranges.proofs.LentLaws.{count_is}
 use Rattle.frame_blocks.specs.Frames.{Frames}
 use Rattle.table_frames.specs.declared.frames.RecordFrames.{RecordFrames}
 use Rattle.table_frames.specs.Frames.{node_of_frame, frames_of}
-use Rattle.table_frames.proofs.RecordLaws.{length_by_head}
 use Rattle.table_frames.proofs.TakeLaws.{frames_below, frames_in_order, frames_some}
 use Rattle.zone_spans.specs.declared.span.Span.{Span}
 use Rattle.zone_spans.specs.Spans.{spans_of}
@@ -52,7 +52,7 @@ note-requires-clause-order c =
 pub note-requires-clause-low : goal.note-requires-clause-low
 note-requires-clause-low c =
     let ms = list_in c.args.store.now c.args.heads.now.memory in
-    let long = length_by_head c.args.store.now c.args.heads.now.memory in
+    let long = count_is c.args.store.now c.args.heads.now.memory in
     let few : c.loop-i.i < length ms = let test = c.loop-i-test.true in omega (arith, long, test) in
     frames_below _ _ ms c.loop-i.i nobody _ c.requires.memory.ascend few (c.frames_at-frames.ensures nobody) (omega arith)
 
@@ -68,7 +68,7 @@ pub loop-i-preserved : goal.loop-i-preserved
 loop-i-preserved c =
     let ms = list_in c.args.store.now c.args.heads.now.memory in
     let i = c.loop-i.i in
-    let long = length_by_head c.args.store.now c.args.heads.now.memory in
+    let long = count_is c.args.store.now c.args.heads.now.memory in
     let long_too = sym long in
     let few : i < length ms = let test = c.loop-i-test.true in omega (arith, long, test) in
     let is = c.frames_at-frames.ensures nobody in
@@ -119,7 +119,7 @@ loop-i-preserved c =
 pub returns : goal.returns
 returns c =
     let ms = list_in c.args.store.now c.args.heads.now.memory in
-    let long = length_by_head c.args.store.now c.args.heads.now.memory in
+    let long = count_is c.args.store.now c.args.heads.now.memory in
     let all : c.loop-i.i ≡ length ms = let test = c.loop-i-test.false in let most = c.loop-i.auto.i-end in omega
     (arith, long, test, most) in
     let ss = c.loop-i.slots.items in

@@ -2,8 +2,8 @@
 use Rattle.std.proofs.Common.{◌≡◌, ◌+◌, ◌++◌, rules, arith, take, length, vec_items, vec_len, refl, length-append, ◌∙◌, true}
 use Rattle.std.specs.Prelude.{is_ok}
 use Rattle.std.proofs.lemmas.List.{length-take-le}
+use Rattle.std.proofs.KnownBytes.{Consumes-trans}
 use Rattle.bm_io.specs.Calls.{HasGiven, nothing_given}
-use Rattle.bm_io.proofs.StreamLaws.{consumes_twice}
 use Rattle.bm_io.proofs.CallsLaws.{given_more}
 use Rattle.bm_io.proofs.real_files.RealFiles.read_whole.Goals as goal
 
@@ -63,7 +63,7 @@ loop-count-preserved g c =
     let counted = c.saturating_add-self-inside-in-loop-count.ensures in
     record {
       given = given_more _ _ _ _ _ _ _ _ l.invariant.given c.in-Some.ensures.call c.in-Some.ensures.bound (omega arith) items;
-      known = rw items (consumes_twice _ _ _ _ _ l.invariant.known c.in-Some.ensures.known.0);
+      known = rw items (Consumes-trans _ _ _ _ _ l.invariant.known c.in-Some.ensures.known.0);
       within = omega (arith, len, long);
       taken = omega (arith, len, long, counted, l.invariant.taken);
       taken_fits = omega (arith, counted);
