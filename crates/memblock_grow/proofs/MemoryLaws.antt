@@ -2,7 +2,7 @@
 use Rattle.std.proofs.Common.{◌≡◌, ℕ, ◌+◌, ◌*◌, ◌^◌, ◌<◌, Option, Some, None, List, [], ◌∷◌, ◌++◌, Result, Ok, Err, IsErrAnd, refl, sym, ◌∙◌, ap, subst, arith}
 use Rattle.std.specs.Option.{option_map, IfSome}
 use Rattle.bm_base.specs.Extent.{Extent, end_of}
-use Rattle.phys_store.specs.Bytes.{Stored, byte_of, AreReady}
+use Rattle.phys_store.specs.Bytes.{byte_of}
 use Rattle.memblock_model.specs.declared.which.Which.TheVariants as which
 use Rattle.memblock_model.specs.declared.owner.Owner.TheVariants as owner
 use Rattle.memblock_model.specs.declared.item.Item.{Item}
@@ -26,10 +26,8 @@ use Rattle.growth_model.proofs.FollowLaws.{follows-grown, follows-then, follows-
 use Rattle.memblock_grow.specs.declared.aim.Aim.{Aim}
 use Rattle.memblock_grow.specs.Kept.{AreKept, IsMemblock, AllowsFree, Keeps, KeepsBytes}
 use Rattle.memblock_grow.specs.Places.{frames_between}
-use Rattle.memblock_grow.specs.Prepared.{PreparesWith}
 use Rattle.memblock_grow.proofs.KeptLaws.{room-is, kept-grown}
 use Rattle.memblock_grow.proofs.ChangeLaws.{handed}
-use Rattle.memblock_grow.proofs.PreparedLaws.{place-ready}
 use Rattle.memblock_grow.proofs.PlaceLaws.{IsPlaceOf, mapped-some, mapped-none, between-is}
 use Rattle.memblock_grow.proofs.ReservedLaws.{left-size}
 
@@ -173,15 +171,6 @@ memory-apart kernel items mid t k at base place kept after same here taken =
     let room : room_in which.Memory k ≡ n = ap (λ (s : Table). s.room) same ∙ room-is which.Memory kernel items t at kept in
     subst (λ (m : ℕ). ¬ Overlaps k (record { base = base; size = 48 * m })) (sym room)
     (subst (λ (b : ℕ). ¬ Overlaps k (record { base = b; size = 48 * n })) (sym here) apart)
-
--- the bytes of the move are prepared, where those of the place are
-pub memory-ready : (kernel : Extent) (items mid : List Item) (t k : Contents) (at : Aim) (base : ℕ) (place : Extent) (s : List Stored)
-    → AreKept kernel items t at → k.memory ≡ t.memory → base ≡ place.base → place ≡ frames_at place.base (48 * room_of which.Memory items)
-    → PreparesWith place items mid s k.store → AreReady k.store base (48 * room_in which.Memory k)
-memory-ready kernel items mid t k at base place s kept same here is h =
-    let room = ap (λ (s : Table). s.room) same ∙ room-is which.Memory kernel items t at kept in
-    let size = ap (λ (e : Extent). e.size) is in
-    λ x low high. place-ready place items mid s k.store h x (omega (arith, low, here)) (omega (arith, high, here, room, size))
 
 memory-kept : (kernel : Extent) (items mid : List Item) (t k r : Contents) (at : Aim) (base room : ℕ) (place : Extent)
     → AreKept kernel items t at → MovedMemory items t k r base place → Keeps items t mid k at

@@ -2,9 +2,9 @@
 use Rattle.std.proofs.Common.{◌≡◌, ℕ, ◌*◌, Bool, true, false, ◌||◌, List, [], ◌∷◌, ◌++◌, Result, Ok, Err, OnErr, refl, sym, ◌∙◌, ap, subst, append_assoc, arith}
 use Rattle.std.proofs.lemmas.Bool.Decides.{nat_tests}
 use Rattle.std.proofs.lemmas.List.{append-nil}
-use Rattle.std.proofs.Math.Bool.{or_assoc, or_comm, or-true}
+use Rattle.std.proofs.Math.Bool.{or_assoc, or_comm}
 use Rattle.bm_base.specs.Extent.{Extent, covers}
-use Rattle.phys_store.specs.Bytes.{Stored, is_ready, AreReady}
+use Rattle.phys_store.specs.Bytes.{Stored, is_ready}
 use Rattle.memblock_model.specs.declared.which.Which.{Which}
 use Rattle.memblock_model.specs.declared.item.Item.{Item}
 use Rattle.memblock_model.specs.declared.item.Item.TheVariants as item
@@ -66,12 +66,6 @@ prepares-with place items longer s p t first h = record {
   goes_on = h.goes_on;
   each = λ x. h.each x ∙ ap (λ (b : Bool). is_grown_over h.more x || b) (first x);
 }
-
-pub place-ready : (place : Extent) (items longer : List Item) (s t : List Stored) → PreparesWith place items longer s t
-    → AreReady t place.base place.size
-place-ready place items longer s t h = λ x low high.
-    let inside : covers place x ≡ true = grind (arith, nat_tests) in
-    h.each x ∙ ap (λ (b : Bool). is_grown_over h.more x || (b || is_ready s x)) inside ∙ or-true (is_grown_over h.more x)
 
 with-then : (place : Extent) (items mid last : List Item) (s t u : List Stored) → Prepares items mid s t → PreparesWith place mid last t u
     → PreparesWith place items last s u
@@ -148,9 +142,3 @@ by-then (Err refusal.NoGap) items mid last s t u first second = prepares-then it
 by-then (Err (refusal.NoGapForTable w room)) items mid last s t u first second = prepares-then items mid last s t u first second
 by-then (Err refusal.Memory) items mid last s t u first second =
     (second.0, with-then second.0 items mid last s t u first second.1)
-
-pub by-error : (T : Type 0) {U : Type 0} (e : Refusal) (r : Result U Refusal) (items longer : List Item) (s t : List Stored) → r ≡ Err e
-    → PreparesBy {T = T} (Err e) items longer s t → PreparesBy r items longer s t
-by-error T refusal.NoGap r items longer s t is h = rw is h
-by-error T (refusal.NoGapForTable w room) r items longer s t is h = rw is h
-by-error T refusal.Memory r items longer s t is h = rw is h

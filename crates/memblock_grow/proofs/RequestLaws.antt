@@ -1,6 +1,6 @@
 -- The place that an allocation finds by the tables is the one that the items say, and how the claim of it ends.
 use Rattle.std.proofs.lemmas.Bool.{cases_Bool}
-use Rattle.std.proofs.Common.{◌≡◌, ℕ, ◌+◌, ◌^◌, ◌<◌, Bool, true, false, inl, inr, Option, Some, None, List, [], ◌∷◌, ◌++◌, Result, Ok, Err, IsErrAnd, refl, sym, ◌∙◌, ap, subst, arith}
+use Rattle.std.proofs.Common.{◌≡◌, ℕ, ◌+◌, ◌^◌, ◌<◌, Bool, true, false, inl, inr, Option, Some, None, List, [], ◌∷◌, Result, Ok, Err, IsErrAnd, refl, sym, ◌∙◌, ap, subst, arith}
 use Rattle.std.specs.Option.{option_or}
 use Rattle.bm_base.specs.Extent.{Extent}
 use Rattle.memblock_model.specs.declared.owner.Owner.{Owner}
@@ -21,7 +21,7 @@ use Rattle.growth_model.proofs.FoundLaws.{place-unclaimed, place-within, unclaim
 use Rattle.growth_model.proofs.SoundLaws.{may-away}
 use Rattle.memblock_grow.specs.declared.aim.Aim.{Aim}
 use Rattle.memblock_grow.specs.Kept.{AreKept, IsMemblock, AllowsClaim}
-use Rattle.memblock_grow.specs.Places.{KnowsMirrors, top_of, first_of}
+use Rattle.memblock_grow.specs.Places.{KnowsMirrors, first_of}
 use Rattle.memblock_grow.proofs.PlaceLaws.{top-is, top-mirrorless}
 use Rattle.memblock_grow.proofs.ChangeLaws.{handed}
 
@@ -31,18 +31,6 @@ first-is kernel items t at [] kept = refl
 first-is kernel items t at (a ∷ rest) kept =
     ap (λ (o : Option ℕ). option_or o (first_of t at.upward rest)) (top-is kernel items t at a kept)
     ∙ ap (λ (o : Option ℕ). option_or (top items a.query a.mirror) o) (first-is kernel items t at rest kept)
-
--- some searches, and others behind them
-or_or : (a b c : Option ℕ) → option_or (option_or a b) c ≡ option_or a (option_or b c)
-or_or None b c = refl
-or_or (Some x) b c = refl
-
-pub first-append : (t : Contents) (up : Bool) (some rest : List Attempt)
-    → first_of t up (some ++ rest) ≡ option_or (first_of t up some) (first_of t up rest)
-first-append t up [] rest = refl
-first-append t up (a ∷ some) rest =
-    ap (λ (o : Option ℕ). option_or (top_of t up a) o) (first-append t up some rest)
-    ∙ sym (or_or (top_of t up a) (first_of t up some) (first_of t up rest))
 
 -- where nothing is mirrored no search of mirrored memory finds a place
 anywhere-mirrorless : (items : List Item) (t : Contents) (up : Bool) (r : Request) (limit lo : ℕ) (wanted : Option ℕ) → KnowsMirrors items t

@@ -1,21 +1,18 @@
-use Rattle.std.proofs.Common.{◌≡◌, ◌≢◌, ◌+◌, ◌*◌, ◌^◌, ◌<◌, List, refl, sym, ap, subst}
+use Rattle.std.proofs.Common.{◌≡◌, ◌≢◌, ◌+◌, ◌*◌, ◌^◌, ◌<◌, refl, sym, ap, subst}
 use Rattle.bm_base.specs.Extent.{Extent, end_of}
 use Rattle.memblock_model.specs.declared.which.Which.TheVariants as which
-use Rattle.memblock_model.specs.declared.item.Item.{Item}
 use Rattle.memblock_model.specs.Tables.{room_of, moved_to}
 use Rattle.boot_journal.specs.Contents.{Contents as Journal}
 use Rattle.memblock_ranges.specs.declared.region.Head.{Head}
-use Rattle.growth_model.specs.declared.refusal.Refusal.TheVariants as refusal
 use Rattle.growth_model.specs.Growth.{in_whole_frames, old_frames}
 use Rattle.growth_model.proofs.PlacedMemoryLaws.{IsTaken}
 use Rattle.memblock_grow.specs.Kept.{Keeps, KeepsBytes}
-use Rattle.memblock_grow.specs.Prepared.{Prepares, PreparesBy}
+use Rattle.memblock_grow.specs.Prepared.{Prepares}
 use Rattle.memblock_grow.proofs.WholeLaws.{keeps-then, bytes-then}
-use Rattle.memblock_grow.proofs.PreparedLaws.{with-growth, prepares-then, by-exact, by-error}
+use Rattle.memblock_grow.proofs.PreparedLaws.{with-growth, prepares-then, by-exact}
 use Rattle.memblock_grow.proofs.PlaceLaws.{knows-mirrors, left-far}
 use Rattle.memblock_grow.proofs.ReservedLaws.{room-some, frames-some, left-found, twice-is, still-bytes}
-use Rattle.memblock_grow.proofs.ChangeLaws.{handed}
-use Rattle.memblock_grow.proofs.MemoryLaws.{IsBest, best-found, best-free, memory-none, memory-fails, memory-wants, memory-done, best-taken, MovedMemory, memory-apart, memory-ready, memory-keeps, memory-tells, memory-free, left-some}
+use Rattle.memblock_grow.proofs.MemoryLaws.{IsBest, best-found, best-free, memory-none, memory-fails, memory-wants, memory-done, best-taken, MovedMemory, memory-apart, memory-keeps, memory-tells, memory-free, left-some}
 use Rattle.memblock_grow.proofs.memory.grow_memory.Goals as goal
 use Rattle.memblock_grow.proofs.memory.grow_memory.Goals.{In-Some, In_ok-take_place, After-relocate}
 
@@ -118,37 +115,12 @@ returns-in_err-take_place-clause-ends c =
     memory-fails c.args.journal.now.items c.take_place.new.journal.items c.in-Some.place c.in_err-take_place.field-0.0
     c.from_residual.result known c.from_residual.ensures.1 c.in_err-take_place.ensures.ends
 
-pub returns-in_err-take_place-clause-prepared : goal.returns-in_err-take_place-clause-prepared
-returns-in_err-take_place-clause-prepared c =
-    by-error (Unit {0}) c.in_err-take_place.field-0.0 c.from_residual.result c.args.journal.now.items
-    c.take_place.new.journal.items
-    c.args.tables.now.store c.take_place.new.tables.store
-    (handed c.from_residual.result c.in_err-take_place.field-0.0 c.from_residual.ensures.1) c.in_err-take_place.ensures.err
-
 pub returns-in_err-push-clause-ends : goal.returns-in_err-push-clause-ends
 returns-in_err-push-clause-ends c =
     let known = found (goal.at.returns-in_err-push-clause-ends c).In-Some in
     memory-wants c.args.journal.now.items c.take_place.new.journal.items c.push.new.self.items c.in-Some.place
     c.from_residual-in_err-push.result known c.from_residual-in_err-push.ensures.1 c.in_ok-take_place.ensures.ends
     (ap (λ (j : Journal). j.items) c.in_err-push.ensures.err)
-
-pub returns-in_err-push-clause-prepared : goal.returns-in_err-push-clause-prepared
-returns-in_err-push-clause-prepared c =
-    let same : c.push.new.self.items ≡ c.take_place.new.journal.items = ap (λ (j : Journal). j.items) c.in_err-push.ensures.err in
-    subst (λ (l : List Item). PreparesBy c.from_residual-in_err-push.result c.args.journal.now.items l c.args.tables.now.store
-    c.take_place.new.tables.store) (sym same)
-    (by-error (Unit {0}) refusal.Memory c.from_residual-in_err-push.result c.args.journal.now.items
-    c.take_place.new.journal.items
-    c.args.tables.now.store c.take_place.new.tables.store
-    (handed c.from_residual-in_err-push.result refusal.Memory c.from_residual-in_err-push.ensures.1)
-    (c.in-Some.place, c.in_ok-take_place.ensures.prepared))
-
-pub relocate-requires-clause-prepared : goal.relocate-requires-clause-prepared
-relocate-requires-clause-prepared c =
-    let at = goal.at.relocate-requires-clause-prepared c in
-    memory-ready c.requires.kept.0 c.args.journal.now.items c.take_place.new.journal.items c.args.tables.now c.take_place.new.tables
-    c.args.aim c.place.inside.base c.in-Some.place c.args.tables.now.store c.requires.kept.1.kept c.take_place.ensures.memory
-    (ap (λ (e : Extent). e.base) c.place.view_is) (found at.In-Some).is c.in_ok-take_place.ensures.prepared
 
 pub relocate-requires-clause-apart : goal.relocate-requires-clause-apart
 relocate-requires-clause-apart c =

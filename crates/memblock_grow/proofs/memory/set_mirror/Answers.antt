@@ -1,14 +1,11 @@
 use Rattle.std.proofs.Common.{List, sym, ap, subst, refl}
-use Rattle.std.proofs.lemmas.Bool.{true≢false}
 use Rattle.memblock_model.specs.declared.which.Which.TheVariants as which
 use Rattle.memblock_model.specs.declared.item.Item.{Item}
 use Rattle.memblock_model.specs.declared.item.Item.TheVariants as item
 use Rattle.boot_journal.specs.Contents.{Contents as Journal}
 use Rattle.growth_model.specs.Growth.{memory_growth, two, grown, mirrored}
-use Rattle.memblock_grow.specs.declared.more.More.TheVariants as more
 use Rattle.memblock_grow.specs.Kept.{AreKept}
 use Rattle.memblock_grow.proofs.KeptLaws.{kept-mirror}
-use Rattle.memblock_grow.proofs.MoreLaws.{room-of}
 use Rattle.memblock_grow.proofs.PreparedLaws.{prepares-item, by-item}
 use Rattle.memblock_grow.proofs.ChangeLaws.{change-fails, change-wants, change-done, change-bytes}
 use Rattle.memblock_grow.proofs.memory.set_mirror.Goals as goal
@@ -19,12 +16,6 @@ returns-in_err-make_memory_room-clause-ends c =
     change-fails (grown which.Memory two memory_growth)
     (item.Mirror c.args.range) c.in_err-make_memory_room.field-0.0 c.from_residual.result c.args.journal.now.items
     c.make_memory_room.new.journal.items c.from_residual.ensures.1 c.in_err-make_memory_room.ensures.ends
-
-pub returns-in_err-make_memory_room-clause-ready : goal.returns-in_err-make_memory_room-clause-ready
-returns-in_err-make_memory_room-clause-ready c = λ spare idle.
-    absurd (true≢false (sym (c.in_err-make_memory_room.ensures.idle
-    (room-of which.Memory more.Two c.requires.kept.0 c.args.journal.now.items c.args.tables.now c.args.aim
-    c.requires.kept.1.kept idle)).0))
 
 pub returns-in_err-push-clause-ends : goal.returns-in_err-push-clause-ends
 unfolding mirrored

@@ -1,4 +1,4 @@
-use Rattle.std.proofs.Common.{Err, refl, sym, inr}
+use Rattle.std.proofs.Common.{Err, refl, sym}
 use Rattle.memblock_model.specs.declared.which.Which.TheVariants as which
 use Rattle.memblock_model.specs.declared.owner.Owner.{Owner}
 use Rattle.memblock_model.specs.declared.owner.Owner.TheVariants as owner
@@ -9,7 +9,7 @@ use Rattle.memblock_grow.specs.Kept.{IsMemblock, Keeps, KeepsBytes}
 use Rattle.memblock_grow.specs.Prepared.{PreparesWith}
 use Rattle.memblock_grow.proofs.KeptLaws.{kept-same}
 use Rattle.memblock_grow.proofs.WholeLaws.{whole-on}
-use Rattle.memblock_grow.proofs.PreparedLaws.{prepares-with, place-ready, none-on-err}
+use Rattle.memblock_grow.proofs.PreparedLaws.{prepares-with, none-on-err}
 use Rattle.memblock_grow.proofs.ReservedLaws.{still-bytes}
 use Rattle.memblock_grow.proofs.ChangeLaws.{handed}
 use Rattle.memblock_grow.proofs.ClaimLaws.{claim-begins, claim-prepares}
@@ -36,10 +36,6 @@ pub returns-in_err-may_claim-clause-bytes : goal.returns-in_err-may_claim-clause
 returns-in_err-may_claim-clause-bytes c = λ kernel kept spelled.
     still-bytes kernel c.args.journal.now.items c.args.journal.now.items c.args.tables.now c.args.tables.now c.args.aim refl (λ x. refl)
     kept spelled
-
-pub returns-in_err-may_claim-clause-err : goal.returns-in_err-may_claim-clause-err
-returns-in_err-may_claim-clause-err c =
-    none-on-err (Unit {0}) c.from_residual.result c.args.journal.now.items c.args.tables.now.store c.args.tables.now.store refl
 
 pub returns-in_err-prepare-clause-ends : goal.returns-in_err-prepare-clause-ends
 returns-in_err-prepare-clause-ends c =
@@ -71,8 +67,3 @@ returns-clause-err c =
     claim-prepares c.claim.result c.args.place (owner.Table which.Memory) c.args.journal.now.items c.claim.new.journal.items
     c.args.tables.now.store c.claim.new.tables.store (c.in_ok-may_claim.ensures.ok (owner.Table which.Memory)) c.claim.ensures.ends
     (with-place (goal.at.returns-clause-err c).After-claim)
-
-pub returns-clause-first : goal.returns-clause-first
-returns-clause-first c =
-    inr (place-ready c.args.place c.args.journal.now.items c.claim.new.journal.items c.args.tables.now.store c.claim.new.tables.store
-    (with-place (goal.at.returns-clause-first c).After-claim))
