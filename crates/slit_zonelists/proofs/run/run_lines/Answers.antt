@@ -16,14 +16,6 @@ use Rattle.slit_zonelists.proofs.run.run_lines.Goals as goal
 abbrev nothing : PageLine
 nothing = record { number = 0; act = acts.Pages 0 0 0 zones.Dma }
 
-pub run_line-requires : goal.run_line-requires
-run_line-requires c =
-    let more = drop_more c.args.lines.now c.loop-line.line-index nothing c.loop-line-test.true in
-    record {
-      order = (subst (λ (ls : List PageLine). HaveOrders ls) more c.loop-line.invariant.orders).0;
-      made = c.loop-line.invariant.made;
-    }
-
 pub loop-line-preserved : goal.loop-line-preserved
 loop-line-preserved c =
     let i = c.loop-line.line-index in
