@@ -12,7 +12,7 @@ use Rattle.memblock_grow.specs.declared.stop.StageStop.{StageStop}
 use Rattle.memblock_grow.specs.declared.stop.StageStop.TheVariants as stop
 use Rattle.stage_model.specs.Doing.{EndsAs, returns, listed, in_turn, ◌>>=◌}
 use Rattle.stage_model.specs.Requests.{placed}
-use Rattle.stage_model.proofs.DoingLaws.{ends-second, ends-first, ends-listed, ends-wanting, ends-returns}
+use Rattle.stage_model.proofs.DoingLaws.{ends-second, ends-first, ends-listed, ends-returns}
 use Rattle.sparse_sections.specs.declared.roots.RootPlace.{RootPlace}
 use Rattle.sparse_sections.specs.Roots.{root_of, is_root, firsts_behind, small_request, root_placed, roots_listed, RootsPlaced, roots}
 
@@ -58,14 +58,6 @@ goes-first entry sections roots none = record {
       (ends-listed no_roots stop.Memory entry)
       (subst (λ (before : List RootPlace). EndsAs stop.Memory r entry new (in_turn root_placed before firsts entry)) none h);
 }
-
--- memory ran out for the list
-pub list-wanting : (entry : List Item) (sections : List Section)
-    → EndsAs {A = List RootPlace} stop.Memory (Err stop.Memory) entry entry (roots_listed sections entry)
-list-wanting entry sections =
-    let no_roots : List Item → List RootPlace = λ items. [] in
-    ends-first stop.Memory stop.Memory entry entry (listed no_roots) (λ before. in_turn root_placed before (firsts_behind None sections))
-    (ends-wanting no_roots stop.Memory entry)
 
 -- the section at the index, and those behind it
 left-at : (sections : List Section) (i : ℕ) (d : Section) → i < length sections

@@ -6,7 +6,7 @@ use Rattle.memblock_grow.specs.declared.stop.StageStop.TheVariants as stop
 use Rattle.stage_model.proofs.DoingLaws.{ends-begun}
 use Rattle.stage_model.proofs.LentLaws.{goes-then}
 use Rattle.sparse_sections.specs.Roots.{root_of, is_root, root_placed}
-use Rattle.sparse_sections.proofs.RootLaws.{no_section, goes-first, goes-same, goes-next, goes-fails, goes-all, list-wanting}
+use Rattle.sparse_sections.proofs.RootLaws.{no_section, goes-first, goes-same, goes-next, goes-fails, goes-all}
 use Rattle.sparse_sections.proofs.places.place_each_root.Goals as goal
 use Rattle.sparse_sections.proofs.places.place_each_root.Goals.{then-not-is_root+in_ok-place_root, else-not-is_root}
 
@@ -17,11 +17,6 @@ loop-section-init c = record {
   begun = c.requires;
   lent = c.stand_still.ensures;
 }
-
-pub returns-in_err-roots-clause-ends : goal.returns-in_err-roots-clause-ends
-returns-in_err-roots-clause-ends c =
-    let p = err_from_is_err_and c.from_residual.result c.from_residual.ensures.1 in
-    rw (p.1, p.2) (list-wanting c.args.memblock.now.journal.items c.args.sections.now)
 
 pub returns-in_err-place_root-clause-ends : goal.returns-in_err-place_root-clause-ends
 returns-in_err-place_root-clause-ends c =

@@ -1,6 +1,5 @@
 -- One section more.
-use Rattle.std.proofs.Common.{◌≡◌, ◌-◌, ◌++◌, ℕ, ◌∙◌, ap, arith}
-use Rattle.sparse_sections.specs.Present.{sections_from}
+use Rattle.std.proofs.Common.{◌∙◌, arith}
 use Rattle.sparse_sections.proofs.PresentLaws.{from-none, from-next}
 use Rattle.sparse_sections.proofs.sections.put_sections.Goals as goal
 
@@ -12,8 +11,3 @@ loop-number-preserved c =
     c.in_ok-push.ensures.items
     ∙ from-next c.args.sections.now.items c.loop-number.sections.items c.args.first c.loop-number.number c.args.node (omega arith)
     c.loop-number.invariant
-
-pub returns : goal.returns
-returns c =
-    let all : c.loop-number.number ≡ c.args.until = omega arith in
-    c.loop-number.invariant ∙ ap (λ (n : ℕ). c.args.sections.now.items ++ sections_from c.args.first (n - c.args.first) c.args.node) all
