@@ -1,17 +1,17 @@
 -- Places in a stretch of addresses of one label, from below, and the lowest of them.
 use Rattle.std.proofs.Common.{◌≡◌, ◌≢◌, ℕ, ◌+◌, ◌-◌, ◌*◌, ◌/◌, ◌%◌, ◌^◌, ◌<◌, ◌≤◌, Bool, true, false, is_some, Option, Some, None, max, min, MatchOption, sym, ◌∙◌, ap, subst, inl, inr, arith}
-use Rattle.std.proofs.Math.Nat.{mul-le-mul_right, one-le-pow, mod-eq_of_lt, mod_self}
+use Rattle.std.proofs.Math.Nat.{mul-le-mul_right, mod-eq_of_lt, mod_self}
 use Rattle.std.specs.Int.Bits.{bit_and}
 use Rattle.std.proofs.lemmas.Nat.{div-add-mod', mod-mul-add, mod_below}
-use Rattle.std.proofs.lemmas.Bool.{cases_lt, cases_Bool, true≢false, and_parts}
+use Rattle.std.proofs.lemmas.Bool.{cases_lt, false_from_ne_true, true≢false}
 use Rattle.address_runs.specs.Sweep.{Stays}
 use Rattle.memblock_model.specs.Labels.{Label, Labels}
-use Rattle.memblock_model.specs.Search.{allows, suits, fits_in, top_in}
+use Rattle.memblock_model.specs.Search.{fits_in, top_in}
 use Rattle.memblock_model.specs.declared.query.Query.{Query}
-use Rattle.memblock_model.proofs.SearchLaws.{fits_in-parts, fits_in-whole, top_in-first, top_in-fails}
+use Rattle.memblock_model.proofs.SearchLaws.{fits_in-parts, top_in-first, top_in-fails}
 use Rattle.memblock_find.specs.Free.{unclaimed, IsUpTo}
 use Rattle.memblock_find.specs.Places.{IsBetween, serves, NoPlaceBegins, IsBestFrom}
-use Rattle.memblock_find.proofs.PlaceLaws.{label_of_place, held_somewhere, memory_there, place_serves, mask_rest}
+use Rattle.memblock_find.proofs.PlaceLaws.{le_from_not_lt, label_of_place, held_somewhere, place_serves, place_of_bytes, some_align, mask_rest}
 
 -- a place that begins in a run lies in it
 record StaysIn (memory : Labels) (until : ℕ) (label : Option Label) (last : ℕ) (b : ℕ) : Type 0 where
@@ -33,13 +33,8 @@ from_run mirror memory reserved q from until b label some known fits above under
     ∙ known.stays b above under in
     let held : label ≢ None = subst (λ (o : Option Label). o ≢ None) carries (held_somewhere (memory b) place.held) in
     record {
-      below = elim (cases_lt until (b + q.size)) as (λ _. b + q.size ≤ until) [
-        | inl lt ↦
-            let same : unclaimed memory reserved until ≡ label =
-            label_of_place mirror memory reserved q b until place (omega arith) lt ∙ carries in
-            absurd ((known.up held).another same)
-        | inr ge ↦ ge
-      ];
+      below = le_from_not_lt until (b + q.size) (λ lt.
+          (known.up held).another (label_of_place mirror memory reserved q b until place (omega arith) lt ∙ carries));
       carries = carries;
       held = held;
     }
@@ -48,60 +43,28 @@ from_run mirror memory reserved q from until b label some known fits above under
 pub none_begins_bare : (mirror : Bool) (memory reserved : Labels) (q : Query) (from until : ℕ) (label : Option Label) → 1 ≤ q.size
     → IsRise memory reserved from until label → label ≡ None → NoPlaceBegins mirror memory reserved q from until
 none_begins_bare mirror memory reserved q from until label some known bare b fits above =
-    elim (cases_lt b until) as (λ _. until ≤ b) [
-      | inl under ↦ absurd ((from_run mirror memory reserved q from until b label some known fits above under).held bare)
-      | inr ge ↦ ge
-    ]
+    le_from_not_lt b until (λ under. (from_run mirror memory reserved q from until b label some known fits above under).held bare)
 
 pub none_begins_refused : (mirror : Bool) (memory reserved : Labels) (q : Query) (from until : ℕ) (label : Option Label) (found : Label)
     → 1 ≤ q.size → IsRise memory reserved from until label → label ≡ Some found
     → serves mirror q.node (Some found) ≡ false → NoPlaceBegins mirror memory reserved q from until
 none_begins_refused mirror memory reserved q from until label found some known is refused b fits above =
-    elim (cases_lt b until) as (λ _. until ≤ b) [
-      | inl under ↦
-          let lies = from_run mirror memory reserved q from until b label some known fits above under in
-          let place = fits_in-parts mirror memory reserved q b fits in
-          absurd (true≢false (sym (place_serves mirror memory reserved q b place)
-          ∙ ap (λ (o : Option Label). serves mirror q.node o) (lies.carries ∙ is) ∙ refused))
-      | inr ge ↦ ge
-    ]
+    le_from_not_lt b until (λ under.
+    let lies = from_run mirror memory reserved q from until b label some known fits above under in
+    let place = fits_in-parts mirror memory reserved q b fits in
+    true≢false (sym (place_serves mirror memory reserved q b place)
+    ∙ ap (λ (o : Option Label). serves mirror q.node o) (lies.carries ∙ is) ∙ refused))
 
--- the first place between the ends of a stretch, in the window, is the lowest there
-first_found : (mirror : Bool) (memory reserved : Labels) (q : Query) (from until a : ℕ) (label : Option Label) (found : Label)
-    → 1 ≤ q.size → q.lo ≤ from → 4096 ≤ from
-    → IsRise memory reserved from until label → label ≡ Some found → serves mirror q.node (Some found) ≡ true
-    → IsBetween from (min until q.hi) q.size q.align a
-    → ((b : ℕ) → IsBetween from (min until q.hi) q.size q.align b → a ≤ b)
-    → IsBestFrom mirror memory reserved q from a
-first_found mirror memory reserved q from until a label found some low first_frame known is served lies first =
-    let low_a : from ≤ a = lies.above in
-    let end_a : a + q.size ≤ min until q.hi = lies.below in
-    let there : (x : ℕ) → a ≤ x → x < a + q.size → (memory x ≡ Some found) × (reserved x ≡ None) =
-    λ x above under. memory_there (memory x) (reserved x) found (known.stays x (omega arith) (omega arith) ∙ is) in
-    let head : memory a ≡ Some found = (there a (omega arith) (omega arith)).0 in
-    let parts = and_parts (allows q.node (Some found)) (suits mirror (Some found)) served in
-    record {
-      fits = fits_in-whole mirror memory reserved q a (record {
-        aligned = lies.aligned;
-        low = omega arith;
-        first = omega arith;
-        high = omega arith;
-        held = ap is_some head;
-        allowed = ap (λ (o : Option Label). allows q.node o) head ∙ parts.0;
-        suited = ap (λ (o : Option Label). suits mirror o) head ∙ parts.1;
-        label = λ x above under. (there x above under).0 ∙ sym head;
-        free = λ x above under. (there x above under).1;
-      });
-      first = λ b fits above. elim (cases_lt b until) as (λ _. a ≤ b) [
-        | inl under ↦
-            let inside = from_run mirror memory reserved q from until b label some known fits above under in
-            let place = fits_in-parts mirror memory reserved q b fits in
-            first b (record { aligned = place.aligned; above = above; below = omega (arith, inside.below, place.high) })
-        | inr ge ↦ omega arith
-      ];
-    }
+-- a place that begins in a stretch of memory lies between its ends, in the window
+between_ends : (mirror : Bool) (memory reserved : Labels) (q : Query) (from until b : ℕ) (label : Option Label) → 1 ≤ q.size
+    → IsRise memory reserved from until label → fits_in mirror memory reserved q b ≡ true → from ≤ b → b < until
+    → IsBetween from (min until q.hi) q.size q.align b
+between_ends mirror memory reserved q from until b label some known fits above under =
+    let inside = from_run mirror memory reserved q from until b label some known fits above under in
+    let place = fits_in-parts mirror memory reserved q b fits in
+    record { aligned = place.aligned; above = above; below = omega (arith, inside.below, place.high) }
 
--- so what is answered of a stretch of memory that serves is the lowest place in it, or there is none
+-- so what is answered of a stretch of memory that serves, the first place between its ends, is the lowest place in it, or there is none
 pub first_of_stretch : (mirror : Bool) (memory reserved : Labels) (q : Query) (from until : ℕ) (label : Option Label) (found : Label)
     (answer : Option ℕ) → 1 ≤ q.size → q.lo ≤ from → 4096 ≤ from
     → IsRise memory reserved from until label → label ≡ Some found → serves mirror q.node (Some found) ≡ true
@@ -109,15 +72,19 @@ pub first_of_stretch : (mirror : Bool) (memory reserved : Labels) (q : Query) (f
     (λ a. IsBetween from (min until q.hi) q.size q.align a × ((b : ℕ) → IsBetween from (min until q.hi) q.size q.align b → a ≤ b))
     → MatchOption answer (NoPlaceBegins mirror memory reserved q from until) (IsBestFrom mirror memory reserved q from)
 first_of_stretch mirror memory reserved q from until label found None some low first_frame known is served none =
-    λ b fits above. elim (cases_lt b until) as (λ _. until ≤ b) [
-      | inl under ↦
-          let inside = from_run mirror memory reserved q from until b label some known fits above under in
-          let place = fits_in-parts mirror memory reserved q b fits in
-          absurd (none b (record { aligned = place.aligned; above = above; below = omega (arith, inside.below, place.high) }))
-      | inr ge ↦ ge
-    ]
+    λ b fits above. le_from_not_lt b until (λ under.
+    none b (between_ends mirror memory reserved q from until b label some known fits above under))
 first_of_stretch mirror memory reserved q from until label found (Some a) some low first_frame known is served best =
-    first_found mirror memory reserved q from until a label found some low first_frame known is served best.0 best.1
+    let above : from ≤ a = best.0.above in
+    let end : a + q.size ≤ min until q.hi = best.0.below in
+    record {
+      fits = place_of_bytes mirror memory reserved q a found some
+          (record { aligned = best.0.aligned; above = omega arith; below = omega arith })
+          (λ x above under. known.stays x (omega arith) (omega arith) ∙ is) served;
+      first = λ b fits above. le_from_not_lt b a (λ under.
+          let least = best.1 b (between_ends mirror memory reserved q from until b label some known fits above (omega arith)) in
+          omega arith);
+    }
 
 -- the lowest place of the last stretch is the answer, where all stretches below have none
 pub lowest_answer : (mirror : Bool) (memory reserved : Labels) (q : Query) (at until : ℕ) (answer : Option ℕ) → 1 ≤ q.size
@@ -148,13 +115,10 @@ pub none_at_all : (mirror : Bool) (memory reserved : Labels) (q : Query) (at : �
     → NoPlaceBegins mirror memory reserved q (max q.lo 4096) at → q.hi ≤ at
     → top_in (record { mirror = mirror; up = true }) memory reserved q ≡ None
 none_at_all mirror memory reserved q at some past high = top_in-fails (record { mirror = mirror; up = true }) memory reserved q (λ b less.
-    elim (cases_Bool (fits_in mirror memory reserved q b)) as (λ _. fits_in mirror memory reserved q b ≡ false) [
-      | inl fits ↦
-          let place = fits_in-parts mirror memory reserved q b fits in
-          let begins = past b fits (omega (arith, place.low, place.first)) in
-          absurd (omega (arith, place.high))
-      | inr fails ↦ fails
-    ])
+    false_from_ne_true (fits_in mirror memory reserved q b) (λ fits.
+    let place = fits_in-parts mirror memory reserved q b fits in
+    let begins = past b fits (omega (arith, place.low, place.first)) in
+    omega (arith, place.high)))
 
 -- rounding up gives a multiple, and the first one from the address on
 next_aligned : (t n : ℕ) → 0 < n → (t + (n - t % n) % n) % n ≡ 0
@@ -175,25 +139,17 @@ next_aligned t n some =
 
 next_first : (t n b : ℕ) → 0 < n → b % n ≡ 0 → t ≤ b → t + (n - t % n) % n ≤ b
 next_first t n b some aligned from =
-    let parts = div-add-mod' t n in
+    let next : ℕ = t + (n - t % n) % n in
+    let rounded = div-add-mod' next n in
     let whole = div-add-mod' b n in
-    let rest : t % n < n = mod_below t n some in
-    elim (cases_lt 0 (t % n)) as (λ _. t + (n - t % n) % n ≤ b) [
-      | inl past ↦
-          let jump : (n - t % n) % n ≡ n - t % n = mod-eq_of_lt (omega arith) in
-          elim (cases_lt (t / n) (b / n)) as (λ _. t + (n - t % n) % n ≤ b) [
-            | inl more ↦
-                let next : t / n + 1 ≤ b / n = omega arith in
-                let product : (t / n + 1) * n ≤ b / n * n = mul-le-mul_right n next in
-                omega arith
-            | inr ge ↦
-                let product : b / n * n ≤ t / n * n = mul-le-mul_right n ge in
-                absurd (omega arith)
-          ]
-      | inr none ↦
-          let all : n - t % n ≡ n = omega arith in
-          let jump : (n - t % n) % n ≡ 0 = ap (λ (k : ℕ). k % n) all ∙ mod_self n in
-          omega arith
+    let aligned_next : next % n ≡ 0 = next_aligned t n some in
+    let jump : (n - t % n) % n < n = mod_below (n - t % n) n some in
+    elim (cases_lt (b / n) (next / n)) as (λ _. next ≤ b) [
+      | inl less ↦
+          let one_more : b / n + 1 ≤ next / n = omega arith in
+          let product : (b / n + 1) * n ≤ next / n * n = mul-le-mul_right n one_more in
+          absurd (omega arith)
+      | inr ge ↦ let product : next / n * n ≤ b / n * n = mul-le-mul_right n ge in omega arith
     ]
 
 -- the same by masks, of a power of two
@@ -206,8 +162,7 @@ pub first_is : (low high size align k place : ℕ) → align ≡ 2 ^ k
     → place ≡ low + bit_and (align - bit_and low (align - 1)) (align - 1) → place + size ≤ high
     → IsBetween low high size align place × ((b : ℕ) → IsBetween low high size align b → place ≤ b)
 first_is low high size align k place power place_is ends =
-    let power_some : 1 ≤ 2 ^ k = one-le-pow k 2 (omega arith) in
-    let some : 0 < align = omega arith in
+    let some = some_align align k power in
     let jump = masked low align k power in
     let is : place ≡ low + (align - low % align) % align = omega arith in (
       record { aligned = ap (λ (n : ℕ). n % align) is ∙ next_aligned low align some; above = omega arith; below = ends },
@@ -218,9 +173,6 @@ pub none_first : (low high size align k place : ℕ) → align ≡ 2 ^ k
     → place ≡ low + bit_and (align - bit_and low (align - 1)) (align - 1) → high < place + size
     → (b : ℕ) → IsBetween low high size align b → ⊥
 none_first low high size align k place power place_is over b between =
-    let power_some : 1 ≤ 2 ^ k = one-le-pow k 2 (omega arith) in
-    let some : 0 < align = omega arith in
     let jump = masked low align k power in
-    let below = between.below in
-    let order = next_first low align b some between.aligned between.above in
-    omega arith
+    let order = next_first low align b (some_align align k power) between.aligned between.above in
+    omega (arith, between.below)

@@ -144,10 +144,8 @@ all_begun rs at count among last = record {
 
 pub begun_so_far : (rs : List (RunOf Label)) (at middle : ℕ) → AreRuns rs → middle < length rs → (run_at rs middle).base < at
     → (i : ℕ) → i < middle + 1 → (run_at rs i).base < at
-begun_so_far rs at middle runs within begun i less =
-    let bases = bases_ascend i middle rs runs (omega arith) within in omega arith
+begun_so_far rs at middle runs within begun i less = omega (arith, bases_ascend i middle rs runs (omega arith) within)
 
 pub not_begun_from : (rs : List (RunOf Label)) (at middle : ℕ) → AreRuns rs → at ≤ (run_at rs middle).base
     → (i : ℕ) → middle ≤ i → i < length rs → at ≤ (run_at rs i).base
-not_begun_from rs at middle runs behind i from within =
-    let bases = bases_ascend middle i rs runs from within in omega arith
+not_begun_from rs at middle runs behind i from within = omega (arith, bases_ascend middle i rs runs from within)

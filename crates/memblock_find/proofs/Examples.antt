@@ -1,6 +1,6 @@
 -- Two small tables, computed or by the laws: what is unclaimed, the runs and stretches of it, places, and positions in a table.
-use Rattle.std.proofs.Common.{◌≡◌, ℕ, zero, suc, ◌+◌, ◌-◌, ◌^◌, ◌<◌, ◌≤◌, true, false, is_some, Option, Some, None, unwrap_or, List, [], ◌∷◌, refl, sym, ◌∙◌, ap, inl, inr, arith}
-use Rattle.std.proofs.lemmas.Bool.{cases_lt, true≢false}
+use Rattle.std.proofs.Common.{◌≡◌, ℕ, zero, suc, ◌+◌, ◌-◌, ◌^◌, ◌<◌, ◌≤◌, true, false, is_some, Option, Some, None, unwrap_or, List, [], ◌∷◌, refl, sym, ◌∙◌, ap, arith}
+use Rattle.std.proofs.lemmas.Bool.{true≢false}
 use Rattle.std.proofs.lemmas.Bool.Decides.{nat_tests}
 use Rattle.address_runs.specs.Runs.{RunOf, value_at, AreRuns}
 use Rattle.memblock_model.specs.Labels.{Label, Labels, plain_label, with_node, with_mirror}
@@ -13,9 +13,10 @@ use Rattle.memblock_find.specs.declared.cursor.Cursor.{Cursor}
 use Rattle.memblock_find.specs.Free.{unclaimed, free_in, Pass, free_of, IsDownTo, IsUpTo, IsRunBelow, IsRunFrom}
 use Rattle.memblock_find.specs.Places.{IsBetween, serves, NoPlaceEnds, NoPlaceBegins, NoAddressServes, IsBestBy, IsBestFrom}
 use Rattle.memblock_find.specs.Walk.{run_at, BegunAmong, BegunBelow, EndedBy, IsLookDown, IsLookUp, label_at, IsDownAt, IsUpAt}
-use Rattle.memblock_find.proofs.DownLaws.{look_gap, look_in, among_all, all_begun}
+use Rattle.memblock_find.proofs.DownLaws.{look_gap, look_in, among_all, all_begun, begun_so_far, not_begun_from}
 use Rattle.memblock_find.proofs.NodeLaws.{not_serving}
-use Rattle.memblock_find.proofs.UpLaws.{look_top, look_over}
+use Rattle.memblock_find.proofs.PlaceLaws.{le_from_not_lt}
+use Rattle.memblock_find.proofs.UpLaws.{look_top, look_over, ended_so_far, not_ended_from}
 
 -- 0x1000 to 0x1FFF of node 0 and 0x2000 to 0x2FFF of node 1, of which 0x1800 to 0x18FF are claimed
 abbrev of_node : ℕ → Label
@@ -152,17 +153,17 @@ best_page = record { fits = page_fits; last = λ b fits ends. omega arith }
 no_page_at_first : IsBestBy false (value_at memory_runs) (value_at claims) pages 0x3000 0x1000 → ⊥
 no_page_at_first known = let order = known.last 0x2000 page_fits (omega arith) in omega arith
 
-no_page_above : NoPlaceEnds false (value_at memory_runs) (value_at claims) pages 0x3000 0x3800
-no_page_above b fits ends =
+-- a page whose last byte lies behind all memory doesn't fit
+no_page_past : (b : ℕ) → fits_in false (value_at memory_runs) (value_at claims) pages b ≡ true → 0x3000 < b + 0x1000 → ⊥
+no_page_past b fits past =
     let place = fits_in-parts false (value_at memory_runs) (value_at claims) pages b fits in
-    elim (cases_lt 0x3000 (b + 0x1000)) as (λ _. b + 0x1000 ≤ 0x3000) [
-      | inl past ↦
-          let last : ℕ = b + 0xFFF in
-          let bare : value_at memory_runs last ≡ None = grind (arith, nat_tests) in
-          let carries = place.label last (omega arith) (omega arith) in
-          absurd (true≢false (sym place.held ∙ ap is_some (sym carries ∙ bare)))
-      | inr ge ↦ ge
-    ]
+    let last : ℕ = b + 0xFFF in
+    let bare : value_at memory_runs last ≡ None = grind (arith, nat_tests) in
+    let carries = place.label last (omega arith) (omega arith) in
+    true≢false (sym place.held ∙ ap is_some (sym carries ∙ bare))
+
+no_page_above : NoPlaceEnds false (value_at memory_runs) (value_at claims) pages 0x3000 0x3800
+no_page_above b fits ends = le_from_not_lt 0x3000 (b + 0x1000) (no_page_past b fits)
 
 a_page_ends : NoPlaceEnds false (value_at memory_runs) (value_at claims) pages 0x2FFF 0x3000 → ⊥
 a_page_ends none = let ends = none 0x2000 page_fits (omega arith) in omega arith
@@ -175,13 +176,7 @@ not_the_lowest_page : IsBestFrom false (value_at memory_runs) (value_at claims) 
 not_the_lowest_page known = let order = known.first 0x2000 page_fits (omega arith) in omega arith
 
 no_page_behind : NoPlaceBegins false (value_at memory_runs) (value_at claims) pages 0x2001 0x4000
-no_page_behind b fits above =
-    let place = fits_in-parts false (value_at memory_runs) (value_at claims) pages b fits in
-    let high = place.high in
-    let last : ℕ = b + 0xFFF in
-    let bare : value_at memory_runs last ≡ None = grind (arith, nat_tests) in
-    let carries = place.label last (omega arith) (omega arith) in
-    absurd (true≢false (sym place.held ∙ ap is_some (sym carries ∙ bare)))
+no_page_behind b fits above = absurd (no_page_past b fits (omega arith))
 
 a_page_begins : NoPlaceBegins false (value_at memory_runs) (value_at claims) pages 0x1000 0x2001 → ⊥
 a_page_begins none = let begins = none 0x2000 page_fits (omega arith) in omega arith
@@ -213,17 +208,16 @@ claims_in_order = (omega arith, tt, tt)
 begun_both : BegunBelow 0x2800 memory_runs 2
 begun_both = all_begun memory_runs 0x2800 2 (among_all memory_runs 0x2800 2 memory_in_order refl) (λ some. omega arith)
 
-first_base : (i : ℕ) → i < 1 → (run_at memory_runs i).base < 0x2000
-first_base zero less = omega arith
-first_base (suc i) less = absurd (omega arith)
-
 second_base : (i : ℕ) → 1 ≤ i → i < 2 → 0x2000 ≤ (run_at memory_runs i).base
-second_base zero from less = absurd (omega arith)
-second_base (suc zero) from less = omega arith
-second_base (suc (suc i)) from less = absurd (omega arith)
+second_base = not_begun_from memory_runs 0x2000 1 memory_in_order (omega arith)
 
 begun_one : BegunBelow 0x2000 memory_runs 1
-begun_one = record { runs = memory_in_order; within = omega arith; before = first_base; behind = second_base }
+begun_one = record {
+  runs = memory_in_order;
+  within = omega arith;
+  before = begun_so_far memory_runs 0x2000 0 memory_in_order (omega arith) (omega arith);
+  behind = second_base;
+}
 
 not_both_begun : BegunBelow 0x2000 memory_runs 2 → ⊥
 not_both_begun known = let base = known.before 1 (omega arith) in omega arith
@@ -239,24 +233,21 @@ not_among_one : BegunAmong 0x2800 memory_runs 1 → ⊥
 not_among_one known = let base = known.behind 1 (omega arith) (omega arith) in omega arith
 
 -- one record of memory ends by 0x2800, and the claim
-first_end : (i : ℕ) → i < 1 → (run_at memory_runs i).base + (run_at memory_runs i).size ≤ 0x2800
-first_end zero less = omega arith
-first_end (suc i) less = absurd (omega arith)
-
-second_end : (i : ℕ) → 1 ≤ i → i < 2 → 0x2800 < (run_at memory_runs i).base + (run_at memory_runs i).size
-second_end zero from less = absurd (omega arith)
-second_end (suc zero) from less = omega arith
-second_end (suc (suc i)) from less = absurd (omega arith)
-
 ended_one : EndedBy 0x2800 memory_runs 1
-ended_one = record { runs = memory_in_order; within = omega arith; before = first_end; behind = second_end }
-
-claim_end : (i : ℕ) → i < 1 → (run_at claims i).base + (run_at claims i).size ≤ 0x2800
-claim_end zero less = omega arith
-claim_end (suc i) less = absurd (omega arith)
+ended_one = record {
+  runs = memory_in_order;
+  within = omega arith;
+  before = ended_so_far memory_runs 0x2800 0 memory_in_order (omega arith) (omega arith);
+  behind = not_ended_from memory_runs 0x2800 1 memory_in_order (omega arith);
+}
 
 ended_claim : EndedBy 0x2800 claims 1
-ended_claim = record { runs = claims_in_order; within = omega arith; before = claim_end; behind = λ i from less. absurd (omega arith) }
+ended_claim = record {
+  runs = claims_in_order;
+  within = omega arith;
+  before = ended_so_far claims 0x2800 0 claims_in_order (omega arith) (omega arith);
+  behind = λ i from less. absurd (omega arith);
+}
 
 not_ended : EndedBy 0x2800 memory_runs 2 → ⊥
 not_ended known = let end = known.before 1 (omega arith) in omega arith

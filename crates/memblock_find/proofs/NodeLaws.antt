@@ -9,7 +9,7 @@ use Rattle.memblock_model.proofs.SearchLaws.{fits_in-parts}
 use Rattle.memblock_find.specs.declared.cursor.Look.{Look}
 use Rattle.memblock_find.specs.Places.{serves, NoPlaceEnds, NoAddressServes}
 use Rattle.memblock_find.specs.Walk.{run_at, BegunBelow, IsLookDown}
-use Rattle.memblock_find.proofs.PlaceLaws.{place_serves}
+use Rattle.memblock_find.proofs.PlaceLaws.{le_from_not_lt, place_serves}
 use Rattle.memblock_find.proofs.SlotLaws.{ends_before, ends_ascend, bases_ascend, size_at, value_in}
 
 -- the records that begin below a look's bound end by it
@@ -22,16 +22,13 @@ ends_by_bound rs from count at look known fewer none end =
           let within = known.next.within in
           let base : (run_at rs i).base < look.bound = known.next.before i (omega arith) in
           let is = end some in
-          elim (cases_lt look.bound (run_end (run_at rs i))) as (λ _. at ≤ look.bound) [
-            | inl over ↦
-                let order = known.order in
-                let under : look.bound < from = known.below (omega arith) in
-                let there = value_in i look.bound rs known.next.runs (omega arith) (omega arith) over in
-                let next = value_in i (look.bound - 1) rs known.next.runs (omega arith) (omega arith) (omega arith) in
-                let carries = known.down.stays look.bound (omega arith) under in
-                absurd (known.down.another (look.bound - 1) (omega arith) (next ∙ sym there ∙ carries))
-            | inr ends ↦ omega arith
-          ]
+          le_from_not_lt look.bound at (λ over.
+          let order = known.order in
+          let under : look.bound < from = known.below (omega arith) in
+          let there = value_in i look.bound rs known.next.runs (omega arith) (omega arith) (omega arith) in
+          let next = value_in i (look.bound - 1) rs known.next.runs (omega arith) (omega arith) (omega arith) in
+          let carries = known.down.stays look.bound (omega arith) under in
+          known.down.another (look.bound - 1) (omega arith) (next ∙ sym there ∙ carries))
       | inr ge ↦ let is = none (omega arith) in omega arith
     ]
 
@@ -79,31 +76,25 @@ pub passed_over : (rs : List (RunOf Label)) (mirror : Bool) (node : Option ℕ) 
     → NoAddressServes mirror (value_at rs) node at look.bound
 passed_over rs mirror node from count at look known narrow fewer end others x above under =
     not_serving mirror node x rs narrow (λ i less base ends.
-    elim (cases_lt i look.slot) as (λ _. serves mirror node (Some (run_at rs i).value) ≡ false) [
-      | inl before ↦ elim (cases_lt i count) as (λ _. serves mirror node (Some (run_at rs i).value) ≡ false) [
-        | inl left ↦
-            let is = end (omega arith) in
-            let within = known.next.within in
-            let order = ends_ascend i (count - 1) rs known.next.runs (omega arith) (omega arith) in
-            absurd (omega arith)
-        | inr ge ↦ others i ge before
-      ]
-      | inr ge ↦ let order = known.next.behind i ge less in absurd (omega arith)
-    ])
+    let behind : count ≤ i = le_from_not_lt i count (λ left.
+    let is = end (omega arith) in
+    let within = known.next.within in
+    let order = ends_ascend i (count - 1) rs known.next.runs (omega arith) (omega arith) in
+    omega arith) in
+    let before : i + 1 ≤ look.slot = le_from_not_lt look.slot (i + 1) (λ past.
+    let order = known.next.behind i (omega arith) less in omega arith) in
+    others i behind (omega arith))
 
 -- no place ends where nothing serves
 pub past_refused : (mirror : Bool) (memory reserved : Labels) (q : Query) (at from : ℕ) → 1 ≤ q.size
     → NoAddressServes mirror memory q.node at from
     → NoPlaceEnds mirror memory reserved q from q.hi → NoPlaceEnds mirror memory reserved q at q.hi
 past_refused mirror memory reserved q at from some barred past b fits ends =
-    elim (cases_lt at (b + q.size)) as (λ _. b + q.size ≤ at) [
-      | inl lt ↦
-          let place = fits_in-parts mirror memory reserved q b fits in
-          let last : ℕ = b + q.size - 1 in
-          let order = past b fits ends in
-          let refused = barred last (omega arith) (omega arith) in
-          let label = place.label last (omega arith) (omega arith) in
-          absurd (true≢false (sym (place_serves mirror memory reserved q b place)
-          ∙ ap (λ (o : Option Label). serves mirror q.node o) (sym label) ∙ refused))
-      | inr ge ↦ ge
-    ]
+    le_from_not_lt at (b + q.size) (λ lt.
+    let place = fits_in-parts mirror memory reserved q b fits in
+    let last : ℕ = b + q.size - 1 in
+    let order = past b fits ends in
+    let refused = barred last (omega arith) (omega arith) in
+    let label = place.label last (omega arith) (omega arith) in
+    true≢false (sym (place_serves mirror memory reserved q b place)
+    ∙ ap (λ (o : Option Label). serves mirror q.node o) (sym label) ∙ refused))

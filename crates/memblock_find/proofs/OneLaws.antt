@@ -1,6 +1,5 @@
 -- The search over records is the search over items, and there is one run on each side of an address.
-use Rattle.std.proofs.Common.{◌≡◌, ℕ, ◌-◌, ◌^◌, ◌≤◌, Bool, Some, None, List, sym, ◌∙◌, ap, inl, inr, arith}
-use Rattle.std.proofs.lemmas.Bool.{cases_lt}
+use Rattle.std.proofs.Common.{◌≡◌, ℕ, ◌-◌, ◌^◌, ◌≤◌, Bool, Some, None, List, refl, sym, ◌∙◌, ap, arith}
 use Rattle.std.proofs.lemmas.Option.{same_Some}
 use Rattle.address_runs.specs.Runs.{RunOf, run_end, value_at}
 use Rattle.address_runs.specs.Edits.{NothingFrom}
@@ -15,6 +14,7 @@ use Rattle.memblock_model.specs.Search.{top_in, top, best_in, best}
 use Rattle.memblock_model.proofs.TableLaws.{value_at-records}
 use Rattle.memblock_ranges.specs.Tables.{Contents}
 use Rattle.memblock_find.specs.Free.{unclaimed, free_in, IsRunBelow}
+use Rattle.memblock_find.proofs.PlaceLaws.{le_from_not_lt}
 
 -- records that are those of the items say what the items say
 says : (w : Which) (items : List Item) (rs : List (RunOf Label)) → NothingFrom (2 ^ 64) (table_of w items) → rs ≡ records_of w items
@@ -28,10 +28,10 @@ pub best_says : (items : List Item) (t : Contents) (q : Query)
     → best_in (upward_of items) (value_at t.memory.records) (value_at t.reserved.records) q ≡ best items q
 unfolding best
 best_says items t q memory_ends reserved_ends memory reserved =
-    ap (λ (f : Labels). best_in (upward_of items) f (value_at t.reserved.records) q)
-    (says which.Memory items t.memory.records memory_ends memory)
-    ∙ ap (λ (f : Labels). best_in (upward_of items) (table_of which.Memory items) f q)
-    (says which.Reserved items t.reserved.records reserved_ends reserved)
+    rw (
+      says which.Memory items t.memory.records memory_ends memory,
+      says which.Reserved items t.reserved.records reserved_ends reserved,
+    ) refl
 
 pub top_says : (items : List Item) (t : Contents) (q : Query) (mirror : Bool)
     → NothingFrom (2 ^ 64) (table_of which.Memory items) → NothingFrom (2 ^ 64) (table_of which.Reserved items)
@@ -40,10 +40,10 @@ pub top_says : (items : List Item) (t : Contents) (q : Query) (mirror : Bool)
     ≡ top items q mirror
 unfolding top
 top_says items t q mirror memory_ends reserved_ends memory reserved =
-    ap (λ (f : Labels). top_in (record { mirror = mirror; up = upward_of items }) f (value_at t.reserved.records) q)
-    (says which.Memory items t.memory.records memory_ends memory)
-    ∙ ap (λ (f : Labels). top_in (record { mirror = mirror; up = upward_of items }) (table_of which.Memory items) f q)
-    (says which.Reserved items t.reserved.records reserved_ends reserved)
+    rw (
+      says which.Memory items t.memory.records memory_ends memory,
+      says which.Reserved items t.reserved.records reserved_ends reserved,
+    ) refl
 
 pub free_says : (items : List Item) (t : Contents)
     → NothingFrom (2 ^ 64) (table_of which.Memory items) → NothingFrom (2 ^ 64) (table_of which.Reserved items)
@@ -61,29 +61,23 @@ same_run r s bases ends values =
 -- of two runs below an address the one ends no earlier than the other
 no_lower_end : (f : Labels) (below : ℕ) (r s : RunOf Label) → IsRunBelow f below r → IsRunBelow f below s → run_end s ≤ run_end r
 no_lower_end f below r s one two =
-    elim (cases_lt (run_end r) (run_end s)) as (λ _. run_end s ≤ run_end r) [
-      | inl lt ↦
-          let x : ℕ = run_end s - 1 in
-          let some = two.some in
-          let ends = two.ends in
-          let none : f x ≡ None = one.behind x (omega arith) (omega arith) in
-          let here : f x ≡ Some s.value = two.run.stays x (omega arith) (omega arith) in
-          absurd (cc (sym none ∙ here))
-      | inr ge ↦ ge
-    ]
+    le_from_not_lt (run_end r) (run_end s) (λ lt.
+    let x : ℕ = run_end s - 1 in
+    let some = two.some in
+    let ends = two.ends in
+    let none : f x ≡ None = one.behind x (omega arith) (omega arith) in
+    let here : f x ≡ Some s.value = two.run.stays x (omega arith) (omega arith) in
+    cc)
 
 -- and begins no later, where both carry the same
 no_higher_base : (f : Labels) (below : ℕ) (r s : RunOf Label) → IsRunBelow f below r → IsRunBelow f below s → run_end r ≡ run_end s
     → r.value ≡ s.value → s.base ≤ r.base
 no_higher_base f below r s one two ends values =
-    elim (cases_lt r.base s.base) as (λ _. s.base ≤ r.base) [
-      | inl lt ↦
-          let x : ℕ = s.base - 1 in
-          let some = two.some in
-          let here : f x ≡ Some r.value = one.run.stays x (omega arith) (omega arith) in
-          absurd (two.run.another x (omega arith) (here ∙ ap (λ (v : Label). Some v) values))
-      | inr ge ↦ ge
-    ]
+    le_from_not_lt r.base s.base (λ lt.
+    let x : ℕ = s.base - 1 in
+    let some = two.some in
+    let here : f x ≡ Some r.value = one.run.stays x (omega arith) (omega arith) in
+    two.run.another x (omega arith) (here ∙ ap (λ (v : Label). Some v) values))
 
 pub one_below : (f : Labels) (below : ℕ) (r s : RunOf Label) → IsRunBelow f below r → IsRunBelow f below s → r ≡ s
 one_below f below r s one two =

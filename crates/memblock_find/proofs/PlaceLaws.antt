@@ -3,7 +3,7 @@ use Rattle.std.proofs.Common.{◌≡◌, ◌≢◌, ℕ, ◌+◌, ◌-◌, ◌*�
 use Rattle.std.proofs.Math.Nat.{mul-le-mul_right, one-le-pow}
 use Rattle.std.specs.Int.Bits.{bit_and}
 use Rattle.std.proofs.lemmas.Nat.{le-div, div-add-mod', mod-mul-add, and_mask}
-use Rattle.std.proofs.lemmas.Bool.{cases_lt, cases_Bool, true≢false, and_from, and_parts}
+use Rattle.std.proofs.lemmas.Bool.{cases_lt, false_from_ne_true, true≢false, and_from, and_parts}
 use Rattle.address_runs.specs.Edits.{NothingFrom}
 use Rattle.address_runs.specs.Sweep.{Stays}
 use Rattle.memblock_model.specs.Labels.{Label, Labels}
@@ -12,6 +12,9 @@ use Rattle.memblock_model.specs.declared.query.Query.{Query}
 use Rattle.memblock_model.proofs.SearchLaws.{IsPlace, fits_in-parts, fits_in-whole, top_in-last, top_in-fails}
 use Rattle.memblock_find.specs.Free.{unclaimed, IsDownTo}
 use Rattle.memblock_find.specs.Places.{IsBetween, serves, NoPlaceEnds, IsBestBy}
+
+pub le_from_not_lt : (a b : ℕ) → (a < b → ⊥) → b ≤ a
+le_from_not_lt a b not_lt = elim (cases_lt a b) as (λ _. b ≤ a) [ inl lt ↦ absurd (not_lt lt) | inr ge ↦ ge ]
 
 -- rounding down gives a multiple, and the last one
 pub rounded_aligned : (t n : ℕ) → 0 < n → (t - t % n) % n ≡ 0
@@ -45,6 +48,11 @@ pub place_serves : (mirror : Bool) (memory reserved : Labels) (q : Query) (b : �
     → serves mirror q.node (memory b) ≡ true
 place_serves mirror memory reserved q b place = and_from (allows q.node (memory b)) (suits mirror (memory b)) place.allowed place.suited
 
+-- what is known of the stretch of addresses in which a place is sought
+pub record IsStretch (memory reserved : Labels) (from until : ℕ) (label : Option Label) : Type 0 where
+  pub stays : Stays (unclaimed memory reserved) from until label
+  pub down : label ≢ None → IsDownTo (unclaimed memory reserved) from until label
+
 -- a place that ends in a run lies in it
 pub record LiesIn (memory : Labels) (from : ℕ) (label : Option Label) (b : ℕ) : Type 0 where
   pub above : from ≤ b
@@ -52,67 +60,48 @@ pub record LiesIn (memory : Labels) (from : ℕ) (label : Option Label) (b : ℕ
   pub held : label ≢ None
 
 pub in_run : (mirror : Bool) (memory reserved : Labels) (q : Query) (from until b : ℕ) (label : Option Label) → 1 ≤ q.size
-    → Stays (unclaimed memory reserved) from until label
-    → (label ≢ None → IsDownTo (unclaimed memory reserved) from until label)
+    → IsStretch memory reserved from until label
     → fits_in mirror memory reserved q b ≡ true → b + q.size ≤ until → from < b + q.size → LiesIn memory from label b
-in_run mirror memory reserved q from until b label some stays down fits ends past =
+in_run mirror memory reserved q from until b label some known fits ends past =
     let place = fits_in-parts mirror memory reserved q b fits in
     let last : ℕ = b + q.size - 1 in
     let carries : memory b ≡ label = sym (label_of_place mirror memory reserved q b last place (omega arith) (omega arith))
-    ∙ stays last (omega arith) (omega arith) in
+    ∙ known.stays last (omega arith) (omega arith) in
     let held : label ≢ None = subst (λ (o : Option Label). o ≢ None) carries (held_somewhere (memory b) place.held) in
     record {
-      above = elim (cases_lt b from) as (λ _. from ≤ b) [
-        | inl lt ↦
-            let x : ℕ = from - 1 in
-            let same : unclaimed memory reserved x ≡ label =
-            label_of_place mirror memory reserved q b x place (omega arith) (omega arith) ∙ carries in
-            absurd ((down held).another x (omega arith) same)
-        | inr ge ↦ ge
-      ];
+      above = le_from_not_lt b from (λ lt.
+          let x : ℕ = from - 1 in
+          (known.down held).another x (omega arith)
+          (label_of_place mirror memory reserved q b x place (omega arith) (omega arith) ∙ carries));
       carries = carries;
       held = held;
     }
-
--- what is known of the stretch of addresses in which a place is sought
-pub record IsStretch (memory reserved : Labels) (from until : ℕ) (label : Option Label) : Type 0 where
-  pub stays : Stays (unclaimed memory reserved) from until label
-  pub down : label ≢ None → IsDownTo (unclaimed memory reserved) from until label
 
 -- no place ends in a stretch that isn't unclaimed memory, or whose label doesn't serve
 pub none_bare : (mirror : Bool) (memory reserved : Labels) (q : Query) (from until : ℕ) (label : Option Label) → 1 ≤ q.size
     → IsStretch memory reserved from until label → label ≡ None → NoPlaceEnds mirror memory reserved q from until
 none_bare mirror memory reserved q from until label some known bare b fits ends =
-    elim (cases_lt from (b + q.size)) as (λ _. b + q.size ≤ from) [
-      | inl past ↦ absurd ((in_run mirror memory reserved q from until b label some known.stays known.down fits ends past).held bare)
-      | inr ge ↦ ge
-    ]
+    le_from_not_lt from (b + q.size) (λ past. (in_run mirror memory reserved q from until b label some known fits ends past).held bare)
 
 pub none_served : (mirror : Bool) (memory reserved : Labels) (q : Query) (from until : ℕ) (label : Option Label) (found : Label)
     → 1 ≤ q.size
     → IsStretch memory reserved from until label → label ≡ Some found
     → serves mirror q.node (Some found) ≡ false → NoPlaceEnds mirror memory reserved q from until
 none_served mirror memory reserved q from until label found some known is refused b fits ends =
-    elim (cases_lt from (b + q.size)) as (λ _. b + q.size ≤ from) [
-      | inl past ↦
-          let lies = in_run mirror memory reserved q from until b label some known.stays known.down fits ends past in
-          let place = fits_in-parts mirror memory reserved q b fits in
-          absurd (true≢false (sym (place_serves mirror memory reserved q b place)
-          ∙ ap (λ (o : Option Label). serves mirror q.node o) (lies.carries ∙ is) ∙ refused))
-      | inr ge ↦ ge
-    ]
+    le_from_not_lt from (b + q.size) (λ past.
+    let lies = in_run mirror memory reserved q from until b label some known fits ends past in
+    let place = fits_in-parts mirror memory reserved q b fits in
+    true≢false (sym (place_serves mirror memory reserved q b place)
+    ∙ ap (λ (o : Option Label). serves mirror q.node o) (lies.carries ∙ is) ∙ refused))
 
 -- no place ends above all memory
 pub none_above : (mirror : Bool) (memory reserved : Labels) (q : Query) (at : ℕ) → 1 ≤ q.size → NothingFrom at memory
     → NoPlaceEnds mirror memory reserved q (min q.hi at) q.hi
 none_above mirror memory reserved q at some none b fits ends =
-    elim (cases_lt at (b + q.size)) as (λ _. b + q.size ≤ min q.hi at) [
-      | inl over ↦
-          let place = fits_in-parts mirror memory reserved q b fits in
-          let last : ℕ = b + q.size - 1 in
-          absurd (held_somewhere (memory b) place.held (sym (place.label last (omega arith) (omega arith)) ∙ none last (omega arith)))
-      | inr ge ↦ omega arith
-    ]
+    le_from_not_lt (min q.hi at) (b + q.size) (λ over.
+    let place = fits_in-parts mirror memory reserved q b fits in
+    let last : ℕ = b + q.size - 1 in
+    held_somewhere (memory b) place.held (sym (place.label last (omega arith) (omega arith)) ∙ none last (omega arith)))
 
 -- what is unclaimed memory is memory, and isn't claimed
 pub memory_there : (carried claimed : Option Label) (label : Label) → (if is_none claimed then carried else None) ≡ Some label
@@ -120,43 +109,38 @@ pub memory_there : (carried claimed : Option Label) (label : Label) → (if is_n
 memory_there carried None label same = (same, refl)
 memory_there carried (Some v) label same = cc
 
--- the last place between the ends of a stretch, in the window, is the best there
-best_between : (mirror : Bool) (memory reserved : Labels) (q : Query) (from until a : ℕ) (label : Option Label) (found : Label)
-    → 1 ≤ q.size → until ≤ q.hi
-    → IsStretch memory reserved from until label → label ≡ Some found → serves mirror q.node (Some found) ≡ true
-    → IsBetween (max (max from q.lo) 4096) until q.size q.align a
-    → ((b : ℕ) → IsBetween (max (max from q.lo) 4096) until q.size q.align b → b ≤ a)
-    → IsBestBy mirror memory reserved q until a
-best_between mirror memory reserved q from until a label found some window known is served lies last =
-    let low_a : max (max from q.lo) 4096 ≤ a = lies.above in
-    let end_a : a + q.size ≤ until = lies.below in
+-- bytes in the window that are unclaimed memory of one label that serves are a place
+pub place_of_bytes : (mirror : Bool) (memory reserved : Labels) (q : Query) (a : ℕ) (found : Label) → 1 ≤ q.size
+    → IsBetween (max q.lo 4096) q.hi q.size q.align a
+    → ((x : ℕ) → a ≤ x → x < a + q.size → unclaimed memory reserved x ≡ Some found)
+    → serves mirror q.node (Some found) ≡ true → fits_in mirror memory reserved q a ≡ true
+place_of_bytes mirror memory reserved q a found some lies carry served =
     let there : (x : ℕ) → a ≤ x → x < a + q.size → (memory x ≡ Some found) × (reserved x ≡ None) =
-    λ x above under. memory_there (memory x) (reserved x) found (known.stays x (omega arith) (omega arith) ∙ is) in
+    λ x above under. memory_there (memory x) (reserved x) found (carry x above under) in
     let first : memory a ≡ Some found = (there a (omega arith) (omega arith)).0 in
-    record {
-      fits = fits_in-whole mirror memory reserved q a (record {
-        aligned = lies.aligned;
-        low = omega arith;
-        first = omega arith;
-        high = omega arith;
-        held = ap is_some first;
-        allowed = ap (λ (o : Option Label). allows q.node o) first
-            ∙ (and_parts (allows q.node (Some found)) (suits mirror (Some found)) served).0;
-        suited = ap (λ (o : Option Label). suits mirror o) first
-            ∙ (and_parts (allows q.node (Some found)) (suits mirror (Some found)) served).1;
-        label = λ x above under. (there x above under).0 ∙ sym first;
-        free = λ x above under. (there x above under).1;
-      });
-      last = λ b fits ends. elim (cases_lt from (b + q.size)) as (λ _. b ≤ a) [
-        | inl past ↦
-            let inside = in_run mirror memory reserved q from until b label some known.stays known.down fits ends past in
-            let place = fits_in-parts mirror memory reserved q b fits in
-            last b (record { aligned = place.aligned; above = omega (arith, inside.above, place.low, place.first); below = ends })
-        | inr ge ↦ omega arith
-      ];
-    }
+    let parts = and_parts (allows q.node (Some found)) (suits mirror (Some found)) served in
+    fits_in-whole mirror memory reserved q a (record {
+      aligned = lies.aligned;
+      low = omega (arith, lies.above);
+      first = omega (arith, lies.above);
+      high = lies.below;
+      held = ap is_some first;
+      allowed = ap (λ (o : Option Label). allows q.node o) first ∙ parts.0;
+      suited = ap (λ (o : Option Label). suits mirror o) first ∙ parts.1;
+      label = λ x above under. (there x above under).0 ∙ sym first;
+      free = λ x above under. (there x above under).1;
+    })
 
--- so what is answered of a stretch of memory that serves is the best place in it, or there is none
+-- a place that ends in a stretch of memory lies between its ends, in the window
+between_ends : (mirror : Bool) (memory reserved : Labels) (q : Query) (from until b : ℕ) (label : Option Label) → 1 ≤ q.size
+    → IsStretch memory reserved from until label → fits_in mirror memory reserved q b ≡ true → b + q.size ≤ until → from < b + q.size
+    → IsBetween (max (max from q.lo) 4096) until q.size q.align b
+between_ends mirror memory reserved q from until b label some known fits ends past =
+    let inside = in_run mirror memory reserved q from until b label some known fits ends past in
+    let place = fits_in-parts mirror memory reserved q b fits in
+    record { aligned = place.aligned; above = omega (arith, inside.above, place.low, place.first); below = ends }
+
+-- so what is answered of a stretch of memory that serves, the last place between its ends, is the best place in it, or there is none
 pub best_of_stretch : (mirror : Bool) (memory reserved : Labels) (q : Query) (from until : ℕ) (label : Option Label) (found : Label)
     (answer : Option ℕ)
     → 1 ≤ q.size → until ≤ q.hi
@@ -166,37 +150,30 @@ pub best_of_stretch : (mirror : Bool) (memory reserved : Labels) (q : Query) (fr
     × ((b : ℕ) → IsBetween (max (max from q.lo) 4096) until q.size q.align b → b ≤ a))
     → MatchOption answer (NoPlaceEnds mirror memory reserved q from until) (IsBestBy mirror memory reserved q until)
 best_of_stretch mirror memory reserved q from until label found None some window known is served none =
-    λ b fits ends. elim (cases_lt from (b + q.size)) as (λ _. b + q.size ≤ from) [
-      | inl past ↦
-          let inside = in_run mirror memory reserved q from until b label some known.stays known.down fits ends past in
-          let place = fits_in-parts mirror memory reserved q b fits in
-          absurd (none b (record { aligned = place.aligned; above = omega (arith, inside.above, place.low, place.first); below = ends }))
-      | inr ge ↦ ge
-    ]
+    λ b fits ends. le_from_not_lt from (b + q.size) (λ past.
+    none b (between_ends mirror memory reserved q from until b label some known fits ends past))
 best_of_stretch mirror memory reserved q from until label found (Some a) some window known is served best =
-    best_between mirror memory reserved q from until a label found some window known is served best.0 best.1
-
--- the best place of the last stretch is the best, where all stretches above have none
-best_found : (mirror : Bool) (memory reserved : Labels) (q : Query) (at a : ℕ) → NoPlaceEnds mirror memory reserved q at q.hi
-    → IsBestBy mirror memory reserved q at a → a < 2 ^ 64 → top_in (record { mirror = mirror; up = false }) memory reserved q ≡ Some a
-best_found mirror memory reserved q at a past best small = top_in-last mirror memory reserved q a (record {
-  below = small;
-  passes = best.fits;
-  last = λ b less fits. best.last b fits (past b fits (fits_in-parts mirror memory reserved q b fits).high);
-})
+    let low : max (max from q.lo) 4096 ≤ a = best.0.above in
+    let end : a + q.size ≤ until = best.0.below in
+    record {
+      fits = place_of_bytes mirror memory reserved q a found some
+          (record { aligned = best.0.aligned; above = omega arith; below = omega arith })
+          (λ x above under. known.stays x (omega arith) (omega arith) ∙ is) served;
+      last = λ b fits ends. le_from_not_lt a b (λ over.
+          let most = best.1 b (between_ends mirror memory reserved q from until b label some known fits ends (omega arith)) in
+          omega arith);
+    }
 
 -- and where the walk has come below the window there is none
 pub none_found : (mirror : Bool) (memory reserved : Labels) (q : Query) (at : ℕ) → 1 ≤ q.size → NoPlaceEnds mirror memory reserved q at q.hi
     → at ≤ max q.lo 4096 → top_in (record { mirror = mirror; up = false }) memory reserved q ≡ None
 none_found mirror memory reserved q at some past low = top_in-fails (record { mirror = mirror; up = false }) memory reserved q (λ b less.
-    elim (cases_Bool (fits_in mirror memory reserved q b)) as (λ _. fits_in mirror memory reserved q b ≡ false) [
-      | inl fits ↦
-          let place = fits_in-parts mirror memory reserved q b fits in
-          let ends = past b fits place.high in
-          absurd (omega (arith, place.low, place.first))
-      | inr fails ↦ fails
-    ])
+    false_from_ne_true (fits_in mirror memory reserved q b) (λ fits.
+    let place = fits_in-parts mirror memory reserved q b fits in
+    let ends = past b fits place.high in
+    omega (arith, place.low, place.first)))
 
+-- the best place of the last stretch is the best, where all stretches above have none
 pub best_answer : (mirror : Bool) (memory reserved : Labels) (q : Query) (from at : ℕ) (answer : Option ℕ)
     → NoPlaceEnds mirror memory reserved q at q.hi
     → MatchOption answer (NoPlaceEnds mirror memory reserved q from at) (IsBestBy mirror memory reserved q at)
@@ -204,7 +181,11 @@ pub best_answer : (mirror : Bool) (memory reserved : Labels) (q : Query) (from a
 best_answer mirror memory reserved q from at None past best some small = absurd (true≢false (sym some))
 best_answer mirror memory reserved q from at (Some a) past best some small =
     let high = (fits_in-parts mirror memory reserved q a best.fits).high in
-    sym (best_found mirror memory reserved q at a past best (omega arith))
+    sym (top_in-last mirror memory reserved q a (record {
+      below = omega arith;
+      passes = best.fits;
+      last = λ b less fits. best.last b fits (past b fits (fits_in-parts mirror memory reserved q b fits).high);
+    }))
 
 -- with no place in a stretch none ends above it
 pub no_answer : (mirror : Bool) (memory reserved : Labels) (q : Query) (from at : ℕ) (answer : Option ℕ)
@@ -214,38 +195,42 @@ pub no_answer : (mirror : Bool) (memory reserved : Labels) (q : Query) (from at 
 no_answer mirror memory reserved q from at None past none is = λ b fits ends. none b fits (past b fits ends)
 no_answer mirror memory reserved q from at (Some a) past best is = absurd (true≢false is)
 
+pub some_align : (align k : ℕ) → align ≡ 2 ^ k → 0 < align
+some_align align k power = let some : 1 ≤ 2 ^ k = one-le-pow k 2 (omega arith) in omega arith
+
 -- the low bits that a mask leaves are the remainder
 pub mask_rest : (t n k : ℕ) → n ≡ 2 ^ k → bit_and t (n - 1) ≡ t % n
 mask_rest t n k is = subst (λ (m : ℕ). bit_and t (m - 1) ≡ t % m) (sym is) (and_mask t k)
+
+-- no multiple at which the bytes end in time is over the last one
+most_is : (low high size align k top place : ℕ) → align ≡ 2 ^ k → size ≤ high → top ≡ high - size
+    → place ≡ top - bit_and top (align - 1) → (place ≡ top - top % align) × ((b : ℕ) → IsBetween low high size align b → b ≤ place)
+most_is low high size align k top place power room top_is place_is =
+    let rest = mask_rest top align k power in (
+      omega arith,
+      λ b between.
+          let end = between.below in
+          let most = rounded_last top align b (some_align align k power) between.aligned (omega arith) in
+          omega arith,
+    )
 
 -- the greatest multiple below the last address at which the bytes end in time, where it isn't too low
 pub last_is : (low high size align k top place : ℕ) → align ≡ 2 ^ k → size ≤ high → top ≡ high - size
     → place ≡ top - bit_and top (align - 1) → low ≤ place
     → IsBetween low high size align place × ((b : ℕ) → IsBetween low high size align b → b ≤ place)
 last_is low high size align k top place power room top_is place_is order =
-    let rest = mask_rest top align k power in
-    let power_some : 1 ≤ 2 ^ k = one-le-pow k 2 (omega arith) in
-    let some : 0 < align = omega arith in
-    let whole : place ≡ top - top % align = omega arith in (
+    let most = most_is low high size align k top place power room top_is place_is in (
       record {
-        aligned = ap (λ (n : ℕ). n % align) whole ∙ rounded_aligned top align some;
+        aligned = ap (λ (n : ℕ). n % align) most.0 ∙ rounded_aligned top align (some_align align k power);
         above = order;
-        below = omega arith;
+        below = omega (arith, most.0);
       },
-      λ b between.
-          let end = between.below in
-          let most = rounded_last top align b some between.aligned (omega arith) in
-          omega arith,
+      most.1,
     )
 
 pub none_last : (low high size align k top place : ℕ) → align ≡ 2 ^ k → size ≤ high → top ≡ high - size
     → place ≡ top - bit_and top (align - 1) → place < low
     → (b : ℕ) → IsBetween low high size align b → ⊥
 none_last low high size align k top place power room top_is place_is order b between =
-    let rest = mask_rest top align k power in
-    let power_some : 1 ≤ 2 ^ k = one-le-pow k 2 (omega arith) in
-    let some : 0 < align = omega arith in
-    let end = between.below in
-    let start = between.above in
-    let most = rounded_last top align b some between.aligned (omega arith) in
-    omega arith
+    let most = (most_is low high size align k top place power room top_is place_is).1 b between in
+    omega (arith, between.above)

@@ -84,9 +84,7 @@ pub other_under : (i x : ℕ) (rs : List (RunOf Label)) → AreRuns rs → i < l
     → value_at rs x ≢ Some (run_at rs i).value
 other_under i x [] runs less next = absurd (omega arith)
 other_under zero x (r ∷ rs) runs less next =
-    let at : r.base ≤ r.base = omega arith in
-    let none : value_at (r ∷ rs) x ≡ None = none_below r.base x (r ∷ rs) runs at (omega arith) in
-    λ same. cc
+    let none : value_at (r ∷ rs) x ≡ None = none_below r.base x (r ∷ rs) runs (omega arith) (omega arith) in λ same. cc
 other_under (suc zero) x (r ∷ []) runs less next = absurd (omega arith)
 other_under (suc zero) x (r ∷ (s ∷ ss)) runs less next =
     elim (cases_lt x (run_end r)) as (λ _. value_at (r ∷ (s ∷ ss)) x ≢ Some s.value) [
@@ -96,10 +94,8 @@ other_under (suc zero) x (r ∷ (s ∷ ss)) runs less next =
           let here : value_at (r ∷ (s ∷ ss)) x ≡ Some r.value = rw (inside r x (omega arith) lt) refl in
           λ same. let equal : r.value ≡ s.value = cc in runs.1.1 touch equal
       | inr ge ↦
-          let at : s.base ≤ s.base = omega arith in
-          let none : value_at (s ∷ ss) x ≡ None = none_below s.base x (s ∷ ss) runs.2 at (omega arith) in
-          let here : value_at (r ∷ (s ∷ ss)) x ≡ None = rw (behind r x ge) none in
-          λ same. cc
+          let none : value_at (s ∷ ss) x ≡ None = none_below s.base x (s ∷ ss) runs.2 (omega arith) (omega arith) in
+          rw (behind r x ge, none) (λ same. cc)
     ]
 other_under (suc (suc i)) x (r ∷ rs) runs less next =
     let start = start_at (run_end r) zero rs runs.2 (rest_from r rs runs) (omega arith) in

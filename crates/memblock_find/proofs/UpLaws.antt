@@ -98,13 +98,11 @@ look_over rs slot at within ended from_base end_small =
 -- the records of a table that is searched for those that end by an address
 pub ended_so_far : (rs : List (RunOf Label)) (at middle : ℕ) → AreRuns rs → middle < length rs → run_end (run_at rs middle) ≤ at
     → (i : ℕ) → i < middle + 1 → run_end (run_at rs i) ≤ at
-ended_so_far rs at middle runs within ended i less =
-    let ends = ends_ascend i middle rs runs (omega arith) within in omega arith
+ended_so_far rs at middle runs within ended i less = omega (arith, ends_ascend i middle rs runs (omega arith) within)
 
 pub not_ended_from : (rs : List (RunOf Label)) (at middle : ℕ) → AreRuns rs → at < run_end (run_at rs middle)
     → (i : ℕ) → middle ≤ i → i < length rs → at < run_end (run_at rs i)
-not_ended_from rs at middle runs behind i from within =
-    let ends = ends_ascend middle i rs runs from within in omega arith
+not_ended_from rs at middle runs behind i from within = omega (arith, ends_ascend middle i rs runs from within)
 
 -- the addresses of a cursor's stretch upward carry its label
 pub stretch_rises : (ms rs : List (RunOf Label)) (c : Cursor) (until : ℕ) (label : Option Label) → IsUpAt ms rs c
