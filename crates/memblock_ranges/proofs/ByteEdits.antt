@@ -1,14 +1,15 @@
 -- What the edits of a table do to the bytes: a record is written over another, a gap is opened for one, a gap of several is closed.
 use Rattle.std.proofs.Common.{◌≡◌, ℕ, suc, ◌+◌, ◌-◌, ◌*◌, ◌<◌, ◌≤◌, ◌&&◌, ◌||◌, nat_le, nat_lt, List, ◌∷◌, ◌++◌, length, get_or, set, take, drop, refl, sym, ◌∙◌, ap, subst, arith, inl, inr, IsTrue}
-use Rattle.std.proofs.lemmas.Bool.{cases_Bool, cases_lt, cases_order}
+use Rattle.std.proofs.lemmas.Bool.{cases_Bool, cases_eq, cases_lt, cases_order}
 use Rattle.std.proofs.lemmas.Bool.Decides.{nat_tests}
 use Rattle.std.proofs.lemmas.List.{set_at, take_at, drop_at}
 use Rattle.phys_store.specs.Bytes.{Stored, byte_of, is_ready, bytes_at, Wrote}
 use Rattle.phys_store.proofs.ByteLists.{told_bytes}
 use Rattle.address_runs.specs.Runs.{RunOf}
 use Rattle.memblock_model.specs.Labels.{Label}
+use Rattle.memblock_ranges.specs.declared.region.Head.{Head}
 use Rattle.memblock_ranges.specs.Spelling.{run_in, spelling_of, records_at, FitsRecord, IsRecord}
-use Rattle.memblock_ranges.specs.Tables.{IsTable, outside}
+use Rattle.memblock_ranges.specs.Tables.{IsTable, outside, kept_of}
 use Rattle.memblock_ranges.proofs.SpellLaws.{same_bytes, same_records, split_records, length-records_at, length-fields_of, run_back, is_record}
 
 -- the list of records, of which one or several have other bytes
@@ -56,16 +57,15 @@ module _ (f g : ℕ → ℕ) (a i : ℕ) (below : (x : ℕ) → a ≤ x → x < 
       split_records g a i m ∙ rw (front, back, first, last) refl
 
 -- the bytes beside the table stay
-same_at : (f g : ℕ → ℕ) (place room : ℕ) → ((x : ℕ) → IsTrue (nat_lt x place || nat_le (place + 24 * room) x) → g x ≡ f x) →
-    (x : ℕ) → outside g place room x ≡ outside f place room x
-same_at f g place room same x = elim (cases_Bool (nat_le place x && nat_lt x (place + 24 * room))) [
-  | inl within ↦ rw within refl
-  | inr out ↦ rw out (same x (grind (arith, nat_tests)))
-]
-
 pub same_outside : (f g : ℕ → ℕ) (place room : ℕ) → ((x : ℕ) → IsTrue (nat_lt x place || nat_le (place + 24 * room) x) → g x ≡ f x) →
     outside g place room ≡ outside f place room
-same_outside f g place room same = λ j x. same_at f g place room same x j
+same_outside f g place room same =
+    let at : (x : ℕ) → outside g place room x ≡ outside f place room x =
+    λ x. elim (cases_Bool (nat_le place x && nat_lt x (place + 24 * room))) [
+      | inl within ↦ rw within refl
+      | inr out ↦ rw out (same x (grind (arith, nat_tests)))
+    ] in
+    λ j x. at x j
 
 -- what was written stands there
 written_is : (s t : List Stored) (at n : ℕ) (bs : List ℕ) → Wrote s t at n (λ k. get_or bs k 0) → n ≡ 24 → length bs ≡ 24 →
@@ -83,6 +83,11 @@ pub record Edited (s u : List Stored) (place room count : ℕ) (list : List (Run
   pub table : IsTable (byte_of u) (is_ready u) place room count
   pub others : outside (byte_of u) place room ≡ outside (byte_of s) place room
   pub ready : is_ready u ≡ is_ready s
+
+-- and it keeps the rest
+pub edited_kept : (s u : List Stored) (place room count : ℕ) (list : List (RunOf Label)) → Edited s u place room count list →
+    let h : Head = record { place = place; room = room; count = count } in kept_of u h ≡ kept_of s h
+edited_kept s u place room count list e = λ j. record { place = place; room = room; others = e.others j; ready = e.ready j }
 
 -- a record is written over the i-th
 pub put_table : (s t : List Stored) (place room count i at n : ℕ) (r : RunOf Label) (bs : List ℕ) →
@@ -109,15 +114,11 @@ put_table s t place room count i at n r bs table less fits is w here size =
       table = record {
         few = table.few;
         fits = table.fits;
-        records = λ j below. elim (cases_order j i) [
+        records = λ j below. elim (cases_eq j i) [
           | inl same ↦ subst (λ k. IsRecord (bytes_at g (place + 24 * k) 24)) (sym same)
               (subst IsRecord (sym (new ∙ is)) (is_record r fits))
-          | inr other ↦ elim other [
-            | inl before ↦ record_there f g (place + 24 * j) (place + 24 * j)
-                (λ k in_it. off (place + 24 * j + k) (grind (arith, nat_tests))) (table.records j below)
-            | inr after ↦ record_there f g (place + 24 * j) (place + 24 * j)
-                (λ k in_it. off (place + 24 * j + k) (grind (arith, nat_tests))) (table.records j below)
-          ]
+          | inr other ↦ record_there f g (place + 24 * j) (place + 24 * j)
+              (λ k in_it. off (place + 24 * j + k) (grind (arith, nat_tests))) (table.records j below)
         ];
         zeros = λ x from to. off x (grind (arith, nat_tests)) ∙ table.zeros x from to;
         prepared = λ x from to. w.ready x ∙ table.prepared x from to;

@@ -39,17 +39,16 @@ mirrored_run = record { base = 0x1000; size = 0x9E000; value = with_mirror in_no
 abbrev kernel_run : RunOf Label
 kernel_run = record { base = 0x1000000; size = 0x2000000; value = plain_label }
 
+-- of memory, of mirrored memory, and of a claim
 number_examples : (base_in first_record ≡ 0x1000) × (size_in first_record ≡ 0x9E000) × (flags_in first_record ≡ 0)
     × (node_in first_record ≡ 0)
     × (flags_in mirrored_record ≡ 2)
-unfolding base_in size_in flags_in node_in
-number_examples = (refl, refl, refl, refl, refl)
-
-reserved_numbers : (base_in (spelling_of kernel_run) ≡ 0x1000000) × (size_in (spelling_of kernel_run) ≡ 0x2000000)
+    × (base_in (spelling_of kernel_run) ≡ 0x1000000)
+    × (size_in (spelling_of kernel_run) ≡ 0x2000000)
     × (flags_in (spelling_of kernel_run) ≡ 0)
     × (node_in (spelling_of kernel_run) ≡ 1024)
 unfolding base_in size_in flags_in node_in fields_of
-reserved_numbers = (refl, refl, refl, refl)
+number_examples = (refl, refl, refl, refl, refl, refl, refl, refl, refl)
 
 region_examples : (region_in first_record ≡ region_of first_run) × (region_in mirrored_record ≡ region_of mirrored_run)
     × (region_of kernel_run ≡ record { base = 0x1000000; size = 0x2000000; flags = 0; node = 1024 })

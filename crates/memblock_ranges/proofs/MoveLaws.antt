@@ -1,6 +1,6 @@
 -- A table moves to another place.
-use Rattle.std.proofs.Common.{◌≡◌, ℕ, ◌+◌, ◌-◌, ◌*◌, ◌^◌, ◌<◌, ◌≤◌, List, true, ◌||◌, max, nat_le, refl, sym, ◌∙◌, ap, arith, inl, inr, IsTrue}
-use Rattle.std.proofs.lemmas.Bool.{cases_lt}
+use Rattle.std.proofs.Common.{◌≡◌, ℕ, ◌+◌, ◌-◌, ◌*◌, ◌^◌, ◌<◌, ◌≤◌, List, ◌||◌, max, nat_le, nat_lt, refl, sym, ◌∙◌, ap, arith, IsTrue}
+use Rattle.std.proofs.lemmas.Bool.{true_from_ne_false}
 use Rattle.std.proofs.lemmas.Bool.Decides.{nat_tests}
 use Rattle.bm_base.specs.Extent.{Extent, Meet}
 use Rattle.phys_store.specs.Bytes.{Stored, byte_of, is_ready, AreReady, Wrote}
@@ -20,15 +20,10 @@ both r s x a b c d = (x, grind (arith, nat_tests))
 pub copied_apart : (old room count place : ℕ) → count ≤ room → ¬ Meet (bytes old (24 * room)) (bytes place (48 * room)) →
     IsTrue (nat_le (old + 24 * count) place || nat_le (place + 24 * count) old)
 copied_apart old room count place few apart =
-    elim (cases_lt place (old + 24 * count)) as (λ _. (nat_le (old + 24 * count) place || nat_le (place + 24 * count) old) ≡ true) [
-      | inr before ↦ grind (arith, nat_tests)
-      | inl under ↦ elim (cases_lt old (place + 24 * count)) as
-          (λ _. (nat_le (old + 24 * count) place || nat_le (place + 24 * count) old) ≡ true) [
-            | inr behind ↦ grind (arith, nat_tests)
-            | inl over ↦ absurd (apart (both (bytes old (24 * room)) (bytes place (48 * room)) (max old place) (omega arith) (omega arith)
-                (omega arith) (omega arith)))
-          ]
-    ]
+    true_from_ne_false (nat_le (old + 24 * count) place || nat_le (place + 24 * count) old) (λ meet.
+    let under : place < old + 24 * count = grind (arith, nat_tests) in
+    let over : old < place + 24 * count = grind (arith, nat_tests) in
+    apart (both (bytes old (24 * room)) (bytes place (48 * room)) (max old place) (omega arith) (omega arith) (omega arith) (omega arith)))
 
 pub moves : (s t u v : List Stored) (g : Head) (place used free size : ℕ) → HasTable s g → place + 48 * g.room < 2 ^ 64 →
     AreReady s place (48 * g.room) →
@@ -40,13 +35,8 @@ moves s t u v g place used free size table small prepared apart copied cleared z
     let old : ℕ = g.place in
     let few = table.few in
     let off : (x : ℕ) → place ≤ x → x < place + 48 * g.room → byte_of v x ≡ byte_of u x = λ x low high.
-    elim (cases_lt x old) as (λ _. byte_of v x ≡ byte_of u x) [
-      | inl under ↦ zeroed.outside x (grind (arith, nat_tests))
-      | inr over ↦ elim (cases_lt x (old + 24 * g.room)) as (λ _. byte_of v x ≡ byte_of u x) [
-        | inl within ↦ absurd (apart (both (bytes_by g) (bytes place (48 * g.room)) x over within low high))
-        | inr behind ↦ zeroed.outside x (grind (arith, nat_tests))
-      ]
-    ] in
+    zeroed.outside x (true_from_ne_false (nat_lt x old || nat_le (old + size) x) (λ within.
+    apart (both (bytes_by g) (bytes place (48 * g.room)) x (grind (arith, nat_tests)) (grind (arith, nat_tests)) low high))) in
     let there : (k : ℕ) → k < 24 * g.count → byte_of v (place + k) ≡ byte_of s (old + k) = λ k less.
     off (place + k) (omega arith) (omega arith) ∙ cleared.outside (place + k) (grind (arith, nat_tests))
     ∙ copied.within k (omega (arith, used_is, less)) in

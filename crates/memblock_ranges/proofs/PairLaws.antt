@@ -1,12 +1,12 @@
 -- Two tables in one store: while one is edited, the other stays.
 use Rattle.std.proofs.Common.{◌≡◌, ℕ, ◌+◌, ◌*◌, ◌^◌, ◌<◌, ◌≤◌, Bool, true, false, ◌||◌, Option, Some, None, List, refl, sym, ◌∙◌, ap, subst, arith, inl, inr}
 use Rattle.std.specs.Prelude.{unwrap_or}
-use Rattle.std.proofs.lemmas.Bool.{cases_Bool, and_from, or_right}
+use Rattle.std.proofs.lemmas.Bool.{cases_Bool, false_from_ne_true, and_from, or_right}
 use Rattle.std.proofs.lemmas.Bool.Decides.{nat_tests}
 use Rattle.bm_base.specs.Extent.{Extent, covers, Meet}
 use Rattle.phys_store.specs.Bytes.{Stored, byte_of, is_ready, Wrote}
 use Rattle.address_runs.specs.Runs.{RunOf, value_at}
-use Rattle.address_runs.specs.Edits.{covered, uncovered, NothingFrom}
+use Rattle.address_runs.specs.Edits.{amended, covered, uncovered}
 use Rattle.memblock_model.specs.Labels.{Label, Labels, plain_label}
 use Rattle.memblock_model.specs.Tables.{records_for}
 use Rattle.memblock_model.proofs.TableLaws.{value_at-records}
@@ -17,22 +17,11 @@ use Rattle.memblock_ranges.specs.Tables.{HasTable, list_in, Contents, Overlaps, 
 use Rattle.memblock_ranges.proofs.SpellLaws.{same_records}
 use Rattle.memblock_ranges.proofs.ByteEdits.{record_there}
 
--- an address of both ranges makes them meet
-meeting : (r s : Extent) (x : ℕ) → covers r x ≡ true → covers s x ≡ true → Meet r s
-meeting r s x here there = (x, and_from (covers r x) (covers s x) here there)
-
 pub beside : (r s : Extent) (x : ℕ) → ¬ Meet r s → covers s x ≡ true → covers r x ≡ false
-beside r s x apart lies = elim (cases_Bool (covers r x)) as (λ _. covers r x ≡ false) [
-  | inl both ↦ absurd (apart (meeting r s x both lies))
-  | inr out ↦ out
-]
+beside r s x apart lies = false_from_ne_true (covers r x) (λ both. apart (x, and_from (covers r x) (covers s x) both lies))
 
 swapped : (r s : Extent) → Meet r s → Meet s r
-swapped r s both =
-    let x = both.0 in
-    let lies : covers r x ≡ true = grind (arith, nat_tests, both.1) in
-    let too : covers s x ≡ true = grind (arith, nat_tests, both.1) in
-    meeting s r x too lies
+swapped r s both = (both.0, grind (arith, nat_tests, both.1))
 
 pub turned : (r s : Extent) → ¬ Meet r s → ¬ Meet s r
 turned r s apart both = apart (swapped s r both)
@@ -65,8 +54,25 @@ pub edited_ready : (s t : List Stored) (g h : Head) (list : List (RunOf Label)) 
 edited_ready s t g h list e x = ap (λ (o : ℕ → Bool). o x) e.ready
 
 same_bytes_by : (s t : List Stored) (g h : Head) (list : List (RunOf Label)) → Edits s t g h list → bytes_by h ≡ bytes_by g
-same_bytes_by s t g h list e =
-    rw (e.place_is, e.room_is) refl
+same_bytes_by s t g h list e = rw (e.place_is, e.room_is) refl
+
+-- a reserved table that stays, beside a table of memory
+beside_memory : (s t : List Stored) (m r h : Head) → AreTables s m r → HasTable t r × (table_by t r ≡ table_by s r) → HasTable t h →
+    ¬ Meet (bytes_by h) (bytes_by r) →
+    AreRecords (list_in t h) →
+    AreTables t h r × (table_by t r ≡ table_by s r)
+beside_memory s t m r h both other table apart known =
+    let same : list_in t r ≡ list_in s r = ap (λ (q : Table). q.records) other.1 in (
+      record {
+        memory = table;
+        reserved = other.0;
+        apart = apart;
+        memory_records = known;
+        reserved_records = rw same both.reserved_records;
+        plain = rw same both.plain;
+      },
+      other.1,
+    )
 
 pub pair_memory : (s t : List Stored) (m r h : Head) (list : List (RunOf Label)) → AreTables s m r → Edits s t m h list →
     AreRecords (list_in t h) →
@@ -74,17 +80,8 @@ pub pair_memory : (s t : List Stored) (m r h : Head) (list : List (RunOf Label))
 pair_memory s t m r h list both e known =
     let other = stays s t r (λ x lies. edited_at s t m h list e x (beside (bytes_by m) (bytes_by r) x both.apart lies))
     (λ x was. edited_ready s t m h list e x ∙ was) both.reserved in
-    let same : list_in t r ≡ list_in s r = ap (λ (q : Table). q.records) other.1 in (
-      record {
-        memory = e.table;
-        reserved = other.0;
-        apart = λ meet. both.apart (subst (λ (q : Extent). Meet q (bytes_by r)) (same_bytes_by s t m h list e) meet);
-        memory_records = known;
-        reserved_records = rw same both.reserved_records;
-        plain = rw same both.plain;
-      },
-      other.1,
-    )
+    beside_memory s t m r h both other e.table
+    (λ meet. both.apart (subst (λ (q : Extent). Meet q (bytes_by r)) (same_bytes_by s t m h list e) meet)) known
 
 pub pair_reserved : (s t : List Stored) (m r h : Head) (list : List (RunOf Label)) → AreTables s m r → Edits s t r h list →
     AreRecords (list_in t h) →
@@ -105,10 +102,20 @@ pair_reserved s t m r h list both e known plain =
       other.1,
     )
 
--- no edit of the reserved table gives a record a node
-plain_list : (g : Labels) → NothingFrom (2 ^ 64) g → ((x : ℕ) (label : Label) → g x ≡ Some label → label ≡ plain_label) →
-    HaveNoNode (records_for g)
-plain_list g none plain = λ x label is. plain x label (sym (ap (λ (f : Labels). f x) (value_at-records g none)) ∙ is)
+-- no edit of the reserved table gives a record a node, where what it writes has none
+plain_amended : (change : Option Label → Option Label)
+    → ((o : Option Label) (label : Label) → ((l : Label) → o ≡ Some l → l ≡ plain_label) → change o ≡ Some label → label ≡ plain_label)
+    → (r : Extent) (rs : List (RunOf Label)) → AreRecords rs → HaveNoNode rs → r.base + r.size ≤ 2 ^ 64 →
+    HaveNoNode (records_for (amended change r (value_at rs)))
+plain_amended change written r rs known plain ends x label is =
+    let f = value_at rs in
+    let g = amended change r f in
+    let carried : g x ≡ Some label =
+    sym (ap (λ (h : Labels). h x) (value_at-records g (amended_ends change r f (2 ^ 64) ends known.within))) ∙ is in
+    elim (cases_Bool (covers r x)) as (λ _. label ≡ plain_label) [
+      | inl lies ↦ written (f x) label (plain x) (rw lies at carried)
+      | inr out ↦ plain x label (rw out at carried)
+    ]
 
 plain_or : (o : Option Label) (label : Label) → ((l : Label) → o ≡ Some l → l ≡ plain_label) →
     Some (unwrap_or o plain_label) ≡ Some label → label ≡ plain_label
@@ -117,23 +124,11 @@ plain_or (Some l) label plain is = plain label is
 
 pub plain_covered : (r : Extent) (rs : List (RunOf Label)) → AreRecords rs → HaveNoNode rs → r.base + r.size ≤ 2 ^ 64 →
     HaveNoNode (records_for (covered r plain_label (value_at rs)))
-plain_covered r rs known plain ends =
-    let f = value_at rs in
-    plain_list (covered r plain_label f) (amended_ends (λ carried. Some (unwrap_or carried plain_label)) r f (2 ^ 64) ends known.within)
-    (λ x label is. elim (cases_Bool (covers r x)) as (λ _. label ≡ plain_label) [
-      | inl lies ↦ plain_or (f x) label (plain x) (rw lies at is)
-      | inr out ↦ plain x label (rw out at is)
-    ])
+plain_covered = plain_amended (λ carried. Some (unwrap_or carried plain_label)) plain_or
 
 pub plain_uncovered : (r : Extent) (rs : List (RunOf Label)) → AreRecords rs → HaveNoNode rs → r.base + r.size ≤ 2 ^ 64 →
     HaveNoNode (records_for (uncovered r (value_at rs)))
-plain_uncovered r rs known plain ends =
-    let f = value_at rs in
-    plain_list (uncovered r f) (amended_ends (λ (carried : Option Label). None) r f (2 ^ 64) ends known.within)
-    (λ x label is. elim (cases_Bool (covers r x)) as (λ _. label ≡ plain_label) [
-      | inl lies ↦ let clash : None ≡ Some label = rw lies at is in cc clash
-      | inr out ↦ plain x label (rw out at is)
-    ])
+plain_uncovered = plain_amended (λ (carried : Option Label). None) (λ o label plain is. cc is)
 
 -- a table that moves beside another one
 moved_apart : (s t : List Stored) (g h o : Head) (place : ℕ) → Moves s t g h place →
@@ -155,17 +150,8 @@ pub move_memory : (s t : List Stored) (m r h : Head) (place : ℕ) → AreTables
     ¬ Meet (bytes_by r) (record { base = place; size = 48 * m.room }) → AreTables t h r × (table_by t r ≡ table_by s r)
 move_memory s t m r h place both e apart =
     let other = moved_other s t m h r place e (turned (bytes_by m) (bytes_by r) both.apart) apart both.reserved in
-    let same : list_in t r ≡ list_in s r = ap (λ (q : Table). q.records) other.1 in (
-      record {
-        memory = e.table;
-        reserved = other.0;
-        apart = turned (bytes_by r) (bytes_by h) (moved_apart s t m h r place e apart);
-        memory_records = rw e.list_is both.memory_records;
-        reserved_records = rw same both.reserved_records;
-        plain = rw same both.plain;
-      },
-      other.1,
-    )
+    beside_memory s t m r h both other e.table (turned (bytes_by r) (bytes_by h) (moved_apart s t m h r place e apart))
+    (rw e.list_is both.memory_records)
 
 pub move_reserved : (s t : List Stored) (m r h : Head) (place : ℕ) → AreTables s m r → Moves s t r h place →
     ¬ Meet (bytes_by m) (record { base = place; size = 48 * r.room }) → AreTables t m h × (table_by t m ≡ table_by s m)
@@ -191,18 +177,8 @@ both_stay s t m r both at_memory at_reserved ready =
     let first = stays s t m at_memory ready both.memory in
     let second = stays s t r at_reserved ready both.reserved in
     let same : list_in t m ≡ list_in s m = ap (λ (q : Table). q.records) first.1 in
-    let same_too : list_in t r ≡ list_in s r = ap (λ (q : Table). q.records) second.1 in (
-      record {
-        memory = first.0;
-        reserved = second.0;
-        apart = both.apart;
-        memory_records = rw same both.memory_records;
-        reserved_records = rw same_too both.reserved_records;
-        plain = rw same_too both.plain;
-      },
-      first.1,
-      second.1,
-    )
+    let tables = beside_memory s t m r m both second first.0 both.apart (rw same both.memory_records) in
+    (tables.0, first.1, tables.1)
 
 -- bytes that belong to no table are filled
 pub filled_stay : (s t : List Stored) (m r : Head) (range : Extent) (g : ℕ → ℕ) → AreTables s m r → Wrote s t range.base range.size g →

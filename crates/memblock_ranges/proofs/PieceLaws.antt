@@ -47,15 +47,13 @@ module _ (r : Extent) (f : Labels) where
   bare_from : (x : ℕ) → r.base ≤ x → bare r plain_label f x ≡ bare_label (nat_lt x (r.base + r.size) && is_none (f x))
   bare_from x low = let lies : covers r x ≡ nat_lt x (r.base + r.size) = grind (arith, nat_tests) in rw lies refl
 
-  bare_below : (x : ℕ) → x < r.base → bare r plain_label f x ≡ None
-  bare_below x low = let off : covers r x ≡ false = grind (arith, nat_tests) in rw off refl
-
-  bare_behind : (x : ℕ) → r.base + r.size ≤ x → bare r plain_label f x ≡ None
-  bare_behind x high = let off : covers r x ≡ false = grind (arith, nat_tests) in rw off refl
+  bare_beside : (x : ℕ) → covers r x ≡ false → bare r plain_label f x ≡ None
+  bare_beside x off = rw off refl
 
   -- no piece ends below the range
   pub no_pieces : total (edges same_label (bare r plain_label f)) 0 r.base ≡ 0
-  no_pieces = total-quiet (edges same_label (bare r plain_label f)) 0 r.base (λ y above under. rw (bare_below y (omega arith)) refl)
+  no_pieces = total-quiet (edges same_label (bare r plain_label f)) 0 r.base
+      (λ y above under. rw (bare_beside y (grind (arith, nat_tests))) refl)
 
   -- over one more stretch that the table covers, or doesn't, a piece ends at most at its end
   pub more_pieces : (from to next count more : ℕ) (here there : Bool) → r.base ≤ from → from < to → to ≤ r.base + r.size → to ≤ next →
@@ -80,7 +78,8 @@ module _ (r : Extent) (f : Labels) where
       let g = bare r plain_label f in
       let until : ℕ = r.base + r.size in
       let parts = total-split (edges same_label g) 0 until (2 ^ 64 - until) (2 ^ 64) until (omega arith) (omega arith) in
-      let quiet = total-quiet (edges same_label g) until (2 ^ 64 - until) (λ y above under. rw (bare_behind y above) refl) in
+      let quiet = total-quiet (edges same_label g) until (2 ^ 64 - until)
+      (λ y above under. rw (bare_beside y (grind (arith, nat_tests))) refl) in
       let is = pieces_are r f ends in
       omega (arith, parts, quiet, is, so_far)
 

@@ -1,6 +1,7 @@
 -- Records as bytes: where they stand, and that what was written is read back.
 use Rattle.std.proofs.Common.{◌≡◌, ℕ, zero, suc, ◌+◌, ◌*◌, ◌^◌, ◌<◌, ◌≤◌, List, [], ◌∷◌, ◌++◌, length, get_or, drop, refl, sym, ◌∙◌, ap, subst, inl, inr, arith, length-append, append_assoc}
 use Rattle.std.proofs.lemmas.Bool.{cases_Bool}
+use Rattle.std.proofs.lemmas.Grind.{common_steps}
 use Rattle.std.proofs.lemmas.List.{drop_at}
 use Rattle.byteorder.specs.Endian.{little_number, little_bytes}
 use Rattle.byteorder.specs.Numbers.{little_number-reads_back, length-bytes_low_first}
@@ -59,17 +60,7 @@ long4 n = length-bytes_low_first 0 4 n
 pub length-fields_of : (base size flags node : ℕ) → length (fields_of base size flags node) ≡ 24
 unfolding fields_of
 length-fields_of base size flags node =
-    let a = long8 base in let b = long8 size in let c = long4 flags in let d = long4 node in
-    omega (
-      arith,
-      a,
-      b,
-      c,
-      d,
-      length-append (little_bytes 8 base) (little_bytes 8 size ++ (little_bytes 4 flags ++ little_bytes 4 node)),
-      length-append (little_bytes 8 size) (little_bytes 4 flags ++ little_bytes 4 node),
-      length-append (little_bytes 4 flags) (little_bytes 4 node),
-    )
+    grind (arith, common_steps, long8 base, long8 size, long4 flags, long4 node)
 
 behind_two : (a b rest : List ℕ) → length a ≡ 8 → length b ≡ 8 → drop 16 (a ++ (b ++ rest)) ≡ rest
 behind_two a b rest first second =

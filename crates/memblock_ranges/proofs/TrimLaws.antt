@@ -98,8 +98,12 @@ module _ (f : Labels) (at : ℕ) (r : RunOf Label) (rs : List (RunOf Label)) (tu
         trimmed-whole f x (λ y in_it. let above = in_it.above in let below = in_it.below in
         in_run y (omega (arith, up_is)) (omega (arith, down_is)) ∙ sym here) ∙ here
 
-    gap : (x : ℕ) → at ≤ x → x < r.base → trimmed f x ≡ None
-    gap x low high = trimmed_none f x (before_run x low high)
+    -- below its first whole frame nothing is kept
+    ahead : (x : ℕ) → at ≤ x → x < run_end r → x < up → trimmed f x ≡ None
+    ahead x low high less = elim (cases_lt x r.base) as (λ _. trimmed f x ≡ None) [
+      | inl before ↦ trimmed_none f x (before_run x low before)
+      | inr in_it ↦ cut_low x in_it high less
+    ]
 
     pub trim_step : (start until : ℕ) (xs : List (RunOf Label)) → IsSweptTo (trimmed f) at xs →
         (start < until → start ≡ up) → until ≡ down → (until ≤ start → down ≤ up) →
@@ -110,10 +114,7 @@ module _ (f : Labels) (at : ℕ) (r : RunOf Label) (rs : List (RunOf Label)) (tu
           | inl some ↦
               let begin : start ≡ up = is_up some in
               let first = swept_over (trimmed f) at start xs swept (omega (arith, begin, up_is))
-              (λ x low high. elim (cases_lt x r.base) as (λ _. trimmed f x ≡ None) [
-                | inl before ↦ gap x low before
-                | inr in_it ↦ cut_low x in_it (omega (arith, begin, some, is_down, down_is, high)) (omega (arith, begin, high))
-              ]) in
+              (λ x low high. ahead x low (omega (arith, begin, some, is_down, down_is, high)) (omega (arith, begin, high))) in
               let middle = swept_stretch (trimmed f) start until (Some r.value) xs first (omega arith)
               (λ x low high. kept x (omega (arith, begin, low)) (omega (arith, is_down, high)))
               (λ same. absurd (elim (cases_lt until (run_end r)) as (λ _. ⊥) [
@@ -128,12 +129,9 @@ module _ (f : Labels) (at : ℕ) (r : RunOf Label) (rs : List (RunOf Label)) (tu
               let test : nat_lt start until ≡ false = grind (arith, nat_tests) in
               let less : down ≤ up = none empty in
               rw (test, append-nil xs) (swept_over (trimmed f) at (run_end r) xs swept (omega arith)
-              (λ x low high. elim (cases_lt x r.base) as (λ _. trimmed f x ≡ None) [
-                | inl before ↦ gap x low before
-                | inr in_it ↦ elim (cases_lt x up) as (λ _. trimmed f x ≡ None) [
-                  | inl under ↦ cut_low x in_it high under
-                  | inr over ↦ cut_high x in_it high (omega (arith, less, over))
-                ]
+              (λ x low high. elim (cases_lt x up) as (λ _. trimmed f x ≡ None) [
+                | inl under ↦ ahead x low high under
+                | inr over ↦ cut_high x (omega (arith, up_is, over)) high (omega (arith, less, over))
               ]))
         ]
 

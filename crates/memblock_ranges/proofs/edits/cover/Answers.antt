@@ -16,6 +16,5 @@ rewrite-requires-clause-room g c = (
 
 pub returns-clause-list : goal.returns-clause-list
 returns-clause-list g c =
-    edited_list (λ (carried : Option Label). Some (unwrap_or carried c.args.label)) c.args.range.now (g.T.Rows.list c.args.table.now)
-    (g.T.Rows.list c.rewrite.new.table)
-    c.requires.records (omega (arith, c.end-fact.ensures.small)) c.rewrite.ensures.list
+    edited_list (λ (carried : Option Label). Some (unwrap_or carried c.args.label)) c.args.range.now _ _ c.requires.records
+    (omega (arith, c.end-fact.ensures.small)) c.rewrite.ensures.list

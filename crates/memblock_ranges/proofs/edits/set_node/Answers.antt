@@ -9,14 +9,12 @@ use Rattle.memblock_ranges.proofs.edits.set_node.Goals as goal
 
 pub returns-then-range-eq0-clause-list : goal.returns-then-range-eq0-clause-list
 returns-then-range-eq0-clause-list g c =
-    no_edit (option_map (with_node (Some c.args.node))) c.args.range.now (g.T.Rows.list c.args.table.now) c.requires.records
-    (grind (arith, common_steps))
+    no_edit (option_map (with_node (Some c.args.node))) c.args.range.now _ c.requires.records (grind (arith, common_steps))
 
 pub amend-requires-clause-tells : goal.amend-requires-clause-tells
 amend-requires-clause-tells g c = (same_label, label_tells)
 
 pub returns-clause-list : goal.returns-clause-list
 returns-clause-list g c =
-    edited_list (option_map (with_node (Some c.args.node))) c.args.range.now (g.T.Rows.list c.args.table.now)
-    (g.T.Rows.list c.amend.new.table)
-    c.requires.records (grind (arith, common_steps)) c.amend.ensures.list
+    edited_list (option_map (with_node (Some c.args.node))) c.args.range.now _ _ c.requires.records
+    (grind (arith, common_steps)) c.amend.ensures.list

@@ -1,11 +1,14 @@
-use Rattle.std.proofs.Common.{◌≡◌, ℕ, ◌+◌, ◌-◌, ◌%◌, ◌^◌, ◌<◌, ◌≤◌, Option, Some, List, [], ◌∷◌, ◌++◌, length, get_or, take, drop, sym, ◌∙◌, ap, subst, arith, append-nil}
+use Rattle.std.proofs.Common.{◌≡◌, ℕ, ◌+◌, ◌-◌, ◌%◌, ◌^◌, ◌<◌, ◌≤◌, Option, Some, List, [], ◌∷◌, ◌++◌, length, take, drop, sym, ◌∙◌, ap, subst, arith, append-nil}
 use Rattle.std.proofs.lemmas.List.{drop_more, drop_all}
 use Rattle.address_runs.specs.Runs.{RunOf, run_end, value_at, IsRunsOf}
+use Rattle.address_runs.specs.Edits.{NothingFrom}
 use Rattle.address_runs.specs.Sweep.{IsSweptTo}
 use Rattle.run_edits.specs.Records.{stretch}
 use Rattle.memblock_model.specs.Labels.{Label}
 use Rattle.memblock_model.specs.Items.{trimmed}
+use Rattle.memblock_model.specs.Tables.{records_for}
 use Rattle.memblock_model.proofs.TableLaws.{records_for-is, nothing-trimmed}
+use Rattle.memblock_ranges.specs.Tables.{AreRecords}
 use Rattle.memblock_ranges.proofs.TrimLaws.{Turns, turns_next, trim_step, trim_all}
 use Rattle.memblock_ranges.proofs.trim.trim.Goals as goal
 
@@ -18,9 +21,8 @@ loop-read-preserved g c =
     let r : RunOf Label = c.get-record.result in
     let rest = drop (read + 1) t in
     let count : read < length t = omega (arith, c.loop-read-test.true, c.count.ensures) in
-    let first : drop read t ≡ get_or t read r ∷ rest = drop_more t read r count in
-    let is_r : get_or t read r ∷ rest ≡ r ∷ rest = ap (λ (q : RunOf Label). q ∷ rest) (sym c.get-record.ensures) in
-    let left : drop read t ≡ r ∷ rest = first ∙ is_r in
+    let left : drop read t ≡ r ∷ rest =
+    drop_more t read r count ∙ ap (λ (q : RunOf Label). q ∷ rest) (sym c.get-record.ensures) in
     let at : ℕ = i.swept.0 in
     let turns : Turns f at (r ∷ rest) = subst (λ rs. Turns f at rs) left i.swept.2 in
     let base = c.range.ensures.base in
@@ -35,9 +37,8 @@ loop-read-preserved g c =
     c.frames-start.ensures.start c.frames-start.ensures.until c.frames-start.ensures.none in
     let with_value : Label → List (RunOf Label) = λ v. take c.loop-read.write t ++ stretch c.frames-start.result.0 c.frames-start.result.1
     (Some v) in
-    let told : take c.emit.result.0 (g.T.Rows.list c.emit.new.table) ≡ with_value c.value.result = c.emit.ensures.written in
-    let same : with_value c.value.result ≡ with_value r.value = ap with_value c.value.ensures in
-    let written : take c.emit.result.0 (g.T.Rows.list c.emit.new.table) ≡ with_value r.value = told ∙ same in
+    let written : take c.emit.result.0 (g.T.Rows.list c.emit.new.table) ≡ with_value r.value =
+    c.emit.ensures.written ∙ ap with_value c.value.ensures in
     record {
       order = c.emit.ensures.order;
       within = c.emit.ensures.within;
@@ -49,30 +50,30 @@ loop-read-preserved g c =
       );
     }
 
-all_cut : (f : ℕ → Option Label) (at write read : ℕ) (t new : List (RunOf Label)) → IsSweptTo (trimmed f) at (take write t) →
+-- what is left when all are read
+all_cut : (f : ℕ → Option Label) (at write read : ℕ) (t new : List (RunOf Label)) → NothingFrom (2 ^ 64) f →
+    IsSweptTo (trimmed f) at (take write t) →
     Turns f at (drop read t) →
-    length t ≤ read → new ≡ take write t ++ drop (write + (read - write)) t → write ≤ read → IsRunsOf (trimmed f) new
-all_cut f at write read t new swept turns done is order =
+    length t ≤ read → new ≡ take write t ++ drop (write + (read - write)) t → write ≤ read →
+    (new ≡ records_for (trimmed f)) × AreRecords new
+all_cut f at write read t new within swept turns done is order =
     let none : drop read t ≡ [] = drop_all read t done in
     let same : write + (read - write) ≡ read = omega arith in
     let whole : new ≡ take write t = is ∙ ap (λ n. take write t ++ drop n t) same
     ∙ ap (λ (l : List (RunOf Label)). take write t ++ l) none ∙ append-nil (take write t) in
-    subst (λ xs. IsRunsOf (trimmed f) xs) (sym whole) (trim_all f at (take write t) swept (subst (λ rs. Turns f at rs) none turns))
+    let runs : IsRunsOf (trimmed f) new = subst (λ xs. IsRunsOf (trimmed f) xs) (sym whole)
+    (trim_all f at (take write t) swept (subst (λ rs. Turns f at rs) none turns)) in
+    let blank = nothing-trimmed (2 ^ 64) f within in
+    (records_for-is (trimmed f) new blank runs, record { runs = runs.runs; within = λ x le. runs.each x ∙ blank x le })
 
 pub returns-clause-list : goal.returns-clause-list
 returns-clause-list g c =
-    let f : ℕ → Option Label = value_at (g.T.Rows.list c.args.table.now) in
     let i = c.loop-read.invariant in
-    let runs = all_cut f i.swept.0 c.loop-read.write c.loop-read.read (g.T.Rows.list c.loop-read.table)
-    (g.T.Rows.list c.close.new.self) i.swept.1 i.swept.2
-    (omega (arith, c.loop-read-test.false, c.count.ensures)) c.close.ensures.list i.order in
-    records_for-is (trimmed f) (g.T.Rows.list c.close.new.self) (nothing-trimmed (2 ^ 64) f c.requires.within) runs
+    (all_cut _ _ c.loop-read.write c.loop-read.read _ _ c.requires.within i.swept.1 i.swept.2
+    (omega (arith, c.loop-read-test.false, c.count.ensures)) c.close.ensures.list i.order).0
 
 pub returns-clause-records : goal.returns-clause-records
 returns-clause-records g c =
-    let f : ℕ → Option Label = value_at (g.T.Rows.list c.args.table.now) in
     let i = c.loop-read.invariant in
-    let runs = all_cut f i.swept.0 c.loop-read.write c.loop-read.read (g.T.Rows.list c.loop-read.table)
-    (g.T.Rows.list c.close.new.self) i.swept.1 i.swept.2
-    (omega (arith, c.loop-read-test.false, c.count.ensures)) c.close.ensures.list i.order in
-    record { runs = runs.runs; within = λ x le. runs.each x ∙ nothing-trimmed (2 ^ 64) f c.requires.within x le }
+    (all_cut _ _ c.loop-read.write c.loop-read.read _ _ c.requires.within i.swept.1 i.swept.2
+    (omega (arith, c.loop-read-test.false, c.count.ensures)) c.close.ensures.list i.order).1

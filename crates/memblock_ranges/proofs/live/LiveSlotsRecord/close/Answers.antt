@@ -1,7 +1,7 @@
 use Rattle.std.proofs.Common.{◌+◌, ◌-◌, ◌*◌, ◌++◌, take, drop, refl, ◌∙◌, arith}
 use Rattle.memblock_ranges.specs.Tables.{list_in}
 use Rattle.memblock_ranges.proofs.LentLaws.{count_is}
-use Rattle.memblock_ranges.proofs.ByteEdits.{Edited, close_table}
+use Rattle.memblock_ranges.proofs.ByteEdits.{Edited, edited_kept, close_table}
 use Rattle.memblock_ranges.proofs.live.LiveSlotsRecord.close.Goals as goal
 use Rattle.memblock_ranges.proofs.live.LiveSlotsRecord.close.Goals.{After-fill}
 
@@ -60,7 +60,4 @@ pub returns-clause-list : goal.returns-clause-list
 returns-clause-list c = (closed (goal.at.returns-clause-list c).After-fill).list_is
 
 pub returns-clause-keeps : goal.returns-clause-keeps
-returns-clause-keeps c =
-    let h = c.args.self.now.head.now in
-    let e = closed (goal.at.returns-clause-keeps c).After-fill in
-    (refl, refl, λ j. record { place = h.place; room = h.room; others = e.others j; ready = e.ready j })
+returns-clause-keeps c = (refl, refl, edited_kept _ _ _ _ _ _ (closed (goal.at.returns-clause-keeps c).After-fill))

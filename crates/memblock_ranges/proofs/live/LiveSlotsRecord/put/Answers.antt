@@ -3,7 +3,7 @@ use Rattle.memblock_ranges.specs.Spelling.{flags_field, node_field}
 use Rattle.memblock_ranges.specs.Tables.{list_in}
 use Rattle.memblock_ranges.proofs.LentLaws.{count_is}
 use Rattle.memblock_ranges.proofs.SpellLaws.{length-fields_of}
-use Rattle.memblock_ranges.proofs.ByteEdits.{Edited, put_table}
+use Rattle.memblock_ranges.proofs.ByteEdits.{Edited, edited_kept, put_table}
 use Rattle.memblock_ranges.proofs.live.LiveSlotsRecord.put.Goals as goal
 use Rattle.memblock_ranges.proofs.live.LiveSlotsRecord.put.Goals.{After-write}
 
@@ -39,7 +39,4 @@ pub returns-clause-list : goal.returns-clause-list
 returns-clause-list c = (written (goal.at.returns-clause-list c).After-write).list_is
 
 pub returns-clause-keeps : goal.returns-clause-keeps
-returns-clause-keeps c =
-    let h = c.args.self.now.head.now in
-    let e = written (goal.at.returns-clause-keeps c).After-write in
-    (refl, refl, λ j. record { place = h.place; room = h.room; others = e.others j; ready = e.ready j })
+returns-clause-keeps c = (refl, refl, edited_kept _ _ _ _ _ _ (written (goal.at.returns-clause-keeps c).After-write))

@@ -1,7 +1,7 @@
-use Rattle.std.proofs.Common.{◌≡◌, sym, ◌∙◌, ap, subst, arith}
+use Rattle.std.proofs.Common.{◌≡◌, ◌∙◌, ap, arith}
 use Rattle.address_runs.specs.Runs.{value_at}
 use Rattle.address_runs.specs.Edits.{covered}
-use Rattle.memblock_model.specs.Labels.{Label, plain_label}
+use Rattle.memblock_model.specs.Labels.{plain_label}
 use Rattle.memblock_model.specs.Tables.{records_for}
 use Rattle.memblock_ranges.specs.Spelling.{label_of}
 use Rattle.memblock_ranges.specs.Tables.{list_in, HaveNoNode}
@@ -13,11 +13,10 @@ use Rattle.memblock_ranges.proofs.tables.Tables.insert.Goals.{In-Reserved}
 plain : (c : In-Reserved) → HaveNoNode (records_for (covered c.args.range c.label_of-label.result
     (value_at (list_in c.self.inside.store c.self.inside.heads.reserved))))
 plain c =
-    let rs = list_in c.self.inside.store c.self.inside.heads.reserved in
     let none = rw c.in-Reserved.is at c.requires.node in
     let label : c.label_of-label.result ≡ plain_label = c.label_of-label.ensures ∙ ap (label_of 0) none in
-    subst (λ (l : Label). HaveNoNode (records_for (covered c.args.range l (value_at rs)))) (sym label)
-    (plain_covered c.args.range rs c.self.invariant.reserved_records c.self.invariant.plain (omega (arith, c.end-fact.ensures.small)))
+    rw label
+    (plain_covered c.args.range _ c.self.invariant.reserved_records c.self.invariant.plain (omega (arith, c.end-fact.ensures.small)))
 
 pub invariant_of-self : goal.invariant_of-self
 invariant_of-self c = (pair_memory _ _ _ _ _ _ c.self.invariant c.cover.ensures.edits c.cover.ensures.records).0
