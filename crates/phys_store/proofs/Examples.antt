@@ -35,8 +35,7 @@ range_examples : AreReady (low ∷ []) 5 2 × AreReady [] 5 0 × ¬ AreReady sto
 range_examples = (
   (λ x from to. grind (arith, nat_tests)),
   (λ x from to. absurd (omega arith)),
-  λ ready. cc
-      (ready 7 (omega arith) (omega arith)),
+  λ ready. cc (ready 7 (omega arith) (omega arith)),
 )
 
 bytes_examples : (bytes_at (byte_of store) 6 3 ≡ 3 ∷ 0 ∷ 9 ∷ []) × (bytes_at (byte_of store) 6 0 ≡ [])
@@ -74,23 +73,18 @@ nth_examples : (nth store 1 ≡ high) × (nth store 2 ≡ record { base = 0; byt
 nth_examples = (refl, refl)
 
 -- the addresses from 4 up to 9 are those of both extents and of the gap; address 20 touches none
-bases : (i : ℕ) → i < 2 → 4 ≤ (nth store i).base
-bases zero less = omega arith
-bases (suc zero) less = omega arith
-bases (suc (suc i)) less = absurd (omega arith)
-
-ends : (i : ℕ) → i < 2 → past (nth store i) ≤ 9
-ends zero less = omega arith
-ends (suc zero) less = omega arith
-ends (suc (suc i)) less = absurd (omega arith)
+within : (i : ℕ) → i < 2 → (4 ≤ (nth store i).base) × (past (nth store i) ≤ 9)
+within zero less = (omega arith, omega arith)
+within (suc zero) less = (omega arith, omega arith)
+within (suc (suc i)) less = absurd (omega arith)
 
 gap_joins : Joins store 0 2 4 9
 gap_joins = record {
   order = omega arith;
   most = omega arith;
   below = λ i less. absurd (omega arith);
-  low = λ i from to. bases i to;
-  high = λ i from to. ends i to;
+  low = λ i from to. (within i to).0;
+  high = λ i from to. (within i to).1;
   above = λ i from to. absurd (omega arith);
 }
 
@@ -98,7 +92,7 @@ far_joins : Joins store 2 2 20 21
 far_joins = record {
   order = omega arith;
   most = omega arith;
-  below = λ i less. let end = ends i less in omega arith;
+  below = λ i less. omega (arith, (within i less).1);
   low = λ i from to. absurd (omega arith);
   high = λ i from to. absurd (omega arith);
   above = λ i from to. absurd (omega arith);

@@ -9,7 +9,7 @@ use Rattle.phys_store.specs.declared.extents.Held.{Held}
 use Rattle.phys_store.specs.Bytes.{Stored, past, inside, byte_of, is_ready, AreReady}
 use Rattle.phys_store.specs.Extents.{stored, Apart, nth, Joins, covering, as_one}
 use Rattle.phys_store.proofs.ByteLists.{length-bytes_at, get-bytes_at}
-use Rattle.phys_store.proofs.Lookup.{inside-low, inside-high, ready-below, byte-unready, at-least, fits, ready-at}
+use Rattle.phys_store.proofs.Lookup.{inside-low, inside-high, ready-below, byte-unready, placed, read-at}
 
 -- the i-th extent, as it is read
 pub nth_piece : (es : List Held) (i : ℕ) (e : Held) → i < length es → e ≡ get_or es i e → nth (map stored es) i ≡ stored e
@@ -21,8 +21,8 @@ before e [] i j apart less count = absurd (omega arith)
 before e (q ∷ ps) i zero apart less count = absurd (omega arith)
 before e (q ∷ ps) zero (suc j) apart less count =
     let count' : j < length ps = omega arith in
-    let low = at-least (past q + 1) ps j (nth ps j) apart.3 count'
-    (get_or_default ps j (nth ps j) (record { base = 0; bytes = [] }) count') in omega (arith, low)
+    let next = placed (past q + 1) ps j (nth ps j) apart.3 count'
+    (get_or_default ps j (nth ps j) (record { base = 0; bytes = [] }) count') in omega (arith, next.0)
 before e (q ∷ ps) (suc i) (suc j) apart less count = before (past q + 1) ps i j apart.3 (omega arith) (omega arith)
 
 -- an address that no extent of the front has
@@ -125,7 +125,7 @@ pub there : (ps : List Stored) (i : ℕ) → i < length ps → get_or ps i (nth 
 there ps i count = get_or_default ps i (nth ps i) (record { base = 0; bytes = [] }) count
 
 pub nth-fits : (ps : List Stored) (i : ℕ) → Apart 0 ps → i < length ps → past (nth ps i) < 2 ^ 64
-nth-fits ps i apart count = fits 0 ps i (nth ps i) apart count (there ps i count)
+nth-fits ps i apart count = (placed 0 ps i (nth ps i) apart count (there ps i count)).2
 
 -- what a range and the extents so far make
 pub record Hull (ps : List Stored) (r : Extent) (first behind from to : ℕ) : Type 0 where
@@ -139,12 +139,12 @@ pub record Hull (ps : List Stored) (r : Extent) (first behind from to : ℕ) : T
   pub high : (i : ℕ) → first ≤ i → i < behind → past (nth ps i) ≤ to
   pub ready : (x : ℕ) → from ≤ x → x < to → IsTrue (covers r x || is_ready ps x)
 
--- a extent from the first that reaches the range on reaches it too
-reaches : (ps : List Stored) (a i j : ℕ) → Apart 0 ps → i ≤ j → j < length ps → a ≤ past (nth ps i) → a ≤ past (nth ps j)
-reaches ps a i j apart less count reach =
+-- an earlier extent ends no later
+pub ends_rise : (ps : List Stored) (i j : ℕ) → Apart 0 ps → i ≤ j → j < length ps → past (nth ps i) ≤ past (nth ps j)
+ends_rise ps i j apart order count =
     elim (cases_lt i j) [
-      | inl before_it ↦ let far = before 0 ps i j apart before_it count in omega arith
-      | inr same ↦ let is : j ≡ i = omega arith in rw is reach
+      | inl less ↦ let far = before 0 ps i j apart less count in omega (arith, far)
+      | inr most ↦ let is : i ≡ j = omega (arith, order, most) in rw is (omega arith)
     ]
 
 -- the next extent, which begins by the end of what they make, is joined to them
@@ -154,7 +154,7 @@ pub hull_more : (ps : List Stored) (r : Extent) (first behind from to : ℕ) →
 hull_more ps r first behind from to apart count reach touches h =
     let p = nth ps behind in
     let ends : past p < 2 ^ 64 = nth-fits ps behind apart count in
-    let far : r.base ≤ past p = reaches ps r.base first behind apart h.order count reach in
+    let far : r.base ≤ past p = omega (arith, reach, ends_rise ps first behind apart h.order count) in
     record {
       order = omega (arith, h.order);
       most = omega arith;
@@ -172,11 +172,11 @@ hull_more ps r first behind from to apart count reach touches h =
       ];
       ready = λ x low high. elim (cases_lt x from) [
         | inl under ↦ or_right (covers r x) (is_ready ps x)
-            (ready-at 0 ps behind p x apart count (there ps behind count) (omega arith) (omega (arith, h.least)))
+            (read-at 0 ps behind p x apart count (there ps behind count) (omega arith) (omega (arith, h.least))).1
         | inr over ↦ elim (cases_lt x to) [
           | inl within ↦ h.ready x over within
           | inr above ↦ or_right (covers r x) (is_ready ps x)
-              (ready-at 0 ps behind p x apart count (there ps behind count) (omega arith) (omega arith))
+              (read-at 0 ps behind p x apart count (there ps behind count) (omega arith) (omega arith)).1
         ]
       ];
     }

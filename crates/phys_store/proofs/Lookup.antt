@@ -1,6 +1,6 @@
 -- What lies in one of several extents that are apart, and what a look-up finds.
-use Rattle.std.proofs.Common.{◌≡◌, ℕ, zero, suc, ◌+◌, ◌-◌, ◌^◌, ◌<◌, ◌≤◌, Bool, true, false, not, cond, ◌||◌, Some, None, List, [], ◌∷◌, length, get_or, drop, map, refl, sym, ◌∙◌, ap, subst, arith, inl, inr, nat_lt}
-use Rattle.std.proofs.lemmas.Bool.{cases_lt, false≢true}
+use Rattle.std.proofs.Common.{◌≡◌, ℕ, zero, suc, ◌+◌, ◌-◌, ◌^◌, ◌<◌, ◌≤◌, true, false, not, cond, Some, None, List, [], ◌∷◌, length, get_or, drop, map, refl, sym, ◌∙◌, ap, subst, arith, inl, inr, nat_lt}
+use Rattle.std.proofs.lemmas.Bool.{cases_Bool, cases_lt, false≢true}
 use Rattle.std.proofs.lemmas.Bool.Decides.{nat_tests}
 use Rattle.std.proofs.lemmas.List.{length-map, get_or-map, length-drop}
 use Rattle.std.proofs.lemmas.List.Sums.{prefix_len-le-length}
@@ -35,33 +35,22 @@ ready-below e (p ∷ ps) x apart below =
     rw (inside-below p x (omega arith)) (ready-below (past p + 1) ps x apart.3 (omega arith))
 
 -- what isn't prepared is 0
-byte_without : (p : Stored) (ps : List Stored) (x : ℕ) (b : Bool) → inside p x ≡ b → (inside p x || is_ready ps x) ≡ false →
-    (is_ready ps x ≡ false → byte_of ps x ≡ 0) → byte_of (p ∷ ps) x ≡ 0
-byte_without p ps x true is none rest = absurd (false≢true (sym none ∙ ap (λ b. b || is_ready ps x) is))
-byte_without p ps x false is none rest = rw is (rest (sym (ap (λ b. b || is_ready ps x) is) ∙ none))
-
 pub byte-unready : (ps : List Stored) (x : ℕ) → is_ready ps x ≡ false → byte_of ps x ≡ 0
 byte-unready [] x none = refl
-byte-unready (p ∷ ps) x none = byte_without p ps x (inside p x) refl none (byte-unready ps x)
+byte-unready (p ∷ ps) x none = elim (cases_Bool (inside p x)) [
+  | inl lies ↦ absurd (false≢true (sym none ∙ rw lies refl))
+  | inr out ↦ rw out (byte-unready ps x (sym (rw out refl) ∙ none))
+]
 
--- each extent begins behind the bound, and ends in the address space
-pub at-least : (e : ℕ) (ps : List Stored) (i : ℕ) (p : Stored) → Apart e ps → i < length ps → get_or ps i p ≡ p → e ≤ p.base
-at-least e [] i p apart count there = absurd (omega arith)
-at-least e (q ∷ ps) zero p apart count there = subst (λ (r : Stored). e ≤ r.base) there apart.0
-at-least e (q ∷ ps) (suc i) p apart count there =
-    let rest = at-least (past q + 1) ps i p apart.3 (omega arith) there in
-    let low : e ≤ q.base = apart.0 in
-    omega (arith, rest, low)
-
-pub fits : (e : ℕ) (ps : List Stored) (i : ℕ) (p : Stored) → Apart e ps → i < length ps → get_or ps i p ≡ p → past p < 2 ^ 64
-fits e [] i p apart count there = absurd (omega arith)
-fits e (q ∷ ps) zero p apart count there = subst (λ (r : Stored). past r < 2 ^ 64) there apart.2
-fits e (q ∷ ps) (suc i) p apart count there = fits (past q + 1) ps i p apart.3 (omega arith) there
-
-pub some-at : (e : ℕ) (ps : List Stored) (i : ℕ) (p : Stored) → Apart e ps → i < length ps → get_or ps i p ≡ p → 0 < length p.bytes
-some-at e [] i p apart count there = absurd (omega arith)
-some-at e (q ∷ ps) zero p apart count there = subst (λ (r : Stored). 0 < length r.bytes) there apart.1
-some-at e (q ∷ ps) (suc i) p apart count there = some-at (past q + 1) ps i p apart.3 (omega arith) there
+-- each extent begins behind the bound, has bytes, and ends in the address space
+pub placed : (e : ℕ) (ps : List Stored) (i : ℕ) (p : Stored) → Apart e ps → i < length ps → get_or ps i p ≡ p →
+    (e ≤ p.base) × (0 < length p.bytes) × (past p < 2 ^ 64)
+placed e [] i p apart count there = absurd (omega arith)
+placed e (q ∷ ps) zero p apart count there =
+    subst (λ (r : Stored). (e ≤ r.base) × (0 < length r.bytes) × (past r < 2 ^ 64)) there (apart.0, apart.1, apart.2)
+placed e (q ∷ ps) (suc i) p apart count there =
+    let rest = placed (past q + 1) ps i p apart.3 (omega arith) there in
+    (omega (arith, rest.0, apart.0), rest.1, rest.2)
 
 -- the address behind a extent isn't prepared
 pub unready-past : (e : ℕ) (ps : List Stored) (i : ℕ) (p : Stored) → Apart e ps → i < length ps → get_or ps i p ≡ p →
@@ -71,8 +60,8 @@ unready-past e (q ∷ ps) zero p apart count there =
     subst (λ (r : Stored). is_ready (q ∷ ps) (past r) ≡ false) there
     (rw (inside-above q (past q) (omega arith)) (ready-below (past q + 1) ps (past q) apart.3 (omega arith)))
 unready-past e (q ∷ ps) (suc i) p apart count there =
-    let low = at-least (past q + 1) ps i p apart.3 (omega arith) there in
-    rw (inside-above q (past p) (omega (arith, low))) (unready-past (past q + 1) ps i p apart.3 (omega arith) there)
+    let rest = placed (past q + 1) ps i p apart.3 (omega arith) there in
+    rw (inside-above q (past p) (omega (arith, rest.0))) (unready-past (past q + 1) ps i p apart.3 (omega arith) there)
 
 -- a prepared range that begins in a extent lies in it as a whole
 pub whole : (e : ℕ) (ps : List Stored) (i : ℕ) (p : Stored) (a n : ℕ) → Apart e ps → i < length ps → get_or ps i p ≡ p →
@@ -84,23 +73,15 @@ whole e ps i p a n apart count there low high ready =
     ]
 
 -- the byte at an address of a extent is that of the extent, whichever it is, and it is prepared
-pub byte-at : (e : ℕ) (ps : List Stored) (i : ℕ) (p : Stored) (x : ℕ) → Apart e ps → i < length ps → get_or ps i p ≡ p →
-    p.base ≤ x → x < past p → byte_of ps x ≡ get_or p.bytes (x - p.base) 0
-byte-at e [] i p x apart count there low high = absurd (omega arith)
-byte-at e (q ∷ ps) zero p x apart count there low high =
-    subst (λ (r : Stored). byte_of (r ∷ ps) x ≡ get_or p.bytes (x - p.base) 0) (sym there) (rw (inside-in p x low high) refl)
-byte-at e (q ∷ ps) (suc i) p x apart count there low high =
-    let base = at-least (past q + 1) ps i p apart.3 (omega arith) there in
-    rw (inside-above q x (omega (arith, base))) (byte-at (past q + 1) ps i p x apart.3 (omega arith) there low high)
-
-pub ready-at : (e : ℕ) (ps : List Stored) (i : ℕ) (p : Stored) (x : ℕ) → Apart e ps → i < length ps → get_or ps i p ≡ p →
-    p.base ≤ x → x < past p → is_ready ps x ≡ true
-ready-at e [] i p x apart count there low high = absurd (omega arith)
-ready-at e (q ∷ ps) zero p x apart count there low high =
-    subst (λ (r : Stored). is_ready (r ∷ ps) x ≡ true) (sym there) (rw (inside-in p x low high) refl)
-ready-at e (q ∷ ps) (suc i) p x apart count there low high =
-    let base = at-least (past q + 1) ps i p apart.3 (omega arith) there in
-    rw (inside-above q x (omega (arith, base))) (ready-at (past q + 1) ps i p x apart.3 (omega arith) there low high)
+pub read-at : (e : ℕ) (ps : List Stored) (i : ℕ) (p : Stored) (x : ℕ) → Apart e ps → i < length ps → get_or ps i p ≡ p →
+    p.base ≤ x → x < past p → (byte_of ps x ≡ get_or p.bytes (x - p.base) 0) × (is_ready ps x ≡ true)
+read-at e [] i p x apart count there low high = absurd (omega arith)
+read-at e (q ∷ ps) zero p x apart count there low high =
+    subst (λ (r : Stored). (byte_of (r ∷ ps) x ≡ get_or p.bytes (x - p.base) 0) × (is_ready (r ∷ ps) x ≡ true)) (sym there)
+    (rw (inside-in p x low high) (refl, refl))
+read-at e (q ∷ ps) (suc i) p x apart count there low high =
+    let rest = placed (past q + 1) ps i p apart.3 (omega arith) there in
+    rw (inside-above q x (omega (arith, rest.0))) (read-at (past q + 1) ps i p x apart.3 (omega arith) there low high)
 
 -- the i-th extent holds the n bytes from a on
 pub record Holds (es : List Held) (a n i : ℕ) (e : Held) : Type 0 where
@@ -113,6 +94,8 @@ pub record Holds (es : List Held) (a n i : ℕ) (e : Held) : Type 0 where
   pub long : length (drop e.front e.bytes.items) ≡ length e.bytes.items - e.front
   pub most : length e.bytes.items < 2 ^ 64
   pub len : length e.bytes.items ≡ e.bytes.len
+  -- and they stand in its bytes, behind those in front
+  pub room : e.front + (a - e.base) + n ≤ length e.bytes.items
 
 -- what the look-up finds holds the whole of a prepared range
 pub holds : (es : List Held) (a n i : ℕ) (e : Held) → Apart 0 (map stored es) → AreReady (map stored es) a n →
@@ -124,16 +107,19 @@ holds es a n i e apart ready found is =
     let lies : inside (stored e) a ≡ true = rw (← is) at at.1 in
     let low = inside-low (stored e) a lies in
     let high = inside-high (stored e) a lies in
+    let ends = whole 0 (map stored es) i (stored e) a n apart count there low high ready in
+    let long = length-drop e.front e.bytes.items in
     record {
       count = count;
       there = there;
       low = low;
       inner = high;
-      high = whole 0 (map stored es) i (stored e) a n apart count there low high ready;
-      small = fits 0 (map stored es) i (stored e) apart count there;
-      long = length-drop e.front e.bytes.items;
+      high = ends;
+      small = (placed 0 (map stored es) i (stored e) apart count there).2;
+      long = long;
       most = omega (arith, e.bytes.ok.0);
       len = omega (arith, e.bytes.ok.0);
+      room = omega (arith, low, high, ends, long);
     }
 
 -- the same of one byte, prepared or not
@@ -142,21 +128,13 @@ pub holds_one : (es : List Held) (a i : ℕ) (e : Held) → Apart 0 (map stored 
 holds_one es a i e apart found is = holds es a 0 i e apart (λ x low high. absurd (omega arith)) found is
 
 -- where no extent has the address it isn't prepared
-none_at : (e : Held) (es : List Held) (x : ℕ) (b : Bool) → inside (stored e) x ≡ b →
-    cond (not (inside (stored e) x)) (1 + position_or_len (λ d. inside (stored d) x) es) 0 ≡ length (e ∷ es) →
-    (position_or_len (λ d. inside (stored d) x) es ≡ length es → is_ready (map stored es) x ≡ false) →
-    is_ready (map stored (e ∷ es)) x ≡ false
-none_at e es x true is all rest =
-    let zero_is : 0 ≡ suc (length es) = sym (ap (λ b. cond (not b) (1 + position_or_len (λ d. inside (stored d) x) es) 0) is) ∙ all in
-    absurd (omega arith)
-none_at e es x false is all rest =
-    let more : 1 + position_or_len (λ d. inside (stored d) x) es ≡ suc (length es) =
-    sym (ap (λ b. cond (not b) (1 + position_or_len (λ d. inside (stored d) x) es) 0) is) ∙ all in
-    rw is (rest (omega arith))
-
 none_passes : (es : List Held) (x : ℕ) → position_or_len (λ d. inside (stored d) x) es ≡ length es → is_ready (map stored es) x ≡ false
 none_passes [] x all = refl
-none_passes (e ∷ es) x all = none_at e es x (inside (stored e) x) refl all (none_passes es x)
+none_passes (e ∷ es) x all = elim (cases_Bool (inside (stored e) x)) [
+  | inl lies ↦ let some : 0 ≡ suc (length es) = sym (rw lies refl) ∙ all in absurd (omega arith)
+  | inr out ↦ let more : 1 + position_or_len (λ d. inside (stored d) x) es ≡ suc (length es) = sym (rw out refl) ∙ all in
+      rw out (none_passes es x (omega arith))
+]
 
 none_cond : (m n : ℕ) → m ≤ n → cond (nat_lt m n) (Some m) None ≡ None → m ≡ n
 none_cond m n most none =
@@ -178,14 +156,12 @@ none_ready es a (suc n) none ready =
     absurd (false≢true (sym (none-found es a none) ∙ ready a (omega arith) (omega arith)))
 
 -- what is prepared lies below 2^64 - 1
-small_in : (p : Stored) (ps : List Stored) (x : ℕ) (b : Bool) → inside p x ≡ b → past p < 2 ^ 64 → (inside p x || is_ready ps x) ≡ true →
-    (is_ready ps x ≡ true → x + 1 < 2 ^ 64) → x + 1 < 2 ^ 64
-small_in p ps x true is small ready rest = let high = inside-high p x is in omega (arith, high, small)
-small_in p ps x false is small ready rest = rest (sym (ap (λ b. b || is_ready ps x) is) ∙ ready)
-
 ready-small : (e : ℕ) (ps : List Stored) (x : ℕ) → Apart e ps → is_ready ps x ≡ true → x + 1 < 2 ^ 64
 ready-small e [] x apart ready = absurd (false≢true ready)
-ready-small e (p ∷ ps) x apart ready = small_in p ps x (inside p x) refl apart.2 ready (ready-small (past p + 1) ps x apart.3)
+ready-small e (p ∷ ps) x apart ready = elim (cases_Bool (inside p x)) [
+  | inl lies ↦ let high = inside-high p x lies in omega (arith, high, apart.2)
+  | inr out ↦ ready-small (past p + 1) ps x apart.3 (sym (rw out refl) ∙ ready)
+]
 
 pub prepared-small : (ps : List Stored) (a n : ℕ) → Apart 0 ps → AreReady ps a n → 0 < n → a + n < 2 ^ 64
 prepared-small ps a n apart ready some =

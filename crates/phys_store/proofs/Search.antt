@@ -11,14 +11,6 @@ use Rattle.phys_store.specs.Extents.{stored, nth, Apart}
 use Rattle.phys_store.proofs.Lookup.{inside-below, inside-above}
 use Rattle.phys_store.proofs.Joining.{before}
 
--- an earlier extent ends no later
-pub ends_rise : (ps : List Stored) (i j : ℕ) → Apart 0 ps → i ≤ j → j < length ps → past (nth ps i) ≤ past (nth ps j)
-ends_rise ps i j apart order count =
-    elim (cases_lt i j) [
-      | inl less ↦ let far = before 0 ps i j apart less count in omega (arith, far)
-      | inr most ↦ let is : i ≡ j = omega (arith, order, most) in rw is (omega arith)
-    ]
-
 -- no extent but the first that reaches the address has it
 others_out : (ps : List Stored) (a i k : ℕ) → Apart 0 ps → ((j : ℕ) → j < i → past (nth ps j) < a) →
     (i < length ps → a ≤ past (nth ps i)) → (i < length ps → inside (nth ps i) a ≡ false) → k < length ps → inside (nth ps k) a ≡ false

@@ -1,6 +1,6 @@
 -- An extent goes further both ways, gets the bytes of others, and stands in their place.
 use Rattle.std.proofs.Common.{◌≡◌, ℕ, zero, suc, ◌+◌, ◌-◌, ◌<◌, ◌≤◌, false, List, [], ◌∷◌, ◌++◌, length, get_or, set, take, drop, map, replicate, refl, sym, ◌∙◌, ap, subst, arith, inl, inr, length-append}
-use Rattle.std.proofs.lemmas.Bool.{cases_Bool, cases_lt, false≢true}
+use Rattle.std.proofs.lemmas.Bool.{cases_Bool, cases_eq, cases_lt, false≢true}
 use Rattle.std.proofs.lemmas.Bool.Decides.{nat_tests}
 use Rattle.std.proofs.lemmas.List.{ext_get_or, drop_more, get_or-drop, get_or-take, get_or-map, get_or-replicate, length-replicate, length-drop, length-take, length-map, take-map, drop-map, map-append, map-set, set-set, get_or-set_same, get_or-set_other, take-set-le, drop-set-lt, drop-set-add, places}
 use Rattle.std.proofs.Math.Seq.{take-set-lt}
@@ -11,7 +11,7 @@ use Rattle.phys_store.specs.Bytes.{Stored, past, inside, byte_of, is_ready, byte
 use Rattle.phys_store.specs.Extents.{stored, Apart, nth, Joins, covering, as_one}
 use Rattle.phys_store.proofs.Joining.{nth_part, nth_piece, there}
 use Rattle.phys_store.proofs.ByteLists.{length-bytes_at, get-bytes_at, told_bytes}
-use Rattle.phys_store.proofs.Lookup.{inside-in, inside-below, inside-above, inside-low, inside-high, ready-below, some-at}
+use Rattle.phys_store.proofs.Lookup.{inside-in, inside-below, inside-above, inside-low, inside-high, ready-below, placed}
 use Rattle.phys_store.proofs.Writes.{length-mid, mid-in, mid-out}
 
 -- an extent, told by its two parts
@@ -240,12 +240,9 @@ others_in es ds none f b k from to joins order below same base empty i count =
     let old : nth (set ps k (stored none)) j ≡ nth ps j →
     (from ≤ (nth (set ps k (stored none)) j).base) × (past (nth (set ps k (stored none)) j) ≤ to) =
     λ eq. rw eq (joins.low j (omega arith) less, joins.high j (omega arith) less) in
-    rw is (elim (cases_lt j k) [
-      | inl before ↦ old (there (λ eq. absurd (omega (arith, before, eq))))
-      | inr least ↦ elim (cases_lt k j) [
-        | inl behind ↦ old (there (λ eq. absurd (omega (arith, behind, eq))))
-        | inr most ↦ rw (here (omega arith)) (omega (arith, base), omega (arith, base, empty, order))
-      ]
+    rw is (elim (cases_eq j k) [
+      | inl same ↦ rw (here same) (omega (arith, base), omega (arith, base, empty, order))
+      | inr other ↦ old (there other)
     ])
 
 -- the extent that is kept: it has bytes, and lies in what it is joined to
@@ -264,7 +261,7 @@ kept_piece es p f b k from to apart joins least below value =
     let is : nth ps k ≡ stored p = nth_piece es k p count value in
     record {
       count = count;
-      some = subst (λ (q : Stored). 0 < length q.bytes) is (some-at 0 ps k (nth ps k) apart inner (there ps k inner));
+      some = subst (λ (q : Stored). 0 < length q.bytes) is (placed 0 ps k (nth ps k) apart inner (there ps k inner)).1;
       low = subst (λ (q : Stored). from ≤ q.base) is (joins.low k least below);
       high = subst (λ (q : Stored). past q ≤ to) is (joins.high k least below);
     }

@@ -9,7 +9,7 @@ use borrow.Rule.Slice.PartMut.{put_mid}
 use Rattle.phys_store.specs.Bytes.{Stored, past, inside, byte_of, is_ready, Wrote}
 use Rattle.phys_store.specs.declared.extents.Held.{Held}
 use Rattle.phys_store.specs.Extents.{stored, Apart}
-use Rattle.phys_store.proofs.Lookup.{Holds, inside-low, inside-high, byte-at}
+use Rattle.phys_store.proofs.Lookup.{Holds, inside-low, inside-high, read-at}
 
 -- another extent of the same place and length
 module _ (p q : Stored) (base : q.base ≡ p.base) (len : length q.bytes ≡ length p.bytes) where
@@ -55,13 +55,14 @@ wrote-set ps i p q a n g apart count there base len low high new old =
     let count' : i < length (set ps i q) = rw length-set count in
     let there' : get_or (set ps i q) i q ≡ q = get_or-set_same ps i q q count in
     let at : (x : ℕ) → p.base ≤ x → x < past p → byte_of (set ps i q) x ≡ get_or q.bytes (x - p.base) 0 =
-    λ x from to. byte-at 0 (set ps i q) i q x after count' there' (omega arith) (omega arith) ∙ ap (λ m. get_or q.bytes (x - m) 0) base in (
+    λ x from to. (read-at 0 (set ps i q) i q x after count' there' (omega arith) (omega arith)).0
+    ∙ ap (λ m. get_or q.bytes (x - m) 0) base in (
       after,
       record {
         within = λ k below. at (a + k) (omega arith) (omega arith) ∙ ap (λ m. get_or q.bytes m 0) (omega arith) ∙ new k below;
         outside = λ x off. elim (cases_Bool (inside p x)) [
           | inl lies ↦ let from = inside-low p x lies in let to = inside-high p x lies in
-              at x from to ∙ old (x - p.base) (grind (arith, nat_tests)) ∙ sym (byte-at 0 ps i p x apart count there from to)
+              at x from to ∙ old (x - p.base) (grind (arith, nat_tests)) ∙ sym (read-at 0 ps i p x apart count there from to).0
           | inr out ↦ byte-set_other p q base len ps i x there out
         ];
         ready = λ x. ready-set p q base len ps i x there;
@@ -90,7 +91,7 @@ wrote-mid es a n i e g k m xs ys apart h at count value len told =
     let f : ℕ = e.front in
     let d : Held = record { base = e.base; front = f; bytes = with_items e.bytes (put_mid k m xs ys) } in
     let long : length xs ≡ length e.bytes.items = ap length value in
-    let within : k + m ≤ length xs = omega (arith, long, h.low, h.high, h.inner, h.long) in
+    let within : k + m ≤ length xs = omega (arith, long, h.room) in
     let same : length (put_mid k m xs ys) ≡ length xs = length-mid k m xs ys (len ∙ sym count) within in
     let is : (with_items e.bytes (put_mid k m xs ys)).items ≡ put_mid k m xs ys =
     with_items_is e.bytes (put_mid k m xs ys) (same ∙ long ∙ sym e.bytes.ok.0) in
@@ -145,7 +146,7 @@ wrote-copied es a n i e d from to count source target m apart h from_low to_low 
     ∙ copied (f + (to - e.base + k)) 0 (omega (arith, at_target)) (omega (arith, at, at_target))
     ∙ ap (λ j. get_or e.bytes.items j 0) (omega (arith, h.low, at_source, at_target))
     ∙ old (from + k - e.base)
-    ∙ sym (byte-at 0 (map stored es) i (stored e) (from + k) apart h.count h.there (omega (arith, h.low)) (omega (arith, h.high))))
+    ∙ sym (read-at 0 (map stored es) i (stored e) (from + k) apart h.count h.there (omega (arith, h.low)) (omega (arith, h.high))).0)
     (λ j off. new j ∙ elim (cases_lt j (to - e.base)) [
       | inl less ↦ below (f + j) 0 (omega (arith, at_target)) ∙ old j
       | inr more ↦ behind (f + j) 0 (grind (arith, nat_tests, at_target, at)) ∙ old j

@@ -1,7 +1,7 @@
 use Rattle.std.proofs.Common.{◌+◌, ◌-◌, ◌<◌, length, map, sym, ◌∙◌, arith}
 use Rattle.std.proofs.lemmas.List.{get_or_read, get_or-drop}
 use Rattle.phys_store.specs.Extents.{stored}
-use Rattle.phys_store.proofs.Lookup.{Holds, holds_one, byte-at, none-found, byte-unready}
+use Rattle.phys_store.proofs.Lookup.{Holds, holds_one, read-at, none-found, byte-unready}
 use Rattle.phys_store.proofs.extents.byte_at.Goals as goal
 use Rattle.phys_store.proofs.extents.byte_at.Goals.{In-Some}
 
@@ -14,14 +14,10 @@ pub overflow_sub-address : goal.overflow_sub-address
 overflow_sub-address c = (has_it (goal.at.overflow_sub-address c).In-Some).low
 
 pub index-requires : goal.index-requires
-index-requires c =
-    let h = has_it (goal.at.index-requires c).In-Some in
-    omega (arith, h.low, h.inner, h.long, h.len)
+index-requires c = let h = has_it (goal.at.index-requires c).In-Some in omega (arith, h.low, h.inner, h.long, h.len)
 
 pub overflow_add-extent : goal.overflow_add-extent
-overflow_add-extent c =
-    let h = has_it (goal.at.overflow_add-extent c).In-Some in
-    omega (arith, h.low, h.inner, h.long, h.most)
+overflow_add-extent c = let h = has_it (goal.at.overflow_add-extent c).In-Some in omega (arith, h.room, h.most)
 
 pub returns-in-Some : goal.returns-in-Some
 returns-in-Some c =
@@ -32,7 +28,7 @@ returns-in-Some c =
     let below : k < length e.bytes.items = omega (arith, h.low, h.inner, h.long) in
     get_or_read e.bytes.items k c.index.result.now below c.index.ensures 0
     ∙ sym (get_or-drop e.front e.bytes.items (c.args.address - e.base) 0)
-    ∙ sym (byte-at 0 (map stored c.args.extents.now) i (stored e) c.args.address c.requires h.count h.there h.low h.inner)
+    ∙ sym (read-at 0 (map stored c.args.extents.now) i (stored e) c.args.address c.requires h.count h.there h.low h.inner).0
 
 pub returns-in-None : goal.returns-in-None
 returns-in-None c =

@@ -1,4 +1,4 @@
-use Rattle.std.proofs.Common.{ℕ, ◌+◌, ◌≤◌, List, length, get_or, map, ◌∙◌, ap, arith}
+use Rattle.std.proofs.Common.{ℕ, ◌+◌, ◌<◌, ◌≤◌, List, length, get_or, map, ◌∙◌, ap, arith}
 use Rattle.phys_store.specs.Bytes.{byte_of}
 use Rattle.phys_store.specs.Extents.{stored}
 use Rattle.phys_store.proofs.Lookup.{prepared-small}
@@ -8,17 +8,13 @@ use Rattle.phys_store.proofs.extents.copy.Goals as goal
 
 pub overflow_add-from : goal.overflow_add-from
 overflow_add-from c =
-    let test = c.loop-done-test.true in
-    let small = prepared-small (map stored c.args.extents.now) c.args.from c.args.count c.requires.apart c.requires.read
-    (omega (arith, test)) in
-    omega (arith, test, small)
+    let some : 0 < c.args.count = omega (arith, c.loop-done-test.true) in
+    omega (arith, c.loop-done-test.true, prepared-small _ c.args.from c.args.count c.requires.apart c.requires.read some)
 
 pub overflow_add-to : goal.overflow_add-to
 overflow_add-to c =
-    let test = c.loop-done-test.true in
-    let small = prepared-small (map stored c.args.extents.now) c.args.to c.args.count c.requires.apart c.requires.written
-    (omega (arith, test)) in
-    omega (arith, test, small)
+    let some : 0 < c.args.count = omega (arith, c.loop-done-test.true) in
+    omega (arith, c.loop-done-test.true, prepared-small _ c.args.to c.args.count c.requires.apart c.requires.written some)
 
 pub loop-done-preserved : goal.loop-done-preserved
 loop-done-preserved c =

@@ -2,8 +2,7 @@ use Rattle.std.proofs.Common.{◌+◌, ◌-◌, ◌/◌, ◌<◌, ◌^◌, lengt
 use Rattle.std.proofs.lemmas.List.{length-map}
 use Rattle.phys_store.specs.Bytes.{Stored, past}
 use Rattle.phys_store.specs.Extents.{stored, nth}
-use Rattle.phys_store.proofs.Joining.{nth_piece, nth-fits}
-use Rattle.phys_store.proofs.Search.{ends_rise}
+use Rattle.phys_store.proofs.Joining.{nth_piece, nth-fits, ends_rise}
 use Rattle.phys_store.proofs.extents.first_reaching.Goals as goal
 
 pub end_of-requires : goal.end_of-requires

@@ -26,28 +26,23 @@ overflow_sub-target c = let h = has_both (goal.at.overflow_sub-target c).After-i
 
 pub overflow_add-source : goal.overflow_add-source
 overflow_add-source c =
-    let at = (goal.at.overflow_add-source c).After-index-extents-i in
-    let h = has_both at in omega (arith, h.low, h.high, h.inner, h.long, h.most)
+    let h = has_both (goal.at.overflow_add-source c).After-index-extents-i in omega (arith, h.low, h.room, h.most)
 
 pub overflow_add-source-in-Some : goal.overflow_add-source-in-Some
 overflow_add-source-in-Some c =
-    let at = (goal.at.overflow_add-source-in-Some c).After-index-extents-i in
-    let h = has_both at in omega (arith, h.low, h.high, h.inner, h.long, h.most)
+    let h = has_both (goal.at.overflow_add-source-in-Some c).After-index-extents-i in omega (arith, h.low, h.room, h.most)
 
 pub overflow_add-target : goal.overflow_add-target
 overflow_add-target c =
-    let at = (goal.at.overflow_add-target c).After-index-extents-i in
-    let h = has_both at in omega (arith, h.low, h.high, h.inner, h.long, h.most)
+    let h = has_both (goal.at.overflow_add-target c).After-index-extents-i in omega (arith, h.low, h.room, h.most)
 
 pub copy_within-requires-clause-in_bounds : goal.copy_within-requires-clause-in_bounds
 copy_within-requires-clause-in_bounds c =
-    let at = (goal.at.copy_within-requires-clause-in_bounds c).After-index-extents-i in
-    let h = has_both at in omega (arith, h.low, h.high, h.inner, h.long, h.len)
+    let h = has_both (goal.at.copy_within-requires-clause-in_bounds c).After-index-extents-i in omega (arith, h.low, h.room, h.len)
 
 pub copy_within-requires-clause-dest_in_bounds : goal.copy_within-requires-clause-dest_in_bounds
 copy_within-requires-clause-dest_in_bounds c =
-    let at = (goal.at.copy_within-requires-clause-dest_in_bounds c).After-index-extents-i in
-    let h = has_both at in omega (arith, h.low, h.high, h.inner, h.long, h.len)
+    let h = has_both (goal.at.copy_within-requires-clause-dest_in_bounds c).After-index-extents-i in omega (arith, h.low, h.room, h.len)
 
 -- it stands in the list again with the bytes copied
 abbrev copied_in : After-copy_within → Held

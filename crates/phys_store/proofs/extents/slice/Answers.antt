@@ -2,7 +2,7 @@ use Rattle.std.proofs.Common.{◌≡◌, ◌+◌, ◌-◌, length, get_or, take,
 use Rattle.std.proofs.lemmas.List.{get_or-take, get_or-drop, length-take, length-drop}
 use Rattle.phys_store.specs.Bytes.{byte_of, bytes_at}
 use Rattle.phys_store.specs.Extents.{stored}
-use Rattle.phys_store.proofs.Lookup.{Holds, holds, byte-at, none_ready}
+use Rattle.phys_store.proofs.Lookup.{Holds, holds, read-at, none_ready}
 use Rattle.phys_store.proofs.ByteLists.{told_bytes}
 use Rattle.phys_store.proofs.extents.slice.Goals as goal
 use Rattle.phys_store.proofs.extents.slice.Goals.{In-Some}
@@ -17,19 +17,14 @@ pub overflow_sub-from : goal.overflow_sub-from
 overflow_sub-from c = (has_all (goal.at.overflow_sub-from c).In-Some).low
 
 pub overflow_add-result : goal.overflow_add-result
-overflow_add-result c =
-    let h = has_all (goal.at.overflow_add-result c).In-Some in
-    omega (arith, h.low, h.high, h.inner, h.long, h.most)
+overflow_add-result c = let h = has_all (goal.at.overflow_add-result c).In-Some in omega (arith, h.room, h.most)
 
 pub overflow_add-from : goal.overflow_add-from
-overflow_add-from c =
-    let h = has_all (goal.at.overflow_add-from c).In-Some in
-    omega (arith, h.low, h.high, h.inner, h.long, h.most)
+overflow_add-from c = let h = has_all (goal.at.overflow_add-from c).In-Some in omega (arith, h.room, h.most)
 
 pub slice_bounds-result-end : goal.slice_bounds-result-end
 slice_bounds-result-end c =
-    let h = has_all (goal.at.slice_bounds-result-end c).In-Some in
-    omega (arith, h.low, h.high, h.inner, h.long, c.deref.ensures.len, h.len)
+    let h = has_all (goal.at.slice_bounds-result-end c).In-Some in omega (arith, h.room, c.deref.ensures.len, h.len)
 
 pub returns-in-Some : goal.returns-in-Some
 returns-in-Some c =
@@ -43,15 +38,14 @@ returns-in-Some c =
     let value : xs ≡ e.bytes.items = c.deref.ensures.value in
     let long : length xs ≡ length e.bytes.items = ap length value in
     told_bytes (byte_of ps) c.args.at c.args.count (take n (drop m xs))
-    (length-take n (drop m xs) ∙ omega (arith, length-drop m xs, long, h.low, h.high, h.inner, h.long))
+    (length-take n (drop m xs) ∙ omega (arith, length-drop m xs, long, h.room))
     (λ k below.
     get_or-take n (drop m xs) k 0 (omega arith) ∙ get_or-drop m xs k 0 ∙ ap (λ ys. get_or ys (m + k) 0) value
     ∙ ap (λ j. get_or e.bytes.items j 0) (omega (arith, h.low)) ∙ sym (get_or-drop e.front e.bytes.items (c.args.at + k - e.base) 0)
-    ∙ sym (byte-at 0 ps i (stored e) (c.args.at + k) c.requires.apart h.count h.there (omega (arith, h.low))
-    (omega (arith, h.high))))
+    ∙ sym (read-at 0 ps i (stored e) (c.args.at + k) c.requires.apart h.count h.there (omega (arith, h.low))
+    (omega (arith, h.high))).0)
 
 pub returns-in-None : goal.returns-in-None
 unfolding bytes_at
 returns-in-None c =
-    let none = none_ready c.args.extents.now c.args.at c.args.count c.in-None.ensures c.requires.prepared in
-    rw none refl
+    rw (none_ready c.args.extents.now c.args.at c.args.count c.in-None.ensures c.requires.prepared) refl

@@ -22,18 +22,16 @@ overflow_sub-from c = (has_place (goal.at.overflow_sub-from c).After-index-exten
 
 pub overflow_add-from : goal.overflow_add-from
 overflow_add-from c =
-    let at = (goal.at.overflow_add-from c).After-index-extents-i in
-    let h = has_place at in omega (arith, h.low, h.high, h.inner, h.long, h.most)
+    let h = has_place (goal.at.overflow_add-from c).After-index-extents-i in omega (arith, h.room, h.most)
 
 pub overflow_add-from-in-Some : goal.overflow_add-from-in-Some
 overflow_add-from-in-Some c =
-    let at = (goal.at.overflow_add-from-in-Some c).After-index-extents-i in
-    let h = has_place at in omega (arith, h.low, h.high, h.inner, h.long, h.most)
+    let h = has_place (goal.at.overflow_add-from-in-Some c).After-index-extents-i in omega (arith, h.room, h.most)
 
 pub slice_bounds-copy_from_slice-end : goal.slice_bounds-copy_from_slice-end
 slice_bounds-copy_from_slice-end c =
-    let at = (goal.at.slice_bounds-copy_from_slice-end c).After-index-extents-i in
-    let h = has_place at in omega (arith, h.low, h.high, h.inner, h.long, c.deref_mut.ensures.len, h.len)
+    let h = has_place (goal.at.slice_bounds-copy_from_slice-end c).After-index-extents-i in
+    omega (arith, h.room, c.deref_mut.ensures.len, h.len)
 
 -- it stands in the list again with the bytes written
 abbrev written_in : After-copy_from_slice → Held

@@ -18,6 +18,8 @@ record LiesIn (c : After-index-others-i) : Type 0 where
   high : past (stored c.index-others-i.result) ≤ past (stored c.args.extent.now)
   long : length (drop c.args.extent.now.front c.args.extent.now.bytes.items)
       ≡ length c.args.extent.now.bytes.items - c.args.extent.now.front
+  room : c.args.extent.now.front + (c.index-others-i.result.base - c.args.extent.now.base) + length (stored c.index-others-i.result).bytes
+      ≤ length c.args.extent.now.bytes.items
 
 lies_in : (c : After-index-others-i) → LiesIn c
 lies_in c =
@@ -26,12 +28,16 @@ lies_in c =
     let count : i < length c.args.others.now = omega (arith, c.loop-i-test.true, c.loop-i.invariant.most) in
     let is : nth (map stored c.args.others.now) i ≡ stored c.index-others-i.result =
     nth_piece c.args.others.now i c.index-others-i.result count c.index-others-i.is in
+    let low = subst (λ (q : Stored). w.base ≤ q.base) is (c.requires.low i count) in
+    let high = subst (λ (q : Stored). past q ≤ past (stored w)) is (c.requires.high i count) in
+    let long = length-drop w.front w.bytes.items in
     record {
       count = count;
       is = is;
-      low = subst (λ (q : Stored). w.base ≤ q.base) is (c.requires.low i count);
-      high = subst (λ (q : Stored). past q ≤ past (stored w)) is (c.requires.high i count);
-      long = length-drop w.front w.bytes.items;
+      low = low;
+      high = high;
+      long = long;
+      room = omega (arith, low, high, long, c.requires.some);
     }
 
 pub overflow_sub-from : goal.overflow_sub-from
@@ -42,32 +48,20 @@ pub overflow_add-from : goal.overflow_add-from
 overflow_add-from c =
     let v = c.loop-i.invariant in
     let d = lies_in (goal.at.overflow_add-from c).After-index-others-i in
-    omega (arith, d.low, d.high, v.base, v.front, d.long, c.requires.some, c.args.extent.now.bytes.ok.0)
+    omega (arith, d.room, v.base, v.front, c.args.extent.now.bytes.ok.0)
 
 pub overflow_add-from-in-loop-i : goal.overflow_add-from-in-loop-i
 overflow_add-from-in-loop-i c =
     let v = c.loop-i.invariant in
     let d = lies_in (goal.at.overflow_add-from-in-loop-i c).After-index-others-i in
-    omega (arith, d.low, d.high, v.base, v.front, d.long, c.requires.some, c.args.extent.now.bytes.ok.0, ap length c.bytes_of-bytes.ensures)
+    omega (arith, d.room, v.base, v.front, c.args.extent.now.bytes.ok.0, ap length c.bytes_of-bytes.ensures)
 
 pub slice_bounds-copy_from_slice-end : goal.slice_bounds-copy_from_slice-end
 slice_bounds-copy_from_slice-end c =
     let v = c.loop-i.invariant in
     let d = lies_in (goal.at.slice_bounds-copy_from_slice-end c).After-index-others-i in
     let long = ap length c.bytes_of-bytes.ensures in
-    omega (
-      arith,
-      d.low,
-      d.high,
-      v.base,
-      v.front,
-      v.count,
-      d.long,
-      c.requires.some,
-      c.args.extent.now.bytes.ok.0,
-      long,
-      c.deref_mut.ensures.len,
-    )
+    omega (arith, d.room, v.base, v.front, v.count, c.args.extent.now.bytes.ok.0, long, c.deref_mut.ensures.len)
 
 pub loop-i-preserved : goal.loop-i-preserved
 loop-i-preserved c =
@@ -79,9 +73,6 @@ loop-i-preserved c =
     let v = c.loop-i.invariant in
     let count : i < length es = there.count in
     let is = there.is in
-    let low = there.low in
-    let high = there.high in
-    let long = there.long in
     let ps = map stored es in
     let e = c.loop-i.extent in
     let f : ℕ = e.front in
@@ -93,11 +84,11 @@ loop-i-preserved c =
     let ys_is : ys ≡ (stored d).bytes = c.copy_from_slice.ensures.after ∙ c.bytes_of-bytes.ensures in
     let size : m ≡ length (stored d).bytes = omega (arith, ap length c.bytes_of-bytes.ensures) in
     let all : length xs ≡ f + (past (stored w) - w.base) =
-    omega (arith, ap length value, e.bytes.ok.0, w.bytes.ok.0, v.count, v.front, long, c.requires.some) in
+    omega (arith, ap length value, e.bytes.ok.0, w.bytes.ok.0, v.count, v.front, there.long, c.requires.some) in
     let next : i + 1 ≡ c.loop-i.i = omega (arith, c.loop-i-test.true) in
     let at : k ≡ f + ((nth ps i).base - w.base) =
     ap (λ b. f + (d.base - b)) v.base ∙ ap (λ (q : Stored). f + (q.base - w.base)) (sym is) in
-    let put = length-mid k m xs ys (ap length ys_is ∙ sym size) (omega (arith, all, size, low, high, v.base)) in
+    let put = length-mid k m xs ys (ap length ys_is ∙ sym size) (omega (arith, all, size, there.low, there.high, v.base)) in
     record {
       most = omega (arith, count);
       base = v.base;

@@ -1,9 +1,9 @@
-use Rattle.std.proofs.Common.{rules, ◌≡◌, ℕ, ◌-◌, ◌<◌, ◌≤◌, [], ◌∷◌, ◌++◌, length, set, take, drop, map, refl, ◌∙◌, ap, arith}
+use Rattle.std.proofs.Common.{rules, ◌≡◌, ℕ, ◌-◌, ◌<◌, ◌≤◌, List, [], ◌∷◌, ◌++◌, length, set, take, drop, map, refl, ◌∙◌, ap, arith}
 use Rattle.std.proofs.Math.Seq.{map-set_same}
 use Rattle.std.proofs.lemmas.List.{get_or-set_same, set-set}
 use Rattle.phys_store.specs.declared.extents.Held.{Held}
 use Rattle.phys_store.specs.Bytes.{Stored, past}
-use Rattle.phys_store.specs.Extents.{stored, covering}
+use Rattle.phys_store.specs.Extents.{stored, nth, covering}
 use Rattle.phys_store.proofs.Widening.{IsKept, kept_piece, united, others_in, past_covering}
 use Rattle.phys_store.proofs.prepare.join.Goals as goal
 use Rattle.phys_store.proofs.prepare.join.Goals.{After-index_mut, After-replace-whole}
@@ -51,6 +51,19 @@ out c k =
       end = end;
     }
 
+-- so the others lie in it
+lie_in : (c : After-replace-whole) → IsOut c → (ds : List Held) →
+    ds ≡ set (set c.args.extents.now.items c.largest-kept.result c.widen.new.extent) c.largest-kept.result c.replace-whole.new.dest →
+    let others = take (c.args.behind - c.args.first) (drop c.args.first ds) in (i : ℕ) → i < length others →
+    (c.replace-whole.result.base ≤ (nth (map stored others) i).base)
+    × (past (nth (map stored others) i) ≤ past (stored c.replace-whole.result))
+lie_in c o ds same i less =
+    let es = c.args.extents.now.items in
+    let k : ℕ = c.largest-kept.result in
+    let between = others_in es ds (left c) c.args.first c.args.behind k c.args.low c.args.high c.requires.joins o.order
+    c.largest-kept.ensures.below (same ∙ o.after ∙ set-set es k c.widen.new.extent (left c)) refl o.empty i less in
+    (omega (arith, o.base, between.0), omega (arith, o.end, between.1))
+
 pub widen-requires-clause-some : goal.widen-requires-clause-some
 widen-requires-clause-some c = (kept (goal.at.widen-requires-clause-some c).After-index_mut).some
 
@@ -77,21 +90,13 @@ pub absorb-requires-clause-low : goal.absorb-requires-clause-low
 absorb-requires-clause-low c =
     let at = goal.at.absorb-requires-clause-low c in
     let o = out at.After-replace-whole (kept at.After-index_mut) in
-    let in_it = others_in c.args.extents.now.items c.deref-2.result.now (left at.After-replace-whole) c.args.first c.args.behind
-    c.largest-kept.result c.args.low c.args.high c.requires.joins o.order c.largest-kept.ensures.below
-    (c.deref-2.ensures.value ∙ o.after
-    ∙ set-set c.args.extents.now.items c.largest-kept.result c.widen.new.extent (left at.After-replace-whole)) refl o.empty in
-    λ i less. omega (arith, o.base, (in_it i less).0)
+    λ i less. (lie_in at.After-replace-whole o c.deref-2.result.now c.deref-2.ensures.value i less).0
 
 pub absorb-requires-clause-high : goal.absorb-requires-clause-high
 absorb-requires-clause-high c =
     let at = goal.at.absorb-requires-clause-high c in
     let o = out at.After-replace-whole (kept at.After-index_mut) in
-    let in_it = others_in c.args.extents.now.items c.deref-2.result.now (left at.After-replace-whole) c.args.first c.args.behind
-    c.largest-kept.result c.args.low c.args.high c.requires.joins o.order c.largest-kept.ensures.below
-    (c.deref-2.ensures.value ∙ o.after
-    ∙ set-set c.args.extents.now.items c.largest-kept.result c.widen.new.extent (left at.After-replace-whole)) refl o.empty in
-    λ i less. omega (arith, o.end, (in_it i less).1)
+    λ i less. (lie_in at.After-replace-whole o c.deref-2.result.now c.deref-2.ensures.value i less).1
 
 pub returns-clause-ok : goal.returns-clause-ok
 returns-clause-ok c =
