@@ -1,12 +1,10 @@
 -- Naming domains up to one more than there may be nodes gives the front of the list of all of them.
-use Rattle.std.proofs.Common.{◌≡◌, ℕ, ◌<◌, ◌≤◌, ◌==◌, true, false, List, [], ◌∷◌, ◌++◌, map, fold, length, take, refl, sym, ◌∙◌, inl, inr, arith}
-use Rattle.std.proofs.lemmas.Bool.{cases_lt, cases_Bool}
-use Rattle.std.proofs.lemmas.Bool.Decides.{nat_tests}
+use Rattle.std.proofs.Common.{◌≡◌, ℕ, ◌<◌, ◌≤◌, ◌==◌, List, [], ◌∷◌, ◌++◌, map, fold, length, take, refl, sym, ◌∙◌, inl, inr, arith}
+use Rattle.std.proofs.lemmas.Bool.{cases_lt, cases_Bool, le-leb}
 use Rattle.std.proofs.lemmas.List.{take_all, take-append-le, length-append, length-take-le}
 use Rattle.std.proofs.lemmas.List.Folds.{fold-map}
 use Rattle.std.proofs.lemmas.List.Sums.{fold-append}
 use Rattle.std.specs.List.{list_any}
-use Rattle.std.specs.Prelude.{nat_le}
 use Rattle.srat_reader.specs.declared.table.SratBlock.{SratBlock}
 use Rattle.node_hulls.specs.Domains.{with_name, named_once, domains_named}
 use Rattle.node_hulls.specs.Steps.{with_name_in_room, named_by_block}
@@ -15,17 +13,16 @@ use Rattle.node_hulls.specs.Steps.{with_name_in_room, named_by_block}
 step_in_room : (full : List ℕ) (d : ℕ) → length full ≤ 1024 → with_name_in_room (take 1025 full) d ≡ take 1025 (with_name full d)
 step_in_room full d few =
     let whole : take 1025 full ≡ full = take_all 1025 full (omega arith) in
-    let room : nat_le (length full) 1024 ≡ true = grind (arith, nat_tests) in
-    rw (whole, room) (elim (cases_Bool (list_any (λ e. e == d) full)) as (λ _. with_name full d ≡ take 1025 (with_name full d)) [
+    rw (whole, le-leb (length full) 1024 few)
+    (elim (cases_Bool (list_any (λ e. e == d) full)) as (λ _. with_name full d ≡ take 1025 (with_name full d)) [
       | inl named ↦ rw named (sym whole)
       | inr new ↦ rw new (sym (take_all 1025 (full ++ d ∷ []) (omega (arith, length-append full (d ∷ [])))))
     ])
 
 step_past : (full : List ℕ) (d : ℕ) → 1024 < length full → with_name_in_room (take 1025 full) d ≡ take 1025 (with_name full d)
 step_past full d many =
-    let counted : length (take 1025 full) ≡ 1025 = length-take-le 1025 full (omega arith) in
-    let none : nat_le (length (take 1025 full)) 1024 ≡ false = grind (arith, nat_tests) in
-    rw none (elim (cases_Bool (list_any (λ e. e == d) full)) as (λ _. take 1025 full ≡ take 1025 (with_name full d)) [
+    rw (length-take-le 1025 full (omega arith))
+    (elim (cases_Bool (list_any (λ e. e == d) full)) as (λ _. take 1025 full ≡ take 1025 (with_name full d)) [
       | inl named ↦ rw named refl
       | inr new ↦ rw new (sym (take-append-le 1025 full (d ∷ []) (omega arith)))
     ])

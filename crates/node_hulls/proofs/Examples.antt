@@ -57,19 +57,13 @@ node_examples = (refl, refl, refl)
 same_examples : (same_node 3 3 ≡ true) × (same_node 3 4 ≡ false)
 same_examples = (refl, refl)
 
--- the runs of nodes over twelve addresses: the hole is filled, and what lies around another node isn't
-hole_filled : runs_from same_node (node_at hole) 0 12 ≡ block 0 1 6 ∷ block 1 9 2 ∷ []
+-- the runs of nodes over twelve addresses: the hole is filled, and what lies around another node isn't; a block within another
+-- one of its node, and two that touch
+filled_examples : (runs_from same_node (node_at hole) 0 12 ≡ block 0 1 6 ∷ block 1 9 2 ∷ [])
+    × (runs_from same_node (node_at one_between) 0 12 ≡ block 0 1 2 ∷ block 1 5 1 ∷ block 0 8 2 ∷ [])
+    × (runs_from same_node (node_at (block 2 3 1 ∷ block 2 1 5 ∷ block 2 6 1 ∷ [])) 0 12 ≡ block 2 1 6 ∷ [])
 unfolding runs_from node_at
-hole_filled = refl
-
-nothing_filled : runs_from same_node (node_at one_between) 0 12 ≡ block 0 1 2 ∷ block 1 5 1 ∷ block 0 8 2 ∷ []
-unfolding runs_from node_at
-nothing_filled = refl
-
--- a block within another one of its node, and two that touch
-within : runs_from same_node (node_at (block 2 3 1 ∷ block 2 1 5 ∷ block 2 6 1 ∷ [])) 0 12 ≡ block 2 1 6 ∷ []
-unfolding runs_from node_at
-within = refl
+filled_examples = (refl, refl, refl)
 
 -- domains in the order of first naming, each once
 is_named_examples : (is_named (5 ∷ 2 ∷ []) 2 ≡ true) × (is_named (5 ∷ 2 ∷ []) 3 ≡ false)
@@ -168,13 +162,11 @@ overlap_examples : (overlap_at (kept 3 (block 0 1 2) ∷ kept 7 (block 1 2 2) �
     × (overlap_at (kept 3 (block 0 1 2) ∷ kept 7 (block 1 3 2) ∷ []) 3 7 ≡ false)
 overlap_examples = (refl, refl, refl)
 
--- the least pair by the first number and then by the second
-least_pair : first_clash (kept 1 (block 0 9 1) ∷ kept 2 (block 0 1 4) ∷ kept 5 (block 1 7 1) ∷ kept 6 (block 1 3 1) ∷ kept 8 (block 2 2 1)
-    ∷ []) ≡ Some (2, 6)
-least_pair = refl
-
-no_pair : first_clash (kept 0 (block 0 1 2) ∷ kept 1 (block 1 3 2) ∷ []) ≡ None
-no_pair = refl
+-- the least pair by the first number and then by the second; and no pair
+pair_examples : (first_clash (kept 1 (block 0 9 1) ∷ kept 2 (block 0 1 4) ∷ kept 5 (block 1 7 1) ∷ kept 6 (block 1 3 1)
+    ∷ kept 8 (block 2 2 1) ∷ []) ≡ Some (2, 6))
+    × (first_clash (kept 0 (block 0 1 2) ∷ kept 1 (block 1 3 2) ∷ []) ≡ None)
+pair_examples = (refl, refl)
 
 -- memory without a node gets the node that is given, what has one and what is no memory gets none
 abbrev below_4 : ℕ → Bool
@@ -201,10 +193,6 @@ names_examples : (names_of (record { processors = 4 ∷ []; blocks = told 2 0 1 
     × (names_of (record { processors = []; blocks = [] }) ≡ [])
 unfolding named_once
 names_examples = (refl, refl)
-
-no_block_kept : judged_table some_frames (record { processors = 4 ∷ []; blocks = told 2 0 0xFFF ∷ [] }) ≡ unused why.NoBlocks
-unfolding judged_table each_in each_from
-no_block_kept = refl
 
 two_overlap : judged_kept below_4 (5 ∷ 6 ∷ []) (kept 3 (block 0 1 2) ∷ kept 4 (block 1 2 1) ∷ []) ≡ unused (why.Overlap 3 4)
 unfolding judged_kept
@@ -234,15 +222,11 @@ one_frame_less : frames_given (value_at (block 0 0 0xFF000 ∷ [])) ≡ 255
 one_frame_less = frames_step (block 0 0 0xFF000) [] (lit< tt, tt, tt) (lit< tt) ∙ rw frames_none refl
 
 -- 256 frames are too many; 255 and none are few enough
-too_much_left : if_covering (5 ∷ []) (value_at []) (value_at (block 0 0 0x100000 ∷ [])) ≡ unused (why.NotCovered 256)
-too_much_left = rw one_mebibyte refl
-
-few_enough_left : if_covering (5 ∷ []) (value_at []) (value_at (block 0 0 0xFF000 ∷ []))
-    ≡ used (5 ∷ []) (value_at []) (value_at (block 0 0 0xFF000 ∷ []))
-few_enough_left = rw one_frame_less refl
-
-nothing_left : if_covering (5 ∷ []) (value_at (block 0 0 1 ∷ [])) (value_at []) ≡ used (5 ∷ []) (value_at (block 0 0 1 ∷ [])) (value_at [])
-nothing_left = rw frames_none refl
+covering_examples : (if_covering (5 ∷ []) (value_at []) (value_at (block 0 0 0x100000 ∷ [])) ≡ unused (why.NotCovered 256))
+    × (if_covering (5 ∷ []) (value_at []) (value_at (block 0 0 0xFF000 ∷ []))
+    ≡ used (5 ∷ []) (value_at []) (value_at (block 0 0 0xFF000 ∷ [])))
+    × (if_covering (5 ∷ []) (value_at (block 0 0 1 ∷ [])) (value_at []) ≡ used (5 ∷ []) (value_at (block 0 0 1 ∷ [])) (value_at []))
+covering_examples = (rw one_mebibyte refl, rw one_frame_less refl, rw frames_none refl)
 
 -- what is given where the table is used, and where it isn't
 used_gives : ((used (5 ∷ []) (value_at []) (value_at (block 0 0 0x100000 ∷ []))).uncovered ≡ 256)
@@ -252,28 +236,21 @@ used_gives = (one_mebibyte, refl)
 unused_gives : ((unused why.NoBlocks).domains ≡ []) × ((unused (why.Overlap 1 2)).why ≡ why.Overlap 1 2)
 unused_gives = (refl, refl)
 
--- 2,048 blocks with an address aren't too many, whatever is said of the kept ones, as one without an address doesn't count; 2,049 are
+-- one block without an address and more with one; and so many domains
 abbrev told_often : ℕ → Affinity
 told_often n = record { processors = []; blocks = told 5 0 0 ∷ replicate n (told 5 0x1000 0x1000) }
 
-enough_blocks : judged_table some_frames (told_often 2048) ≡ judged_kept some_frames (5 ∷ []) (kept_of some_frames (5 ∷ [])
-    (told_often 2048).blocks)
-unfolding judged_table named_once each_in each_from
-enough_blocks = refl
-
-many_blocks : judged_table some_frames (told_often 2049) ≡ unused why.TooManyBlocks
-unfolding judged_table named_once each_in each_from
-many_blocks = refl
-
--- 1,024 domains aren't too many, 1,025 are
 abbrev told_domains : ℕ → Affinity
 told_domains n = record { processors = range_with_len 0 n; blocks = told 5 0x1000 0x1000 ∷ [] }
 
-enough_domains : judged_table some_frames (told_domains 1024)
-    ≡ judged_kept some_frames (range_with_len 0 1024) (kept_of some_frames (range_with_len 0 1024) (told_domains 1024).blocks)
+-- no block is kept; 2,048 blocks with an address aren't too many, whatever is said of the kept ones, as one without an address
+-- doesn't count; 2,049 are; 1,024 domains aren't too many, 1,025 are
+table_examples : (judged_table some_frames (record { processors = 4 ∷ []; blocks = told 2 0 0xFFF ∷ [] }) ≡ unused why.NoBlocks)
+    × (judged_table some_frames (told_often 2048)
+    ≡ judged_kept some_frames (5 ∷ []) (kept_of some_frames (5 ∷ []) (told_often 2048).blocks))
+    × (judged_table some_frames (told_often 2049) ≡ unused why.TooManyBlocks)
+    × (judged_table some_frames (told_domains 1024)
+    ≡ judged_kept some_frames (range_with_len 0 1024) (kept_of some_frames (range_with_len 0 1024) (told_domains 1024).blocks))
+    × (judged_table some_frames (told_domains 1025) ≡ unused why.TooManyDomains)
 unfolding judged_table named_once each_in each_from
-enough_domains = refl
-
-many_domains : judged_table some_frames (told_domains 1025) ≡ unused why.TooManyDomains
-unfolding judged_table named_once each_in each_from
-many_domains = refl
+table_examples = (refl, refl, refl, refl, refl)

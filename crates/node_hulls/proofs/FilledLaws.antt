@@ -6,7 +6,7 @@ use Rattle.std.proofs.lemmas.Bool.Decides.{nat_tests}
 use Rattle.std.proofs.lemmas.Option.{none-some, same_Some}
 use Rattle.address_runs.specs.Runs.{run_end, value_at, AreRuns, IsBefore}
 use Rattle.address_runs.specs.Sweep.{StartFrom}
-use Rattle.address_runs.proofs.RunsLaws.{none_below, rest_from, inside, below, behind}
+use Rattle.address_runs.proofs.RunsLaws.{none_below, rest_from, inside, behind}
 use Rattle.node_hulls.specs.Hulls.{NumaBlock}
 use Rattle.node_hulls.specs.Steps.{filled, led_by_run}
 
@@ -58,39 +58,35 @@ rest_behind : (r : NumaBlock) (rs : List NumaBlock) (x n : ℕ) → AreRuns (r �
 rest_behind r rs x n runs some =
     le_of_suc-le-suc (lt_of_not-le (λ lt. none-some n (sym (none_below (run_end r) x rs runs.2 (rest_from r rs runs) lt) ∙ some)))
 
+-- what lies around an address does so by each function that gives the same from the lower place on
+moved : (f g : ℕ → Option ℕ) (x n : ℕ) → (around : IsAround f x n) → ((y : ℕ) → around.low ≤ y → g y ≡ f y) → IsAround g x n
+moved f g x n around same = record {
+  low = around.low;
+  high = around.high;
+  under = around.under;
+  over = around.over;
+  at_low = same around.low (omega arith) ∙ around.at_low;
+  at_high = same around.high (omega (arith, around.under, around.over)) ∙ around.at_high;
+  only = λ y m above below_high some. around.only y m above below_high (sym (same y above) ∙ some);
+}
+
 -- what the rest fills the whole list fills
 lifted : (r : NumaBlock) (rs : List NumaBlock) (x n : ℕ) → AreRuns (r ∷ rs) → IsFilled (value_at rs) x n → IsFilled (value_at (r ∷ rs)) x n
 lifted r rs x n runs (inl here) = inl (at_behind r rs x (rest_behind r rs x n runs here) ∙ here)
 lifted r rs x n runs (inr around) =
     let from : run_end r ≤ around.low = rest_behind r rs around.low n runs around.at_low in
-    let under = around.under in
-    let over = around.over in
-    inr (record {
-      low = around.low;
-      high = around.high;
-      under = around.under;
-      over = around.over;
-      at_low = at_behind r rs around.low from ∙ around.at_low;
-      at_high = at_behind r rs around.high (omega arith) ∙ around.at_high;
-      only = λ y m above below_high some.
-          around.only y m above below_high (sym (at_behind r rs y (omega arith)) ∙ some);
-    })
+    inr (moved (value_at rs) (value_at (r ∷ rs)) x n around (λ y above. at_behind r rs y (omega arith)))
 
 -- and what the whole list fills behind the first run, from places behind it, the rest fills
 lowered : (r : NumaBlock) (rs : List NumaBlock) (x n : ℕ) → (around : IsAround (value_at (r ∷ rs)) x n) → run_end r ≤ around.low
     → IsAround (value_at rs) x n
 lowered r rs x n around from =
-    let under = around.under in
-    let over = around.over in
-    record {
-      low = around.low;
-      high = around.high;
-      under = around.under;
-      over = around.over;
-      at_low = sym (at_behind r rs around.low from) ∙ around.at_low;
-      at_high = sym (at_behind r rs around.high (omega arith)) ∙ around.at_high;
-      only = λ y m above below_high some. around.only y m above below_high (at_behind r rs y (omega arith) ∙ some);
-    }
+    moved (value_at (r ∷ rs)) (value_at rs) x n around (λ y above. sym (at_behind r rs y (omega arith)))
+
+-- the higher place lies in the rest
+high_given : (r : NumaBlock) (rs : List NumaBlock) (x n : ℕ) → (around : IsAround (value_at (r ∷ rs)) x n) → run_end r ≤ x
+    → value_at rs around.high ≡ Some n
+high_given r rs x n around from = sym (at_behind r rs around.high (omega (arith, around.over))) ∙ around.at_high
 
 -- the base of the first joined run is that of a run
 first_value : (rs : List NumaBlock) (t : NumaBlock) (us : List NumaBlock) → IsFilledBy rs (t ∷ us) → value_at rs t.base ≡ Some t.value
@@ -105,10 +101,9 @@ first_value rs t us known =
 
 -- a value of the whole list at a place from which on the first run gives its own
 low_value : (r : NumaBlock) (rs : List NumaBlock) (x n : ℕ) → AreRuns (r ∷ rs) → value_at (r ∷ rs) x ≡ Some n → x < run_end r → r.value ≡ n
-low_value r rs x n runs some under = elim (place r x) as (λ _. r.value ≡ n) [
-  | Below lt ↦ absurd (none-some n (sym (at_below r rs x runs lt) ∙ some))
-  | Inside above in_run ↦ same_Some r.value n (sym (at_inside r rs x above in_run) ∙ some)
-  | Behind from ↦ absurd (omega arith)
+low_value r rs x n runs some under = elim (cases_lt x r.base) as (λ _. r.value ≡ n) [
+  | inl lt ↦ absurd (none-some n (sym (at_below r rs x runs lt) ∙ some))
+  | inr above ↦ same_Some r.value n (sym (at_inside r rs x above under) ∙ some)
 ]
 
 -- from a place in the first run to one behind it: the first joined run behind it has the node too
@@ -116,11 +111,9 @@ next_value : (r : NumaBlock) (rs : List NumaBlock) (t : NumaBlock) (us : List Nu
     → IsFilledBy rs (t ∷ us)
     → (around : IsAround (value_at (r ∷ rs)) x n) → around.low < run_end r → run_end r ≤ x → t.value ≡ n
 next_value r rs t us x n runs known around low_in from =
-    let over = around.over in
     let first : value_at rs t.base ≡ Some t.value = first_value rs t us known in
     let above : run_end r ≤ t.base = rest_behind r rs t.base t.value runs first in
-    let high : value_at rs around.high ≡ Some n = sym (at_behind r rs around.high (omega arith)) ∙ around.at_high in
-    let reached : value_at (t ∷ us) around.high ≡ Some n = known.complete around.high n (inl high) in
+    let reached : value_at (t ∷ us) around.high ≡ Some n = known.complete around.high n (inl (high_given r rs x n around from)) in
     elim (cases_lt around.high t.base) as (λ _. t.value ≡ n) [
       | inl short ↦ absurd (none-some n (sym (at_below t us around.high known.runs short) ∙ reached))
       | inr long ↦ around.only t.base t.value (omega arith) long (at_behind r rs t.base above ∙ first)
@@ -137,60 +130,42 @@ reached_by : (r : NumaBlock) (rs : List NumaBlock) (x n : ℕ) → AreRuns (r �
     → Reached r rs x n
 reached_by r rs x n runs (Below lt) (inl here) = absurd (none-some n (sym (at_below r rs x runs lt) ∙ here))
 reached_by r rs x n runs (Below lt) (inr around) =
-    let under = around.under in
-    absurd (none-some n (sym (at_below r rs around.low runs (omega arith)) ∙ around.at_low))
+    absurd (none-some n (sym (at_below r rs around.low runs (omega (arith, around.under))) ∙ around.at_low))
 reached_by r rs x n runs (Inside above under) (inl here) = InFirst above under (low_value r rs x n runs here under)
 reached_by r rs x n runs (Inside above under) (inr around) =
-    let low = around.under in
-    let high = around.over in
-    InFirst above under (around.only x r.value (omega arith) (omega arith) (at_inside r rs x above under))
+    InFirst above under (around.only x r.value (omega (arith, around.under)) (omega (arith, around.over)) (at_inside r rs x above under))
 reached_by r rs x n runs (Behind from) (inl here) = InRest from (inl (sym (at_behind r rs x from) ∙ here))
 reached_by r rs x n runs (Behind from) (inr around) = elim (cases_lt around.low (run_end r)) as (λ _. Reached r rs x n) [
   | inl in_run ↦ Across from around in_run (low_value r rs around.low n runs around.at_low in_run)
   | inr behind_run ↦ InRest from (inr (lowered r rs x n around behind_run))
 ]
 
-reached : (r : NumaBlock) (rs : List NumaBlock) (x n : ℕ) → AreRuns (r ∷ rs) → IsFilled (value_at (r ∷ rs)) x n → Reached r rs x n
-reached r rs x n runs filling = reached_by r rs x n runs (place r x) filling
-
--- where nothing is joined behind the first run, nothing is behind it
-last_step : (r : NumaBlock) (rs : List NumaBlock) → AreRuns (r ∷ rs) → IsFilledBy rs [] → IsFilledBy (r ∷ rs) (r ∷ [])
-last_step r rs runs known = record {
-  runs = (runs.0, tt, tt);
+-- the first run stands alone where nothing lies across from it
+alone_step : (r : NumaBlock) (rs ts : List NumaBlock) → AreRuns (r ∷ rs) → IsFilledBy rs ts → AreRuns (r ∷ ts)
+    → ((x n : ℕ) (around : IsAround (value_at (r ∷ rs)) x n) → around.low < run_end r → run_end r ≤ x → r.value ≡ n → ⊥)
+    → IsFilledBy (r ∷ rs) (r ∷ ts)
+alone_step r rs ts runs known canonical none_across = record {
+  runs = canonical;
   sound = λ x n some. elim (place r x) as (λ _. IsFilled (value_at (r ∷ rs)) x n) [
-    | Below lt ↦ absurd (none-some n (sym (rw (below r x lt) refl) ∙ some))
-    | Inside above under ↦ inl (at_inside r rs x above under ∙ sym (at_inside r [] x above under) ∙ some)
-    | Behind from ↦ absurd (none-some n (sym (at_behind r [] x from) ∙ some))
+    | Below lt ↦ absurd (none-some n (sym (at_below r ts x canonical lt) ∙ some))
+    | Inside in_run under ↦ inl (at_inside r rs x in_run under ∙ sym (at_inside r ts x in_run under) ∙ some)
+    | Behind from ↦ lifted r rs x n runs (known.sound x n (sym (at_behind r ts x from) ∙ some))
   ];
-  complete = λ x n filling. elim (reached r rs x n runs filling) as (λ _. value_at (r ∷ []) x ≡ Some n) [
-    | InFirst above under same ↦ at_inside r [] x above under ∙ ap (λ m. Some m) same
-    | InRest from rest ↦ absurd (none-some n (known.complete x n rest))
-    | Across from around low_in same ↦
-        let over = around.over in
-        absurd (none-some n (known.complete around.high n (inl (sym (at_behind r rs around.high (omega arith)) ∙ around.at_high))))
+  complete = λ x n filling. elim (reached_by r rs x n runs (place r x) filling) as (λ _. value_at (r ∷ ts) x ≡ Some n) [
+    | InFirst in_run under same ↦ at_inside r ts x in_run under ∙ ap (λ m. Some m) same
+    | InRest from rest ↦ at_behind r ts x from ∙ known.complete x n rest
+    | Across from around low_in same ↦ absurd (none_across x n around low_in from same)
   ];
 }
 
--- where the next joined run has another node, the first run stands alone
+-- so it does where the next joined run has another node
 apart_step : (r : NumaBlock) (rs : List NumaBlock) (t : NumaBlock) (us : List NumaBlock) → AreRuns (r ∷ rs) → IsFilledBy rs (t ∷ us)
     → r.value ≢ t.value
     → IsFilledBy (r ∷ rs) (r ∷ (t ∷ us))
 apart_step r rs t us runs known other =
     let above : run_end r ≤ t.base = rest_behind r rs t.base t.value runs (first_value rs t us known) in
-    let canonical : AreRuns (r ∷ (t ∷ us)) = (runs.0, (above, λ touch. other), known.runs) in
-    record {
-      runs = canonical;
-      sound = λ x n some. elim (place r x) as (λ _. IsFilled (value_at (r ∷ rs)) x n) [
-        | Below lt ↦ absurd (none-some n (sym (at_below r (t ∷ us) x canonical lt) ∙ some))
-        | Inside in_run under ↦ inl (at_inside r rs x in_run under ∙ sym (at_inside r (t ∷ us) x in_run under) ∙ some)
-        | Behind from ↦ lifted r rs x n runs (known.sound x n (sym (at_behind r (t ∷ us) x from) ∙ some))
-      ];
-      complete = λ x n filling. elim (reached r rs x n runs filling) as (λ _. value_at (r ∷ (t ∷ us)) x ≡ Some n) [
-        | InFirst in_run under same ↦ at_inside r (t ∷ us) x in_run under ∙ ap (λ m. Some m) same
-        | InRest from rest ↦ at_behind r (t ∷ us) x from ∙ known.complete x n rest
-        | Across from around low_in same ↦ absurd (other (same ∙ sym (next_value r rs t us x n runs known around low_in from)))
-      ];
-    }
+    alone_step r rs (t ∷ us) runs known (runs.0, (above, λ touch. other), known.runs)
+    (λ x n around low_in from same. other (same ∙ sym (next_value r rs t us x n runs known around low_in from)))
 
 -- where it has the same node, the first run reaches to its end
 abbrev spanning : NumaBlock → NumaBlock → NumaBlock
@@ -230,8 +205,7 @@ gap_around r rs t us x runs known same from under =
               | inl short ↦ absurd (none-some m (sym (at_below t us y known.runs short) ∙ joined))
               | inr long ↦
                   let here : t.base ≡ y = omega arith in
-                  let at : value_at rs y ≡ Some t.value = ap (value_at rs) (sym here) ∙ first in
-                  sym (same_Some t.value m (sym at ∙ rest)) ∙ sym same
+                  sym (same_Some t.value m (sym first ∙ ap (value_at rs) here ∙ rest)) ∙ sym same
             ]
       ];
     }
@@ -244,7 +218,6 @@ across_rest r rs t us x n runs known around low_in from reach =
     let node : t.value ≡ n = next_value r rs t us x n runs known around low_in from in
     let first : value_at rs t.base ≡ Some t.value = first_value rs t us known in
     let above : run_end r ≤ t.base = rest_behind r rs t.base t.value runs first in
-    let over = around.over in
     elim (cases_lt t.base x) as (λ _. value_at (t ∷ us) x ≡ Some n) [
       | inl past ↦ known.complete x n (inr (record {
         low = t.base;
@@ -252,7 +225,7 @@ across_rest r rs t us x n runs known around low_in from reach =
         under = past;
         over = around.over;
         at_low = first ∙ ap (λ m. Some m) node;
-        at_high = sym (at_behind r rs around.high (omega arith)) ∙ around.at_high;
+        at_high = high_given r rs x n around from;
         only = λ y m from_low to_high some. around.only y m (omega arith) to_high (at_behind r rs y (omega arith) ∙ some);
       }))
       | inr here ↦
@@ -283,7 +256,7 @@ same_step r rs t us runs known same =
           | inr long ↦ lifted r rs x n runs (known.sound x n (sym (span_same r t us x order same long) ∙ given))
         ]
       ];
-      complete = λ x n filling. elim (reached r rs x n runs filling) as (λ _. value_at (spanning r t ∷ us) x ≡ Some n) [
+      complete = λ x n filling. elim (reached_by r rs x n runs (place r x) filling) as (λ _. value_at (spanning r t ∷ us) x ≡ Some n) [
         | InFirst in_run under node ↦ span_in x in_run (omega arith) ∙ ap (λ m. Some m) node
         | InRest from rest ↦
             let joined : value_at (t ∷ us) x ≡ Some n = known.complete x n rest in
@@ -298,8 +271,11 @@ same_step r rs t us runs known same =
       ];
     }
 
+-- and where nothing is joined behind it
 led_step : (r : NumaBlock) (rs ts : List NumaBlock) → AreRuns (r ∷ rs) → IsFilledBy rs ts → IsFilledBy (r ∷ rs) (led_by_run r ts)
-led_step r rs [] runs known = last_step r rs runs known
+led_step r rs [] runs known =
+    alone_step r rs [] runs known (runs.0, tt, tt)
+    (λ x n around low_in from same. none-some n (known.complete around.high n (inl (high_given r rs x n around from))))
 led_step r rs (t ∷ us) runs known = elim (cases_Bool (r.value == t.value)) as (λ _. IsFilledBy (r ∷ rs) (led_by_run r (t ∷ us))) [
   | inl equal ↦ rw equal (same_step r rs t us runs known (grind (arith, nat_tests)))
   | inr differs ↦ rw differs (apart_step r rs t us runs known (grind (arith, nat_tests)))

@@ -1,7 +1,6 @@
 -- The runs of a judgement: each has an address and a node below 1,024, they cover memory, and a frame lies in runs of the same nodes.
-use Rattle.std.proofs.Common.{◌≡◌, ◌≢◌, ℕ, zero, suc, ◌+◌, ◌^◌, ◌<◌, ◌≤◌, ◌==◌, Bool, true, false, ◌&&◌, ◌||◌, nat_le, nat_lt, if◌then◌else◌, Option, Some, None, List, [], ◌∷◌, ◌++◌, length, refl, sym, ◌∙◌, ap, subst, inl, inr, arith}
-use Rattle.std.proofs.lemmas.Bool.{cases_Bool, true≢false}
-use Rattle.std.proofs.lemmas.Bool.Decides.{nat_tests}
+use Rattle.std.proofs.Common.{◌≡◌, ◌≢◌, ℕ, zero, suc, ◌+◌, ◌^◌, ◌<◌, ◌≤◌, ◌==◌, Bool, true, false, ◌&&◌, ◌||◌, not, nat_le, nat_lt, if◌then◌else◌, Option, Some, None, List, [], ◌∷◌, ◌++◌, length, refl, sym, ◌∙◌, ap, subst, inl, inr, arith}
+use Rattle.std.proofs.lemmas.Bool.{cases_Bool, cond_both, eqb-true, ltb-false, not-false, true≢false}
 use Rattle.std.proofs.lemmas.List.Elements.{All-cons, All-append}
 use Rattle.std.proofs.lemmas.List.Quantifiers.{position-Some}
 use Rattle.std.specs.List.{All, position}
@@ -16,7 +15,7 @@ use Rattle.node_hulls.specs.declared.reasons.Why.TheVariants as why
 use Rattle.node_hulls.specs.Domains.{node_of}
 use Rattle.node_hulls.specs.Hulls.{NumaBlock, same_node}
 use Rattle.node_hulls.specs.Judgement.{Judgement, frames_given, if_apart, if_covering, judged, judged_kept, judged_table, left_by, names_of, nodes_by, unused, used}
-use Rattle.node_hulls.specs.Kept.{any_kept, count_some, first_clash, frame_base, framed, meets_memory, is_node_of, kept_from, kept_of, of_node}
+use Rattle.node_hulls.specs.Kept.{any_kept, count_some, first_clash, frame_base, meets_memory, is_node_of, kept_from, kept_of, of_node}
 use Rattle.node_hulls.proofs.InListLaws.{any_member}
 use Rattle.node_hulls.proofs.JudgedLaws.{tells_nodes}
 use Rattle.node_hulls.proofs.MeaningLaws.{is_kept, left_frame, node_of_kept, nodes_frame}
@@ -25,10 +24,8 @@ use Rattle.node_hulls.proofs.MeaningLaws.{is_kept, left_frame, node_of_kept, nod
 module _ (P : Judgement → Type 0) where
   covering : (domains : List ℕ) (nodes left : ℕ → Option ℕ) → ((r : Why) → r ≢ why.Used → P (unused r)) → P (used domains nodes left)
       → P (if_covering domains nodes left)
-  covering domains nodes left none some = elim (cases_Bool (nat_le 256 (frames_given left))) as (λ _. P (if_covering domains nodes left)) [
-    | inl many ↦ rw many (none (why.NotCovered (frames_given left)) (λ same. cc))
-    | inr few ↦ rw few some
-  ]
+  covering domains nodes left none some =
+      cond_both (nat_le 256 (frames_given left)) _ _ P (λ many. none (why.NotCovered (frames_given left)) (λ same. cc)) (λ few. some)
 
   apart : (numbers : Option (ℕ × ℕ)) (j : Judgement) → ((r : Why) → r ≢ why.Used → P (unused r)) → P j → P (if_apart numbers j)
   apart (Some pair) j none some = none (why.Overlap pair.0 pair.1) (λ same. cc)
@@ -47,19 +44,12 @@ module _ (P : Judgement → Type 0) where
       (left_by memory (kept_of memory (names_of lists) lists.blocks))))
       → P (judged_table memory lists)
   unfolding judged_table
-  by_table memory lists none some = elim (cases_Bool (any_kept memory lists.blocks)) as (λ _. P (judged_table memory lists)) [
-    | inr no_block ↦ rw no_block (none why.NoBlocks (λ same. cc))
-    | inl kept ↦ elim (cases_Bool (nat_lt 1024 (length (names_of lists)))) as (λ _. P (judged_table memory lists)) [
-      | inl many ↦ rw (kept, many) (none why.TooManyDomains (λ same. cc))
-      | inr few ↦ elim (cases_Bool (nat_lt 2048 (count_some lists.blocks))) as (λ _. P (judged_table memory lists)) [
-        | inl many_blocks ↦ rw (kept, few, many_blocks) (none why.TooManyBlocks (λ same. cc))
-        | inr few_blocks ↦
-            let most : length (names_of lists) ≤ 1024 = grind (arith, nat_tests) in
-            rw (kept, few, few_blocks) (by_kept memory (names_of lists) (kept_of memory (names_of lists) lists.blocks) none
-            (some kept most))
-      ]
-    ]
-  ]
+  by_table memory lists none some =
+      cond_both (not (any_kept memory lists.blocks)) _ _ P (λ no_block. none why.NoBlocks (λ same. cc)) (λ kept.
+      cond_both (nat_lt 1024 (length (names_of lists))) _ _ P (λ many. none why.TooManyDomains (λ same. cc)) (λ few.
+      cond_both (nat_lt 2048 (count_some lists.blocks)) _ _ P (λ many_blocks. none why.TooManyBlocks (λ same. cc)) (λ few_blocks.
+      by_kept memory (names_of lists) (kept_of memory (names_of lists) lists.blocks) none
+      (some (not-false _ kept) (ltb-false _ _ few)))))
 
   pub by_judgement : (memory : ℕ → Bool) (off : Bool) (table : Option Affinity) → ((r : Why) → r ≢ why.Used → P (unused r))
       → ((lists : Affinity) → any_kept memory lists.blocks ≡ true → length (names_of lists) ≤ 1024
@@ -113,28 +103,24 @@ node-small : (domains : List ℕ) (d : ℕ) → length domains ≤ 1024 → node
 node-small domains d few = by (position (λ e. e == d) domains) refl where
   by : (o : Option ℕ) → position (λ e. e == d) domains ≡ o → node_of domains d < 1024
   by None at = rw at (omega arith)
-  by (Some i) at =
-      let below = (position-Some (λ e. e == d) domains i 0 at).0 in
-      rw at (omega (arith, below, few))
+  by (Some i) at = rw at (omega (arith, (position-Some (λ e. e == d) domains i 0 at).0, few))
 
 node-few : (memory : ℕ → Bool) (domains : List ℕ) (bs : List SratBlock) (n : ℕ) → length domains ≤ 1024
     → is_node_of (kept_of memory domains bs) n ≡ true → n < 1024
 node-few memory domains bs n few of_block =
     let found = any_member _ (kept_of memory domains bs) of_block in
     let kept = is_kept memory domains 0 bs found.one found.member in
-    let node : found.one.block.value ≡ n = grind (arith, nat_tests, found.passes) in
-    subst (λ (m : ℕ). m < 1024) (ap (λ (b : NumaBlock). b.value) (sym kept.block) ∙ node) (node-small domains kept.told.domain few)
+    let node = ap (λ (b : NumaBlock). b.value) (sym kept.block) ∙ eqb-true _ n found.passes in
+    subst (λ (m : ℕ). m < 1024) node (node-small domains kept.told.domain few)
 
 -- some block is kept
 some-kept : (memory : ℕ → Bool) (domains : List ℕ) (i : ℕ) (bs : List SratBlock) → any_kept memory bs ≡ true
     → kept_from memory domains i bs ≢ []
 some-kept memory domains i [] any = absurd (true≢false (sym any))
 some-kept memory domains i (b ∷ bs) any =
-    elim (cases_Bool (meets_memory memory (framed b.range))) as (λ _. kept_from memory domains i (b ∷ bs) ≢ []) [
-      | inl here ↦ let kept : meets_memory memory (extent_of (of_node domains b)) ≡ true = here in rw kept (λ same. cc)
-      | inr not_here ↦
-          let not_kept : meets_memory memory (extent_of (of_node domains b)) ≡ false = not_here in
-          rw not_kept (some-kept memory domains (i + 1) bs (rw not_here at any))
+    elim (cases_Bool (meets_memory memory (extent_of (of_node domains b)))) as (λ _. kept_from memory domains i (b ∷ bs) ≢ []) [
+      | inl here ↦ rw here (λ same. cc)
+      | inr not_here ↦ rw not_here (some-kept memory domains (i + 1) bs (rw not_here at any))
     ]
 
 -- each run has an address and a node below 1,024
@@ -142,11 +128,10 @@ abbrev Small : NumaBlock → Type 0
 Small b = (0 < b.size) × (b.value < 1024)
 
 small-runs : (f : ℕ → Option ℕ) → ((x n : ℕ) → f x ≡ Some n → n < 1024) → All Small (runs_of same_node f)
-small-runs f few =
-    let runs : AreRuns (runs_of same_node f) = (runs-between f).runs in
-    let some : All (λ (b : NumaBlock). 0 < b.size) (runs_of same_node f) = runs-some (runs_of same_node f) runs in
-    let small : All (λ (b : NumaBlock). b.value < 1024) (runs_of same_node f) = all-values (λ (n : ℕ). n < 1024) same_node f few in
-    λ k d less. (some k d less, small k d less)
+small-runs f few = λ k d less. (
+  runs-some (runs_of same_node f) (runs-between f).runs k d less,
+  all-values (λ (n : ℕ). n < 1024) same_node f few k d less,
+)
 
 pub given-small : (memory : ℕ → Bool) (off : Bool) (table : Option Affinity)
     → All Small ((judged memory off table).joined ++ (judged memory off table).rest)
@@ -195,10 +180,9 @@ given-frames memory off table whole x near =
     × (value_at j.rest x ≡ value_at j.rest (frame_base x))) memory off table (λ r other. (refl, refl))
     (λ lists kept few.
     let domains : List ℕ = names_of lists in
-    let blocks : List KeptBlock = kept_of memory domains lists.blocks in
+    let nodes : ℕ → Option ℕ = nodes_by (kept_of memory domains lists.blocks) in
+    let left : ℕ → Option ℕ = left_by memory (kept_of memory domains lists.blocks) in
     let near_too : frame_base x < 2 ^ 64 = omega (arith, near) in (
-      given-at (nodes_by blocks) x near ∙ nodes_frame memory domains lists.blocks x
-          ∙ sym (given-at (nodes_by blocks) (frame_base x) near_too),
-      given-at (left_by memory blocks) x near ∙ left_frame memory whole domains lists.blocks x
-          ∙ sym (given-at (left_by memory blocks) (frame_base x) near_too),
+      rw (given-at nodes x near, given-at nodes (frame_base x) near_too) (nodes_frame memory domains lists.blocks x),
+      rw (given-at left x near, given-at left (frame_base x) near_too) (left_frame memory whole domains lists.blocks x),
     ))

@@ -1,6 +1,6 @@
 -- Members of a list, as tests over it see them.
 use Rattle.std.proofs.Common.{◌≡◌, Bool, true, ◌⊎◌, List, [], ◌∷◌, refl, sym, ◌∙◌, ap, inl, inr}
-use Rattle.std.proofs.lemmas.Bool.{cases_Bool, and_parts, and_from, true≢false}
+use Rattle.std.proofs.lemmas.Bool.{cases_Bool, and_parts, and_from, or_left, or_right, true≢false}
 use Rattle.std.specs.List.{list_any, list_all}
 
 module _ {X : Type 0} where
@@ -21,18 +21,14 @@ any_member p [] any = absurd (true≢false (sym any))
 any_member p (x ∷ xs) any = elim (cases_Bool (p x)) as (λ _. Passes p (x ∷ xs)) [
   | inl here ↦ record { one = x; member = inl refl; passes = here }
   | inr not_here ↦
-      let later : list_any p xs ≡ true = rw not_here at any in
-      let found : Passes p xs = any_member p xs later in
+      let found : Passes p xs = any_member p xs (rw not_here at any) in
       record { one = found.one; member = inr found.member; passes = found.passes }
 ]
 
 pub member_any : {X : Type 0} (p : X → Bool) (xs : List X) (x : X) → IsIn x xs → p x ≡ true → list_any p xs ≡ true
 member_any p [] x member passes = absurd member
-member_any p (y ∷ ys) x (inl here) passes = let at : p y ≡ true = ap p (sym here) ∙ passes in rw at refl
-member_any p (y ∷ ys) x (inr later) passes = elim (cases_Bool (p y)) as (λ _. list_any p (y ∷ ys) ≡ true) [
-  | inl at ↦ rw at refl
-  | inr not_at ↦ rw not_at (member_any p ys x later passes)
-]
+member_any p (y ∷ ys) x (inl here) passes = or_left (p y) _ (ap p (sym here) ∙ passes)
+member_any p (y ∷ ys) x (inr later) passes = or_right (p y) _ (member_any p ys x later passes)
 
 -- each element passes exactly where those of the list do
 pub all_member : {X : Type 0} (p : X → Bool) (xs : List X) (x : X) → list_all p xs ≡ true → IsIn x xs → p x ≡ true

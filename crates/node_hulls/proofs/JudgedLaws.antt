@@ -1,5 +1,6 @@
 -- The reasons in their order, and what the steps of the code find.
-use Rattle.std.proofs.Common.{◌≡◌, ℕ, ◌<◌, ◌≤◌, Bool, true, false, nat_le, nat_lt, Option, Some, None, List, length, take, refl, sym, ◌∙◌, ap, subst, arith}
+use Rattle.std.proofs.Common.{◌≡◌, ℕ, ◌<◌, ◌≤◌, Bool, true, false, Option, Some, None, List, length, take, refl, sym, ◌∙◌, ap, subst, arith}
+use Rattle.std.proofs.lemmas.Bool.{le-leb, lt-leb, lt-ltb, le-ltb}
 use Rattle.std.proofs.lemmas.Bool.Decides.{nat_tests}
 use Rattle.std.proofs.lemmas.List.{take_all, length-take}
 use Rattle.address_runs.specs.Runs.{Tells, value_at, IsRunsOf, runs_of}
@@ -16,14 +17,10 @@ use Rattle.node_hulls.proofs.RestLaws.{space_none}
 
 -- the front of the list of domains tells whether there are too many
 pub many_domains : (domains full : List ℕ) → domains ≡ take 1025 full → 1024 < length domains → 1024 < length full
-many_domains domains full is many =
-    let counted : length domains ≡ length (take 1025 full) = ap (λ (xs : List ℕ). length xs) is in
-    omega (arith, length-take 1025 full)
+many_domains domains full is many = omega (arith, ap (λ (xs : List ℕ). length xs) is, length-take 1025 full)
 
 pub few_domains : (domains full : List ℕ) → domains ≡ take 1025 full → length domains ≤ 1024 → length full ≤ 1024
-few_domains domains full is few =
-    let counted : length domains ≡ length (take 1025 full) = ap (λ (xs : List ℕ). length xs) is in
-    omega (arith, length-take 1025 full)
+few_domains domains full is few = omega (arith, ap (λ (xs : List ℕ). length xs) is, length-take 1025 full)
 
 pub whole_domains : (domains full : List ℕ) → domains ≡ take 1025 full → length domains ≤ 1024 → domains ≡ full
 whole_domains domains full is few = is ∙ take_all 1025 full (omega (arith, few_domains domains full is few))
@@ -64,18 +61,12 @@ module _ (memory : ℕ → Bool) (kept : List KeptBlock) (joined rest : List Num
 
   pub found_uncovered : (domains : List ℕ) → 256 ≤ frames → judged_kept memory domains kept ≡ unused (why.NotCovered frames)
   unfolding judged_kept
-  found_uncovered domains many =
-      let words : Spoken memory kept joined rest frames = spoken in
-      let test : nat_le 256 frames ≡ true = grind (arith, nat_tests) in
-      rw (found.apart, words.counted, test) refl
+  found_uncovered domains many = rw (found.apart, spoken.counted, le-leb 256 frames many) refl
 
   pub found_used : (domains : List ℕ) → frames < 256
       → judged_kept memory domains kept ≡ record { why = why.Used; domains = domains; joined = joined; rest = rest; uncovered = frames }
   unfolding judged_kept
-  found_used domains few =
-      let words : Spoken memory kept joined rest frames = spoken in
-      let test : nat_le 256 frames ≡ false = grind (arith, nat_tests) in
-      rw (found.apart, words.counted, test, words.hulls, words.left) refl
+  found_used domains few = rw (found.apart, spoken.counted, lt-leb 256 frames few, spoken.hulls, spoken.left) refl
 
 pub found_overlap : (memory : ℕ → Bool) (domains : List ℕ) (kept : List KeptBlock) (i j : ℕ) → first_clash kept ≡ Some (i, j)
     → judged_kept memory domains kept ≡ unused (why.Overlap i j)
@@ -91,17 +82,13 @@ module _ (memory : ℕ → Bool) (lists : Affinity) where
   pub too_many_domains : any_kept memory lists.blocks ≡ true → 1024 < length (names_of lists) → judged_table memory lists
       ≡ unused why.TooManyDomains
   unfolding judged_table
-  too_many_domains some many =
-      let test : nat_lt 1024 (length (names_of lists)) ≡ true = grind (arith, nat_tests) in
-      rw (some, test) refl
+  too_many_domains some many = rw (some, lt-ltb 1024 (length (names_of lists)) many) refl
 
   pub too_many_blocks : any_kept memory lists.blocks ≡ true → length (names_of lists) ≤ 1024 → 2048 < count_some lists.blocks
       → judged_table memory lists ≡ unused why.TooManyBlocks
   unfolding judged_table
   too_many_blocks some few many =
-      let domains : nat_lt 1024 (length (names_of lists)) ≡ false = grind (arith, nat_tests) in
-      let blocks : nat_lt 2048 (count_some lists.blocks) ≡ true = grind (arith, nat_tests) in
-      rw (some, domains, blocks) refl
+      rw (some, le-ltb 1024 (length (names_of lists)) few, lt-ltb 2048 (count_some lists.blocks) many) refl
 
   pub by_kept : any_kept memory lists.blocks ≡ true → (domains : List ℕ) → domains ≡ take 1025 (names_of lists) → length domains ≤ 1024
       → count_some lists.blocks ≤ 2048 → (kept : List KeptBlock) → kept ≡ kept_of memory domains lists.blocks
@@ -109,7 +96,5 @@ module _ (memory : ℕ → Bool) (lists : Affinity) where
   unfolding judged_table
   by_kept some domains names few few_blocks kept is =
       let whole : domains ≡ names_of lists = whole_domains domains (names_of lists) names few in
-      let count : nat_lt 1024 (length (names_of lists)) ≡ false = grind
-      (arith, nat_tests, few_domains domains (names_of lists) names few) in
-      let blocks : nat_lt 2048 (count_some lists.blocks) ≡ false = grind (arith, nat_tests) in
-      rw (some, count, blocks, is, whole) refl
+      let count = le-ltb 1024 (length (names_of lists)) (few_domains domains (names_of lists) names few) in
+      rw (some, count, le-ltb 2048 (count_some lists.blocks) few_blocks, is, whole) refl

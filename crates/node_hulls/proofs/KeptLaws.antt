@@ -1,9 +1,8 @@
 -- Which blocks are kept, and which overlap: what one look at a block tells.
-use Rattle.std.proofs.Common.{◌≡◌, ℕ, ◌+◌, ◌^◌, ◌<◌, Bool, true, false, not, List, [], ◌∷◌, length, get_or, drop, add-one, ◌++◌, refl, subst, sym, ◌∙◌, ap, inl, inr, lt_of_not-le, arith}
-use Rattle.std.proofs.lemmas.Bool.{cases_Bool, true≢false}
+use Rattle.std.proofs.Common.{◌≡◌, ℕ, ◌+◌, ◌^◌, ◌<◌, Bool, true, not, List, [], ◌∷◌, length, get_or, drop, add-one, ◌++◌, refl, subst, sym, ◌∙◌, ap, inl, inr, lt_of_not-le, arith}
+use Rattle.std.proofs.lemmas.Bool.{cases_Bool, cond_both, not-true, true≢false}
 use Rattle.std.proofs.lemmas.List.{append-nil, map-append}
 use Rattle.std.proofs.Math.Seq.{drop-cons}
-use Rattle.bm_base.specs.Each.{each_in}
 use Rattle.bm_base.proofs.EachLaws.{each_in-all}
 use Rattle.address_runs.specs.Overlay.{HaveAddresses}
 use Rattle.address_runs.specs.Runs.{run_end, extent_of}
@@ -25,30 +24,27 @@ kept_step memory domains blocks i b lt is = rw (drop-cons blocks i b lt, ← is,
 pub kept_space : (memory : ℕ → Bool) (kept : List KeptBlock) (i : ℕ) (b : NumaBlock) → EndInSpace (numa_blocks_of kept) → run_end b < 2 ^ 64
     → EndInSpace (numa_blocks_of (kept ++ kept_one memory i b))
 kept_space memory kept i b space ends =
-    elim (cases_Bool (meets_memory memory (extent_of b))) as (λ _. EndInSpace (numa_blocks_of (kept ++ kept_one memory i b))) [
-      | inl some ↦
-          let one : KeptBlock = record { number = i; block = b } in
-          rw (some, map-append (λ (k : KeptBlock). k.block) kept (one ∷ [])) (space_push (numa_blocks_of kept) b space ends)
-      | inr none ↦ rw (none, append-nil kept) space
-    ]
+    let one : List KeptBlock = record { number = i; block = b } ∷ [] in
+    cond_both (meets_memory memory (extent_of b)) one [] (λ (ks : List KeptBlock). EndInSpace (numa_blocks_of (kept ++ ks)))
+    (λ some. rw (map-append (λ (k : KeptBlock). k.block) kept one) (space_push (numa_blocks_of kept) b space ends))
+    (λ none. rw (append-nil kept) space)
 
 -- a block that is kept has an address: a byte of memory
 has_address : (memory : ℕ → Bool) (b : NumaBlock) → meets_memory memory (extent_of b) ≡ true → 0 < b.size
 has_address memory b some = lt_of_not-le (λ none.
-    let all : each_in (extent_of b) (λ y. not (memory y)) ≡ true = each_in-all (extent_of b) (λ y. not (memory y))
-    (λ y low high. absurd (omega arith)) in
-    true≢false (sym some ∙ rw all refl))
+    let all = each_in-all (extent_of b) (λ y. not (memory y)) (λ y low high. absurd (omega arith)) in
+    true≢false (sym all ∙ not-true _ some))
 
 kept_addresses : (memory : ℕ → Bool) (domains : List ℕ) (i : ℕ) (bs : List SratBlock)
     → HaveAddresses (numa_blocks_of (kept_from memory domains i bs))
 kept_addresses memory domains i [] = tt
-kept_addresses memory domains i (b ∷ bs) = by (meets_memory memory (extent_of (of_node domains b))) refl
-    (kept_addresses memory domains (i + 1) bs) where
-      by : (some : Bool) → meets_memory memory (extent_of (of_node domains b)) ≡ some
-          → HaveAddresses (numa_blocks_of (kept_from memory domains (i + 1) bs))
-          → HaveAddresses (numa_blocks_of (kept_from memory domains i (b ∷ bs)))
-      by true some rest = rw some (has_address memory (of_node domains b) some, rest)
-      by false none rest = rw none rest
+kept_addresses memory domains i (b ∷ bs) =
+    let rest = kept_addresses memory domains (i + 1) bs in
+    elim (cases_Bool (meets_memory memory (extent_of (of_node domains b)))) as
+    (λ _. HaveAddresses (numa_blocks_of (kept_from memory domains i (b ∷ bs)))) [
+      | inl some ↦ rw some (has_address memory (of_node domains b) some, rest)
+      | inr none ↦ rw none rest
+    ]
 
 pub addresses_kept : (memory : ℕ → Bool) (domains : List ℕ) (bs : List SratBlock)
     → HaveAddresses (numa_blocks_of (kept_of memory domains bs))

@@ -1,14 +1,15 @@
 -- What the words mean to each other: one node an address, one node a domain, one node a frame, and memory for each node.
 use Rattle.std.proofs.Common.{◌≡◌, ◌≢◌, ◌↔◌, ℕ, zero, suc, ◌+◌, ◌%◌, ◌<◌, ◌≤◌, ◌==◌, ◌⊎◌, Bool, true, false, ◌&&◌, not, Option, Some, None, List, [], ◌∷◌, fold, length, get_or, refl, sym, ◌∙◌, ap, subst, inl, inr, arith}
-use Rattle.std.proofs.lemmas.Bool.{cases_lt, cases_Bool, true≢false}
+use Rattle.std.proofs.lemmas.Bool.{cases_lt, cases_Bool, eqb-true, eq-eqb, lt-ltb, not-true, true≢false}
 use Rattle.std.proofs.lemmas.Bool.Decides.{nat_tests}
-use Rattle.std.proofs.lemmas.Iterator.Adapters.{position_from-zero}
-use Rattle.std.proofs.lemmas.List.Quantifiers.{position-Some}
-use Rattle.std.proofs.lemmas.Option.{none-some, same_Some}
-use Rattle.std.specs.List.{list_any, position, position_from}
+use Rattle.std.proofs.lemmas.List.Folds.{list_any_none}
+use Rattle.std.proofs.lemmas.List.Sums.{fails_before_first, passes_at_first}
+use Rattle.std.proofs.lemmas.Option.{cond_some, same_Some}
+use Rattle.std.specs.List.{list_any, position_or_len}
 use Rattle.std.specs.Prelude.{is_none}
 use Rattle.address_runs.specs.Overlay.{HaveAddresses}
 use Rattle.address_runs.specs.Runs.{run_end, lies_in, value_at, extent_of}
+use Rattle.address_runs.proofs.RunsLaws.{inside}
 use Rattle.bm_base.specs.Each.{each_from, each_in}
 use Rattle.srat_reader.specs.declared.table.SratBlock.{SratBlock}
 use Rattle.node_hulls.specs.declared.kept.KeptBlock.{KeptBlock}
@@ -23,26 +24,15 @@ use Rattle.node_hulls.proofs.NodesLaws.{Apart, apart_blocks, has_filled, first_h
 
 -- an address isn't around places of two nodes
 one_around : (f : ℕ → Option ℕ) (x m n : ℕ) → IsAround f x m → IsAround f x n → m ≡ n
-one_around f x m n first second =
-    let under = first.under in
-    let over = first.over in
-    let under_too = second.under in
-    let over_too = second.over in
-    elim (cases_lt first.low second.low) as (λ _. m ≡ n) [
-      | inl lower_first ↦ sym (first.only second.low n (omega arith) (omega arith) second.at_low)
-      | inr lower_second ↦ second.only first.low m lower_second (omega arith) first.at_low
-    ]
+one_around f x m n first second = elim (cases_lt first.low second.low) as (λ _. m ≡ n) [
+  | inl lower_first ↦ sym (first.only second.low n (omega arith) (omega (arith, second.under, first.over)) second.at_low)
+  | inr lower_second ↦ second.only first.low m lower_second (omega (arith, first.under, second.over)) first.at_low
+]
 
 one_filled : (f : ℕ → Option ℕ) (x m n : ℕ) → IsFilled f x m → IsFilled f x n → m ≡ n
 one_filled f x m n (inl first) (inl second) = same_Some m n (sym first ∙ second)
-one_filled f x m n (inl first) (inr around) =
-    let under = around.under in
-    let over = around.over in
-    around.only x m (omega arith) (omega arith) first
-one_filled f x m n (inr around) (inl second) =
-    let under = around.under in
-    let over = around.over in
-    sym (around.only x n (omega arith) (omega arith) second)
+one_filled f x m n (inl first) (inr around) = around.only x m (omega (arith, around.under)) (omega (arith, around.over)) first
+one_filled f x m n (inr around) (inl second) = sym (around.only x n (omega (arith, around.under)) (omega (arith, around.over)) second)
 one_filled f x m n (inr first) (inr second) = one_around f x m n first second
 
 -- so the node of an address is the one that it has
@@ -56,7 +46,7 @@ node_had blocks x n apart some had = by (first_had blocks x blocks) refl where
       (one_filled (value_at blocks) x m n (has_filled blocks m x apart some other) (has_filled blocks n x apart some had))
   by None at =
       let block = node_block blocks n x had in
-      absurd (first_some blocks x blocks block.0 block.1 (subst (λ (k : ℕ). has blocks k x ≡ true) (sym block.2) had) at)
+      absurd (first_some blocks x blocks block.0 block.1 (rw block.2 had) at)
 
 node_has : (blocks : List NumaBlock) (x n : ℕ) → node_at blocks x ≡ Some n → has blocks n x ≡ true
 unfolding node_at
@@ -68,32 +58,27 @@ one_node kept apart some x n =
     ((λ had. node_had (numa_blocks_of kept) x n (apart_blocks kept apart) some had), (λ at. node_has (numa_blocks_of kept) x n at))
 
 -- a domain that is named has a place
-no_place : (p : ℕ → Bool) (i : ℕ) (xs : List ℕ) → position_from p i xs ≡ None → list_any p xs ≡ false
-no_place p i [] none = refl
-no_place p i (x ∷ xs) none = elim (cases_Bool (p x)) as (λ _. list_any p (x ∷ xs) ≡ false) [
-  | inl here ↦ absurd (none-some i (sym none ∙ rw here refl))
-  | inr not_here ↦ rw not_here (no_place p (i + 1) xs (rw not_here at none))
-]
-
 pub record HasPlace (domains : List ℕ) (d : ℕ) : Type 0 where
   pub below : node_of domains d < length domains
   pub there : get_or domains (node_of domains d) 0 ≡ d
   pub first : (k : ℕ) → k < node_of domains d → (get_or domains k 0 == d) ≡ false
 
 pub place_of : (domains : List ℕ) (d : ℕ) → is_named domains d ≡ true → HasPlace domains d
-place_of domains d named = by (position (λ e. e == d) domains) refl where
-  by : (o : Option ℕ) → position (λ e. e == d) domains ≡ o → HasPlace domains d
-  by None at =
-      let none : position_from (λ e. e == d) 0 domains ≡ None = sym (position_from-zero (λ e. e == d) domains) ∙ at in
-      absurd (true≢false (sym named ∙ no_place (λ e. e == d) 0 domains none))
-  by (Some i) at =
-      let node : node_of domains d ≡ i = rw at refl in
-      let found = position-Some (λ e. e == d) domains i 0 at in
-      record {
-        below = rw node found.0;
-        there = rw node (grind (arith, nat_tests, found.1));
-        first = rw node found.2;
-      }
+place_of domains d named =
+    let p : ℕ → Bool = λ e. e == d in
+    let i : ℕ = position_or_len p domains in
+    elim (cases_lt i (length domains)) as (λ _. HasPlace domains d) [
+      | inl less ↦
+          let node : node_of domains d ≡ i = rw (lt-ltb i (length domains) less) refl in
+          record {
+            below = rw node less;
+            there = rw node (eqb-true _ d (passes_at_first p domains 0 less));
+            first = rw node (λ k before. fails_before_first p domains k 0 before);
+          }
+      | inr none ↦
+          let fails : list_any p domains ≡ false = list_any_none p domains (λ k c less. fails_before_first p domains k c (omega arith)) in
+          absurd (true≢false (sym named ∙ fails))
+    ]
 
 pub one_domain : (domains : List ℕ) (d e : ℕ) → is_named domains d ≡ true → is_named domains e ≡ true
     → node_of domains d ≡ node_of domains e → d ≡ e
@@ -145,19 +130,17 @@ pub is_kept : (memory : ℕ → Bool) (domains : List ℕ) (i : ℕ) (bs : List 
     → IsKept memory domains k
 is_kept memory domains i [] k member = absurd member
 is_kept memory domains i (b ∷ bs) k member =
-    by (meets_memory memory (extent_of (of_node domains b))) refl (is_kept memory domains (i + 1) bs k) member where
-      by : (some : Bool) → meets_memory memory (extent_of (of_node domains b)) ≡ some
-          → (IsIn k (kept_from memory domains (i + 1) bs) → IsKept memory domains k)
-          → IsIn k (kept_from memory domains i (b ∷ bs)) → IsKept memory domains k
-      by true some rest here = elim (rw some at here) as (λ _. IsKept memory domains k) [
+    elim (cases_Bool (meets_memory memory (extent_of (of_node domains b)))) as (λ _. IsKept memory domains k) [
+      | inl some ↦ elim (rw some at member) as (λ _. IsKept memory domains k) [
         | inl first ↦ record {
           told = b;
           block = ap (λ (j : KeptBlock). j.block) first;
           some = ap (λ (j : KeptBlock). meets_memory memory (extent_of j.block)) first ∙ some;
         }
-        | inr later ↦ rest later
+        | inr later ↦ is_kept memory domains (i + 1) bs k later
       ]
-      by false none rest here = rest (rw none at here)
+      | inr none ↦ is_kept memory domains (i + 1) bs k (rw none at member)
+    ]
 
 framed_kept : (memory : ℕ → Bool) (domains : List ℕ) (bs : List SratBlock) → Framed (numa_blocks_of (kept_of memory domains bs))
 framed_kept memory domains bs c member =
@@ -187,17 +170,12 @@ memory_from memory x (suc n) some = elim (cases_Bool (memory x)) as (λ _. Memor
   | inl here ↦ record { at = x; above = omega arith; under = omega arith; is = here }
   | inr not_here ↦
       let later : MemoryIn memory (x + 1) n = memory_from memory (x + 1) n (rw not_here at some) in
-      let above = later.above in
-      let under = later.under in
-      record { at = later.at; above = omega arith; under = omega arith; is = later.is }
+      record { at = later.at; above = omega (arith, later.above); under = omega (arith, later.under); is = later.is }
 ]
 
 memory_in : (memory : ℕ → Bool) (b : NumaBlock) → meets_memory memory (extent_of b) ≡ true → MemoryIn memory b.base b.size
 unfolding each_in
-memory_in memory b some = memory_from memory b.base b.size (by (each_from (λ y. not (memory y)) b.base b.size) refl) where
-  by : (t : Bool) → each_from (λ y. not (memory y)) b.base b.size ≡ t → each_from (λ y. not (memory y)) b.base b.size ≡ false
-  by true all = absurd (true≢false (sym some ∙ rw all refl))
-  by false at = at
+memory_in memory b some = memory_from memory b.base b.size (not-true _ some)
 
 block_in : (ks : List KeptBlock) (k : KeptBlock) → IsIn k ks → IsIn k.block (numa_blocks_of ks)
 block_in [] k member = absurd member
@@ -214,11 +192,9 @@ node_memory memory domains blocks apart n of_block =
     let k : KeptBlock = found.one in
     let node : k.block.value ≡ n = grind (arith, nat_tests, found.passes) in
     let place = memory_in memory k.block (is_kept memory domains 0 blocks k found.member).some in
-    let above = place.above in
-    let under = place.under in
-    let lies : lies_in k.block place.at ≡ true = grind (arith, nat_tests) in
     let held : holds (numa_blocks_of kept) n place.at ≡ true =
-    held_by (numa_blocks_of kept) k.block n place.at (block_in kept k found.member) node lies in (
+    held_by (numa_blocks_of kept) k.block n place.at (block_in kept k found.member) node
+    (inside k.block place.at place.above place.under) in (
       place.at,
       place.is,
       node_had (numa_blocks_of kept) place.at n (apart_blocks kept apart) (addresses_kept memory domains blocks) (rw held refl),
@@ -228,8 +204,7 @@ node_memory memory domains blocks apart n of_block =
 node_kept : (ks : List KeptBlock) (b : NumaBlock) (n : ℕ) → IsIn b (numa_blocks_of ks) → b.value ≡ n → is_node_of ks n ≡ true
 node_kept ks b n member node =
     let found = kept_member ks b member in
-    let same : found.0.block.value ≡ n = ap (λ (c : NumaBlock). c.value) (sym found.2) ∙ node in
-    member_any _ ks found.0 found.1 (grind (arith, nat_tests))
+    member_any _ ks found.0 found.1 (eq-eqb _ _ (ap (λ (c : NumaBlock). c.value) (sym found.2) ∙ node))
 
 abbrev IsLeast : ℕ → List NumaBlock → Type 0
 IsLeast start bs = (fold lower start bs ≡ start) ⊎ ((b : NumaBlock) × IsIn b bs × (b.value ≡ fold lower start bs))
@@ -258,9 +233,6 @@ pub node_of_kept : (memory : ℕ → Bool) (kept : List KeptBlock) → kept ≢ 
 node_of_kept memory kept some x n (inl at) =
     let block = node_block (numa_blocks_of kept) n x (node_has (numa_blocks_of kept) x n at) in
     node_kept kept block.0 n block.1 block.2
-node_of_kept memory kept some x n (inr left) = by (memory x && is_none (nodes_by kept x)) refl where
-  by : (t : Bool) → (memory x && is_none (nodes_by kept x)) ≡ t → is_node_of kept n ≡ true
-  by true at =
-      let same : lowest (numa_blocks_of kept) ≡ n = same_Some (lowest (numa_blocks_of kept)) n (rw at at left) in
-      subst (λ (m : ℕ). is_node_of kept m ≡ true) same (lowest_kept kept some)
-  by false at = absurd (none-some n (rw at at left))
+node_of_kept memory kept some x n (inr left) =
+    let same = (cond_some (memory x && is_none (nodes_by kept x)) (lowest (numa_blocks_of kept)) n left).1 in
+    subst (λ (m : ℕ). is_node_of kept m ≡ true) same (lowest_kept kept some)

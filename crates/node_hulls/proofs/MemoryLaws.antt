@@ -1,11 +1,10 @@
 -- Memory as runs: the first run that ends behind a range's first address tells whether a byte of the range is memory.
-use Rattle.std.proofs.Common.{◌≡◌, ◌↔◌, ℕ, suc, ◌+◌, ◌<◌, ◌≤◌, Bool, true, false, not, max, if◌then◌else◌, Option, Some, None, List, ◌∷◌, map, length, get_or, drop, drop-cons, refl, sym, ◌∙◌, ap, subst, lt_of_not-le, arith}
+use Rattle.std.proofs.Common.{◌≡◌, ◌↔◌, ℕ, suc, ◌+◌, ◌<◌, ◌≤◌, Bool, true, false, not, max, if◌then◌else◌, Option, Some, None, List, ◌∷◌, map, length, get_or, drop, drop-cons, refl, sym, ◌∙◌, ap, lt_of_not-le, arith}
 use Rattle.std.proofs.lemmas.Bool.{true≢false}
 use Rattle.std.proofs.lemmas.Bool.Decides.{nat_tests}
 use Rattle.std.proofs.lemmas.List.{at_drop_all}
 use Rattle.std.specs.Option.{option_or}
 use Rattle.std.specs.Prelude.{is_some}
-use Rattle.bm_base.specs.Each.{each_in}
 use Rattle.bm_base.specs.Extent.{Extent, Meet}
 use Rattle.bm_base.proofs.EachLaws.{each_in-all, each_in-fails}
 use Rattle.address_runs.specs.Overlay.{all_overlaid}
@@ -28,16 +27,12 @@ told_memory memory rs known x = ap (λ (o : Option Bool). is_some o) (known.each
 some_in : (rs : List (RunOf Bool)) (range : Extent) (x : ℕ) (v : Bool) → range.base ≤ x → x < range.base + range.size
     → value_at rs x ≡ Some v → meets_memory (in_runs rs) range ≡ true
 some_in rs range x v low high found =
-    let missed : each_in range (λ y. not (in_runs rs y)) ≡ false =
-    each_in-fails range (λ y. not (in_runs rs y)) x low high (rw found refl) in
-    rw missed refl
+    ap not (each_in-fails range (λ y. not (in_runs rs y)) x low high (rw found refl))
 
 none_in : (rs : List (RunOf Bool)) (range : Extent) → ((y : ℕ) → range.base ≤ y → y < range.base + range.size → value_at rs y ≡ None)
     → meets_memory (in_runs rs) range ≡ false
 none_in rs range none =
-    let all : each_in range (λ y. not (in_runs rs y)) ≡ true =
-    each_in-all range (λ y. not (in_runs rs y)) (λ y low high. rw (none y low high) refl) in
-    rw all refl
+    ap not (each_in-all range (λ y. not (in_runs rs y)) (λ y low high. rw (none y low high) refl))
 
 -- no run is left
 pub nothing_left : (rs : List (RunOf Bool)) (i : ℕ) (range : Extent) → IsRestFrom (value_at rs) range.base (drop i rs) → length rs ≤ i
@@ -52,8 +47,7 @@ Left rs range r ss = IsRestFrom (value_at rs) range.base (r ∷ ss)
 left_at : (rs : List (RunOf Bool)) (i : ℕ) (range : Extent) (r : RunOf Bool) → IsRestFrom (value_at rs) range.base (drop i rs)
     → i < length rs → r ≡ get_or rs i r → Left rs range r (drop (suc i) rs)
 left_at rs i range r rest few is =
-    let left : drop i rs ≡ r ∷ drop (suc i) rs = rw (drop-cons rs i r few, ← is) refl in
-    subst (λ (ss : List (RunOf Bool)). IsRestFrom (value_at rs) range.base ss) left rest
+    rw (drop-cons rs i r few, ← is) at rest
 
 first_meets : (rs : List (RunOf Bool)) (i : ℕ) (range : Extent) (r : RunOf Bool) → IsRestFrom (value_at rs) range.base (drop i rs)
     → i < length rs → r ≡ get_or rs i r → Meet (extent_of r) range → meets_memory (in_runs rs) range ≡ true
@@ -62,25 +56,21 @@ first_meets rs i range r rest few is met =
     let x : ℕ = met.0 in
     let low : range.base ≤ x = grind (arith, nat_tests, met.1) in
     let high : x < range.base + range.size = grind (arith, nat_tests, met.1) in
-    let above : r.base ≤ x = grind (arith, nat_tests, met.1) in
-    let under : x < r.base + r.size = grind (arith, nat_tests, met.1) in
-    some_in rs range x r.value low high (sym (left.each x low) ∙ rw (inside r x above under) refl)
+    let lies = inside r x (grind (arith, nat_tests, met.1)) (grind (arith, nat_tests, met.1)) in
+    some_in rs range x r.value low high (sym (left.each x low) ∙ rw lies refl)
 
 begins_above : (r : RunOf Bool) (range : Extent) (y : ℕ) → (Meet (extent_of r) range → ⊥) → range.base < run_end r → 0 < r.size
     → range.base ≤ y → y < range.base + range.size → y < r.base
 begins_above r range y apart ends some low high = lt_of_not-le (λ above.
-    let x : ℕ = max r.base range.base in
-    apart (x, grind (arith, nat_tests)))
+    apart (max r.base range.base, grind (arith, nat_tests)))
 
 first_misses : (rs : List (RunOf Bool)) (i : ℕ) (range : Extent) (r : RunOf Bool) → IsRestFrom (value_at rs) range.base (drop i rs)
     → i < length rs → r ≡ get_or rs i r → (Meet (extent_of r) range → ⊥) → meets_memory (in_runs rs) range ≡ false
 first_misses rs i range r rest few is apart =
     let left = left_at rs i range r rest few is in
-    none_in rs range
-    (λ y low high.
-    sym (left.each y low)
-    ∙ none_below r.base y (r ∷ drop (suc i) rs) left.runs (omega arith)
-    (begins_above r range y apart left.ends left.runs.0 low high))
+    none_in rs range (λ y low high.
+    let lower = begins_above r range y apart left.ends left.runs.0 low high in
+    sym (left.each y low) ∙ none_below r.base y (r ∷ drop (suc i) rs) left.runs (omega arith) lower)
 
 pub first_tells : (rs : List (RunOf Bool)) (i : ℕ) (range : Extent) (r : RunOf Bool) → IsRestFrom (value_at rs) range.base (drop i rs)
     → i < length rs → r ≡ get_or rs i r → (met : Bool) → (met ≡ true ↔ Meet (extent_of r) range) → met ≡ meets_memory (in_runs rs) range

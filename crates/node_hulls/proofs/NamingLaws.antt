@@ -1,10 +1,10 @@
 -- Nodes count domains in the order in which these are first named.
-use Rattle.std.proofs.Common.{◌≡◌, ◌≢◌, ℕ, zero, suc, ◌+◌, ◌<◌, ◌≤◌, ◌==◌, true, false, ◌||◌, List, [], ◌∷◌, ◌++◌, fold, length, get_or, length-append, append_assoc, refl, sym, ◌∙◌, ap, subst, inl, inr, le_of_suc-le-suc, lt_of_not-le, arith}
-use Rattle.std.proofs.lemmas.Bool.{cases_lt, cases_Bool, true≢false}
+use Rattle.std.proofs.Common.{◌≡◌, ◌≢◌, ℕ, ◌+◌, ◌<◌, ◌≤◌, ◌==◌, true, false, ◌||◌, List, [], ◌∷◌, ◌++◌, fold, length, get_or, length-append, append_assoc, refl, sym, ◌∙◌, ap, subst, inl, inr, le_of_suc-le-suc, lt_of_not-le, arith}
+use Rattle.std.proofs.lemmas.Bool.{cases_lt, cases_Bool, eq-eqb, lt-ltb, ne_eqb, or_right, true≢false}
 use Rattle.std.proofs.lemmas.Bool.Decides.{nat_tests}
 use Rattle.std.proofs.lemmas.List.{append-nil, get_or_append_left}
-use Rattle.std.proofs.lemmas.List.Folds.{list_any-append}
-use Rattle.std.proofs.lemmas.List.Sums.{fold-append}
+use Rattle.std.proofs.lemmas.List.Folds.{list_any-append, list_any_at}
+use Rattle.std.proofs.lemmas.List.Sums.{fold-append, position_or_len_is}
 use Rattle.std.proofs.Math.Seq.{get_or-append_seam}
 use Rattle.node_hulls.specs.Domains.{is_named, with_name, named_once, node_of}
 use Rattle.node_hulls.proofs.MeaningLaws.{HasPlace, place_of, node_below}
@@ -45,22 +45,13 @@ named_exactly names d = named_all [] names d
 
 -- a domain keeps its node where more stand behind, and one that is new stands behind all
 is_named_at : (domains : List ℕ) (i d : ℕ) → i < length domains → get_or domains i 0 ≡ d → is_named domains d ≡ true
-is_named_at [] i d within is = absurd (omega arith)
-is_named_at (c ∷ cs) zero d within is = let here : (c == d) ≡ true = grind (arith, nat_tests) in rw here refl
-is_named_at (c ∷ cs) (suc i) d within is = let later : is_named cs d ≡ true = is_named_at cs i d (omega arith) is in grind (arith, later)
+is_named_at domains i d within is = list_any_at (λ e. e == d) domains i 0 within (eq-eqb _ d is)
 
 first_place : (domains : List ℕ) (i d : ℕ) → i < length domains → get_or domains i 0 ≡ d
     → ((k : ℕ) → k < i → (get_or domains k 0 == d) ≡ false) → node_of domains d ≡ i
 first_place domains i d within is none =
-    let place : HasPlace domains d = place_of domains d (is_named_at domains i d within is) in
-    let test : (k : ℕ) → get_or domains k 0 ≡ d → (get_or domains k 0 == d) ≡ false → ⊥ = λ k there no. grind (arith, nat_tests) in
-    elim (cases_lt (node_of domains d) i) as (λ _. node_of domains d ≡ i) [
-      | inl before ↦ absurd (test (node_of domains d) place.there (none (node_of domains d) before))
-      | inr behind ↦ elim (cases_lt i (node_of domains d)) as (λ _. node_of domains d ≡ i) [
-        | inl before ↦ absurd (test i is (place.first i before))
-        | inr after ↦ omega (arith, behind, after)
-      ]
-    ]
+    let at = position_or_len_is (λ e. e == d) domains i 0 (omega arith) none (λ less. eq-eqb _ d is) in
+    rw (at, lt-ltb i (length domains) within) refl
 
 node_stays : (domains more : List ℕ) (d : ℕ) → is_named domains d ≡ true → node_of (domains ++ more) d ≡ node_of domains d
 node_stays domains more d named =
@@ -95,9 +86,7 @@ places_with domains d places = elim (cases_Bool (is_named domains d)) as (λ _. 
             let is : get_or (domains ++ d ∷ []) n 0 ≡ d =
             ap (λ (k : ℕ). get_or (domains ++ d ∷ []) k 0) last ∙ get_or-append_seam domains d [] 0 in
             let named : is_named (domains ++ d ∷ []) d ≡ true = is_named_at (domains ++ d ∷ []) n d within is in
-            let low = node_behind domains (d ∷ []) d new named in
-            let high = node_below (domains ++ d ∷ []) d named in
-            rw is (omega (arith, last, low, high, long))
+            rw is (omega (arith, last, node_behind domains (d ∷ []) d new named, node_below (domains ++ d ∷ []) d named, long))
       ])
 ]
 
@@ -116,18 +105,14 @@ order_behind domains names d e named new later =
     let behind = extended domains names in
     let there : is_named (domains ++ behind.0) e ≡ true =
     subst (λ (ds : List ℕ). is_named ds e ≡ true) behind.1 (named_all domains names e ∙ rw (new, later) refl) in
-    let stays = node_stays domains behind.0 d named in
-    let below = node_below domains d named in
-    let high = node_behind domains behind.0 e new there in
-    rw behind.1 (omega (arith, stays, below, high))
+    rw behind.1 (omega (arith, node_stays domains behind.0 d named, node_below domains d named, node_behind domains behind.0 e new there))
 
 pub order_of_naming : (before after : List ℕ) (d e : ℕ) → is_named before e ≡ false → d ≢ e → is_named after e ≡ true
     → node_of (named_once (before ++ d ∷ after)) d < node_of (named_once (before ++ d ∷ after)) e
 unfolding named_once
 order_of_naming before after d e new other later =
     let so_far : List ℕ = fold with_name [] before in
-    let same : (d == d) ≡ true = grind (arith, nat_tests) in
-    let differ : (d == e) ≡ false = grind (arith, nat_tests, other) in
-    let named : is_named (with_name so_far d) d ≡ true = named_with so_far d d ∙ rw same (grind arith) in
-    let not_yet : is_named (with_name so_far d) e ≡ false = named_with so_far d e ∙ rw (differ, named_all [] before e, new) refl in
+    let named : is_named (with_name so_far d) d ≡ true = named_with so_far d d ∙ or_right _ _ (eq-eqb d d refl) in
+    let not_yet : is_named (with_name so_far d) e ≡ false =
+    named_with so_far d e ∙ rw (ne_eqb d e other, named_all [] before e, new) refl in
     rw (fold-append with_name [] before (d ∷ after)) (order_behind (with_name so_far d) after d e named not_yet later)

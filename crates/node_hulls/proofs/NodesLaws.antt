@@ -1,6 +1,6 @@
 -- Blocks of different nodes that share no address: the joined runs of their nodes are the runs of what each address has.
 use Rattle.std.proofs.Common.{◌≡◌, ◌≢◌, ℕ, zero, suc, ◌^◌, ◌<◌, ◌≤◌, ◌==◌, Bool, true, false, ◌&&◌, ◌||◌, not, max, min, Option, Some, None, List, [], ◌∷◌, map, length, get_or, refl, sym, ◌∙◌, ap, subst, inl, inr, arith}
-use Rattle.std.proofs.lemmas.Bool.{cases_lt, cases_Bool, and_parts, and_from, false_from_ne_true, true≢false}
+use Rattle.std.proofs.lemmas.Bool.{cases_lt, cases_Bool, and_parts, and_from, eqb-true, eq-eqb, not-true, false_from_ne_true, true≢false}
 use Rattle.std.proofs.lemmas.Bool.Decides.{nat_tests}
 use Rattle.std.proofs.lemmas.List.{map-id}
 use Rattle.std.proofs.lemmas.Option.{none-some, same_Some}
@@ -102,8 +102,8 @@ joined_around blocks n x apart some joined =
     let b_before : x < b.base = grind (arith, nat_tests, between_own.0) in
     let a_some : 0 < a.size = some_address blocks a some outer.member in
     let b_some : 0 < b.size = some_address blocks b some inner.member in
-    let a_node : a.value ≡ n = grind (arith, nat_tests, of_a.0) in
-    let b_node : b.value ≡ n = grind (arith, nat_tests, of_b.0) in
+    let a_node : a.value ≡ n = eqb-true a.value n of_a.0 in
+    let b_node : b.value ≡ n = eqb-true b.value n of_b.0 in
     record {
       low = a.base;
       high = b.base;
@@ -123,8 +123,7 @@ has_filled blocks n x apart some had = elim (cases_Bool (holds blocks n x)) as (
   | inl held ↦
       let found = any_member _ blocks held in
       let parts = and_parts (found.one.value == n) (lies_in found.one x) found.passes in
-      let node : found.one.value ≡ n = grind (arith, nat_tests, parts.0) in
-      inl (given blocks found.one x apart found.member parts.1 ∙ ap (λ m. Some m) node)
+      inl (given blocks found.one x apart found.member parts.1 ∙ ap (λ m. Some m) (eqb-true found.one.value n parts.0))
   | inr not_held ↦ inr (joined_around blocks n x apart some (rw not_held at had))
 ]
 
@@ -165,18 +164,15 @@ around_joins blocks n x apart around not_held =
     let b = given_by_block blocks around.high n around.at_high in
     let low = bounds a.block around.low a.lies in
     let high = bounds b.block around.high b.lies in
-    let under = around.under in
-    let over = around.over in
-    let a_behind : run_end a.block ≤ x = grind (arith, nat_tests, low.0, lies_outside blocks n x around.low a not_held) in
-    let b_before : x < b.block.base = grind (arith, nat_tests, high.1, lies_outside blocks n x around.high b not_held) in
-    let between : is_between a.block b.block x ≡ true = grind (arith, nat_tests) in
+    let a_outside = lies_outside blocks n x around.low a not_held in
+    let b_outside = lies_outside blocks n x around.high b not_held in
+    let between : is_between a.block b.block x ≡ true =
+    grind (arith, nat_tests, low.0, around.under, a_outside, high.1, around.over, b_outside) in
     let own : is_own blocks n a.block b.block ≡ true = member_all _ blocks (λ c in_c.
     own_passes c.value n (meets a.block.base (run_end b.block) c) (hull_own blocks n x apart around a b c in_c)) in
-    let of_a : (a.block.value == n) ≡ true = grind (arith, nat_tests, a.node) in
-    let of_b : (b.block.value == n) ≡ true = grind (arith, nat_tests, b.node) in
     let inner = member_any (λ (d : NumaBlock). (d.value == n) && (is_between a.block d x && is_own blocks n a.block d)) blocks b.block
-    b.member (rw (of_b, between, own) refl) in
-    member_any _ blocks a.block a.member (rw (of_a, inner) refl)
+    b.member (rw (eq-eqb b.block.value n b.node, between, own) refl) in
+    member_any _ blocks a.block a.member (rw (eq-eqb a.block.value n a.node, inner) refl)
 
 filled_has : (blocks : List NumaBlock) (n x : ℕ) → Apart blocks → IsFilled (value_at blocks) x n → has blocks n x ≡ true
 filled_has blocks n x apart (inl here) =
@@ -191,7 +187,7 @@ filled_has blocks n x apart (inr around) = elim (cases_Bool (holds blocks n x)) 
 pub first_has : (blocks : List NumaBlock) (x m : ℕ) (bs : List NumaBlock) → first_had blocks x bs ≡ Some m → has blocks m x ≡ true
 first_has blocks x m [] some = absurd (none-some m some)
 first_has blocks x m (b ∷ bs) some = elim (cases_Bool (has blocks b.value x)) as (λ _. has blocks m x ≡ true) [
-  | inl had ↦ let same : b.value ≡ m = same_Some b.value m (rw had at some) in subst (λ (k : ℕ). has blocks k x ≡ true) same had
+  | inl had ↦ subst (λ (k : ℕ). has blocks k x ≡ true) (same_Some b.value m (rw had at some)) had
   | inr not_had ↦ first_has blocks x m bs (rw not_had at some)
 ]
 
@@ -234,16 +230,12 @@ node_given blocks rs ts x apart some known joined = by (value_at ts x) (first_ha
   same = λ i y. known.each y i
 
   by : (g h : Option ℕ) → value_at ts x ≡ g → first_had blocks x blocks ≡ h → value_at ts x ≡ first_had blocks x blocks
-  by g (Some m) at had =
-      let filling : IsFilled (value_at blocks) x m = has_filled blocks m x apart some (first_has blocks x m blocks had) in
-      joined.complete x m (subst (λ (f : ℕ → Option ℕ). IsFilled f x m) (sym same) filling) ∙ sym had
+  by g (Some m) at had = joined.complete x m (rw same (has_filled blocks m x apart some (first_has blocks x m blocks had))) ∙ sym had
   by None None at had = at ∙ sym had
   by (Some n) None at had =
-      let filling : IsFilled (value_at blocks) x n = subst (λ (f : ℕ → Option ℕ). IsFilled f x n) same (joined.sound x n at) in
-      let has_it : has blocks n x ≡ true = filled_has blocks n x apart filling in
+      let has_it : has blocks n x ≡ true = filled_has blocks n x apart (rw same at joined.sound x n at) in
       let block = node_block blocks n x has_it in
-      let of_block : has blocks block.0.value x ≡ true = subst (λ (k : ℕ). has blocks k x ≡ true) (sym block.2) has_it in
-      absurd (first_some blocks x blocks block.0 block.1 of_block had)
+      absurd (first_some blocks x blocks block.0 block.1 (rw block.2 has_it) had)
 
 pub joined_blocks : (blocks rs : List NumaBlock) → Apart blocks → HaveAddresses blocks → IsRunsOf (value_at blocks) rs
     → IsRunsOf (node_at blocks) (filled rs)
@@ -255,14 +247,9 @@ joined_blocks blocks rs apart some known =
 no_clash : (a b : KeptBlock) (x : ℕ) → clash a b ≡ false → lies_in a.block x ≡ true → lies_in b.block x ≡ true → a.block.value
     ≡ b.block.value
 no_clash a b x none lies_a lies_b =
-    let in_a : (a.block.base ≤ x) × (x < run_end a.block) = bounds a.block x lies_a in
-    let low = in_a.0 in
-    let high = in_a.1 in
-    let meeting : meets a.block.base (run_end a.block) b.block ≡ true = met_at a.block.base (run_end a.block) b.block x lies_b low high in
-    elim (cases_Bool (a.block.value == b.block.value)) as (λ _. a.block.value ≡ b.block.value) [
-      | inl same ↦ grind (arith, nat_tests)
-      | inr other ↦ absurd (true≢false (sym (rw (other, meeting) refl) ∙ none))
-    ]
+    let in_a = bounds a.block x lies_a in
+    let meeting = met_at a.block.base (run_end a.block) b.block x lies_b in_a.0 in_a.1 in
+    grind (arith, nat_tests, none, meeting)
 
 pub find_none : {X : Type 0} (p : X → Bool) (xs : List X) (x : X) → find p xs ≡ None → IsIn x xs → p x ≡ false
 find_none p [] x none member = absurd member
@@ -292,13 +279,9 @@ kept_apart : (ks : List KeptBlock) → first_clash ks ≡ None → (a b : KeptBl
 kept_apart [] none a b x in_a in_b lies_a lies_b = absurd in_a
 kept_apart (k ∷ ks) none a b x (inl first) (inl second) lies_a lies_b = ap (λ (c : KeptBlock). c.block.value) (first ∙ sym second)
 kept_apart (k ∷ ks) none a b x (inl first) (inr later) lies_a lies_b =
-    let parts = first_none_parts k ks none in
-    ap (λ (c : KeptBlock). c.block.value) first
-    ∙ no_clash k b x (find_none (clash k) ks b parts.0 later) (ap (λ (c : KeptBlock). lies_in c.block x) (sym first) ∙ lies_a) lies_b
+    rw first (no_clash k b x (find_none (clash k) ks b (first_none_parts k ks none).0 later) (rw first at lies_a) lies_b)
 kept_apart (k ∷ ks) none a b x (inr later) (inl second) lies_a lies_b =
-    let parts = first_none_parts k ks none in
-    sym (ap (λ (c : KeptBlock). c.block.value) second
-    ∙ no_clash k a x (find_none (clash k) ks a parts.0 later) (ap (λ (c : KeptBlock). lies_in c.block x) (sym second) ∙ lies_b) lies_a)
+    rw second (sym (no_clash k a x (find_none (clash k) ks a (first_none_parts k ks none).0 later) (rw second at lies_b) lies_a))
 kept_apart (k ∷ ks) none a b x (inr in_a) (inr in_b) lies_a lies_b =
     kept_apart ks (first_none_parts k ks none).1 a b x in_a in_b lies_a lies_b
 
@@ -306,10 +289,7 @@ pub apart_blocks : (ks : List KeptBlock) → first_clash ks ≡ None → Apart (
 apart_blocks ks none a b x in_a in_b lies_a lies_b =
     let one = kept_member ks a in_a in
     let two = kept_member ks b in_b in
-    let at_a : lies_in one.0.block x ≡ true = ap (λ (c : NumaBlock). lies_in c x) (sym one.2) ∙ lies_a in
-    let at_b : lies_in two.0.block x ≡ true = ap (λ (c : NumaBlock). lies_in c x) (sym two.2) ∙ lies_b in
-    ap (λ (c : NumaBlock). c.value) one.2 ∙ kept_apart ks none one.0 two.0 x one.1 two.1 at_a at_b
-    ∙ ap (λ (c : NumaBlock). c.value) (sym two.2)
+    rw (one.2, two.2) (kept_apart ks none one.0 two.0 x one.1 two.1 (rw one.2 at lies_a) (rw two.2 at lies_b))
 
 -- so the joined runs of blocks of which no two clash are the runs of what each address has
 pub joined_kept : (ks : List KeptBlock) (laid rs joined : List NumaBlock) → first_clash ks ≡ None → HaveAddresses (numa_blocks_of ks)
@@ -327,9 +307,8 @@ own_none f a b own_a own_b = false_from_ne_true (clash a b) (λ clashing.
     let place = meeting_place a.block.base (run_end a.block) b.block parts.1 in
     let x : ℕ = max a.block.base b.block.base in
     let in_b = bounds b.block x place.2 in
-    let same : a.block.value ≡ b.block.value =
-    same_Some a.block.value b.block.value (sym (own_a x place.0 place.1) ∙ own_b x in_b.0 in_b.1) in
-    grind (arith, nat_tests, parts.0))
+    let same = same_Some a.block.value b.block.value (sym (own_a x place.0 place.1) ∙ own_b x in_b.0 in_b.1) in
+    true≢false (sym (eq-eqb _ _ same) ∙ not-true _ parts.0))
 
 none_found : {X : Type 0} (p : X → Bool) (xs : List X) → ((i : ℕ) (d : X) → i < length xs → p (get_or xs i d) ≡ false) → find p xs ≡ None
 none_found p [] none = refl
@@ -372,6 +351,4 @@ node_none blocks x space far = by (first_had blocks x blocks) refl where
   by None at = at
   by (Some m) at =
       let block = node_block blocks m x (first_has blocks x m blocks at) in
-      let ends : run_end block.0 < 2 ^ 64 = space_of blocks block.0 space block.1 in
-      let under = block.3 in
-      absurd (omega arith)
+      absurd (omega (arith, block.3, space_of blocks block.0 space block.1))

@@ -1,8 +1,7 @@
 -- The pair of kept blocks that is told is the least that overlaps.
 use Rattle.std.proofs.Common.{◌≡◌, ℕ, ◌+◌, ◌<◌, ◌≤◌, ◌==◌, ◌⊎◌, Bool, true, false, ◌&&◌, nat_lt, Option, Some, None, List, [], ◌∷◌, refl, sym, ◌∙◌, ap, inl, inr, arith}
-use Rattle.std.proofs.lemmas.Bool.{cases_Bool, and_parts, false_from_ne_true, true≢false}
-use Rattle.std.proofs.lemmas.Bool.Decides.{nat_tests}
-use Rattle.std.proofs.lemmas.Option.{none-some, same_Some}
+use Rattle.std.proofs.lemmas.Bool.{cases_Bool, and_parts, and_from, eqb-true, eq-eqb, ltb-true, lt-ltb, false_from_ne_true, true≢false}
+use Rattle.std.proofs.lemmas.Option.{none-some, same_Some, some_pair_parts}
 use Rattle.std.specs.Prelude.{find}
 use Rattle.address_runs.specs.Runs.{extent_of}
 use Rattle.srat_reader.specs.declared.table.SratBlock.{SratBlock}
@@ -18,7 +17,7 @@ Numbered n (k ∷ ks) = (n ≤ k.number) × Numbered (k.number + 1) ks
 
 from_lower : (n : ℕ) (ks : List KeptBlock) → Numbered (n + 1) ks → Numbered n ks
 from_lower n [] numbered = tt
-from_lower n (k ∷ ks) numbered = let low = numbered.0 in (omega (arith, low), numbered.1)
+from_lower n (k ∷ ks) numbered = (omega (arith, numbered.0), numbered.1)
 
 kept_numbered : (memory : ℕ → Bool) (domains : List ℕ) (n : ℕ) (bs : List SratBlock) → Numbered n (kept_from memory domains n bs)
 kept_numbered memory domains n [] = tt
@@ -30,14 +29,8 @@ kept_numbered memory domains n (b ∷ bs) = elim (cases_Bool (meets_memory memor
 
 number_from : (n : ℕ) (ks : List KeptBlock) (k : KeptBlock) → Numbered n ks → IsIn k ks → n ≤ k.number
 number_from n [] k numbered member = absurd member
-number_from n (j ∷ js) k numbered (inl here) =
-    let same : k.number ≡ j.number = ap (λ (i : KeptBlock). i.number) here in
-    let low = numbered.0 in
-    omega (arith, same, low)
-number_from n (j ∷ js) k numbered (inr later) =
-    let low = numbered.0 in
-    let high = number_from (j.number + 1) js k numbered.1 later in
-    omega (arith, low, high)
+number_from n (j ∷ js) k numbered (inl here) = omega (arith, ap (λ (i : KeptBlock). i.number) here, numbered.0)
+number_from n (j ∷ js) k numbered (inr later) = omega (arith, number_from (j.number + 1) js k numbered.1 later, numbered.0)
 
 -- the first that passes, and that those of lower numbers don't
 record IsFirst (p : KeptBlock → Bool) (ks : List KeptBlock) (k : KeptBlock) : Type 0 where
@@ -94,19 +87,17 @@ overlap_from ks i j test =
       other = b.one;
       in_one = a.member;
       in_other = b.member;
-      first = let is = of_a.0 in grind (arith, nat_tests, is);
-      second = let is = of_b.0 in grind (arith, nat_tests, is);
-      order = let less = parts.0 in grind (arith, nat_tests, less);
+      first = eqb-true _ _ of_a.0;
+      second = eqb-true _ _ of_b.0;
+      order = ltb-true _ _ parts.0;
       clashes = of_b.1;
     }
 
 overlap_test : (ks : List KeptBlock) (i j : ℕ) → Overlap ks i j → overlap_at ks i j ≡ true
 overlap_test ks i j o =
-    let first : (o.one.number == i) ≡ true = let is = o.first in grind (arith, nat_tests, is) in
-    let second : (o.other.number == j) ≡ true = let is = o.second in grind (arith, nat_tests, is) in
-    let less : nat_lt i j ≡ true = let order = o.order in grind (arith, nat_tests, order) in
-    let in_other = member_any (λ (b : KeptBlock). (b.number == j) && clash o.one b) ks o.other o.in_other (rw (second, o.clashes) refl) in
-    rw less (member_any _ ks o.one o.in_one (rw (first, in_other) refl))
+    let in_other = member_any (λ (b : KeptBlock). (b.number == j) && clash o.one b) ks o.other o.in_other
+    (and_from _ _ (eq-eqb _ _ o.second) o.clashes) in
+    and_from _ _ (lt-ltb _ _ o.order) (member_any _ ks o.one o.in_one (and_from _ _ (eq-eqb _ _ o.first) in_other))
 
 -- the first block is the lower one of two, or neither
 record WithFirst (c : KeptBlock) (cs : List KeptBlock) (i j : ℕ) : Type 0 where
@@ -121,36 +112,27 @@ with_first : (n : ℕ) (c : KeptBlock) (cs : List KeptBlock) (i j : ℕ) → Num
 with_first n c cs i j numbered o =
     let number : (a b : KeptBlock) → a ≡ b → a.number ≡ b.number = λ a b same. ap (λ (k : KeptBlock). k.number) same in
     let behind : (k : KeptBlock) → IsIn k cs → c.number + 1 ≤ k.number = λ k member. number_from (c.number + 1) cs k numbered.1 member in
-    let first = o.first in
-    let second = o.second in
-    let order = o.order in
     elim o.in_one as (λ _. WithFirst c cs i j ⊎ Overlap cs i j) [
       | inl here ↦ elim o.in_other as (λ _. WithFirst c cs i j ⊎ Overlap cs i j) [
-        | inl too ↦
-            let one = number o.one c here in
-            let two = number o.other c too in
-            absurd (omega (arith, first, second, order, one, two))
+        | inl too ↦ absurd (omega (arith, o.first, o.second, o.order, number o.one c here, number o.other c too))
         | inr later ↦ inl (record {
           other = o.other;
           in_other = later;
-          first = sym (number o.one c here) ∙ first;
-          second = second;
+          first = sym (number o.one c here) ∙ o.first;
+          second = o.second;
           clashes = ap (λ (k : KeptBlock). clash k o.other) (sym here) ∙ o.clashes;
         })
       ]
       | inr later ↦ elim o.in_other as (λ _. WithFirst c cs i j ⊎ Overlap cs i j) [
-        | inl here ↦
-            let one = behind o.one later in
-            let two = number o.other c here in
-            absurd (omega (arith, first, second, order, one, two))
+        | inl here ↦ absurd (omega (arith, o.first, o.second, o.order, behind o.one later, number o.other c here))
         | inr too ↦ inr (record {
           one = o.one;
           other = o.other;
           in_one = later;
           in_other = too;
-          first = first;
-          second = second;
-          order = order;
+          first = o.first;
+          second = o.second;
+          order = o.order;
           clashes = o.clashes;
         })
       ]
@@ -167,11 +149,9 @@ told n (c ∷ cs) i j numbered is = by (find (clash c) cs) refl (told (c.number 
   by : (o : Option KeptBlock) → find (clash c) cs ≡ o → (first_clash cs ≡ Some (i, j) → IsTold cs i j)
       → first_clash (c ∷ cs) ≡ Some (i, j) → IsTold (c ∷ cs) i j
   by (Some d) at rest told_at =
-      let one : ℕ × ℕ = (c.number, d.number) in
-      let other : ℕ × ℕ = (i, j) in
-      let same : one ≡ other = same_Some one other (rw at at told_at) in
-      let first : c.number ≡ i = ap (λ (p : ℕ × ℕ). p.0) same in
-      let second : d.number ≡ j = ap (λ (p : ℕ × ℕ). p.1) same in
+      let same = some_pair_parts c.number i d.number j (rw at at told_at) in
+      let first : c.number ≡ i = same.0 in
+      let second : d.number ≡ j = same.1 in
       let found = find_first (clash c) (c.number + 1) cs d numbered.1 at in
       record {
         pair = record {
@@ -185,14 +165,10 @@ told n (c ∷ cs) i j numbered is = by (find (clash c) cs) refl (told (c.number 
           clashes = found.passes;
         };
         least = λ k l o. elim (with_first n c cs k l numbered o) as (λ _. (i < k) ⊎ ((i ≡ k) × (j ≤ l))) [
-          | inl w ↦
-              let is_l = w.second in
-              let low = found.least w.other w.in_other w.clashes in
-              inr (sym first ∙ w.first, omega (arith, second, is_l, low))
+          | inl w ↦ inr (sym first ∙ w.first, omega (arith, second, w.second, found.least w.other w.in_other w.clashes))
           | inr later ↦
-              let is_k = later.first in
               let high = number_from (c.number + 1) cs later.one numbered.1 later.in_one in
-              inl (omega (arith, first, is_k, high))
+              inl (omega (arith, first, later.first, high))
         ];
       }
   by None at rest told_at =

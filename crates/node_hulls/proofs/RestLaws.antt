@@ -1,6 +1,6 @@
 -- Memory without a node, by laying memory and the runs with a node over one another; and the frames that begin in runs.
 use Rattle.std.proofs.Common.{◌≡◌, ℕ, ◌+◌, ◌-◌, ◌*◌, ◌^◌, ◌<◌, ◌≤◌, Bool, true, false, ◌&&◌, ◌||◌, nat_le, nat_lt, if◌then◌else◌, Option, Some, None, List, [], ◌∷◌, ◌++◌, map, suc, add-one, drop, take, length, get_or, append_assoc, refl, sym, ◌∙◌, ap, subst, inl, inr, le_of_suc-le-suc, lt_of_not-le, arith}
-use Rattle.std.proofs.lemmas.Bool.{cases_Bool}
+use Rattle.std.proofs.lemmas.Bool.{cases_Bool, cond_both}
 use Rattle.std.proofs.lemmas.Bool.Decides.{nat_tests}
 use Rattle.std.proofs.lemmas.List.{take_all}
 use Rattle.std.proofs.lemmas.Option.{none-some}
@@ -86,26 +86,27 @@ bare_value n (c ∷ cs) x runs = by c.value (lies_in c x) refl refl (bare_value 
   by : (v inside_c : Bool) → c.value ≡ v → lies_in c x ≡ inside_c → value_at (bare_runs n cs) x ≡ bare_of n (value_at cs x)
       → value_at (bare_runs n (c ∷ cs)) x ≡ bare_of n (value_at (c ∷ cs) x)
   by true true value lies rest =
-      let short : x < run_end c = grind (arith, nat_tests) in
-      let none : value_at cs x ≡ None = none_below (run_end c) x cs runs.2 (rest_from c cs runs) short in
+      let none = none_below (run_end c) x cs runs.2 (rest_from c cs runs) (grind (arith, nat_tests)) in
       rw (lies, value, rest, none) refl
   by true false value lies rest = rw (lies, value, rest) refl
   by false true value lies rest = rw (value, lies) refl
   by false false value lies rest = rw (value, lies, rest) refl
+
+-- what the runs give in the first of them
+bare_first : (n : ℕ) (cs : List (RunOf Bool)) (d : NumaBlock) (ds : List NumaBlock) (x : ℕ) → AreRuns cs → bare_runs n cs ≡ d ∷ ds
+    → d.base ≤ x → x < run_end d → bare_of n (value_at cs x) ≡ Some d.value
+bare_first n cs d ds x runs is above under =
+    sym (bare_value n cs x runs) ∙ ap (λ (es : List NumaBlock). value_at es x) is ∙ rw (inside d x above under) refl
 
 -- they are canonical: two that touch would be one run already
 bare_start : (n at : ℕ) (cs : List (RunOf Bool)) (d : NumaBlock) (ds : List NumaBlock) → AreRuns cs → StartFrom at cs
     → AreRuns (bare_runs n cs)
     → bare_runs n cs ≡ d ∷ ds → at ≤ d.base
 bare_start n at cs d ds runs start canonical is =
-    let first : value_at (d ∷ ds) d.base ≡ Some d.value = rw (inside d d.base (omega arith) (omega (arith, some))) refl in
+    let some : 0 < d.size = (subst (λ (es : List NumaBlock). AreRuns es) is canonical).0 in
+    let given : bare_of n (value_at cs d.base) ≡ Some d.value = bare_first n cs d ds d.base runs is (omega arith) (omega arith) in
     le_of_suc-le-suc (lt_of_not-le (λ lower.
-    let none : value_at cs d.base ≡ None = none_below at d.base cs runs start lower in
-    let given : bare_of n (value_at cs d.base) ≡ Some d.value =
-    sym (bare_value n cs d.base runs) ∙ ap (λ (es : List NumaBlock). value_at es d.base) is ∙ first in
-    none-some d.value (ap (bare_of n) (sym none) ∙ given))) where
-      some : 0 < d.size
-      some = (subst (λ (es : List NumaBlock). AreRuns es) is canonical).0
+    none-some d.value (ap (bare_of n) (sym (none_below at d.base cs runs start lower)) ∙ given)))
 
 bare_before : (n : ℕ) (c : RunOf Bool) (cs : List (RunOf Bool)) → AreRuns (c ∷ cs) → c.value ≡ false → (es : List NumaBlock)
     → bare_runs n cs
@@ -117,10 +118,7 @@ bare_before n c cs runs value (d ∷ ds) is canonical =
     (subst (λ (es : List NumaBlock). AreRuns es) (sym is) canonical) is in (
       start,
       λ touch same.
-          let first : value_at (d ∷ ds) (run_end c) ≡ Some d.value = rw (inside d (run_end c) (omega arith) (omega (arith, canonical.0)))
-          refl in
-          let given : bare_of n (value_at cs (run_end c)) ≡ Some d.value =
-          sym (bare_value n cs (run_end c) runs.2) ∙ ap (λ (es : List NumaBlock). value_at es (run_end c)) is ∙ first in
+          let given = bare_first n cs d ds (run_end c) runs.2 is (omega arith) (omega (arith, canonical.0)) in
           other_behind c cs runs (bare_some n d.value (value_at cs (run_end c)) given ∙ ap (λ b. Some b) (sym value)),
     ) where
       bare_some : (m k : ℕ) (o : Option Bool) → bare_of m o ≡ Some k → o ≡ Some false
@@ -130,10 +128,10 @@ bare_before n c cs runs value (d ∷ ds) is canonical =
 
 bare_canonical : (n : ℕ) (cs : List (RunOf Bool)) → AreRuns cs → AreRuns (bare_runs n cs)
 bare_canonical n [] runs = tt
-bare_canonical n (c ∷ cs) runs = by c.value refl (bare_canonical n cs runs.2) where
-  by : (v : Bool) → c.value ≡ v → AreRuns (bare_runs n cs) → AreRuns (bare_runs n (c ∷ cs))
-  by true value rest = rw value rest
-  by false value rest = rw value (runs.0, bare_before n c cs runs value (bare_runs n cs) refl rest, rest)
+bare_canonical n (c ∷ cs) runs =
+    let rest = bare_canonical n cs runs.2 in
+    cond_both c.value _ _ (λ (ds : List NumaBlock). AreRuns ds) (λ noded. rest)
+    (λ bare. (runs.0, bare_before n c cs runs bare (bare_runs n cs) refl rest, rest))
 
 pub left_runs : (memory : List Extent) (joined : List NumaBlock) (n : ℕ) (cs : List (RunOf Bool))
     → IsRunsOf (all_overlaid option_or (map noded joined ++ map nodeless memory)) cs
@@ -161,17 +159,15 @@ space_push (s ∷ ss) r space ends = (space.0, space_push ss r space.1 ends)
 
 pub space_given : (n : ℕ) (before : List NumaBlock) (c : RunOf Bool) → EndInSpace before → run_end c < 2 ^ 64
     → EndInSpace (if c.value then before else before ++ with_node n c ∷ [])
-space_given n before c space ends = by c.value refl where
-  by : (v : Bool) → c.value ≡ v → EndInSpace (if c.value then before else before ++ with_node n c ∷ [])
-  by true value = rw value space
-  by false value = rw value (space_push before (with_node n c) space ends)
+space_given n before c space ends =
+    cond_both c.value before (before ++ with_node n c ∷ []) EndInSpace (λ noded. space)
+    (λ bare. space_push before (with_node n c) space ends)
 
 -- runs that end in the address space give nothing behind it
 pub space_none : (rs : List NumaBlock) (x : ℕ) → EndInSpace rs → 2 ^ 64 ≤ x → value_at rs x ≡ None
 space_none [] x space far = refl
 space_none (r ∷ rs) x space far =
-    let past : run_end r ≤ x = omega (arith, space.0) in
-    rw (behind r x past) (space_none rs x space.1 far)
+    rw (behind r x (omega (arith, space.0))) (space_none rs x space.1 far)
 
 -- frames that begin in a run, and in those behind it
 begun_in : (r : NumaBlock) (frame : ℕ) → lies_in r (4096 * frame) ≡ (nat_le (begun_before r.base) frame
@@ -195,8 +191,7 @@ frames_step r rs runs space =
       | inr outside ↦ rw outside refl
     ]) in
     let apart : (frame : ℕ) → frame < 2 ^ 52 → here frame ≡ true → later frame ≡ false = λ frame lt in_run.
-    let short : 4096 * frame < run_end r = grind (arith, nat_tests, begun_in r frame) in
-    rw (none_below (run_end r) (4096 * frame) rs runs.2 (rest_from r rs runs) short) refl in
+    rw (none_below (run_end r) (4096 * frame) rs runs.2 (rest_from r rs runs) (grind (arith, nat_tests, begun_in r frame))) refl in
     count_same _ _ (2 ^ 52) both ∙ count_either here later (2 ^ 52) apart
     ∙ ap (λ n. n + count_below later (2 ^ 52)) (count_interval (begun_before r.base) (begun_before (run_end r)) (2 ^ 52) ∙ omega arith)
 
@@ -211,9 +206,8 @@ pub frames_first : (r : NumaBlock) (rs : List NumaBlock) (n : ℕ) → 1 ≤ len
     × (frames_given (value_at rs) ≡ (begun_before (run_end r) - begun_before r.base) + frames_given (value_at (take (n - 1) (drop 1 rs))))
 frames_first r [] n some count is runs space = absurd (omega arith)
 frames_first r (s ∷ ss) n some count is runs space =
-    let ends : run_end s < 2 ^ 64 = subst (λ (t : NumaBlock). run_end t < 2 ^ 64) is space in
     let all : take (n - 1) ss ≡ ss = take_all (n - 1) ss (omega arith) in
-    (rw all runs.2, rw (all, is) (frames_step s ss runs ends))
+    (rw all runs.2, rw (all, is) (frames_step s ss runs (rw is at space)))
 
 -- with no run left no frame is
 pub frames_last : (rs : List NumaBlock) → length rs < 1 → frames_given (value_at rs) ≡ 0

@@ -1,7 +1,7 @@
-use Rattle.std.proofs.Common.{ℕ, List, sym, ◌∙◌, ap, subst}
-use Rattle.address_runs.specs.Runs.{IsRunsOf, value_at}
+use Rattle.std.proofs.Common.{List, sym, ◌∙◌, ap}
+use Rattle.address_runs.specs.Runs.{value_at}
 use Rattle.node_hulls.specs.Hulls.{NumaBlock}
-use Rattle.node_hulls.specs.Judgement.{frames_given, left_over}
+use Rattle.node_hulls.specs.Judgement.{frames_given}
 use Rattle.node_hulls.specs.Kept.{in_any}
 use Rattle.node_hulls.proofs.JudgedLaws.{Found, found_overlap, found_uncovered, found_used}
 use Rattle.node_hulls.proofs.NodesLaws.{joined_kept}
@@ -24,9 +24,7 @@ returns-then-uncovered-ge-UNCOVERED_FRAMES c =
       kept_space = c.requires.space;
       hulls = joined_kept kept c.in_ok-laid.laid.items c.deref.result.now joined (sym c.first_overlap.ensures ∙ c.in_default.is)
           c.requires.some c.in_ok-laid.ensures c.deref.ensures.value c.in_ok-joined.ensures;
-      left = subst (λ (n : ℕ). IsRunsOf (left_over memory (value_at joined) n) rest) c.lowest_node.ensures
-          (subst (λ (js : List NumaBlock). IsRunsOf (left_over memory (value_at js) c.lowest_node.result) rest) c.deref-2.ensures.value
-          c.in_ok-rest.ensures.runs);
+      left = rw (c.lowest_node.ensures, c.deref-2.ensures.value) at c.in_ok-rest.ensures.runs;
       left_space = c.in_ok-rest.ensures.space;
       counted = c.count_frames-uncovered.ensures ∙ ap (λ (rs : List NumaBlock). frames_given (value_at rs)) c.deref-3.ensures.value;
     } in
@@ -45,9 +43,7 @@ returns c =
       kept_space = c.requires.space;
       hulls = joined_kept kept c.in_ok-laid.laid.items c.deref.result.now joined (sym c.first_overlap.ensures ∙ c.in_default.is)
           c.requires.some c.in_ok-laid.ensures c.deref.ensures.value c.in_ok-joined.ensures;
-      left = subst (λ (n : ℕ). IsRunsOf (left_over memory (value_at joined) n) rest) c.lowest_node.ensures
-          (subst (λ (js : List NumaBlock). IsRunsOf (left_over memory (value_at js) c.lowest_node.result) rest) c.deref-2.ensures.value
-          c.in_ok-rest.ensures.runs);
+      left = rw (c.lowest_node.ensures, c.deref-2.ensures.value) at c.in_ok-rest.ensures.runs;
       left_space = c.in_ok-rest.ensures.space;
       counted = c.count_frames-uncovered.ensures ∙ ap (λ (rs : List NumaBlock). frames_given (value_at rs)) c.deref-3.ensures.value;
     } in

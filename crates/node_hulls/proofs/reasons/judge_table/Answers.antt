@@ -9,27 +9,24 @@ use Rattle.node_hulls.proofs.reasons.judge_table.Goals as goal
 
 pub returns-then-not-is_any_kept : goal.returns-then-not-is_any_kept
 returns-then-not-is_any_kept c =
-    let lists : Affinity = record { processors = c.args.processors.now; blocks = c.args.blocks.now } in
-    c.unused.ensures ∙ sym (no_blocks (in_any c.args.memory.now) lists (any_alike (in_any c.args.memory.now)
-    (in_runs c.in_ok-runs.runs.items) c.in_ok-runs.ensures.bytes c.args.blocks.now (sym c.is_any_kept.ensures ∙ c.if-not-is_any_kept.true)))
+    c.unused.ensures ∙ sym (no_blocks _ _ (any_alike (in_any c.args.memory.now) (in_runs c.in_ok-runs.runs.items)
+    c.in_ok-runs.ensures.bytes c.args.blocks.now (sym c.is_any_kept.ensures ∙ c.if-not-is_any_kept.true)))
 
 pub returns-then-len-gt-MAX_NODES : goal.returns-then-len-gt-MAX_NODES
 returns-then-len-gt-MAX_NODES c =
-    let lists : Affinity = record { processors = c.args.processors.now; blocks = c.args.blocks.now } in
     let many : 1024 < length c.in_ok-domains.domains.items = omega (arith, c.in_ok-domains.domains.ok.0) in
     c.unused-then-len-gt-MAX_NODES.ensures
-    ∙ sym (too_many_domains (in_any c.args.memory.now) lists (any_alike (in_any c.args.memory.now)
-    (in_runs c.in_ok-runs.runs.items) c.in_ok-runs.ensures.bytes c.args.blocks.now (sym c.is_any_kept.ensures ∙ c.if-not-is_any_kept.false))
+    ∙ sym (too_many_domains _ _ (any_alike (in_any c.args.memory.now) (in_runs c.in_ok-runs.runs.items)
+    c.in_ok-runs.ensures.bytes c.args.blocks.now (sym c.is_any_kept.ensures ∙ c.if-not-is_any_kept.false))
     (many_domains c.in_ok-domains.domains.items _ c.in_ok-domains.ensures many))
 
 pub returns-then-count_with_addresses-gt-MAX_BLOCKS :
     goal.returns-then-count_with_addresses-gt-MAX_BLOCKS
 returns-then-count_with_addresses-gt-MAX_BLOCKS c =
-    let lists : Affinity = record { processors = c.args.processors.now; blocks = c.args.blocks.now } in
     let few : length c.in_ok-domains.domains.items ≤ 1024 = omega (arith, c.in_ok-domains.domains.ok.0) in
     c.unused-then-count_with_addresses-gt-MAX_BLOCKS.ensures
-    ∙ sym (too_many_blocks (in_any c.args.memory.now) lists (any_alike (in_any c.args.memory.now)
-    (in_runs c.in_ok-runs.runs.items) c.in_ok-runs.ensures.bytes c.args.blocks.now (sym c.is_any_kept.ensures ∙ c.if-not-is_any_kept.false))
+    ∙ sym (too_many_blocks _ _ (any_alike (in_any c.args.memory.now) (in_runs c.in_ok-runs.runs.items)
+    c.in_ok-runs.ensures.bytes c.args.blocks.now (sym c.is_any_kept.ensures ∙ c.if-not-is_any_kept.false))
     (few_domains c.in_ok-domains.domains.items _ c.in_ok-domains.ensures few) (omega arith))
 
 pub judge_kept-requires-clause-some : goal.judge_kept-requires-clause-some
@@ -39,13 +36,14 @@ judge_kept-requires-clause-some c =
 
 pub returns : goal.returns
 returns c =
+    let memory = in_any c.args.memory.now in
+    let runs = in_runs c.in_ok-runs.runs.items in
+    let alike = c.in_ok-runs.ensures.bytes in
+    let domains = c.in_ok-domains.domains.items in
     let lists : Affinity = record { processors = c.args.processors.now; blocks = c.args.blocks.now } in
-    let few : length c.in_ok-domains.domains.items ≤ 1024 = omega (arith, c.in_ok-domains.domains.ok.0) in
-    let whole = by_kept (in_any c.args.memory.now) lists (any_alike (in_any c.args.memory.now)
-    (in_runs c.in_ok-runs.runs.items) c.in_ok-runs.ensures.bytes c.args.blocks.now (sym c.is_any_kept.ensures ∙ c.if-not-is_any_kept.false))
-    c.in_ok-domains.domains.items
-    c.in_ok-domains.ensures few (omega arith) c.deref-2.result.now (c.deref-2.ensures.value
-    ∙ rw c.deref.ensures.value at c.in_ok-kept.ensures.value
-    ∙ kept_alike (in_any c.args.memory.now) (in_runs c.in_ok-runs.runs.items) c.in_ok-runs.ensures.bytes c.in_ok-domains.domains.items
-    c.args.blocks.now) in
+    let some = any_alike memory runs alike c.args.blocks.now (sym c.is_any_kept.ensures ∙ c.if-not-is_any_kept.false) in
+    let few : length domains ≤ 1024 = omega (arith, c.in_ok-domains.domains.ok.0) in
+    let whole = by_kept memory lists some domains c.in_ok-domains.ensures few (omega arith) c.deref-2.result.now
+    (c.deref-2.ensures.value ∙ rw c.deref.ensures.value at c.in_ok-kept.ensures.value
+    ∙ kept_alike memory runs alike domains c.args.blocks.now) in
     IfOk-weaker c.judge_kept.result _ _ (λ found is. is ∙ whole) c.judge_kept.ensures
