@@ -1,6 +1,6 @@
 -- The functions that list blocks give the sets of frames that are blocks.
-use Rattle.std.proofs.Common.{◌≡◌, ◌⊎◌, ℕ, zero, suc, ◌+◌, ◌-◌, ◌*◌, ◌/◌, ◌%◌, ◌^◌, ◌<◌, ◌≤◌, ◌==◌, true, Option, Some, None, List, [], ◌∷◌, refl, sym, ◌∙◌, ap, subst, inl, inr, ⊎_elim, arith}
-use Rattle.std.proofs.lemmas.Bool.{cases_lt, cases_Bool, eqb-true, eq-eqb}
+use Rattle.std.proofs.Common.{◌≡◌, ◌⊎◌, ℕ, zero, suc, ◌+◌, ◌-◌, ◌*◌, ◌/◌, ◌%◌, ◌^◌, ◌<◌, ◌≤◌, ◌==◌, Option, Some, None, List, [], ◌∷◌, refl, sym, ◌∙◌, ap, subst, inl, inr, ⊎_elim, lt_of_not-le, arith}
+use Rattle.std.proofs.lemmas.Bool.{cases_lt, cond_both, eqb-true, eq-eqb}
 use Rattle.std.proofs.lemmas.Nat.{pow_pos}
 use Rattle.bm_base.specs.Zones.{zone_of}
 use Rattle.address_runs.specs.Edits.{NothingFrom}
@@ -29,8 +29,7 @@ found_is_block f x n is =
       whole = λ less good.
           let wide : a / 2 ^ (o + 1) ≡ x / 2 ^ (o + 1) = wider o (o + 1) a x (omega arith) base in
           let free : AreFree f (o + 1) x n = λ y same. (good y (same ∙ sym wide)).0 in
-          let most = up_most f x n 10 (o + 1) (omega (arith, less)) free in
-          absurd (omega (arith, most));
+          absurd (omega (arith, up_most f x n 10 (o + 1) (omega (arith, less)) free));
     }
 
 block_from_for : (f : Frames) (x : ℕ) (v : Option ℕ) (b : Block) → f x ≡ v → block_for f x v ≡ Some b → IsBlock f b × IsInBlock b x
@@ -62,11 +61,8 @@ found_block f x b block same =
     (more_free y (other ∙ sym wide), one_zone (o + 1) a y (omega (arith, less)) other ∙ zone_is) in
     block.whole less good) in
     let first : x - x % 2 ^ o ≡ a =
-    let whole = block.aligned in
     let products : x / 2 ^ o * 2 ^ o ≡ a / 2 ^ o * 2 ^ o = ap (λ q. q * 2 ^ o) same in
-    let one = base_is (2 ^ o) x in
-    let two = base_is (2 ^ o) a in
-    omega (arith, whole, products, one, two) in
+    omega (arith, block.aligned, products, base_is (2 ^ o) x, base_is (2 ^ o) a) in
     ap (block_for f x) is ∙ ap (λ p. Some (block_around p x n)) order
     ∙ ap (λ y. let c : Block = record { order = o; first = y; node = n; zone = zone_of y } in Some c) first
     ∙ ap (λ z. let c : Block = record { order = o; first = a; node = n; zone = z } in Some c) zone_is
@@ -82,26 +78,19 @@ none_found f x made = none_for f x (f x) made
 led_lists : (x : ℕ) (o : Option Block) (bs : List Block) (b : Block) → Lists (led_by_block x o bs) b → (o ≡ Some b) ⊎ Lists bs b
 led_lists x None bs b has = inr has
 led_lists x (Some c) bs b has =
-    elim (cases_Bool (c.first == x)) as (λ _. (Some c ≡ Some b) ⊎ Lists bs b) [
-      | inl here ↦
-          let there : Lists (c ∷ bs) b = rw here at has in
-          ⊎_elim (λ (same : c ≡ b). inl (ap (λ (d : Block). Some d) same)) (λ (rest : Lists bs b). inr rest) there
-      | inr away ↦ inr (rw away at has)
-    ]
+    cond_both (c.first == x) (c ∷ bs) bs (λ (cs : List Block). Lists cs b → (Some c ≡ Some b) ⊎ Lists bs b)
+    (λ here. ⊎_elim (λ (same : c ≡ b). inl (ap (λ (d : Block). Some d) same)) (λ (rest : Lists bs b). inr rest))
+    (λ away rest. inr rest) has
 
 lists_led : (x : ℕ) (o : Option Block) (bs : List Block) (b : Block) → Lists bs b → Lists (led_by_block x o bs) b
 lists_led x None bs b has = has
 lists_led x (Some c) bs b has =
-    elim (cases_Bool (c.first == x)) as (λ _. Lists (led_by_block x (Some c) bs) b) [
-      | inl here ↦ let both : Lists (c ∷ bs) b = inr has in rw here both
-      | inr away ↦ rw away has
-    ]
+    cond_both (c.first == x) (c ∷ bs) bs (λ (cs : List Block). Lists cs b) (λ here. inr has) (λ away. has)
 
 lists_first : (x : ℕ) (b : Block) (bs : List Block) → b.first ≡ x → Lists (led_by_block x (Some b) bs) b
 lists_first x b bs same =
-    let here : (b.first == x) ≡ true = eq-eqb b.first x same in
     let first : Lists (b ∷ bs) b = inl refl in
-    rw here first
+    rw (eq-eqb b.first x same) first
 
 from_sound : (f : Frames) (b : Block) (x n : ℕ) → Lists (blocks_from f x n) b → IsBlock f b
 unfolding blocks_from
@@ -135,11 +124,8 @@ unfolding blocks_of
 listed_complete f b none block =
     let most : ℕ = MAX_FRAMES in
     let free : f b.first ≡ Some b.node = (block.good b.first refl).0 in
-    let low : b.first < 0 + most = elim (cases_lt b.first most) as (λ _. b.first < 0 + most) [
-      | inl lt ↦ omega (arith, lt)
-      | inr ge ↦ absurd (cc (sym free ∙ none b.first ge))
-    ] in
-    from_complete f b 0 most (found_block f b.first b block refl) (omega arith) low
+    let low : b.first < most = lt_of_not-le (λ ge. cc (sym free ∙ none b.first ge)) in
+    from_complete f b 0 most (found_block f b.first b block refl) (omega arith) (omega (arith, low))
 
 ascend_sooner : (x y : ℕ) (bs : List Block) → x ≤ y → AscendFrom y bs → AscendFrom x bs
 ascend_sooner x y [] order ascend = tt
@@ -148,13 +134,11 @@ ascend_sooner x y (b ∷ bs) order ascend = (omega (arith, ascend.0), ascend.1)
 led_ascends : (x : ℕ) (o : Option Block) (bs : List Block) → AscendFrom (x + 1) bs → AscendFrom x (led_by_block x o bs)
 led_ascends x None bs ascend = ascend_sooner x (x + 1) bs (omega arith) ascend
 led_ascends x (Some c) bs ascend =
-    elim (cases_Bool (c.first == x)) as (λ _. AscendFrom x (led_by_block x (Some c) bs)) [
-      | inl here ↦
-          let at : c.first ≡ x = eqb-true c.first x here in
-          let both : AscendFrom x (c ∷ bs) = (omega arith, ascend_sooner (c.first + 1) (x + 1) bs (omega arith) ascend) in
-          rw here both
-      | inr away ↦ rw away (ascend_sooner x (x + 1) bs (omega arith) ascend)
-    ]
+    cond_both (c.first == x) (c ∷ bs) bs (AscendFrom x)
+    (λ here.
+    let at : c.first ≡ x = eqb-true c.first x here in
+    (omega arith, ascend_sooner (c.first + 1) (x + 1) bs (omega arith) ascend))
+    (λ away. ascend_sooner x (x + 1) bs (omega arith) ascend)
 
 from_ascends : (f : Frames) (x n : ℕ) → AscendFrom x (blocks_from f x n)
 unfolding blocks_from

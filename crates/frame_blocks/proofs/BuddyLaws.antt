@@ -1,8 +1,9 @@
 -- The blocks of frames from which a set has left one block: that block's buddies take its place, and the others stay.
-use Rattle.std.proofs.Common.{◌≡◌, ◌≢◌, ◌⊎◌, ◌↔◌, ℕ, zero, suc, ◌+◌, ◌-◌, ◌/◌, ◌%◌, ◌^◌, ◌<◌, ◌≤◌, true, false, Option, Some, None, refl, sym, ◌∙◌, ap, subst, inl, inr, ⊎_elim, arith}
+use Rattle.std.proofs.Common.{◌≡◌, ◌≢◌, ◌⊎◌, ◌↔◌, ℕ, zero, suc, ◌+◌, ◌-◌, ◌/◌, ◌^◌, ◌<◌, ◌≤◌, true, false, Option, Some, None, refl, sym, ◌∙◌, ap, subst, inl, inr, ⊎_elim, arith}
 use Rattle.std.proofs.lemmas.Bool.Decides.{nat_tests}
 use Rattle.std.proofs.lemmas.Bool.{cases_eq, false_from_ne_true}
 use Rattle.std.proofs.lemmas.Nat.{pow_pos}
+use Rattle.std.proofs.lemmas.Option.{same_Some}
 use Rattle.std.proofs.Math.Nat.{mul-mod_left, div-div-eq-div-mul, pow-suc, mul-div_left}
 use Rattle.bm_base.specs.Extent.{covers}
 use Rattle.frame_blocks.specs.declared.block.Block.{Block}
@@ -14,16 +15,11 @@ use Rattle.frame_blocks.proofs.BlockLaws.{found_block, block_found, none_found}
 
 -- the frames of a set are those that its range covers
 pub set_covers : (o x y : ℕ) → IsInSet o x y → covers (set_around o x) y ≡ true
-set_covers o x y same =
-    let low = set_from (2 ^ o) x y same in
-    let high = set_until (2 ^ o) x y (pow_pos o) same in
-    grind (arith, nat_tests)
+set_covers o x y same = grind (arith, nat_tests, set_from (2 ^ o) x y same, set_until (2 ^ o) x y (pow_pos o) same)
 
 pub covers_set : (o x y : ℕ) → (IsInSet o x y → ⊥) → covers (set_around o x) y ≡ false
 covers_set o x y other = false_from_ne_true (covers (set_around o x) y) (λ on.
-    let low : x - x % 2 ^ o ≤ y = grind (arith, nat_tests) in
-    let high : y < x - x % 2 ^ o + 2 ^ o = grind (arith, nat_tests) in
-    other (in_set (2 ^ o) x y low high))
+    other (in_set (2 ^ o) x y (grind (arith, nat_tests)) (grind (arith, nat_tests))))
 
 pub in_set_or_not : (o x y : ℕ) → IsInSet o x y ⊎ (IsInSet o x y → ⊥)
 in_set_or_not o x y = cases_eq (y / 2 ^ o) (x / 2 ^ o)
@@ -51,10 +47,7 @@ was_there f g order x y n without is =
 
 not_in_block : (f : Frames) (b c : Block) (y : ℕ) → IsBlock f b → IsBlock f c → c ≢ b → IsInBlock c y → IsInBlock b y → ⊥
 not_in_block f b c y one two other inner outer =
-    let here = found_block f y b one outer in
-    let there = found_block f y c two inner in
-    let both : Some c ≡ Some b = sym there ∙ here in
-    other (let same : c ≡ b = cc in same)
+    other (same_Some c b (sym (found_block f y c two inner) ∙ found_block f y b one outer))
 
 -- the other blocks stay
 pub others_stay : (f g : Frames) (low x : ℕ) (b c : Block) → IsWithout f g low x → IsBlock f b → IsInBlock b x → low ≤ b.order
@@ -88,12 +81,9 @@ others_were f g low x b c without block inner order is outside =
       | inl none ↦ absurd (cc (sym here ∙ none))
       | inr some ↦
           let d : Block = some.0 in
-          let other : d ≢ b = λ same. outside (subst (λ (e : Block). IsInBlock e c.first) same some.2) in
-          let stays = others_stay f g low x b d without block inner order some.1 other in
-          let one = found_block g c.first d stays some.2 in
-          let two = found_block g c.first c is refl in
-          let same : d ≡ c = let both : Some d ≡ Some c = sym one ∙ two in cc in
-          subst (λ (e : Block). IsBlock f e) same some.1
+          let stays = others_stay f g low x b d without block inner order some.1 (λ same. outside (rw same at some.2)) in
+          let same : d ≡ c = same_Some d c (sym (found_block g c.first d stays some.2) ∙ found_block g c.first c is refl) in
+          rw same at some.1
     ]
 
 -- the two halves of a pair
@@ -134,23 +124,17 @@ buddy_in_block b o x y below inner same = wider (o + 1) b.order y x (omega (arit
 -- and is a block of what is left
 pub left_is_block : (f g : Frames) (low o x : ℕ) (b : Block) → IsWithout f g low x → IsBlock f b → IsInBlock b x → low ≤ o → o < b.order
     → IsBlock g (buddy_in b o x)
-left_is_block f g low o x b without block inner from below =
-    let small = block.small in
-    record {
-      small = omega (arith, small, below);
-      aligned = mul-mod_left (other_half (x / 2 ^ o)) (2 ^ o);
-      good = λ y same.
-          let beside = buddy_beside o x y same in
-          let in_b = buddy_in_block b o x y below inner same in (
-            without.kept y (λ in_it. beside.1 (wider low o y x from in_it)) ∙ (block.good y in_b).0,
-            (block.good y in_b).1,
-          );
-      whole = λ less good.
-          let wide : IsInSet (o + 1) (buddy_first o x) x = sym (buddy_beside o x (buddy_first o x) refl).0 in
-          let still = (good x wide).0 in
-          let none = without.gone x refl in
-          cc (sym still ∙ none);
-    }
+left_is_block f g low o x b without block inner from below = record {
+  small = omega (arith, block.small, below);
+  aligned = mul-mod_left (other_half (x / 2 ^ o)) (2 ^ o);
+  good = λ y same.
+      let beside = buddy_beside o x y same in
+      let was = block.good y (buddy_in_block b o x y below inner same) in
+      (without.kept y (λ in_it. beside.1 (wider low o y x from in_it)) ∙ was.0, was.1);
+  whole = λ less good.
+      let wide : IsInSet (o + 1) (buddy_first o x) x = sym (buddy_beside o x (buddy_first o x) refl).0 in
+      cc (sym (good x wide).0 ∙ without.gone x refl);
+}
 
 -- where the sets around x and y part
 record Parts (low until x y : ℕ) : Type 0 where
@@ -167,14 +151,11 @@ parting (suc d) low x y same other =
       | inl here ↦ record { order = low; from = omega arith; below = omega arith; apart = other; together = here }
       | inr not_yet ↦
           let sum : low + suc d ≡ low + 1 + d = omega arith in
-          let rest : Parts (low + 1) (low + 1 + d) x y =
-          parting d (low + 1) x y (subst (λ (p : ℕ). IsInSet p x y) sum same) not_yet in
-          let from = rest.from in
-          let below = rest.below in
+          let rest : Parts (low + 1) (low + 1 + d) x y = parting d (low + 1) x y (rw sum at same) not_yet in
           record {
             order = rest.order;
-            from = omega (arith, from);
-            below = omega (arith, below, sum);
+            from = omega (arith, rest.from);
+            below = omega (arith, rest.below, sum);
             apart = rest.apart;
             together = rest.together;
           }
@@ -187,32 +168,25 @@ rest_is_left f g low x b c without block inner order is within =
     let free : g c.first ≡ Some c.node = (is.good c.first refl).0 in
     let other : IsInSet low x c.first → ⊥ = λ in_it. cc (sym (without.gone c.first in_it) ∙ free) in
     let sum : low + (b.order - low) ≡ b.order = omega (arith, order) in
-    let together : IsInSet (low + (b.order - low)) x c.first =
-    subst (λ (p : ℕ). IsInSet p x c.first) (sym sum) (within ∙ sym inner) in
+    let together : IsInSet (low + (b.order - low)) x c.first = rw sum (within ∙ sym inner) in
     let parts = parting (b.order - low) low x c.first together other in
     let o : ℕ = parts.order in
-    let until = parts.below in
-    let below : o < b.order = omega (arith, until, sum) in
+    let below : o < b.order = omega (arith, parts.below, sum) in
     let buddy = left_is_block f g low o x b without block inner parts.from below in
     let one = found_block g c.first (buddy_in b o x) buddy (beside_buddy o x c.first parts.together parts.apart) in
-    let two = found_block g c.first c is refl in
-    let both : Some c ≡ Some (buddy_in b o x) = sym two ∙ one in
-    record { order = o; from = parts.from; below = below; is = cc }
+    let both : c ≡ buddy_in b o x = same_Some c (buddy_in b o x) (sym (found_block g c.first c is refl) ∙ one) in
+    record { order = o; from = parts.from; below = below; is = both }
 
 -- a buddy begins in the block, and isn't the block
 pub buddy_inside : (b : Block) (low until x : ℕ) (c : Block) → until ≤ b.order → IsInBlock b x → IsBuddy b low until x c
     → IsInBlock b c.first
 buddy_inside b low until x c most inner it =
-    let below = it.below in
-    let here = buddy_in_block b it.order x (buddy_first it.order x) (omega (arith, below, most)) inner refl in
-    subst (λ (d : Block). IsInBlock b d.first) (sym it.is) here
+    rw it.is (buddy_in_block b it.order x (buddy_first it.order x) (omega (arith, it.below, most)) inner refl)
 
 -- two blocks that begin at one frame are one
 pub one_at : (f : Frames) (b c : Block) → IsBlock f b → IsBlock f c → b.first ≡ c.first → b ≡ c
 one_at f b c one two same =
-    let here = found_block f b.first b one refl in
-    let there = found_block f b.first c two (ap (λ x. x / 2 ^ c.order) same) in
-    let both : Some b ≡ Some c = sym here ∙ there in cc
+    same_Some b c (sym (found_block f b.first b one refl) ∙ found_block f b.first c two (ap (λ x. x / 2 ^ c.order) same))
 
 -- the blocks of what is left, both ways
 pub blocks_left : (f g : Frames) (low x : ℕ) (b c : Block) → IsWithout f g low x → IsBlock f b → IsInBlock b x → low ≤ b.order

@@ -20,7 +20,7 @@ use Rattle.frame_blocks.specs.Sets.{IsRun, SetFits, IsGreatest, IsStart}
 use Rattle.frame_blocks.proofs.ListLaws.{from-few}
 use Rattle.frame_blocks.proofs.RunLaws.{start_next, start_at_ten}
 use Rattle.frame_blocks.proofs.RowLaws.{row_more}
-use Rattle.frame_blocks.proofs.LookLaws.{listed, listed_all, listed_more, listed_none}
+use Rattle.frame_blocks.proofs.LookLaws.{listed, listed_all, listed_more_at, listed_none}
 
 -- the test of a zone tells
 pub zone_self : (a : Zone) → same_zone a a ≡ true
@@ -46,10 +46,9 @@ if_alike o z order zone = cond ((o == order) && same_zone z zone) 1 0
 one_block : (n o x order : ℕ) (z wanted : Zone) (made : Block) → made ≡ record { order = o; first = x; node = n; zone = z }
     → count_by (is_of n wanted order) (made ∷ []) ≡ if_alike o z order wanted
 one_block n o x order z wanted made is =
-    let node : (n == n) ≡ true = eq-eqb n n refl in
     let b : Block = record { order = o; first = x; node = n; zone = z } in
     ap (λ (c : Block). count_by (is_of n wanted order) (c ∷ [])) is ∙ sum_by-cons (λ (c : Block). cond (is_of n wanted order c) 1 0) b []
-    ∙ rw node (omega arith)
+    ∙ rw (eq-eqb n n refl) (omega arith)
 
 row_count : (k n o at order : ℕ) (z wanted : Zone) → count_by (is_of n wanted order) (row_from o at n z k) ≡ k * if_alike o z order wanted
 unfolding row_from
@@ -103,32 +102,21 @@ pub count_all : (rs : List (RunOf ℕ)) (node order : ℕ) (wanted : Zone) → A
 unfolding count_of blocks_of
 count_all rs node order wanted runs none =
     let most : ℕ = MAX_FRAMES in
-    let bs : List Block = blocks_from (value_at rs) 0 most in
-    let few = count_by-le-length (is_of node wanted order) bs in
-    let less = from-few (value_at rs) 0 most in
-    (ap (λ (cs : List Block). count_by (is_of node wanted order) cs) (listed_all rs runs none), omega (arith, few, less))
-
-pub count_more : (f : Frames) (rs : List (RunOf ℕ)) (i : ℕ) (d : RunOf ℕ) (p : Block → Bool) → i < length rs
-    → count_by p (listed f (drop i rs)) ≡ count_by p (blocks_from f (get_or rs i d).base (get_or rs i d).size) + count_by p (listed f
-    (drop (i + 1) rs))
-count_more f rs i d p few =
-    ap (λ (bs : List Block). count_by p bs) (listed_more f rs i d few)
-    ∙ sum_by-append (λ (c : Block). cond (p c) 1 0) (blocks_from f (get_or rs i d).base (get_or rs i d).size) (listed f (drop (i + 1) rs))
+    let bs : List Block = blocks_from (value_at rs) 0 most in (
+      ap (λ (cs : List Block). count_by (is_of node wanted order) cs) (listed_all rs runs none),
+      omega (arith, count_by-le-length (is_of node wanted order) bs, from-few (value_at rs) 0 most),
+    )
 
 pub count_more_at : (f : Frames) (rs : List (RunOf ℕ)) (i : ℕ) (d r : RunOf ℕ) (p : Block → Bool) → r ≡ get_or rs i d → i < length rs
     → count_by p (listed f (drop i rs)) ≡ count_by p (blocks_from f r.base (run_end r - r.base)) + count_by p (listed f (drop (i + 1) rs))
 count_more_at f rs i d r p is few =
-    let size : run_end r - r.base ≡ r.size = omega arith in
-    count_more f rs i d p few
-    ∙ sym (ap (λ n. count_by p (blocks_from f r.base n) + count_by p (listed f (drop (i + 1) rs))) size
-    ∙ ap (λ (q : RunOf ℕ). count_by p (blocks_from f q.base q.size) + count_by p (listed f (drop (i + 1) rs))) is)
+    ap (λ (bs : List Block). count_by p bs) (sym (listed_more_at f rs i d r [] is few))
+    ∙ sum_by-append (λ (c : Block). cond (p c) 1 0) (blocks_from f r.base (run_end r - r.base)) (listed f (drop (i + 1) rs))
 
 -- what the code tests of an order and a zone is what counts
 pub alike_is : (o order : ℕ) (z wanted : Zone) → o ≡ order → z ≡ wanted → if_alike o z order wanted ≡ 1
 alike_is o order z wanted same zones =
-    let orders : (o == order) ≡ true = eq-eqb o order same in
-    let tells : same_zone z wanted ≡ true = ap (λ y. same_zone y wanted) zones ∙ zone_self wanted in
-    rw (orders, tells) refl
+    rw (eq-eqb o order same, ap (λ y. same_zone y wanted) zones ∙ zone_self wanted) refl
 
 pub alike_not : (o order : ℕ) (z wanted : Zone) → ((o ≢ order) ⊎ (z ≢ wanted)) → if_alike o z order wanted ≡ 0
 alike_not o order z wanted (inl other) = rw (ne_eqb o order other) refl
@@ -150,9 +138,7 @@ pub next_count : (f : Frames) (rs : List (RunOf ℕ)) (i : ℕ) (d r : RunOf ℕ
     → i < length rs
     → t + count_by p (listed f (drop i rs)) ≡ all → u ≡ t + count_by p (blocks_from f r.base (run_end r - r.base))
     → u + count_by p (listed f (drop (i + 1) rs)) ≡ all
-next_count f rs i d r p t u all is few sum more =
-    let parts = count_more_at f rs i d r p is few in
-    omega (arith, parts, sum, more)
+next_count f rs i d r p t u all is few sum more = omega (arith, count_more_at f rs i d r p is few, sum, more)
 
 pub no_count : (f : Frames) (rs : List (RunOf ℕ)) (i : ℕ) (p : Block → Bool) → length rs ≤ i → count_by p (listed f (drop i rs)) ≡ 0
 no_count f rs i p all = ap (λ (bs : List Block). count_by p bs) (listed_none f rs i all)
@@ -165,8 +151,9 @@ other_run f r node order wanted run other =
     (λ y above below. run.inside y above (omega arith))
 
 pub many : (k s o : ℕ) → s ≡ 2 ^ o → k ≤ k * s
-many k s o size = let some = pow_pos o in let positive : 1 ≤ s = omega (arith, some, size) in let h = mul-le-mul_left k positive in omega
-    (arith, h)
+many k s o size =
+    let positive : 1 ≤ s = omega (arith, pow_pos o, size) in
+    omega (arith, mul-le-mul_left k positive)
 
 pub at_most_one : (o order : ℕ) (z wanted : Zone) → if_alike o z order wanted ≤ 1
 at_most_one o order z wanted = cond_both ((o == order) && same_zone z wanted) 1 0 (λ n. n ≤ 1) (λ _. omega arith) (λ _. omega arith)
@@ -182,5 +169,4 @@ next_start first end at o s k whole small size greatest (inr one) =
     subst (λ (y : ℕ). IsStart first end y) here (start_next first end at o s whole small size greatest)
 next_start first end at o s k whole small size greatest (inl ten) =
     let s_is : s ≡ 2 ^ 10 = size ∙ ap (λ p. 2 ^ p) ten in
-    start_at_ten first end (at + k * s)
-    (ap (λ t. (at + k * s) % t) (sym s_is) ∙ add-mul-mod_self_right at k s ∙ whole)
+    start_at_ten first end (at + k * s) (ap (λ t. (at + k * s) % t) (sym s_is) ∙ add-mul-mod_self_right at k s ∙ whole)

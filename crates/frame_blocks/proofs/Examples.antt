@@ -2,7 +2,7 @@
 use Rattle.std.proofs.Common.{◌≡◌, ℕ, ◌+◌, ◌*◌, ◌^◌, ◌/◌, nat_le, nat_lt, true, false, ◌&&◌, Some, None, [], ◌∷◌, if◌then◌else◌, refl, sym, ◌∙◌, ap, subst, inl, inr, arith}
 use Rattle.std.proofs.lemmas.Bool.Decides.{nat_tests}
 use Rattle.std.proofs.Math.Nat.{div-one}
-use Rattle.std.proofs.lemmas.Bool.{cases_Bool}
+use Rattle.std.proofs.lemmas.Option.{cond_some}
 use Rattle.std.specs.List.{find}
 use Rattle.std.specs.Option.{option_map, option_or}
 use Rattle.address_runs.specs.Edits.{NothingFrom}
@@ -113,8 +113,8 @@ pair_is_run : IsRun pair 4 6 7
 pair_is_run = record {
   inside = λ x above below. let on : (nat_le 4 x && nat_lt x 6) ≡ true = grind (arith, nat_tests) in rw on refl;
   before = λ x next same.
-      let off : (nat_le 4 x && nat_lt x 6) ≡ false = grind (arith, nat_tests) in
-      let none : pair x ≡ None = rw off refl in cc (sym none ∙ same);
+      let on = cond_some (nat_le 4 x && nat_lt x 6) 7 7 same in
+      absurd (grind (arith, nat_tests, on.0));
   behind = λ same. cc same;
 }
 
@@ -158,21 +158,15 @@ last_examples = ((omega arith, refl), λ ends. let none : None ≡ Some 0 = ends
 
 -- the lone frame is what is picked for one frame; for two frames, or in another zone, there is none
 lone_at : (x n : ℕ) → lone x ≡ Some n → x ≡ 5
-lone_at x n is =
-    elim (cases_Bool (nat_le 5 x && nat_lt x 6)) as (λ _. x ≡ 5) [
-      | inl on ↦ grind (arith, nat_tests)
-      | inr off ↦ let none : None ≡ Some n = sym (rw off refl) ∙ is in cc
-    ]
+lone_at x n is = let on = cond_some (nat_le 5 x && nat_lt x 6) 7 n is in grind (arith, nat_tests, on.0)
 
 serve_examples : Serves 7 zone.Dma 0 one_block × (Serves 7 zone.Dma 1 one_block → ⊥)
 unfolding one_block
 serve_examples = (record { node = refl; zone = refl; enough = omega arith }, λ serves. let h = serves.enough in absurd (omega (arith, h)))
 
 lone_alone : (c : Block) → IsBlock lone c → one_block ≡ c
-lone_alone c block =
-    let here : c.first ≡ 5 = lone_at c.first c.node (block.good c.first refl).0 in
-    let first_is : one_block.first ≡ 5 = unfold one_block in refl in
-    one_at lone one_block c lone_is_block block (first_is ∙ sym here)
+unfolding one_block
+lone_alone c block = one_at lone one_block c lone_is_block block (sym (lone_at c.first c.node (block.good c.first refl).0))
 
 lone_is_picked : IsPicked lone 7 zone.Dma 0 one_block
 lone_is_picked = record {

@@ -1,6 +1,6 @@
 -- Free sets around a frame, and the greatest of them.
-use Rattle.std.proofs.Common.{◌≡◌, ℕ, zero, suc, ◌^◌, ◌<◌, ◌≤◌, true, Option, Some, None, refl, sym, ◌∙◌, ap, subst, inl, inr, arith}
-use Rattle.std.proofs.lemmas.Bool.{cases_lt, cases_Bool, eqb-true, eq-eqb}
+use Rattle.std.proofs.Common.{◌≡◌, ℕ, zero, suc, ◌^◌, ◌<◌, ◌≤◌, true, Option, Some, None, refl, sym, ◌∙◌, ap, inl, inr, arith}
+use Rattle.std.proofs.lemmas.Bool.{cases_lt, cond_both, eqb-true, eq-eqb}
 use Rattle.std.proofs.lemmas.Nat.{pow_pos}
 use Rattle.std.proofs.Math.Nat.{div-one}
 use Rattle.bm_base.proofs.EachLaws.{each_in-all, each_in-each}
@@ -36,63 +36,41 @@ free_test f o x n free =
     each_in-all (set_around o x) (λ z. is_node (f z) n)
     (λ y above below. is_the_node (f y) n (free y (in_set (2 ^ o) x y above below)))
 
-pub up_here : (f : Frames) (x n m : ℕ) → AreFree f m x n → order_up_to f x n m ≡ m
-unfolding order_up_to
-up_here f x n zero free = refl
-up_here f x n (suc m) free = rw (free_test f (suc m) x n free) refl
-
 pub up_small : (f : Frames) (x n m : ℕ) → order_up_to f x n m ≤ m
-up_small f x n zero = let h : order_up_to f x n 0 ≡ 0 = unfold order_up_to in refl in omega arith
+unfolding order_up_to
+up_small f x n zero = omega arith
 up_small f x n (suc m) =
-    elim (cases_Bool (are_free f (suc m) x n)) as (λ _. order_up_to f x n (suc m) ≤ suc m) [
-      | inl holds ↦ let h = up_here f x n (suc m) (test_free f (suc m) x n holds) in omega (arith, h)
-      | inr fails ↦
-          let h : order_up_to f x n (suc m) ≡ order_up_to f x n m = unfold order_up_to in rw fails refl in
-          let less = up_small f x n m in omega (arith, h, less)
-    ]
+    cond_both (are_free f (suc m) x n) (suc m) (order_up_to f x n m) (λ o. o ≤ suc m)
+    (λ holds. omega arith) (λ fails. omega (arith, up_small f x n m))
 
 -- the set of the order that is found is free
 pub up_free : (f : Frames) (x n m : ℕ) → f x ≡ Some n → AreFree f (order_up_to f x n m) x n
-up_free f x n zero is =
-    let h : order_up_to f x n 0 ≡ 0 = unfold order_up_to in refl in
-    let one : AreFree f 0 x n = λ y same. let here : y ≡ x = sym (div-one y) ∙ same ∙ div-one x in ap f here ∙ is in
-    subst (λ (o : ℕ). AreFree f o x n) (sym h) one
+unfolding order_up_to
+up_free f x n zero is = λ y same. let here : y ≡ x = sym (div-one y) ∙ same ∙ div-one x in ap f here ∙ is
 up_free f x n (suc m) is =
-    elim (cases_Bool (are_free f (suc m) x n)) as (λ _. AreFree f (order_up_to f x n (suc m)) x n) [
-      | inl holds ↦
-          let free = test_free f (suc m) x n holds in
-          subst (λ (o : ℕ). AreFree f o x n) (sym (up_here f x n (suc m) free)) free
-      | inr fails ↦
-          let h : order_up_to f x n (suc m) ≡ order_up_to f x n m = unfold order_up_to in rw fails refl in
-          subst (λ (o : ℕ). AreFree f o x n) (sym h) (up_free f x n m is)
-    ]
+    cond_both (are_free f (suc m) x n) (suc m) (order_up_to f x n m) (λ o. AreFree f o x n)
+    (λ holds. test_free f (suc m) x n holds) (λ fails. up_free f x n m is)
 
 -- and no greater one is
 pub up_most : (f : Frames) (x n m o : ℕ) → o ≤ m → AreFree f o x n → o ≤ order_up_to f x n m
-up_most f x n zero o few free = omega arith
+unfolding order_up_to
+up_most f x n zero o few free = few
 up_most f x n (suc m) o few free =
-    elim (cases_Bool (are_free f (suc m) x n)) as (λ _. o ≤ order_up_to f x n (suc m)) [
-      | inl holds ↦ let h = up_here f x n (suc m) (test_free f (suc m) x n holds) in omega (arith, h)
-      | inr fails ↦
-          let h : order_up_to f x n (suc m) ≡ order_up_to f x n m = unfold order_up_to in rw fails refl in
-          elim (cases_lt m o) as (λ _. o ≤ order_up_to f x n (suc m)) [
-            | inl lt ↦
-                let last : o ≡ suc m = omega arith in
-                let there : AreFree f (suc m) x n = subst (λ (p : ℕ). AreFree f p x n) last free in
-                absurd (cc (sym (free_test f (suc m) x n there) ∙ fails))
-            | inr ge ↦ let more = up_most f x n m o ge free in omega (arith, h, more)
-          ]
-    ]
+    cond_both (are_free f (suc m) x n) (suc m) (order_up_to f x n m) (λ p. o ≤ p) (λ holds. few) (λ fails.
+    elim (cases_lt m o) as (λ _. o ≤ order_up_to f x n m) [
+      | inl lt ↦
+          let last : o ≡ suc m = omega arith in
+          absurd (cc (sym (free_test f (suc m) x n (rw last at free)) ∙ fails))
+      | inr ge ↦ up_most f x n m o ge free
+    ])
 
 -- so a free set, of which the next greater one isn't free, is found
 pub up_is : (f : Frames) (x n m o : ℕ) → f x ≡ Some n → o ≤ m → AreFree f o x n → (o < m → AreFree f (suc o) x n → ⊥)
     → order_up_to f x n m ≡ o
 up_is f x n m o is few free whole =
-    let most = up_most f x n m o few free in
-    let small = up_small f x n m in
     elim (cases_lt o (order_up_to f x n m)) as (λ _. order_up_to f x n m ≡ o) [
       | inl lt ↦
-          let less : o < m = omega (arith, lt, small) in
+          let less : o < m = omega (arith, lt, up_small f x n m) in
           absurd (whole less (free-narrow f (suc o) (order_up_to f x n m) x n lt (up_free f x n m is)))
-      | inr ge ↦ omega (arith, most, ge)
+      | inr ge ↦ omega (arith, up_most f x n m o few free, ge)
     ]

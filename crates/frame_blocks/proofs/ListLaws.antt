@@ -1,6 +1,6 @@
 -- The list of the blocks that begin in a stretch of frames.
-use Rattle.std.proofs.Common.{◌≡◌, ℕ, zero, suc, ◌+◌, ◌-◌, ◌%◌, ◌^◌, ◌<◌, ◌≤◌, ◌==◌, true, false, Option, Some, None, List, [], ◌∷◌, ◌++◌, length, refl, ◌∙◌, ap, subst, inl, inr, arith}
-use Rattle.std.proofs.lemmas.Bool.{cases_Bool, eq-eqb, ne_eqb}
+use Rattle.std.proofs.Common.{◌≡◌, ℕ, zero, suc, ◌+◌, ◌-◌, ◌%◌, ◌^◌, ◌<◌, ◌≤◌, ◌==◌, false, Option, Some, None, List, [], ◌∷◌, ◌++◌, length, refl, ◌∙◌, ap, subst, inl, inr, arith}
+use Rattle.std.proofs.lemmas.Bool.{cases_Bool, cond_both, eq-eqb, ne_eqb}
 use Rattle.std.proofs.lemmas.Nat.{pow_pos}
 use Rattle.bm_base.specs.Zones.{zone_of}
 use Rattle.frame_blocks.specs.declared.block.Block.{Block}
@@ -56,9 +56,7 @@ not_first-inner f o x y n small whole free above below bs =
     let most : o ≤ p = up_most f y n 10 o small (free-around f o x y n same free) in
     let base : (y - y % 2 ^ p) % 2 ^ o ≡ 0 = multiple o p (y - y % 2 ^ p) most (base_whole (2 ^ p) y) in
     let other : ((y - y % 2 ^ p) == y) ≡ false = ne_eqb (y - y % 2 ^ p) y (λ here.
-    let at : y % 2 ^ o ≡ 0 = subst (λ (z : ℕ). z % 2 ^ o ≡ 0) here base in
-    let far = apart (2 ^ o) x y whole at above in
-    omega (arith, far)) in
+    omega (arith, apart (2 ^ o) x y whole (rw here at base) above)) in
     ap (λ v. led_by_block y (block_for f y v) bs) is ∙ rw other refl
 
 -- the frames of a block list it
@@ -75,23 +73,16 @@ from-block f o x n small is found whole =
     let block : block_of f x ≡ Some (record { order = o; first = x; node = n; zone = zone_of x }) =
     ap (λ v. block_for f x v) is ∙ ap (λ p. Some (block_around p x n)) found
     ∙ ap (λ b. let made : Block = record { order = o; first = b; node = n; zone = zone_of b } in Some made) base in
-    let here : (x == x) ≡ true = eq-eqb x x refl in
     ap (λ k. blocks_from f x k) size ∙ ap (λ (bs : List Block). led_by_block x (block_of f x) bs) rest
-    ∙ ap (λ v. led_by_block x v []) block ∙ rw here refl
+    ∙ ap (λ v. led_by_block x v []) block ∙ rw (eq-eqb x x refl) refl
 
 -- there are at most as many blocks as frames
 led_length : (x : ℕ) (o : Option Block) (bs : List Block) → length (led_by_block x o bs) ≤ suc (length bs)
 led_length x None bs = omega arith
 led_length x (Some b) bs =
-    elim (cases_Bool (b.first == x)) as (λ _. length (led_by_block x (Some b) bs) ≤ suc (length bs)) [
-      | inl here ↦ rw here (omega arith)
-      | inr other ↦ rw other (omega arith)
-    ]
+    cond_both (b.first == x) (b ∷ bs) bs (λ (cs : List Block). length cs ≤ suc (length bs)) (λ here. omega arith) (λ other. omega arith)
 
 pub from-few : (f : Frames) (x n : ℕ) → length (blocks_from f x n) ≤ n
 unfolding blocks_from
 from-few f x zero = omega arith
-from-few f x (suc n) =
-    let one = led_length x (block_of f x) (blocks_from f (x + 1) n) in
-    let rest = from-few f (x + 1) n in
-    omega (arith, one, rest)
+from-few f x (suc n) = omega (arith, led_length x (block_of f x) (blocks_from f (x + 1) n), from-few f (x + 1) n)

@@ -1,7 +1,7 @@
 -- Rows are as long as they can be.
-use Rattle.std.proofs.Common.{◌≡◌, ◌≢◌, ◌⊎◌, ℕ, zero, suc, ◌+◌, ◌-◌, ◌*◌, ◌%◌, ◌^◌, ◌<◌, ◌≤◌, Some, List, [], ◌∷◌, ◌++◌, sym, ◌∙◌, ap, subst, inl, inr, arith}
+use Rattle.std.proofs.Common.{◌≡◌, ◌≢◌, ◌⊎◌, ℕ, suc, ◌+◌, ◌-◌, ◌*◌, ◌%◌, ◌^◌, ◌<◌, ◌≤◌, Some, List, [], ◌∷◌, ◌++◌, sym, ◌∙◌, ap, inl, inr, arith}
 use Rattle.std.proofs.lemmas.Nat.{pow_pos}
-use Rattle.std.proofs.Math.Nat.{suc-mul}
+use Rattle.std.proofs.Math.Nat.{mul-pos}
 use Rattle.bm_base.specs.Zones.{zone_of}
 use Rattle.frame_blocks.specs.declared.block.BlockRow.{BlockRow}
 use Rattle.frame_blocks.specs.Frames.{Frames}
@@ -36,15 +36,9 @@ pub ends_at_first : (f : Frames) (first end n : ℕ) (rs : List BlockRow) → Is
 ends_at_first f first end n rs run free =
     last_so (EndsFree f) (EndsAt first end n) rs
     (λ r last ten node touch.
-    let some = last.0 in
-    let next : suc (row_end r - 1) ≡ first = omega (arith, some, touch) in
+    let next : suc (row_end r - 1) ≡ first = omega (arith, last.0, touch) in
     absurd (run.before (row_end r - 1) next (last.1 ∙ ap (λ m. Some m) node)))
     free
-
--- so many blocks have frames
-some_frames : (k s : ℕ) → 0 < k → 0 < s → 0 < k * s
-some_frames zero s some size = absurd (omega arith)
-some_frames (suc k) s some size = let h = suc-mul k s in omega (arith, h, size)
 
 -- the blocks that follow one another from here on are one row more
 pub long_more : (f : Frames) (first end n o s at k : ℕ) (rs new : List BlockRow)
@@ -55,9 +49,8 @@ pub long_more : (f : Frames) (first end n o s at k : ℕ) (rs new : List BlockRo
     → OfLast (EndsFree f) new × OfLast (EndsAt (at + k * s) end n) new × AreRows new
 long_more f first end n o s at k rs new put run above some room size whole fits single most old =
     let r : BlockRow = record { order = o; first = at; count = k; node = n; zone = zone_of at } in
-    let below = fits.below in
-    let positive : 0 < s = let h = pow_pos o in omega (arith, size, h) in
-    let frames : 0 < k * s = some_frames k s some positive in
+    let positive : 0 < s = omega (arith, size, pow_pos o) in
+    let frames : 0 < k * s = mul-pos some positive in
     let end_is : row_end r ≡ at + k * s = ap (λ t. at + k * t) (sym size) in
     let ends : EndsFree f r = (
       omega (arith, end_is, frames),
@@ -76,11 +69,8 @@ long_more f first end n o s at k rs new put run above some room size whole fits 
     let ten : o ≡ 10 = goes.order ∙ goes.great in
     let s_is : s ≡ 1024 = size ∙ ap (λ p. 2 ^ p) ten in
     elim (last goes.great (sym goes.node) (sym goes.touch)) as (λ _. ⊥) [
-      | inl lt ↦ absurd (omega (arith, lt, below, whole, s_is))
+      | inl lt ↦ absurd (omega (arith, lt, fits.below, whole, s_is))
       | inr other ↦ other goes.zone
     ])
-    old.1 in (
-      subst (λ (ts : List BlockRow). OfLast (EndsFree f) ts) (sym put) (last_put (EndsFree f) rs r ends),
-      subst (λ (ts : List BlockRow). OfLast (EndsAt (at + k * s) end n) ts) (sym put) (last_put (EndsAt (at + k * s) end n) rs r next),
-      subst (λ (ts : List BlockRow). AreRows ts) (sym put) (rows_put rs r some single apart old.2),
-    )
+    old.1 in
+    rw put (last_put (EndsFree f) rs r ends, last_put (EndsAt (at + k * s) end n) rs r next, rows_put rs r some single apart old.2)

@@ -31,8 +31,7 @@ all_start : (at : ℕ) (rs : List (RunOf ℕ)) (i : ℕ) (d : RunOf ℕ) → Are
 all_start at [] i d runs start few = absurd (omega arith)
 all_start at (r ∷ rs) zero d runs start few = start
 all_start at (r ∷ rs) (suc i) d runs start few =
-    let rest = all_start (run_end r) rs i d runs.2 (rest_from r rs runs) (omega arith) in
-    omega (arith, rest, start)
+    omega (arith, all_start (run_end r) rs i d runs.2 (rest_from r rs runs) (omega arith), start)
 
 -- each run of the list is one of what the list gives
 pub run_of_list : (rs : List (RunOf ℕ)) (i : ℕ) (d : RunOf ℕ) → AreRuns rs → i < length rs
@@ -54,7 +53,7 @@ run_of_list (q ∷ rs) (suc i) d runs few =
         | inl lt ↦
             let touch : run_end q ≡ r.base = omega arith in
             let first : value_at rs r.base ≡ Some r.value = rest.inside r.base (omega arith) (omega arith) in
-            let last : value_at (q ∷ rs) x ≡ Some q.value = value_inside q rs x (let some_too = runs.0 in omega (arith, some_too)) lt in
+            let last : value_at (q ∷ rs) x ≡ Some q.value = value_inside q rs x (omega (arith, runs.0)) lt in
             other_behind q rs runs (ap (value_at rs) touch ∙ first ∙ sym same ∙ last)
         | inr ge ↦ rest.before x next (sym (value_behind q rs x ge) ∙ same)
       ];
@@ -70,11 +69,9 @@ pub begins_later : (rs : List (RunOf ℕ)) (i x : ℕ) (d : RunOf ℕ) → i < l
     → x < (get_or rs i d).base → None ≡ block_of (value_at rs) x
 begins_later rs i x d few rest later =
     let r : RunOf ℕ = get_or rs i d in
-    let left : drop i rs ≡ r ∷ drop (suc i) rs = drop-cons rs i d few in
-    let runs : AreRuns (r ∷ drop (suc i) rs) = subst (λ (ss : List (RunOf ℕ)). AreRuns ss) left rest.runs in
+    let left : IsRestFrom (value_at rs) x (r ∷ drop (suc i) rs) = rw (drop-cons rs i d few) at rest in
     let none : value_at rs x ≡ None =
-    sym (rest.each x (omega arith)) ∙ ap (λ (ss : List (RunOf ℕ)). value_at ss x) left
-    ∙ none_below r.base x (r ∷ drop (suc i) rs) runs (omega arith) later in
+    sym (left.each x (omega arith)) ∙ none_below r.base x (r ∷ drop (suc i) rs) left.runs (omega arith) later in
     sym (ap (block_for (value_at rs) x) none)
 
 pub found_block : (rs : List (RunOf ℕ)) (i x o s : ℕ) (d : RunOf ℕ) → AreRuns rs → i < length rs → (get_or rs i d).base ≤ x
@@ -135,10 +132,9 @@ pub listed_all : (rs : List (RunOf ℕ)) → AreRuns rs → NothingFrom MAX_FRAM
     → listed (value_at rs) rs ≡ blocks_of (value_at rs)
 unfolding blocks_of
 listed_all rs runs none =
-    let most : ℕ = MAX_FRAMES in
-    let all : most - 0 ≡ most = omega arith in
+    let all : MAX_FRAMES - 0 ≡ MAX_FRAMES = omega arith in
     sym (ap (λ n. blocks_from (value_at rs) 0 n) (sym all)
-    ∙ listed_from (value_at rs) most 0 rs runs (start_zero rs) none (omega arith) (λ x above. refl))
+    ∙ listed_from (value_at rs) MAX_FRAMES 0 rs runs (start_zero rs) none (omega arith) (λ x above. refl))
 
 -- one run more of the list
 pub listed_more : (f : Frames) (rs : List (RunOf ℕ)) (i : ℕ) (d : RunOf ℕ) → i < length rs
@@ -155,11 +151,7 @@ pub found_at : (rs : List (RunOf ℕ)) (i x o s : ℕ) (d r : RunOf ℕ) → r �
     → IsRestFrom (value_at rs) x (drop i rs) → o ≤ 10 → s ≡ 2 ^ o → SetFits r.base (run_end r) x s → IsGreatest r.base (run_end r) x o
     → Some (record { order = o; first = x - x % s; node = r.value; zone = zone_of (x - x % s) }) ≡ block_of (value_at rs) x
 found_at rs i x o s d r is runs few above rest small size fits greatest =
-    let Found : RunOf ℕ → Type 0 = λ q. q.base ≤ x → SetFits q.base (run_end q) x s → IsGreatest q.base (run_end q) x o
-    → Some (record { order = o; first = x - x % s; node = q.value; zone = zone_of (x - x % s) }) ≡ block_of (value_at rs) x in
-    let there : Found (get_or rs i d) = λ above_too fits_too greatest_too.
-    found_block rs i x o s d runs few above_too (looked_up rs i x d few rest) small size fits_too greatest_too in
-    subst Found (sym is) there above fits greatest
+    rw is (found_block rs i x o s d runs few (rw is at above) (looked_up rs i x d few rest) small size (rw is at fits) (rw is at greatest))
 
 pub begins_later_at : (rs : List (RunOf ℕ)) (i x : ℕ) (d r : RunOf ℕ) → r ≡ get_or rs i d → i < length rs
     → IsRestFrom (value_at rs) x (drop i rs) → x < r.base → None ≡ block_of (value_at rs) x
@@ -167,8 +159,7 @@ begins_later_at rs i x d r is few rest later = begins_later rs i x d few rest (s
 
 pub run_at : (rs : List (RunOf ℕ)) (i : ℕ) (d r : RunOf ℕ) → r ≡ get_or rs i d → AreRuns rs → i < length rs
     → IsRun (value_at rs) r.base (run_end r) r.value
-run_at rs i d r is runs few =
-    subst (λ (q : RunOf ℕ). IsRun (value_at rs) q.base (run_end q) q.value) (sym is) (run_of_list rs i d runs few)
+run_at rs i d r is runs few = rw is (run_of_list rs i d runs few)
 
 pub listed_more_at : (f : Frames) (rs : List (RunOf ℕ)) (i : ℕ) (d r : RunOf ℕ) (bs : List Block) → r ≡ get_or rs i d → i < length rs
     → (bs ++ blocks_from f r.base (run_end r - r.base)) ++ listed f (drop (i + 1) rs) ≡ bs ++ listed f (drop i rs)
@@ -176,5 +167,4 @@ listed_more_at f rs i d r bs is few =
     let size : run_end r - r.base ≡ r.size = omega arith in
     append_assoc bs (blocks_from f r.base (run_end r - r.base)) (listed f (drop (i + 1) rs))
     ∙ ap (λ n. bs ++ (blocks_from f r.base n ++ listed f (drop (i + 1) rs))) size
-    ∙ ap (λ (q : RunOf ℕ). bs ++ (blocks_from f q.base q.size ++ listed f (drop (i + 1) rs))) is
-    ∙ sym (ap (λ (cs : List Block). bs ++ cs) (listed_more f rs i d few))
+    ∙ rw (listed_more f rs i d few, ← is) refl

@@ -1,6 +1,7 @@
 -- The function that picks a block gives the block that is picked by the sentence, and none where none serves.
 use Rattle.std.proofs.Common.{◌≡◌, ◌⊎◌, ℕ, zero, suc, ◌+◌, ◌-◌, ◌<◌, ◌≤◌, ◌==◌, Bool, true, ◌&&◌, Some, None, List, [], ◌∷◌, refl, sym, ◌∙◌, ap, inl, inr, ⊎_elim, arith}
 use Rattle.std.proofs.lemmas.Bool.{and_parts, cases_lt, cases_Bool, eqb-true, eq-eqb}
+use Rattle.std.proofs.lemmas.Option.{same_Some}
 use Rattle.std.specs.List.{find}
 use Rattle.bm_base.specs.declared.zone.Zone.{Zone}
 use Rattle.address_runs.specs.Edits.{NothingFrom}
@@ -22,10 +23,8 @@ is_of_tells n z order b h =
 
 pub is_of_told : (n : ℕ) (z : Zone) (order : ℕ) (b : Block) → b.node ≡ n → b.order ≡ order → b.zone ≡ z → is_of n z order b ≡ true
 is_of_told n z order b node_is order_is zone_is =
-    let one : (b.node == n) ≡ true = eq-eqb b.node n node_is in
-    let two : (b.order == order) ≡ true = eq-eqb b.order order order_is in
-    let three : same_zone b.zone z ≡ true = ap (λ a. same_zone a z) zone_is ∙ zone_self z in
-    rw (one, two, three) refl
+    let zones : same_zone b.zone z ≡ true = ap (λ a. same_zone a z) zone_is ∙ zone_self z in
+    rw (eq-eqb b.node n node_is, eq-eqb b.order order order_is, zones) refl
 
 -- what a search finds in a list that ascends
 record IsFound (p : Block → Bool) (bs : List Block) (b : Block) : Type 0 where
@@ -35,25 +34,22 @@ record IsFound (p : Block → Bool) (bs : List Block) (b : Block) : Type 0 where
 
 pub ascend_behind : (x : ℕ) (bs : List Block) (c : Block) → AscendFrom x bs → Lists bs c → x ≤ c.first
 ascend_behind x [] c ascend has = absurd has
-ascend_behind x (b ∷ bs) c ascend has =
-    ⊎_elim (λ (same : b ≡ c). let at = ap (λ (d : Block). d.first) same in let low = ascend.0 in omega (arith, at, low))
-    (λ (rest : Lists bs c). let later = ascend_behind (b.first + 1) bs c ascend.1 rest in let low = ascend.0 in omega (arith, later, low))
-    has
+ascend_behind x (b ∷ bs) c ascend (inl same) = omega (arith, ap (λ (d : Block). d.first) same, ascend.0)
+ascend_behind x (b ∷ bs) c ascend (inr rest) = omega (arith, ascend_behind (b.first + 1) bs c ascend.1 rest, ascend.0)
 
 found_in : (p : Block → Bool) (x : ℕ) (bs : List Block) (b : Block) → AscendFrom x bs → find p bs ≡ Some b → IsFound p bs b
 found_in p x [] b ascend is = cc
 found_in p x (c ∷ cs) b ascend is =
     elim (cases_Bool (p c)) as (λ _. IsFound p (c ∷ cs) b) [
       | inl on ↦
-          let here : c ≡ b = let found : Some c ≡ Some b = rw on at is in cc in
+          let here : c ≡ b = same_Some c b (rw on at is) in
           record {
             has = inl here;
             passes = ap p (sym here) ∙ on;
             first = λ d has passes. ⊎_elim
-                (λ (same : c ≡ d). let at = ap (λ (e : Block). e.first) (sym here ∙ same) in omega (arith, at))
+                (λ (same : c ≡ d). omega (arith, ap (λ (e : Block). e.first) (sym here ∙ same)))
                 (λ (rest : Lists cs d).
-                let later = ascend_behind (c.first + 1) cs d ascend.1 rest in let at = ap (λ (e : Block). e.first) here in
-                omega (arith, later, at))
+                omega (arith, ascend_behind (c.first + 1) cs d ascend.1 rest, ap (λ (e : Block). e.first) here))
                 has;
           }
       | inr off ↦
@@ -107,8 +103,7 @@ found_up f n z order zero b is = cc
 found_up f n z order (suc k) b is =
     elim (found_or_none (find (is_of n z order) (blocks_of f))) as (λ _. IsFoundUp f n z order (suc k) b) [
       | inr found ↦
-          let same : found.0 ≡ b = let some : Some found.0 ≡ Some b = rw found.1 at is in cc in
-          let here : find (is_of n z order) (blocks_of f) ≡ Some b = found.1 ∙ ap (λ (d : Block). Some d) same in
+          let here : find (is_of n z order) (blocks_of f) ≡ Some b = found.1 ∙ rw found.1 at is in
           let it = found_in (is_of n z order) 0 (blocks_of f) b (listed_ascends f) here in
           let told = is_of_tells n z order b it.passes in
           let order_is = told.1 in
@@ -120,26 +115,22 @@ found_up f n z order (suc k) b is =
                 ⊎ ((b.order ≡ c.order) × (b.first ≤ c.first))) [
                   | inl lt ↦ inl (omega (arith, lt, order_is))
                   | inr le ↦
-                      let enough = serves.enough in
-                      let at : c.order ≡ order = omega (arith, le, enough) in
+                      let at : c.order ≡ order = omega (arith, le, serves.enough) in
                       inr (order_is ∙ sym at, it.first c has (is_of_told n z order c serves.node at serves.zone))
                 ];
           }
       | inl none ↦
           let rest : IsFoundUp f n z (order + 1) k b = found_up f n z (order + 1) k b (rw none at is) in
-          let more = rest.serves.enough in
-          let below = rest.below in
           record {
             has = rest.has;
-            serves = record { node = rest.serves.node; zone = rest.serves.zone; enough = omega (arith, more) };
-            below = omega (arith, below);
+            serves = record { node = rest.serves.node; zone = rest.serves.zone; enough = omega (arith, rest.serves.enough) };
+            below = omega (arith, rest.below);
             least = λ c has serves. elim (cases_lt order c.order) as (λ _. (b.order < c.order)
                 ⊎ ((b.order ≡ c.order) × (b.first ≤ c.first))) [
                   | inl lt ↦ rest.least c has (record { node = serves.node; zone = serves.zone; enough = omega (arith, lt) })
                   | inr le ↦
-                      let enough = serves.enough in
                       absurd (none_in (is_of n z order) (blocks_of f) c none has
-                      (is_of_told n z order c serves.node (omega (arith, le, enough)) serves.zone))
+                      (is_of_told n z order c serves.node (omega (arith, le, serves.enough)) serves.zone))
                 ];
           }
     ]
@@ -160,9 +151,8 @@ pub none_tells : (f : Frames) (n : ℕ) (z : Zone) (order : ℕ) → NothingFrom
     → NoneServes f n z order
 unfolding picked
 none_tells f n z order low is b block serves =
-    let small = block.small in
-    let enough = serves.enough in
-    none_up f n z order (11 - order) b is (listed_complete f b low block) serves.node serves.zone enough (omega (arith, small, enough))
+    none_up f n z order (11 - order) b is (listed_complete f b low block) serves.node serves.zone serves.enough
+    (omega (arith, block.small, serves.enough))
 
 -- of two that are least by order and first frame neither begins before the other
 both_least : (o p x y : ℕ) → (o < p) ⊎ ((o ≡ p) × (x ≤ y)) → (p < o) ⊎ ((p ≡ o) × (y ≤ x)) → x ≡ y

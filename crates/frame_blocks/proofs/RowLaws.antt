@@ -26,11 +26,10 @@ row_is zero f n o s at z small size whole free found zones =
     let nothing : blocks_from f at 0 ≡ [] = unfold blocks_from in refl in
     ap (λ m. blocks_from f at m) none ∙ nothing
 row_is (suc k) f n o s at z small size whole free found zones =
-    let some : 0 < suc k = omega arith in
     let here : at + 0 * s ≡ at = omega arith in
-    let is : f at ≡ Some n = ap f (sym here) ∙ free 0 some in
-    let order_is : order_up_to f at n 10 ≡ o = ap (λ x. order_up_to f x n 10) (sym here) ∙ found 0 some in
-    let zone_is : zone_of at ≡ z = ap zone_of (sym here) ∙ zones 0 some in
+    let is : f at ≡ Some n = ap f (sym here) ∙ free 0 (omega arith) in
+    let order_is : order_up_to f at n 10 ≡ o = ap (λ x. order_up_to f x n 10) (sym here) ∙ found 0 (omega arith) in
+    let zone_is : zone_of at ≡ z = ap zone_of (sym here) ∙ zones 0 (omega arith) in
     let one : blocks_from f at (2 ^ o) ≡ record { order = o; first = at; node = n; zone = zone_of at } ∷ [] =
     from-block f o at n small is order_is whole in
     let sum : suc k * s ≡ 2 ^ o + k * s = let h = suc-mul k s in omega (arith, h, size) in
@@ -64,14 +63,10 @@ in_a_row f first end n o s at k run above some room small size whole fits greate
     let all = ap (λ t. at + k * t) s_is in
     let here : x ≡ at + i * 1024 = ap (λ t. at + i * t) s_is in
     let fits_here : x + 1024 ≤ end = omega (arith, room, all, here, lt) in
-    let at_whole : at % 1024 ≡ 0 = subst (λ (t : ℕ). at % t ≡ 0) s_is whole in
-    let x_whole : x % 1024 ≡ 0 = ap (λ y. y % 1024) here ∙ add-mul-mod_self_right at i 1024 ∙ at_whole in
+    let x_whole : x % 1024 ≡ 0 = ap (λ y. y % 1024) here ∙ add-mul-mod_self_right at i 1024 ∙ rw s_is at whole in
     let is : f x ≡ Some n = run.inside x (omega arith) (omega (arith, fits_here)) in
-    let fits_ten : SetFits first end x (2 ^ 10) = record {
-      above = omega (arith, x_whole, above);
-      below = omega
-          (arith, x_whole, fits_here);
-    } in (
+    let fits_ten : SetFits first end x (2 ^ 10) =
+    record { above = omega (arith, x_whole, above); below = omega (arith, x_whole, fits_here) } in (
       is,
       up_is f x n 10 10 is (omega arith) (free_inside f first end n 10 x run fits_ten) (λ less free. absurd (omega arith)) ∙ sym ten,
     )

@@ -16,9 +16,8 @@ use Rattle.frame_blocks.proofs.ListLaws.{from-append, from-none, from-block}
 -- a set in a run is free
 pub free_inside : (f : Frames) (first end n o x : ℕ) → IsRun f first end n → SetFits first end x (2 ^ o) → AreFree f o x n
 free_inside f first end n o x run fits y same =
-    let from = set_from (2 ^ o) x y same in
-    let until = set_until (2 ^ o) x y (pow_pos o) same in
-    run.inside y (omega (arith, from, fits.above)) (omega (arith, until, fits.below))
+    run.inside y (omega (arith, set_from (2 ^ o) x y same, fits.above))
+    (omega (arith, set_until (2 ^ o) x y (pow_pos o) same, fits.below))
 
 -- and a set around a frame of the run that is free lies in it
 pub inside_free : (f : Frames) (first end n o x : ℕ) → IsRun f first end n → first ≤ x → x < end → AreFree f o x n
@@ -56,7 +55,7 @@ one_more f first end n o at s run above below small size fits greatest whole =
 
 -- no set begins before the first frame of a run
 pub start_first : (first end : ℕ) → IsStart first end first
-start_first first end o small fits = let low = fits.above in omega (arith, low)
+start_first first end o small fits = omega (arith, fits.above)
 
 -- a block's greatest set begins at the block's first frame
 pub start_whole : (first end at o s : ℕ) → IsStart first end at → o ≤ 10 → s ≡ 2 ^ o → SetFits first end at s → at % s ≡ 0
@@ -81,9 +80,8 @@ start_next first end at o s whole few size greatest p small fits =
                 let rest : (at + s) % 2 ^ p < 2 ^ p = mod-lt (at + s) (pow_pos p) in
                 let same : at / 2 ^ p ≡ (at + s) / 2 ^ p = in_set (2 ^ p) (at + s) at (omega (arith, low, size)) (omega (arith, rest)) in
                 let bases : at - at % 2 ^ p ≡ base = base_is (2 ^ p) at ∙ ap (λ q. q * 2 ^ p) same ∙ sym (base_is (2 ^ p) (at + s)) in
-                let high = fits.below in
-                let from = fits.above in
-                absurd (greatest p lt small (record { above = omega (arith, bases, from); below = omega (arith, bases, high) }))
+                absurd (greatest p lt small
+                (record { above = omega (arith, bases, fits.above); below = omega (arith, bases, fits.below) }))
           ]
     ]
 
@@ -91,9 +89,8 @@ start_next first end at o s whole few size greatest p small fits =
 pub step_down : (first end x o s : ℕ) → s ≡ 2 ^ o → first ≤ x → x < end → (SetFits first end x s → ⊥) → IsGreatest first end x o
     → (0 < o) × (s / 2 ≡ 2 ^ (o - 1)) × IsGreatest first end x (o - 1)
 step_down first end x zero s size above below fails greatest =
-    let one : s ≡ 1 = size in
-    let whole : x % s ≡ 0 = ap (λ t. x % t) one ∙ mod-one x in
-    absurd (fails (record { above = omega (arith, whole); below = omega (arith, whole, one) }))
+    let whole : x % s ≡ 0 = ap (λ t. x % t) size ∙ mod-one x in
+    absurd (fails (record { above = omega (arith, whole); below = omega (arith, whole, size) }))
 step_down first end x (suc o) s size above below fails greatest =
     let double : 2 ^ suc o ≡ 2 ^ o * 2 = pow-suc 2 o in
     let less : suc o - 1 ≡ o = omega arith in
@@ -103,8 +100,8 @@ step_down first end x (suc o) s size above below fails greatest =
       λ p lt small fits. elim (cases_lt (suc o) p) as (λ _. ⊥) [
         | inl more ↦ greatest p more small fits
         | inr le ↦
-            let same : 2 ^ p ≡ s = ap (λ q. 2 ^ q) (let here : p ≡ suc o = omega (arith, lt, less) in here) ∙ sym size in
-            fails (subst (λ (t : ℕ). SetFits first end x t) same fits)
+            let here : p ≡ suc o = omega (arith, lt, less) in
+            fails (rw (size, ← here) fits)
       ],
     )
 
@@ -115,6 +112,5 @@ start_at_ten first end at whole o small fits = multiple o 10 at small whole
 -- no frame, no block
 pub nothing_more : (f : Frames) (first : ℕ) (bs : List Block) → bs ≡ bs ++ blocks_from f first (first - first)
 nothing_more f first bs =
-    let none : first - first ≡ 0 = omega arith in
-    let empty : blocks_from f first 0 ≡ [] = from-none f first 0 (λ y above below. absurd (omega arith)) in
-    sym (ap (λ n. bs ++ blocks_from f first n) none ∙ ap (λ (cs : List Block). bs ++ cs) empty ∙ append-nil bs)
+    let empty = from-none f first (first - first) (λ y above below. absurd (omega arith)) in
+    sym (ap (λ (cs : List Block). bs ++ cs) empty ∙ append-nil bs)

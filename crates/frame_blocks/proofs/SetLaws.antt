@@ -8,30 +8,19 @@ use Rattle.bm_base.specs.Zones.{zone_of}
 
 -- a set of s frames begins at a multiple of s
 pub base_is : (s x : ℕ) → x - x % s ≡ x / s * s
-base_is s x = let parts = mod-add-div' x s in omega (arith, parts)
+base_is s x = omega (arith, mod-add-div' x s)
 
 pub in_set : (s a x : ℕ) → a - a % s ≤ x → x < a - a % s + s → x / s ≡ a / s
 in_set s a x above below =
-    let base = base_is s a in
     let rest : ℕ = x - (a - a % s) in
-    let at : x ≡ a / s * s + rest = omega (arith, base) in
-    let small : rest < s = omega arith in
-    ap (λ y. y / s) at ∙ div-mul-add (a / s) s rest small
+    let at : x ≡ a / s * s + rest = omega (arith, base_is s a) in
+    ap (λ y. y / s) at ∙ div-mul-add (a / s) s rest (omega arith)
 
 pub set_from : (s a x : ℕ) → x / s ≡ a / s → a - a % s ≤ x
-set_from s a x same =
-    let base = base_is s a in
-    let parts = mod-add-div' x s in
-    let products : x / s * s ≡ a / s * s = ap (λ q. q * s) same in
-    omega (arith, base, parts, products)
+set_from s a x same = omega (arith, base_is s a, mod-add-div' x s, ap (λ q. q * s) same)
 
 pub set_until : (s a x : ℕ) → 0 < s → x / s ≡ a / s → x < a - a % s + s
-set_until s a x some same =
-    let base = base_is s a in
-    let parts = mod-add-div' x s in
-    let small : x % s < s = mod-lt x some in
-    let products : x / s * s ≡ a / s * s = ap (λ q. q * s) same in
-    omega (arith, base, parts, products, small)
+set_until s a x some same = omega (arith, base_is s a, mod-add-div' x s, mod-lt x some, ap (λ q. q * s) same)
 
 -- frames of one set are in one set of each greater order
 wider_by : (o d x y : ℕ) → x / 2 ^ o ≡ y / 2 ^ o → x / 2 ^ (o + d) ≡ y / 2 ^ (o + d)
@@ -55,10 +44,8 @@ multiple o p x order whole =
 -- between two multiples of s there are s numbers
 pub apart : (s x y : ℕ) → x % s ≡ 0 → y % s ≡ 0 → x < y → x + s ≤ y
 apart s x y first second order =
-    let one = mod-add-div' x s in
-    let two = mod-add-div' y s in
-    let more : (x / s) * s < (y / s) * s = omega (arith, one, two, first, second) in
-    grind (arith, one, two)
+    let more : (x / s) * s < (y / s) * s = omega (arith, mod-add-div' x s, mod-add-div' y s, first, second) in
+    grind (arith, mod-add-div' x s, mod-add-div' y s)
 
 -- the base of a set is a multiple of its size
 pub base_whole : (s x : ℕ) → (x - x % s) % s ≡ 0
