@@ -21,12 +21,13 @@ plain ranges base = record { ranges = ranges; base = base }
 marks : codes ":-,@" ≡ colon ∷ dash ∷ comma ∷ at_sign ∷ []
 marks = refl
 
--- one size, with a base and without
+-- one size, with a base and without, and with a suffix
 simple_values : (form_of (codes "64M") ≡ Some (Plain (plain (range 0 None 0x4000000 ∷ []) 0)))
     × (form_of (codes "16M@0x3080000") ≡ Some (Plain (plain (range 0 None 0x1000000 ∷ []) 0x3080000)))
     × (form_of (codes "0") ≡ Some (Plain (plain (range 0 None 0 ∷ []) 0))) × (form_of (codes "64M@0") ≡ form_of (codes "64M"))
+    × (form_of (codes "512M,high") ≡ Some (High 0x20000000)) × (form_of (codes "0,low") ≡ Some (Low 0))
 unfolding form_of
-simple_values = (refl, refl, refl, refl)
+simple_values = (refl, refl, refl, refl, refl, refl)
 
 -- ranges, with a base and without; the last one may have no end
 ranged_values : (form_of (codes "0-64M:8M,64M-:16M")
@@ -37,22 +38,17 @@ ranged_values : (form_of (codes "0-64M:8M,64M-:16M")
 unfolding form_of
 ranged_values = (refl, refl, refl, refl)
 
-high_and_low : (form_of (codes "512M,high") ≡ Some (High 0x20000000)) × (form_of (codes "0,low") ≡ Some (Low 0))
-unfolding form_of
-high_and_low = (refl, refl)
-
+-- a size that is none, too large or half written, a suffix that is none or one too many; and ranges that are empty, half written, with
+-- a base between them, or with a suffix
 malformed_values : (form_of [] ≡ None) × (form_of (codes "x") ≡ None) × (form_of (codes "64M@") ≡ None) × (form_of (codes "@64M") ≡ None)
     × (form_of (codes "64M,") ≡ None) × (form_of (codes "64M,HIGH") ≡ None) × (form_of (codes "64M,high,low") ≡ None)
     × (form_of (codes "64M@1M,high") ≡ None) × (form_of (codes "16E") ≡ None) × (form_of (codes "64MB") ≡ None)
-unfolding form_of
-malformed_values = (refl, refl, refl, refl, refl, refl, refl, refl, refl, refl)
-
-malformed_ranges : (form_of (codes "64M-32M:8M") ≡ None) × (form_of (codes "1-1:64M") ≡ None) × (form_of (codes "0-:64M,") ≡ None)
+    × (form_of (codes "64M-32M:8M") ≡ None) × (form_of (codes "1-1:64M") ≡ None) × (form_of (codes "0-:64M,") ≡ None)
     × (form_of (codes "-1:64M") ≡ None) × (form_of (codes "0:64M") ≡ None) × (form_of (codes "0-1-2:64M") ≡ None)
     × (form_of (codes "0-:1:2") ≡ None) × (form_of (codes "0-:1@2@3") ≡ None) × (form_of (codes "0-1M:8M@0,2M-:16M") ≡ None)
     × (form_of (codes "0-:64M,high") ≡ None)
 unfolding form_of
-malformed_ranges = (refl, refl, refl, refl, refl, refl, refl, refl, refl, refl)
+malformed_values = (refl, refl, refl, refl, refl, refl, refl, refl, refl, refl, refl, refl, refl, refl, refl, refl, refl, refl, refl, refl)
 
 -- the steps of a range
 ends : (end_of_range [] ≡ Some None) × (end_of_range (codes "2K") ≡ Some (Some 2048)) × (end_of_range (codes "x") ≡ None)
@@ -107,19 +103,17 @@ each_form : (crash_by ((1, OfCrash (Low 7)) ∷ (2, OfCrash (High 9)) ∷ (4, Of
     ≡ record { plain = None; high = Some 9; low = Some 8 }) × (crash_by [] ≡ no_crash)
 each_form = (refl, refl)
 
-whole_line : options_of (codes "crashkernel=64M crashkernel=512M,high crashkernel=0")
+-- the last value of each form counts, and the fault of the lowest word
+whole_lines : (options_of (codes "crashkernel=64M crashkernel=512M,high crashkernel=0")
     ≡ Ok (record {
       edits = [];
       crash = record { plain = Some (plain (range 0 None 0 ∷ []) 0); high = Some 0x20000000; low = None };
       numa_off = false;
       add_efi = false;
-    })
+    }))
+    × (options_of (codes "crashkernel=64M-32M:8M mem=0") ≡ Err (faults.BadCrash 1))
 unfolding form_of
-whole_line = refl
-
-lowest_word : options_of (codes "crashkernel=64M-32M:8M mem=0") ≡ Err (faults.BadCrash 1)
-unfolding form_of
-lowest_word = refl
+whole_lines = (refl, refl)
 
 -- what contracts see of a value: its ranges, without the vector that holds them
 seen_plain : (p : CrashPlain) → p.ranges.items ≡ range 0 None 1 ∷ [] → p.base ≡ 5 → plain_view p ≡ plain (range 0 None 1 ∷ []) 5
@@ -133,11 +127,8 @@ seen_crash c none high low = rw (none, high, low) refl
 in_order_or_not : AreInOrder (range 0 (Some 1) 5 ∷ range 0 None 5 ∷ []) × (AreInOrder (range 1 (Some 1) 5 ∷ []) → ⊥)
 in_order_or_not = ((omega arith, (tt, tt)), λ are. let above = are.0 in omega arith)
 
-is_plain : IsPlain (plain (range 0 None 0 ∷ []) 0)
-is_plain = record { some = omega arith; order = (tt, tt) }
-
-no_ranges : IsPlain (plain [] 0) → ⊥
-no_ranges is = let some = is.some in omega arith
+is_plain : IsPlain (plain (range 0 None 0 ∷ []) 0) × (IsPlain (plain [] 0) → ⊥)
+is_plain = (record { some = omega arith; order = (tt, tt) }, λ is. let some = is.some in omega arith)
 
 wants_some : WantsMemory (chosen_by ((1, OfCrash (Plain (plain [] 0))) ∷ [])) × (WantsMemory (chosen_by ((1, NumaOff) ∷ [])) → ⊥)
 wants_some = (search rules, λ wants. grind (arith, wants))
@@ -153,10 +144,8 @@ abbrev lost : Memory → PlainRead
 lost m = record { ranges = Err m; base = 5 }
 
 still_kept : (m : Memory) → KeepsPlain (lost m) (plain (range 0 None 1 ∷ []) 5)
-still_kept m = record { ranges = omega arith; base = refl }
-
-other_base : (m : Memory) → KeepsPlain (lost m) (plain (range 0 None 1 ∷ []) 6) → ⊥
-other_base m keeps = let base = keeps.base in omega arith
+    × (KeepsPlain (lost m) (plain (range 0 None 1 ∷ []) 6) → ⊥)
+still_kept m = (record { ranges = omega arith; base = refl }, λ keeps. let base = keeps.base in omega arith)
 
 kept_forms_same : (m : Memory) → KeepsSame (kept_forms.High 7) (High 7) × (KeepsSame (kept_forms.Plain (lost m)) (High 7) → ⊥)
 kept_forms_same m = (refl, λ same. same)
@@ -172,10 +161,8 @@ kept_last : (m : Memory) → KeepsLast None None × (KeepsLast (Some (lost m)) N
 kept_last m = (refl, λ none. none)
 
 nothing_read : KeepsCrash (record { plain = None; high = None; low = None }) no_crash
-nothing_read = record { plain = refl; high = refl; low = refl }
-
-other_low : KeepsCrash (record { plain = None; high = None; low = Some 7 }) no_crash → ⊥
-other_low keeps = let low = keeps.low in cc low
+    × (KeepsCrash (record { plain = None; high = None; low = Some 7 }) no_crash → ⊥)
+nothing_read = (record { plain = refl; high = refl; low = refl }, λ keeps. let low = keeps.low in cc low)
 
 lacking : (m : Memory) → LacksRanges (Some (lost m)) × (LacksRanges None → ⊥)
 lacking m = (refl, λ none. none)

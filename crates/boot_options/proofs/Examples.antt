@@ -50,36 +50,19 @@ above : (range_above (2 ^ 64 - 2) ≡ range (2 ^ 64 - 2) 1) × (range_above 0 �
     × (ram_above (2 ^ 64 - 2) ≡ Some (Remove (range (2 ^ 64 - 2) 1) 1)) × (ram_above (2 ^ 64 - 1) ≡ None)
 above = (refl, refl, refl, refl)
 
--- one map option of each form
-ram_form : map_option_of (codes "1M@2M") ≡ Some (Adding (Some (Add (range 0x200000 0x100000) 1)))
-ram_form = refl
-
-acpi_form : map_option_of (codes "0x1000#0X2fff") ≡ Some (Adding (Some (Add (range 0x2fff 0x1000) 3)))
-acpi_form = refl
-
-reserved_form : map_option_of (codes "010$020") ≡ Some (Adding (Some (Add (range 16 8) 2)))
-reserved_form = refl
-
-persistent_form : map_option_of (codes "1g!4G") ≡ Some (Adding (Some (Add (range 0x100000000 0x40000000) 12)))
-persistent_form = refl
-
-ram_ends_form : map_option_of (codes "4G") ≡ Some (Other (Some (Remove (range 0x100000000 (2 ^ 64 - 1 - 0x100000000)) 1)))
-ram_ends_form = refl
-
-exactmap_form : (map_option_of (codes "exactmap") ≡ Some ExactMap) × (map_option_of (codes "exactmap ") ≡ None)
-exactmap_form = (refl, refl)
-
-changing_form : map_option_of (codes "1M%2M-2+1") ≡ Some (Other (Some (Change (range 0x200000 0x100000) 2 1)))
-changing_form = refl
-
-adding_form : map_option_of (codes "1M%2M+5") ≡ Some (Adding (Some (Add (range 0x200000 0x100000) 5)))
-adding_form = refl
-
-removing_form : map_option_of (codes "1M%2M-5") ≡ Some (Other (Some (Remove (range 0x200000 0x100000) 5)))
-removing_form = refl
-
-removing_all_form : map_option_of (codes "1M%2M") ≡ Some (Other (Some (RemoveAll (range 0x200000 0x100000))))
-removing_all_form = refl
+-- one map option of each form: RAM, ACPI data, reserved and persistent memory, RAM that ends there, `exactmap` with nothing behind
+-- it; and of a range one type changed to another, a type added, one type removed, all types removed
+map_option_forms : (map_option_of (codes "1M@2M") ≡ Some (Adding (Some (Add (range 0x200000 0x100000) 1))))
+    × (map_option_of (codes "0x1000#0X2fff") ≡ Some (Adding (Some (Add (range 0x2fff 0x1000) 3))))
+    × (map_option_of (codes "010$020") ≡ Some (Adding (Some (Add (range 16 8) 2))))
+    × (map_option_of (codes "1g!4G") ≡ Some (Adding (Some (Add (range 0x100000000 0x40000000) 12))))
+    × (map_option_of (codes "4G") ≡ Some (Other (Some (Remove (range 0x100000000 (2 ^ 64 - 1 - 0x100000000)) 1))))
+    × (map_option_of (codes "exactmap") ≡ Some ExactMap) × (map_option_of (codes "exactmap ") ≡ None)
+    × (map_option_of (codes "1M%2M-2+1") ≡ Some (Other (Some (Change (range 0x200000 0x100000) 2 1))))
+    × (map_option_of (codes "1M%2M+5") ≡ Some (Adding (Some (Add (range 0x200000 0x100000) 5))))
+    × (map_option_of (codes "1M%2M-5") ≡ Some (Other (Some (Remove (range 0x200000 0x100000) 5))))
+    × (map_option_of (codes "1M%2M") ≡ Some (Other (Some (RemoveAll (range 0x200000 0x100000)))))
+map_option_forms = (refl, refl, refl, refl, refl, refl, refl, refl, refl, refl, refl)
 
 -- the widest range, the last byte, and RAM that ends at 0 or nowhere
 edges : (map_option_of (codes "0xFFFFFFFFFFFFFFFF@0") ≡ Some (Adding (Some (Add (range 0 (2 ^ 64 - 1)) 1))))
@@ -102,12 +85,10 @@ types_as_numbers : (map_option_of (codes "1%2-0x10+021") ≡ Some (Other (Some (
 types_as_numbers = (refl, refl)
 
 -- an empty range makes no edit, but the map option counts as adding memory; a range past the end is malformed
-empty_form : map_option_of (codes "0@1M") ≡ Some (Adding None)
-empty_form = refl
-
-malformed_options : (map_option_of [] ≡ None) × (map_option_of (codes "1M@") ≡ None) × (map_option_of (codes "1M@2MB") ≡ None)
-    × (map_option_of (codes "1M&2M") ≡ None) × (map_option_of (codes "1M%2M-3+3") ≡ None) × (map_option_of (codes "15E@15E") ≡ None)
-malformed_options = (refl, refl, refl, refl, refl, refl)
+empty_or_malformed : (map_option_of (codes "0@1M") ≡ Some (Adding None)) × (map_option_of [] ≡ None) × (map_option_of (codes "1M@") ≡ None)
+    × (map_option_of (codes "1M@2MB") ≡ None) × (map_option_of (codes "1M&2M") ≡ None) × (map_option_of (codes "1M%2M-3+3") ≡ None)
+    × (map_option_of (codes "15E@15E") ≡ None)
+empty_or_malformed = (refl, refl, refl, refl, refl, refl, refl)
 
 -- rubbish in front, behind and between; names that are almost one; ranges past the end
 no_map_options : (map_option_of (codes "@1M") ≡ None) × (map_option_of (codes "1KK") ≡ None) × (map_option_of (codes "1M@2M@3M") ≡ None)
@@ -163,21 +144,17 @@ mem_values = (refl, refl, refl, refl, refl, refl, refl)
 ends_of_ram : (ram_up_to 1 ≡ Some (Other (Some (Remove (range 1 (2 ^ 64 - 2)) 1)))) × (ram_up_to 0 ≡ None)
 ends_of_ram = (refl, refl)
 
--- texts that spell a range, and a type
-spelled_range : Spell (codes "1M") (codes "0x200000") (range 0x200000 0x100000)
-spelled_range = record { size = refl; base = refl; some = omega arith; ends = omega arith }
+-- texts that spell a range, the last byte too, but no empty range; and a type, which isn't 0
+spelled_ranges : Spell (codes "1M") (codes "0x200000") (range 0x200000 0x100000)
+    × Spell (codes "1") (codes "0xFFFFFFFFFFFFFFFE") (range (2 ^ 64 - 2) 1) × (Spell (codes "0") (codes "1M") (range 0x100000 0) → ⊥)
+spelled_ranges = (
+  record { size = refl; base = refl; some = omega arith; ends = omega arith },
+  record { size = refl; base = refl; some = omega arith; ends = omega arith },
+  λ spelled. let some = spelled.some in omega arith,
+)
 
-spelled_type : SpellsType (codes "12") 12
-spelled_type = record { number = refl; above = omega arith; small = omega arith }
-
-spelled_last_byte : Spell (codes "1") (codes "0xFFFFFFFFFFFFFFFE") (range (2 ^ 64 - 2) 1)
-spelled_last_byte = record { size = refl; base = refl; some = omega arith; ends = omega arith }
-
-empty_range_isn't_spelled : Spell (codes "0") (codes "1M") (range 0x100000 0) → ⊥
-empty_range_isn't_spelled spelled = let some = spelled.some in omega arith
-
-zero_isn't_a_type : SpellsType (codes "0") 0 → ⊥
-zero_isn't_a_type spelled = let above = spelled.above in omega arith
+spelled_types : SpellsType (codes "12") 12 × (SpellsType (codes "0") 0 → ⊥)
+spelled_types = (record { number = refl; above = omega arith; small = omega arith }, λ spelled. let above = spelled.above in omega arith)
 
 -- the line ends before the first zero byte, and one newline at its end doesn't count
 raw_lines : (raw_line (codes "quiet\n") ≡ codes "quiet") × (raw_line (113 ∷ 10 ∷ 10 ∷ 0 ∷ 120 ∷ []) ≡ 113 ∷ 10 ∷ []) × (raw_line [] ≡ [])
@@ -189,18 +166,14 @@ closed_lines = (refl, refl)
 lines : (line_of (codes "mem=\"4G\"\n") ≡ Ok (codes "mem=\"4G\"")) × (line_of (codes "mem=\"4G\n") ≡ Err faults.OpenQuote)
 lines = (refl, refl)
 
-longest_line : checked_line (replicate 2047 97) ≡ Ok (replicate 2047 97)
-longest_line = refl
+-- the longest line has 2,047 bytes, and one byte more is too long
+checked_lines : (checked_line (replicate 2047 97) ≡ Ok (replicate 2047 97)) × (checked_line (replicate 2048 34) ≡ Err faults.TooLong)
+checked_lines = (refl, refl)
 
-too_long : checked_line (replicate 2048 34) ≡ Err faults.TooLong
-too_long = refl
-
--- map options between commas, each of which has to be one
-options_in_order : memmap_of (codes "exactmap,8@0") ≡ Some (OfMap (ExactMap ∷ Adding (Some (Add (range 0 8) 1)) ∷ []))
-options_in_order = refl
-
-no_option_behind_a_comma : (memmap_of (codes "exactmap,") ≡ None) × (memmap_of [] ≡ None)
-no_option_behind_a_comma = (refl, refl)
+-- map options between commas, each of which has to be one, also behind the last comma
+options_in_order : (memmap_of (codes "exactmap,8@0") ≡ Some (OfMap (ExactMap ∷ Adding (Some (Add (range 0 8) 1)) ∷ [])))
+    × (memmap_of (codes "exactmap,") ≡ None) × (memmap_of [] ≡ None)
+options_in_order = (refl, refl, refl)
 
 lists_of_map_options : (map_options_of [] ≡ Some [])
     × (map_options_of (codes "exactmap" ∷ codes "1@0" ∷ []) ≡ Some (ExactMap ∷ Adding (Some (Add (range 0 1) 1)) ∷ []))
@@ -225,12 +198,10 @@ cuts = (refl, refl)
 -- what one word says: by its whole name, and with the word's number in its fault
 said_words : (said_by 2 (codes "mem", Some (codes "nopentium")) ≡ Ok (of_one (Other None)))
     × (said_by 2 (codes "numa", Some (codes "off")) ≡ Ok NumaOff) × (said_by 2 (codes "memory", Some (codes "4G")) ≡ Ok (OfMap []))
-said_words = (refl, refl, refl)
-
-faulty_words : (said_by 2 (codes "mem", None) ≡ Err (faults.BadMem 2))
+    × (said_by 2 (codes "mem", None) ≡ Err (faults.BadMem 2))
     × (said_by 3 (codes "memmap", Some (codes "1G!4X")) ≡ Err (faults.BadMemmap 3))
     × (said_by 4 (codes "numa", Some (codes "fake=2")) ≡ Err (faults.BadNuma 4))
-faulty_words = (refl, refl, refl)
+said_words = (refl, refl, refl, refl, refl, refl)
 
 -- `add_efi_memmap` has no value, and whatever it has says the same; by its whole name
 efi_words : (said_by 2 (codes "add_efi_memmap", None) ≡ Ok AddEfi) × (said_by 2 (codes "add_efi_memmap", Some (codes "0")) ≡ Ok AddEfi)
@@ -242,18 +213,14 @@ words_up_to_the_end : (until_end (codes "a" ∷ codes "--" ∷ codes "b" ∷ [])
     × (until_end (codes "a" ∷ codes "--x" ∷ []) ≡ codes "a" ∷ codes "--x" ∷ [])
 words_up_to_the_end = (refl, refl)
 
-words_of_options : option_words (codes "a \"b\" -- c") ≡ codes "a" ∷ codes "b" ∷ []
-words_of_options = refl
-
-no_words_before_the_end : option_words (codes "-- a") ≡ []
-no_words_before_the_end = refl
+-- none stands in front of a first `--`
+words_of_options : (option_words (codes "a \"b\" -- c") ≡ codes "a" ∷ codes "b" ∷ []) × (option_words (codes "-- a") ≡ [])
+words_of_options = (refl, refl)
 
 -- the fault of the lowest word goes first, and the words are numbered from the number that is given
-first_fault : said_from 1 (codes "quiet" ∷ codes "numa=on" ∷ codes "mem=0" ∷ []) ≡ Err (faults.BadNuma 2)
-first_fault = refl
-
-no_fault : said_from 1 (codes "quiet" ∷ codes "numa=off" ∷ []) ≡ Ok ((1, OfMap []) ∷ (2, NumaOff) ∷ [])
-no_fault = refl
+first_fault : (said_from 1 (codes "quiet" ∷ codes "numa=on" ∷ codes "mem=0" ∷ []) ≡ Err (faults.BadNuma 2))
+    × (said_from 1 (codes "quiet" ∷ codes "numa=off" ∷ []) ≡ Ok ((1, OfMap []) ∷ (2, NumaOff) ∷ []))
+first_fault = (refl, refl)
 
 -- word 1 says `exactmap,0@1M`, word 2 `numa=off`, word 3 `8@0`
 abbrev a_page : MapOption
@@ -287,11 +254,10 @@ two_behind_it : (last_exact (all_map_options three_words) ≡ Some (1, 2)) × (c
     × (count_adding ((1, ExactMap) ∷ (2, Other None) ∷ []) ≡ 0)
 two_behind_it = (refl, refl, refl)
 
-one_behind_the_last : last_exact ((1, ExactMap) ∷ (1, a_page) ∷ (2, ExactMap) ∷ (3, a_page) ∷ (4, Other None) ∷ []) ≡ Some (2, 1)
-one_behind_the_last = refl
-
-no_exactmap : last_exact ((1, a_page) ∷ (2, Other None) ∷ []) ≡ None
-no_exactmap = refl
+-- one behind the last of two, and no `exactmap`
+last_exactmap : (last_exact ((1, ExactMap) ∷ (1, a_page) ∷ (2, ExactMap) ∷ (3, a_page) ∷ (4, Other None) ∷ []) ≡ Some (2, 1))
+    × (last_exact ((1, a_page) ∷ (2, Other None) ∷ []) ≡ None)
+last_exactmap = (refl, refl)
 
 here_or_behind : (or_here None 3 ExactMap 2 ≡ Some (3, 2)) × (or_here (Some (5, 1)) 3 ExactMap 2 ≡ Some (5, 1))
     × (or_here None 3 a_page 2 ≡ None)
@@ -323,43 +289,25 @@ chosen_words : (chosen_by [] ≡ nothing_chosen)
     × (chosen_by ((2, NumaOff) ∷ []) ≡ record { edits = []; crash = no_crash; numa_off = true; add_efi = false })
 chosen_words = (refl, refl)
 
--- whole lines
-options_of_a_line : options_of (codes "quiet mem=4G memmap=1G!2G\n")
-    ≡ Ok (record {
+-- whole lines: two edits, in their order; nothing behind `--` counts; the EFI map; a third word that is faulty; a user map of one option
+whole_lines : (options_of (codes "quiet mem=4G memmap=1G!2G\n")
+    ≡ Ok (record nothing_chosen {
       edits = Remove (range 0x100000000 (2 ^ 64 - 1 - 0x100000000)) 1 ∷ Add (range 0x80000000 0x40000000) 12 ∷ [];
-      crash = no_crash;
-      numa_off = false;
-      add_efi = false;
-    })
-options_of_a_line = refl
-
-nothing_behind_the_end : options_of (codes "numa=off -- mem=0")
-    ≡ Ok (record { edits = []; crash = no_crash; numa_off = true; add_efi = false })
-nothing_behind_the_end = refl
-
-efi_in_a_line : (options_of (codes "quiet add_efi_memmap\n") ≡ Ok (record nothing_chosen { add_efi = true }))
+    }))
+    × (options_of (codes "numa=off -- mem=0") ≡ Ok (record nothing_chosen { numa_off = true }))
+    × (options_of (codes "quiet add_efi_memmap\n") ≡ Ok (record nothing_chosen { add_efi = true }))
     × (options_of (codes "add_efi_memmap=off") ≡ Ok (record nothing_chosen { add_efi = true }))
     × (options_of (codes "-- add_efi_memmap") ≡ Ok nothing_chosen)
-efi_in_a_line = (refl, refl, refl)
-
-third_word_is_faulty : options_of (codes "quiet mem=2G memmap=1G!4X\n") ≡ Err (faults.BadMemmap 3)
-third_word_is_faulty = refl
-
-user_map_of_one_option : options_of (codes "a memmap=exactmap memmap=1M@0") ≡ Err (faults.UserMapInvalid 2)
-user_map_of_one_option = refl
+    × (options_of (codes "quiet mem=2G memmap=1G!4X\n") ≡ Err (faults.BadMemmap 3))
+    × (options_of (codes "a memmap=exactmap memmap=1M@0") ≡ Err (faults.UserMapInvalid 2))
+whole_lines = (refl, refl, refl, refl, refl, refl, refl)
 
 -- ranges of edits, and numbers of words in faults
-ranges_of_edits : HaveRanges (Add (range 0 8) 1 ∷ Clear ∷ [])
-ranges_of_edits = (omega arith, (tt, tt))
+ranges_of_edits : HaveRanges (Add (range 0 8) 1 ∷ Clear ∷ []) × (HaveRanges (Clear ∷ RemoveAll (range 5 0) ∷ []) → ⊥)
+ranges_of_edits = ((omega arith, (tt, tt)), λ have. let has = have.1.0 in omega arith)
 
-no_range : HasRange (RemoveAll (range 5 0)) → ⊥
-no_range has = omega arith
-
-one_has_none : HaveRanges (Clear ∷ RemoveAll (range 5 0) ∷ []) → ⊥
-one_has_none have = let has = have.1.0 in omega arith
-
-change_has_one : HasRange (Change (range 5 1) 1 2)
-change_has_one = omega arith
+has_range : HasRange (Change (range 5 1) 1 2) × (HasRange (RemoveAll (range 5 0)) → ⊥)
+has_range = (omega arith, λ has. omega arith)
 
 numbered_faults : IsNumbered (faults.BadMem 1) × IsNumbered faults.OpenQuote
 numbered_faults = (omega arith, tt)
@@ -414,11 +362,8 @@ read_all_or_fault = (refl, refl)
 edits_are_kept : (kept : Vec Edit Global) → kept.items ≡ Clear ∷ [] → KeepsItems (Ok kept) (Clear ∷ [])
 edits_are_kept kept is = is
 
-memory_ran_out : (m : Memory) → KeepsItems (Err m) (Clear ∷ [])
-memory_ran_out m = omega arith
-
-nothing_to_keep : (m : Memory) → KeepsItems {A = Edit} (Err m) [] → ⊥
-nothing_to_keep m wanting = omega arith
+memory_ran_out : (m : Memory) → KeepsItems (Err m) (Clear ∷ []) × (KeepsItems {A = Edit} (Err m) [] → ⊥)
+memory_ran_out m = (omega arith, λ wanting. omega arith)
 
 abbrev half_read : Memory → Reading
 half_read m = record {
@@ -447,8 +392,7 @@ other_numa_off m has = let off = has.numa_off in cc off
 no_state_with_a_fault : (m : Memory) → IsAtSome (half_read m) (Err (faults.BadMem 1)) → ⊥
 no_state_with_a_fault m is = is
 
-same_fault : (m : Memory) → ReadsAs {X = ℕ} (λ _. half_read m) (Err (faults.BadMem 1)) (read_on 1 start (said_by 1 (codes "mem", None)))
-same_fault m = refl
-
-no_other_fault : (m : Memory) → ReadsAs {X = ℕ} (λ _. half_read m) (Err faults.Memory) (read_on 1 start (said_by 1 (codes "mem", None))) → ⊥
-no_other_fault m same = cc same
+same_fault : (m : Memory)
+    → ReadsAs {X = ℕ} (λ _. half_read m) (Err (faults.BadMem 1)) (read_on 1 start (said_by 1 (codes "mem", None)))
+    × (ReadsAs {X = ℕ} (λ _. half_read m) (Err faults.Memory) (read_on 1 start (said_by 1 (codes "mem", None))) → ⊥)
+same_fault m = (refl, λ same. cc same)

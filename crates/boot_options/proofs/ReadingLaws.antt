@@ -9,17 +9,12 @@ use Rattle.boot_options.specs.Options.{Said, name_value_of, said_by, said_from, 
 use Rattle.boot_options.specs.declared.reading.Reading.{Reading}
 use Rattle.boot_options.specs.Reading.{State, IsReadTo, IsAtSome, after, read_on, read_all}
 
--- the first word in front of the words behind it, where it isn't `--`
-pub option_words-step : (line word behind : List ℕ) → words_in CommandLine line ≡ word ∷ words_in CommandLine behind
-    → bytes_eq (unquoted word) (codes "--") ≡ false → option_words line ≡ unquoted word ∷ option_words behind
-option_words-step line word behind is other = rw is (rw other refl)
-
--- the same of what the reader compared
+-- the first word in front of the words behind it, where it isn't `--`, by what the reader compared
 pub option_words-read : (line word behind bare dashes : List ℕ) → words_in CommandLine line ≡ word ∷ words_in CommandLine behind
     → bare ≡ unquoted word → dashes ≡ codes "--" → false ≡ bytes_eq bare dashes → option_words line ≡ bare ∷ option_words behind
 option_words-read line word behind bare dashes is unquotes marks test =
     let other : bytes_eq (unquoted word) (codes "--") ≡ false = sym (rw (unquotes, marks) at test) in
-    rw unquotes (option_words-step line word behind is other)
+    rw unquotes (rw is (rw other refl))
 
 -- the state at which the reader is
 pub state_at : (r : Reading) (d : Result State OptionFault) → IsAtSome r d → (st : State) × IsReadTo r st × (d ≡ Ok st)

@@ -1,8 +1,8 @@
 -- What is spelled as a map option of `memmap=` is read as that map option.
-use Rattle.std.proofs.Common.{◌≡◌, ◌≢◌, ℕ, ◌+◌, ◌^◌, ◌<◌, ◌==◌, nat_lt, if◌then◌else◌, Bool, true, false, Option, Some, List, [], ◌∷◌, ◌++◌, length, drop, refl, ap, ◌∙◌, eq-eqb, codes, Result, Ok, Err, arith}
+use Rattle.std.proofs.Common.{◌≡◌, ◌≢◌, ℕ, ◌+◌, ◌^◌, ◌<◌, ◌==◌, if◌then◌else◌, Bool, true, false, Option, Some, List, [], ◌∷◌, ◌++◌, length, drop, refl, ap, ◌∙◌, eq-eqb, codes, Result, Ok, Err, arith}
 use Rattle.std.proofs.Math.Seq.{drop-append_seam, drop-length}
 use Rattle.bm_base.specs.declared.size.NumFault.TheVariants.{NoDigits}
-use Rattle.std.proofs.lemmas.Bool.{ne_eqb}
+use Rattle.std.proofs.lemmas.Bool.{lt-ltb, ne_eqb}
 use Rattle.std.proofs.lemmas.Bool.Decides.{nat_tests}
 use Rattle.std.specs.Char.{is_digit}
 use Rattle.std.specs.Str.{bytes_eq}
@@ -14,7 +14,7 @@ use Rattle.e820_model.specs.declared.edit.Edit.{Edit}
 use Rattle.e820_model.specs.declared.edit.Edit.TheVariants.{Add, Remove, RemoveAll, Change}
 use Rattle.bm_base.specs.OptionSteps.{◌>>=◌}
 use Rattle.boot_options.specs.declared.map_option.MapOption.TheVariants.{Adding, Other}
-use Rattle.boot_options.specs.MapOptions.{number_and_rest, front_size, front_number, at_end, whole_size, range_at, unless_empty, adding_option, small_kind, kind_behind, retyped, changed, by_mark, map_option_of, Spell, SpellsType}
+use Rattle.boot_options.specs.MapOptions.{number_and_rest, front_size, front_number, at_end, whole_size, range_at, unless_empty, adding_option, small_kind, kind_behind, retyped, by_mark, map_option_of, Spell, SpellsType}
 
 -- the later step, where the earlier one gives a value
 pub then-some : {A B : Type 0} (o : Option A) (f : A → Option B) (x : A) → o ≡ Some x → (o >>= f) ≡ f x
@@ -74,14 +74,10 @@ map_option-mark s n mark rest size is =
 
 -- the range, and an edit of it
 pub range_at-ends : (range : Extent) → range.base + range.size < 2 ^ 64 → range_at range.base range.size ≡ Some range
-range_at-ends range ends =
-    let fits : nat_lt (range.base + range.size) (2 ^ 64) ≡ true = grind (arith, nat_tests, ends) in
-    rw fits refl
+range_at-ends range ends = rw (lt-ltb (range.base + range.size) (2 ^ 64) ends) refl
 
 pub unless_empty-some : (range : Extent) (e : Edit) → 0 < range.size → unless_empty range e ≡ Some e
-unless_empty-some range e some =
-    let above : nat_lt 0 range.size ≡ true = grind (arith, nat_tests, some) in
-    rw above refl
+unless_empty-some range e some = rw (lt-ltb 0 range.size some) refl
 
 pub adding_option-spelled : (kind : ℕ) (s a : List ℕ) (range : Extent) → Spell s a range
     → adding_option kind range.size a ≡ Some (Adding (Some (Add range kind)))
@@ -99,9 +95,7 @@ map_option-adding s a range mark kind is means spell =
 
 -- a type below 2^32 is one
 pub small_kind-below : (n : ℕ) (rest : List ℕ) → n < 2 ^ 32 → small_kind (n, rest) ≡ Some (n, rest)
-small_kind-below n rest is =
-    let fits : nat_lt n (2 ^ 32) ≡ true = grind (arith, nat_tests, is) in
-    rw fits refl
+small_kind-below n rest is = rw (lt-ltb n (2 ^ 32) is) refl
 
 -- a type behind its mark, before another mark or at the end
 pub kind_behind-end : (mark : ℕ) (text : List ℕ) (kind : ℕ) → SpellsType text kind → kind_behind mark (mark ∷ text) ≡ Some (kind, [])
@@ -117,12 +111,14 @@ kind_behind-mark mark text kind next rest spells is =
     (front_number-mark text kind next rest spells.number is)
     ∙ small_kind-below kind (next ∷ rest) spells.small)
 
--- the forms with `%`: the address, the types, and nothing behind them
-pub changed-spelled : (range : Extent) (place tail rest : List ℕ) (from to : ℕ) → range.base + range.size < 2 ^ 64
+-- the forms with `%`: the size, the address, the types, and nothing behind them
+pub map_option-changed : (s place tail rest : List ℕ) (range : Extent) (from to : ℕ) → IsSize s range.size
+    → range.base + range.size < 2 ^ 64
     → front_size place ≡ Some (range.base, tail) → kind_behind 45 tail ≡ Some (from, rest) → kind_behind 43 rest ≡ Some (to, [])
-    → changed range.size place ≡ retyped range from to
-changed-spelled range place tail rest from to ends base is_from is_to =
-    then-some (front_size place) _ (range.base, tail) base
+    → map_option_of (s ++ (37 ∷ place)) ≡ retyped range from to
+map_option-changed s place tail rest range from to size ends base is_from is_to =
+    map_option-mark s range.size 37 place size refl
+    ∙ then-some (front_size place) _ (range.base, tail) base
     ∙ then-some (range_at range.base range.size) _ range (range_at-ends range ends)
     ∙ then-some (kind_behind 45 tail) _ (from, rest) is_from
     ∙ then-some (kind_behind 43 rest) (λ to. at_end to.1 (retyped range from to.0)) (to, []) is_to
@@ -133,15 +129,13 @@ other_than_zero n above = grind (arith, nat_tests, above)
 pub map_option-every_type : (s a : List ℕ) (range : Extent) → Spell s a range
     → map_option_of (s ++ (37 ∷ a)) ≡ Some (Other (Some (RemoveAll range)))
 map_option-every_type s a range spell =
-    map_option-mark s range.size 37 a spell.size refl
-    ∙ changed-spelled range a [] [] 0 0 spell.ends (front_size-end a range.base spell.base) refl refl
+    map_option-changed s a [] [] range 0 0 spell.size spell.ends (front_size-end a range.base spell.base) refl refl
     ∙ ap (λ (e : Option Edit). Some (Other e)) (unless_empty-some range (RemoveAll range) spell.some)
 
 pub map_option-one_type : (s a f : List ℕ) (range : Extent) (from : ℕ) → Spell s a range → SpellsType f from
     → map_option_of (s ++ (37 ∷ (a ++ (45 ∷ f)))) ≡ Some (Other (Some (Remove range from)))
 map_option-one_type s a f range from spell spells =
-    map_option-mark s range.size 37 (a ++ (45 ∷ f)) spell.size refl
-    ∙ changed-spelled range (a ++ (45 ∷ f)) (45 ∷ f) [] from 0 spell.ends (front_size-mark a range.base 45 f spell.base refl)
+    map_option-changed s (a ++ (45 ∷ f)) (45 ∷ f) [] range from 0 spell.size spell.ends (front_size-mark a range.base 45 f spell.base refl)
     (kind_behind-end 45 f from spells) refl
     ∙ rw (other_than_zero from spells.above)
     (ap (λ (e : Option Edit). Some (Other e)) (unless_empty-some range (Remove range from) spell.some))
@@ -149,9 +143,8 @@ map_option-one_type s a f range from spell spells =
 pub map_option-new_type : (s a t : List ℕ) (range : Extent) (to : ℕ) → Spell s a range → SpellsType t to
     → map_option_of (s ++ (37 ∷ (a ++ (43 ∷ t)))) ≡ Some (Adding (Some (Add range to)))
 map_option-new_type s a t range to spell spells =
-    map_option-mark s range.size 37 (a ++ (43 ∷ t)) spell.size refl
-    ∙ changed-spelled range (a ++ (43 ∷ t)) (43 ∷ t) (43 ∷ t) 0 to spell.ends (front_size-mark a range.base 43 t spell.base refl)
-    refl (kind_behind-end 43 t to spells)
+    map_option-changed s (a ++ (43 ∷ t)) (43 ∷ t) (43 ∷ t) range 0 to spell.size spell.ends
+    (front_size-mark a range.base 43 t spell.base refl) refl (kind_behind-end 43 t to spells)
     ∙ rw (other_than_zero to spells.above)
     (ap (λ (e : Option Edit). Some (Adding e)) (unless_empty-some range (Add range to) spell.some))
 
@@ -159,8 +152,7 @@ pub map_option-other_type : (s a f t : List ℕ) (range : Extent) (from to : ℕ
     → Spell s a range → SpellsType f from → SpellsType t to → from ≢ to
     → map_option_of (s ++ (37 ∷ (a ++ (45 ∷ (f ++ (43 ∷ t)))))) ≡ Some (Other (Some (Change range from to)))
 map_option-other_type s a f t range from to spell is_from is_to differ =
-    map_option-mark s range.size 37 (a ++ (45 ∷ (f ++ (43 ∷ t)))) spell.size refl
-    ∙ changed-spelled range (a ++ (45 ∷ (f ++ (43 ∷ t)))) (45 ∷ (f ++ (43 ∷ t))) (43 ∷ t) from to spell.ends
+    map_option-changed s (a ++ (45 ∷ (f ++ (43 ∷ t)))) (45 ∷ (f ++ (43 ∷ t))) (43 ∷ t) range from to spell.size spell.ends
     (front_size-mark a range.base 45 (f ++ (43 ∷ t)) spell.base refl)
     (kind_behind-mark 45 f from 43 t is_from refl) (kind_behind-end 43 t to is_to)
     ∙ rw (other_than_zero from is_from.above, other_than_zero to is_to.above, ne_eqb from to differ)

@@ -1,4 +1,4 @@
-use Rattle.std.proofs.Common.{◌≡◌, ◌∷◌, refl, sym, ◌∙◌, arith}
+use Rattle.std.proofs.Common.{refl, sym, ◌∙◌, arith}
 use Rattle.boot_options.specs.Options.{option_words, said_by, name_value_of}
 use Rattle.boot_options.specs.Reading.{start, read_on}
 use Rattle.boot_options.proofs.ReadingLaws.{option_words-read, read_all-fault, read_all-step, state_at}
@@ -22,11 +22,9 @@ loop-word-init c = record {
 
 pub returns-in-Err : goal.returns-in-Err
 returns-in-Err c =
-    let line = c.loop-word.rest.now in
     let word = c.unquoted-word.result.now in
     let behind = c.in-Some.behind.now in
-    let words : option_words line ≡ word ∷ option_words behind
-    = option_words-read line c.in-Some.word.now behind word c.as_slice.result.now
+    let words = option_words-read c.loop-word.rest.now c.in-Some.word.now behind word c.as_slice.result.now
     c.in-Some.ensures.some c.unquoted-word.ensures c.as_slice.ensures c.if-eq.ensures in
     let so_far = c.loop-word.invariant.reading in
     sym so_far.2
@@ -34,11 +32,9 @@ returns-in-Err c =
 
 pub loop-word-preserved : goal.loop-word-preserved
 loop-word-preserved c =
-    let line = c.loop-word.rest.now in
     let word = c.unquoted-word.result.now in
     let behind = c.in-Some.behind.now in
-    let words : option_words line ≡ word ∷ option_words behind
-    = option_words-read line c.in-Some.word.now behind word c.as_slice.result.now
+    let words = option_words-read c.loop-word.rest.now c.in-Some.word.now behind word c.as_slice.result.now
     c.in-Some.ensures.some c.unquoted-word.ensures c.as_slice.ensures c.if-eq.ensures in
     let so_far = c.loop-word.invariant.reading in
     let next = state_at c.read_word.new.reading (read_on c.loop-word.number so_far.0 (said_by c.loop-word.number (name_value_of word)))
