@@ -35,49 +35,40 @@ far_bytes =
     0 ∷ 0xF0 ∷ 0xFF ∷ 0xFF ∷ 0xFF ∷ 0xFF ∷ 0xFF ∷ 0xFF ∷
     2 ∷ 0 ∷ 0 ∷ 0 ∷ []
 
--- the first byte is the lowest
-low_byte_first : number_at 4 1 (9 ∷ 0x78 ∷ 0x56 ∷ 0x34 ∷ 0x12 ∷ []) ≡ 0x12345678
-low_byte_first = refl
+-- the first byte is the lowest, of four and of two
+number_examples : (number_at 4 1 (9 ∷ 0x78 ∷ 0x56 ∷ 0x34 ∷ 0x12 ∷ []) ≡ 0x12345678) × (number_at 2 0 (0x34 ∷ 0x12 ∷ []) ≡ 0x1234)
+number_examples = (refl, refl)
 
-at_the_front : entry_at 0 ram_bytes ≡ ram
+-- one at the front, and one behind two other bytes
+entry_at_examples : (entry_at 0 ram_bytes ≡ ram) × (entry_at 2 (7 ∷ 7 ∷ last_bytes) ≡ last)
 unfolding entry_at
-at_the_front = refl
+entry_at_examples = (refl, refl)
 
-behind_two_bytes : entry_at 2 (7 ∷ 7 ∷ last_bytes) ≡ last
+-- the second of three, and the first of two
+nth_examples : (nth_entry 0 1 (far_bytes ++ ram_bytes ++ last_bytes) ≡ ram) × (nth_entry 0 0 (last_bytes ++ ram_bytes) ≡ last)
 unfolding entry_at
-behind_two_bytes = refl
-
-second_of_three : nth_entry 0 1 (far_bytes ++ ram_bytes ++ last_bytes) ≡ ram
-unfolding entry_at
-second_of_three = refl
+nth_examples = (refl, refl)
 
 -- in the order of the bytes, and no more than are asked for
-two_of_three : first_entries 0 2 (ram_bytes ++ last_bytes ++ far_bytes) ≡ ram ∷ last ∷ []
+first_entries_examples : (first_entries 0 2 (ram_bytes ++ last_bytes ++ far_bytes) ≡ ram ∷ last ∷ [])
+    × (first_entries 0 0 (ram_bytes ++ last_bytes ++ far_bytes) ≡ [])
 unfolding entry_at
-two_of_three = refl
-
-none_of_three : first_entries 0 0 (ram_bytes ++ last_bytes ++ far_bytes) ≡ []
-none_of_three = refl
+first_entries_examples = (refl, refl)
 
 -- 2^64 - 1 isn't too far, and 2^64 is
-last_is_near : is_too_far last ≡ false
-last_is_near = refl
-
-next_is_far : is_too_far (record { addr = 0x1000; size = 0xFFFFFFFFFFFFF000; kind = 2 }) ≡ true
-next_is_far = refl
+too_far_examples : (is_too_far last ≡ false) × (is_too_far (record { addr = 0x1000; size = 0xFFFFFFFFFFFFF000; kind = 2 }) ≡ true)
+too_far_examples = (refl, refl)
 
 -- the least of the far entries, and only among those that are asked for
-least_far : first_far 0 3 (last_bytes ++ far_bytes ++ far_bytes) ≡ Some 1
+first_far_examples : (first_far 0 3 (last_bytes ++ far_bytes ++ far_bytes) ≡ Some 1)
+    × (first_far 0 2 (ram_bytes ++ last_bytes ++ far_bytes) ≡ None)
 unfolding entry_at
-least_far = refl
+first_far_examples = (refl, refl)
 
-far_behind_the_end : first_far 0 2 (ram_bytes ++ last_bytes ++ far_bytes) ≡ None
+-- from the second entry on, and from the first
+far_from_examples : (far_from 0 1 2 (far_bytes ++ last_bytes ++ far_bytes) ≡ Some 2) × (far_from 0 0 2 (far_bytes ++ last_bytes) ≡ Some 0)
 unfolding entry_at
-far_behind_the_end = refl
-
-far_from_the_second_on : far_from 0 1 2 (far_bytes ++ last_bytes ++ far_bytes) ≡ Some 2
-unfolding entry_at
-far_from_the_second_on = refl
+far_from_examples = (refl, refl)
 
 -- an extension: the next node's address, the type, the length, and the entries
 abbrev header : ℕ → ℕ → List ℕ
@@ -99,18 +90,14 @@ no_entries : (ext_fault (header 1 0) ≡ None) × (ext_entries_of (header 1 0) �
 no_entries = (refl, refl)
 
 -- the header is judged first: 15 bytes, or another type, whatever the length says
-short_header : (has_header (replicate 15 1) ≡ false) × (ext_fault (replicate 15 1) ≡ Some ext_faults.ExtHeader)
-short_header = (refl, refl)
-
-other_type : (has_header (header 2 7) ≡ false) × (ext_fault (header 2 7) ≡ Some ext_faults.ExtHeader)
-other_type = (refl, refl)
+other_header : (has_header (replicate 15 1) ≡ false) × (ext_fault (replicate 15 1) ≡ Some ext_faults.ExtHeader)
+    × (has_header (header 2 7) ≡ false) × (ext_fault (header 2 7) ≡ Some ext_faults.ExtHeader)
+other_header = (refl, refl, refl, refl)
 
 -- then the length: not that of the data, or part of an entry
 other_length : (has_length (header 1 20) ≡ false) × (ext_fault (header 1 20) ≡ Some ext_faults.ExtLength)
-other_length = (refl, refl)
-
-part_of_an_entry : ext_fault (header 1 19 ++ replicate 19 0) ≡ Some ext_faults.ExtLength
-part_of_an_entry = refl
+    × (ext_fault (header 1 19 ++ replicate 19 0) ≡ Some ext_faults.ExtLength)
+other_length = (refl, refl, refl)
 
 -- then the entries
 far_entry : ext_fault (header 1 60 ++ last_bytes ++ far_bytes ++ far_bytes) ≡ Some (ext_faults.EntryTooFar 1)
@@ -125,58 +112,31 @@ abbrev page : ℕ → List ℕ → List ℕ
 page count entries =
     replicate 0x1E8 0 ++ (count ∷ replicate (0x2D0 - 0x1E9) 0) ++ entries ++ replicate (4096 - 0x2D0 - 40) 0
 
-two_entries : zero_fault (page 2 (ram_bytes ++ last_bytes)) ≡ None
+-- two entries have no fault; the length of the page (a byte short, a byte more, no byte) goes before the number of entries (too few,
+-- too many), and that before an entry, here the second
+zero_fault_examples : (zero_fault (page 2 (ram_bytes ++ last_bytes)) ≡ None)
+    × (zero_fault (replicate 4095 0) ≡ Some zero_faults.WrongLength) × (zero_fault (replicate 4097 0) ≡ Some zero_faults.WrongLength)
+    × (zero_fault [] ≡ Some zero_faults.WrongLength) × (zero_fault (page 1 (far_bytes ++ far_bytes)) ≡ Some zero_faults.TooFew)
+    × (zero_fault (page 129 (far_bytes ++ far_bytes)) ≡ Some zero_faults.TooMany)
+    × (zero_fault (page 2 (ram_bytes ++ far_bytes)) ≡ Some (zero_faults.EntryTooFar 1))
 unfolding entry_at is_initrd_far
-two_entries = refl
+zero_fault_examples = (refl, refl, refl, refl, refl, refl, refl)
 
-their_order : entries_of (page 2 (ram_bytes ++ last_bytes)) ≡ ram ∷ last ∷ []
+-- in their order, and no more than the page states
+entries_of_examples : (entries_of (page 2 (ram_bytes ++ last_bytes)) ≡ ram ∷ last ∷ [])
+    × (entries_of (page 1 (ram_bytes ++ last_bytes)) ≡ nth_entry table_offset 0 (page 1 (ram_bytes ++ last_bytes)) ∷ [])
 unfolding entry_at
-their_order = refl
+entries_of_examples = (refl, refl)
 
 stated_number : (entry_count (page 200 (ram_bytes ++ last_bytes)) ≡ 200) × (table_offset ≡ 720)
 stated_number = (refl, refl)
 
--- the length of the page goes before the number of entries, and that before an entry
-one_byte_short : zero_fault (replicate 4095 0) ≡ Some zero_faults.WrongLength
-one_byte_short = refl
-
-one_byte_more : zero_fault (replicate 4097 0) ≡ Some zero_faults.WrongLength
-one_byte_more = refl
-
-no_byte : zero_fault [] ≡ Some zero_faults.WrongLength
-no_byte = refl
-
-one_far_entry : zero_fault (page 1 (far_bytes ++ far_bytes)) ≡ Some zero_faults.TooFew
-one_far_entry = refl
-
-too_many_entries : zero_fault (page 129 (far_bytes ++ far_bytes)) ≡ Some zero_faults.TooMany
-too_many_entries = refl
-
-second_is_far : zero_fault (page 2 (ram_bytes ++ far_bytes)) ≡ Some (zero_faults.EntryTooFar 1)
-unfolding entry_at
-second_is_far = refl
-
 fault_of_an_index : (entry_fault (Some 7) (Some zero_faults.InitrdTooFar) ≡ Some (zero_faults.EntryTooFar 7))
     × (entry_fault None (Some zero_faults.InitrdTooFar) ≡ Some zero_faults.InitrdTooFar) × (entry_fault None None ≡ None)
 fault_of_an_index = (refl, refl, refl)
-
--- the same words once more, on less
-two_bytes : number_at 2 0 (0x34 ∷ 0x12 ∷ []) ≡ 0x1234
-two_bytes = refl
-
-first_of_two : nth_entry 0 0 (last_bytes ++ ram_bytes) ≡ last
-unfolding entry_at
-first_of_two = refl
-
-first_is_far : far_from 0 0 2 (far_bytes ++ last_bytes) ≡ Some 0
-unfolding entry_at
-first_is_far = refl
 
 no_data : (data_length (header 1 0) ≡ 0) × (ext_count (header 1 0) ≡ 0) × (has_length (header 1 0) ≡ true)
 no_data = (refl, refl, refl)
 
 no_entries_stated : (entry_count (page 0 ram_bytes) ≡ 0) × (entries_of (page 0 ram_bytes) ≡ [])
 no_entries_stated = (refl, refl)
-
-its_first_entry : entries_of (page 1 (ram_bytes ++ last_bytes)) ≡ nth_entry table_offset 0 (page 1 (ram_bytes ++ last_bytes)) ∷ []
-its_first_entry = refl

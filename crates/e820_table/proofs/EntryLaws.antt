@@ -11,11 +11,7 @@ pub space_push : (es : List Entry) (e : Entry) → EndInSpace es → e.addr + e.
 space_push [] e rest ends = (ends, tt)
 space_push (f ∷ es) e rest ends = (rest.0, space_push es e rest.1 ends)
 
--- one entry of the search: it is the first that is too far, or the search goes on behind it
-pub far_here : (start i n : ℕ) (bytes : List ℕ) → is_too_far (nth_entry start i bytes) ≡ true
-    → far_from start i (suc n) bytes ≡ Some i
-far_here start i n bytes far = rw far refl
-
+-- behind an entry that isn't too far the search goes on
 pub far_later : (start i n : ℕ) (bytes : List ℕ) → is_too_far (nth_entry start i bytes) ≡ false
     → far_from start i (suc n) bytes ≡ far_from start (i + 1) n bytes
 far_later start i n bytes near = rw near refl
@@ -26,7 +22,7 @@ none_step : (t : Bool) (start i n k : ℕ) (bytes : List ℕ) → is_too_far (nt
     → (far_from start (i + 1) n bytes ≡ None → i + 1 ≤ k → k < i + 1 + n → is_too_far (nth_entry start k bytes) ≡ false)
     → is_too_far (nth_entry start k bytes) ≡ false
 none_step true start i n k bytes far none from below rest =
-    let found : far_from start i (suc n) bytes ≡ Some i = far_here start i n bytes far in cc
+    let found : far_from start i (suc n) bytes ≡ Some i = rw far refl in cc
 none_step false start i n k bytes near none from below rest =
     ⊎_elim (λ past. rest (sym (far_later start i n bytes near) ∙ none) (omega arith) (omega arith))
     (λ here. let same : k ≡ i = omega arith in rw same near)

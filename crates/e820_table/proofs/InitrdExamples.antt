@@ -68,18 +68,12 @@ is_an_initrd = record { some = omega arith; whole = refl }
 part_of_a_frame_isn't : IsInitrd (range 0x7D00000 0x123457) → ⊥
 part_of_a_frame_isn't is = let whole = is.whole in cc whole
 
--- pages
-initrd_of_a_page : initrd_of (page 0xB0 (replicate 8 0) low_image) ≡ Some (range 0x7D00000 0x124000)
+-- pages: one with an initrd, one without a loader, one with both halves
+initrd_of_examples : (initrd_of (page 0xB0 (replicate 8 0) low_image) ≡ Some (range 0x7D00000 0x124000))
+    × (initrd_of (page 0 (replicate 8 0) low_image) ≡ None)
+    × (initrd_of (page 1 high_halves low_image) ≡ Some (range 0x107D00000 0x200124000))
 unfolding initrd_of
-initrd_of_a_page = refl
-
-no_loader : initrd_of (page 0 (replicate 8 0) low_image) ≡ None
-unfolding initrd_of
-no_loader = refl
-
-both_halves : initrd_of (page 1 high_halves low_image) ≡ Some (range 0x107D00000 0x200124000)
-unfolding initrd_of
-both_halves = refl
+initrd_of_examples = (refl, refl, refl)
 
 far_or_not : (is_initrd_far (page 1 top_halves (top_image 0)) ≡ false) × (is_initrd_far (page 1 top_halves (top_image 1)) ≡ true)
 unfolding is_initrd_far

@@ -22,19 +22,14 @@ first_two = (refl, refl, refl)
 in_turn : (made_entry 2 0x8100000 0 ≡ entry 0x8100000 0x1000 2) × (made_entry 3 0x8101000 65536 ≡ entry 0x8101000 0x2000 1)
 in_turn = (refl, refl)
 
-none_behind : entries_behind 0 2 0x8100000 5 ≡ []
+-- no entry behind, and one
+behind_examples : (entries_behind 0 2 0x8100000 5 ≡ []) × (entries_behind 1 2 0x8100000 5 ≡ entry 0x8100000 0x10000 2 ∷ [])
 unfolding entries_behind
-none_behind = refl
+behind_examples = (refl, refl)
 
-one_behind : entries_behind 1 2 0x8100000 5 ≡ entry 0x8100000 0x10000 2 ∷ []
+-- two entries, and five
+made_examples : (made_entries 2 ≡ entry 0 655360 1 ∷ entry 1048576 134217728 1 ∷ [])
+    × (made_entries 5
+    ≡ entry 0 655360 1 ∷ entry 1048576 134217728 1 ∷ entry 135266304 65536 2 ∷ entry 135331840 40960 1 ∷ entry 135372800 36864 2 ∷ [])
 unfolding entries_behind
-one_behind = refl
-
-two_entries : made_entries 2 ≡ entry 0 655360 1 ∷ entry 1048576 134217728 1 ∷ []
-unfolding entries_behind
-two_entries = refl
-
-five_entries : made_entries 5
-    ≡ entry 0 655360 1 ∷ entry 1048576 134217728 1 ∷ entry 135266304 65536 2 ∷ entry 135331840 40960 1 ∷ entry 135372800 36864 2 ∷ []
-unfolding entries_behind
-five_entries = refl
+made_examples = (refl, refl)
