@@ -32,12 +32,9 @@ last_memory low high =
     0 ∷ 0xF0 ∷ 0xFF ∷ 0xFF ∷ 0xFF ∷ 0xFF ∷ 0xFF ∷ 0xFF ∷ low ∷ high ∷ 0 ∷ 0 ∷ 0 ∷ 0 ∷ 0 ∷ 0 ∷
     0 ∷ 0 ∷ 0 ∷ 0 ∷ 1 ∷ 0 ∷ 0 ∷ 0 ∷ replicate 8 0
 
--- numbers, the lowest byte first; the revision; the type and the length of an entry
-low_byte_first : number_at 4 1 (9 ∷ 0x78 ∷ 0x56 ∷ 0x34 ∷ 0x12 ∷ []) ≡ 0x12345678
-low_byte_first = refl
-
-two_bytes : number_at 2 0 (0x34 ∷ 0x12 ∷ []) ≡ 0x1234
-two_bytes = refl
+-- numbers of four bytes and of two, the lowest byte first; the revision; the type and the length of an entry
+low_byte_first : (number_at 4 1 (9 ∷ 0x78 ∷ 0x56 ∷ 0x34 ∷ 0x12 ∷ []) ≡ 0x12345678) × (number_at 2 0 (0x34 ∷ 0x12 ∷ []) ≡ 0x1234)
+low_byte_first = (refl, refl)
 
 third_revision : (revision_of (header 48 3 0) ≡ 3) × (revision_of (header 48 1 0) ≡ 1)
 third_revision = (refl, refl)
@@ -52,25 +49,18 @@ begins_with = (refl, refl, refl, refl)
 own_lengths : (fits_type 0 16 ≡ true) × (fits_type 1 16 ≡ false) × (fits_type 2 24 ≡ true) × (fits_type 3 5 ≡ true)
 own_lengths = (refl, refl, refl, refl)
 
--- an entry that isn't whole: one byte is left, it states less than its two bytes, or passes the end
-whole_entry : (is_whole 0 (memory 1) ≡ true) × (is_whole 0 (9 ∷ 2 ∷ []) ≡ true)
+-- whole entries; ones that aren't: one byte is left, it states less than its two bytes, passes the end, or has another length than its
+-- type; and a whole one behind another byte
+whole_entries : (is_whole 0 (memory 1) ≡ true) × (is_whole 0 (9 ∷ 2 ∷ []) ≡ true) × (is_whole 0 (9 ∷ []) ≡ false)
+    × (is_whole 0 (9 ∷ 1 ∷ 0 ∷ []) ≡ false) × (is_whole 0 (9 ∷ 4 ∷ 0 ∷ []) ≡ false) × (is_whole 0 (1 ∷ 2 ∷ []) ≡ false)
+    × (is_whole 1 (7 ∷ apic 1) ≡ true)
 unfolding is_whole
-whole_entry = (refl, refl)
-
-broken_entry : (is_whole 0 (9 ∷ []) ≡ false) × (is_whole 0 (9 ∷ 1 ∷ 0 ∷ []) ≡ false) × (is_whole 0 (9 ∷ 4 ∷ 0 ∷ []) ≡ false)
-unfolding is_whole
-broken_entry = (refl, refl, refl)
-
-of_another_length : (is_whole 0 (1 ∷ 2 ∷ []) ≡ false) × (is_whole 1 (7 ∷ apic 1) ≡ true)
-unfolding is_whole
-of_another_length = (refl, refl)
+whole_entries = (refl, refl, refl, refl, refl, refl, refl)
 
 -- bit 0 of the flags alone
 lowest_bit : (is_enabled 0 (1 ∷ 0 ∷ 0 ∷ 0 ∷ []) ≡ true) × (is_enabled 0 (3 ∷ 0 ∷ 0 ∷ 0 ∷ []) ≡ true)
-lowest_bit = (refl, refl)
-
-other_bits : (is_enabled 0 (0xFE ∷ 0xFF ∷ 0xFF ∷ 0xFF ∷ []) ≡ false) × (is_enabled 0 (0 ∷ 1 ∷ 0 ∷ 0 ∷ []) ≡ false)
-other_bits = (refl, refl)
+    × (is_enabled 0 (0xFE ∷ 0xFF ∷ 0xFF ∷ 0xFF ∷ []) ≡ false) × (is_enabled 0 (0 ∷ 1 ∷ 0 ∷ 0 ∷ []) ≡ false)
+lowest_bit = (refl, refl, refl, refl)
 
 -- the upper bytes of a domain count from revision 2 on; an x2APIC's always
 domains_of_revision_1 : (apic_domain 48 (header 64 1 0 ++ apic 1) ≡ 1) × (block_domain 48 (header 88 1 0 ++ memory 1) ≡ 5)
@@ -109,62 +99,41 @@ far_memory : (is_far (said.Block 0 0xFFFFFFFFFFFFF000 0xFFF) ≡ false)
     × (is_far said.Nothing ≡ false)
 far_memory = (refl, refl, refl, refl)
 
--- the faults of the header, in their order
-too_short : (header_fault [] ≡ Some faults.Short) × (header_fault (replicate 47 0) ≡ Some faults.Short)
-too_short = (refl, refl)
-
-other_signature : header_fault (replicate 48 0) ≡ Some faults.Signature
-other_signature = refl
-
-other_length : header_fault (header 49 1 0) ≡ Some faults.Length
-other_length = refl
-
-other_sum : (header_fault (header 48 1 0x96) ≡ Some faults.Checksum) × (header_fault (header 48 1 0x95) ≡ None)
-other_sum = (refl, refl)
+-- the faults of the header, in their order: too short, another signature, another length, another sum, and none
+header_faults : (header_fault [] ≡ Some faults.Short) × (header_fault (replicate 47 0) ≡ Some faults.Short)
+    × (header_fault (replicate 48 0) ≡ Some faults.Signature) × (header_fault (header 49 1 0) ≡ Some faults.Length)
+    × (header_fault (header 48 1 0x96) ≡ Some faults.Checksum) × (header_fault (header 48 1 0x95) ≡ None)
+header_faults = (refl, refl, refl, refl, refl, refl)
 
 -- the entries' offsets: each behind the one before, up to the one that isn't whole
-two_offsets : offsets_of (header 128 1 0 ++ x2apic 1 ++ (9 ∷ 16 ∷ replicate 14 0) ++ memory 1) ≡ 48 ∷ 72 ∷ 88 ∷ []
+two_offsets : (offsets_of (header 128 1 0 ++ x2apic 1 ++ (9 ∷ 16 ∷ replicate 14 0) ++ memory 1) ≡ 48 ∷ 72 ∷ 88 ∷ [])
+    × (offsets_of (header 92 1 0 ++ x2apic 1 ++ (9 ∷ 1 ∷ []) ++ apic 1) ≡ 48 ∷ 72 ∷ [])
 unfolding offsets_from is_whole
-two_offsets = refl
-
-up_to_the_broken_one : offsets_of (header 92 1 0 ++ x2apic 1 ++ (9 ∷ 1 ∷ []) ++ apic 1) ≡ 48 ∷ 72 ∷ []
-unfolding offsets_from is_whole
-up_to_the_broken_one = refl
+two_offsets = (refl, refl)
 
 no_offset : (offsets_of (header 48 1 0) ≡ []) × (offsets_from 1 0 (x2apic 1 ++ x2apic 1) ≡ 0 ∷ [])
 unfolding offsets_from is_whole
 no_offset = (refl, refl)
 
--- the fault of one entry: that it isn't whole goes before what it says
+-- the fault of one entry: that it isn't whole goes before what it says; and a block may be too far, or end at the last address
 fault_of_one : (fault_at (9 ∷ []) 0 ≡ Some (faults.EntryLength 0)) × (fault_at (header 50 1 0 ++ 9 ∷ 2 ∷ []) 48 ≡ None)
-unfolding is_whole said_at
-fault_of_one = (refl, refl)
-
-far_at_48 : (fault_at (header 88 1 0 ++ last_memory 0 0x10) 48 ≡ Some (faults.BlockTooFar 48))
+    × (fault_at (header 88 1 0 ++ last_memory 0 0x10) 48 ≡ Some (faults.BlockTooFar 48))
     × (fault_at (header 88 1 0 ++ last_memory 0xFF 0x0F) 48 ≡ None)
 unfolding is_whole said_at block_domain
-far_at_48 = (refl, refl)
+fault_of_one = (refl, refl, refl, refl)
 
--- the first entry with a fault gives it, whichever of the two it is
-far_before_broken : first_fault (header 90 1 0 ++ last_memory 0 0x10 ++ 9 ∷ 1 ∷ []) (48 ∷ 88 ∷ []) ≡ Some (faults.BlockTooFar 48)
+-- the first entry with a fault gives it, whichever of the two it is; no entry, no fault
+first_faults : (first_fault (header 90 1 0 ++ last_memory 0 0x10 ++ 9 ∷ 1 ∷ []) (48 ∷ 88 ∷ []) ≡ Some (faults.BlockTooFar 48))
+    × (first_fault (header 90 1 0 ++ last_memory 0xFF 0x0F ++ 9 ∷ 1 ∷ []) (48 ∷ 88 ∷ []) ≡ Some (faults.EntryLength 88))
+    × (first_fault (header 48 1 0) [] ≡ None)
 unfolding is_whole said_at block_domain
-far_before_broken = refl
-
-broken_behind_near : first_fault (header 90 1 0 ++ last_memory 0xFF 0x0F ++ 9 ∷ 1 ∷ []) (48 ∷ 88 ∷ []) ≡ Some (faults.EntryLength 88)
-unfolding is_whole said_at block_domain
-broken_behind_near = refl
-
-no_entry_no_fault : first_fault (header 48 1 0) [] ≡ None
-no_entry_no_fault = refl
+first_faults = (refl, refl, refl)
 
 -- the header's fault goes before an entry's; a table of 50 bytes whose entry states no length
-header_first : srat_fault (header 50 1 0 ++ 1 ∷ 0 ∷ []) ≡ Some faults.Checksum
+srat_faults : (srat_fault (header 50 1 0 ++ 1 ∷ 0 ∷ []) ≡ Some faults.Checksum)
+    × (srat_fault (header 50 1 0x92 ++ 1 ∷ 0 ∷ []) ≡ Some (faults.EntryLength 48))
 unfolding offsets_from is_whole
-header_first = refl
-
-then_the_entries : srat_fault (header 50 1 0x92 ++ 1 ∷ 0 ∷ []) ≡ Some (faults.EntryLength 48)
-unfolding offsets_from is_whole
-then_the_entries = refl
+srat_faults = (refl, refl)
 
 -- the two lists, in the order of the table
 processor_told : (processor_of (said.Processor 7) ≡ Some 7) × (processor_of (said.Block 7 0 1) ≡ None) × (processor_of said.Nothing ≡ None)
@@ -199,14 +168,9 @@ lists_or_fault : (unless_fault None (record { processors = 7 ∷ []; blocks = []
     × (unless_fault (Some faults.Checksum) (record { processors = 7 ∷ []; blocks = [] }) ≡ Err faults.Checksum)
 lists_or_fault = (refl, refl)
 
-smallest_table : srat_of (header 48 1 0x95) ≡ Ok (record { processors = []; blocks = [] })
-unfolding offsets_from
-smallest_table = refl
-
-one_processor : srat_of (header 72 1 0x25 ++ x2apic 1) ≡ Ok (record { processors = 0x0C0D ∷ []; blocks = [] })
+-- the smallest table, one with a processor, and one whose entry is cut
+srat_examples : (srat_of (header 48 1 0x95) ≡ Ok (record { processors = []; blocks = [] }))
+    × (srat_of (header 72 1 0x25 ++ x2apic 1) ≡ Ok (record { processors = 0x0C0D ∷ []; blocks = [] }))
+    × (srat_of (header 50 1 0x92 ++ 1 ∷ 0 ∷ []) ≡ Err (faults.EntryLength 48))
 unfolding offsets_from is_whole said_at
-one_processor = refl
-
-cut_entry : srat_of (header 50 1 0x92 ++ 1 ∷ 0 ∷ []) ≡ Err (faults.EntryLength 48)
-unfolding offsets_from is_whole
-cut_entry = refl
+srat_examples = (refl, refl, refl)
