@@ -20,26 +20,15 @@ covered_examples : (is_covered_by (record { addr = 0x1000; size = 0x1000; kind =
 covered_examples = (refl, refl, refl, refl)
 
 ends_at_the_end : EndInSpace (record { addr = 0xFFFFFFFFFFFFF000; size = 0xFFF; kind = 2 } ∷ [])
-ends_at_the_end = (omega arith, tt)
+    × (¬ EndInSpace (record { addr = 0xFFFFFFFFFFFFF000; size = 0x1000; kind = 2 } ∷ []))
+ends_at_the_end = ((omega arith, tt), λ ends. let small : 0xFFFFFFFFFFFFF000 + 0x1000 < 2 ^ 64 = ends.0 in absurd (omega arith))
 
-ends_behind_it : ¬ EndInSpace (record { addr = 0xFFFFFFFFFFFFF000; size = 0x1000; kind = 2 } ∷ [])
-ends_behind_it ends = let small : 0xFFFFFFFFFFFFF000 + 0x1000 < 2 ^ 64 = ends.0 in absurd (omega arith)
-
--- both claim the address 1 MiB, neither does 2 MiB, and an empty entry nowhere
-both_claim_ram : claims_of_entries ram_and_acpi 0x100000 1 ≡ true
-both_claim_ram = refl
-
-both_claim_acpi : claims_of_entries ram_and_acpi 0x100000 3 ≡ true
-both_claim_acpi = refl
-
-neither_claims : claims_of_entries ram_and_acpi 0x200000 1 ≡ false
-neither_claims = refl
-
-empty_claims_nothing : claims_of_entries (record { addr = 0x1000; size = 0; kind = 1 } ∷ []) 0x1000 1 ≡ false
-empty_claims_nothing = refl
-
-type_0_claims_nothing : claims_of_entries (record { addr = 0; size = 0x1000; kind = 0 } ∷ []) 0 0 ≡ false
-type_0_claims_nothing = refl
+-- both entries claim the address 1 MiB, neither does 2 MiB, an empty entry claims nothing, and an entry of type 0 neither
+claims_examples : (claims_of_entries ram_and_acpi 0x100000 1 ≡ true) × (claims_of_entries ram_and_acpi 0x100000 3 ≡ true)
+    × (claims_of_entries ram_and_acpi 0x200000 1 ≡ false)
+    × (claims_of_entries (record { addr = 0x1000; size = 0; kind = 1 } ∷ []) 0x1000 1 ≡ false)
+    × (claims_of_entries (record { addr = 0; size = 0x1000; kind = 0 } ∷ []) 0 0 ≡ false)
+claims_examples = (refl, refl, refl, refl, refl)
 
 -- of the types 1 and 3 the greatest below 8 is 3
 greatest_of_two : greatest_below (claims_of_entries ram_and_acpi 0x100000) 8 ≡ 3
@@ -63,15 +52,10 @@ unclaimed_has_type_0 : type_of (claims_of_entries ram_and_acpi) 0x200000 ≡ 0
 unclaimed_has_type_0 =
     greatest_is (claims_of_entries ram_and_acpi 0x200000) 0 (omega arith) (λ some. absurd (omega arith)) (λ k higher small. refl)
 
--- settling leaves ACPI data alone at 1 MiB, and at an address with one claim that claim
-settled_keeps_acpi : settled (claims_of_entries ram_and_acpi) 0x100000 3 ≡ true
-settled_keeps_acpi = rw later_does_not_win refl
-
-settled_drops_ram : settled (claims_of_entries ram_and_acpi) 0x100000 1 ≡ false
-settled_drops_ram = rw later_does_not_win refl
-
-settled_claims_nothing : settled (claims_of_entries ram_and_acpi) 0x200000 0 ≡ false
-settled_claims_nothing = refl
+-- settling leaves ACPI data alone at 1 MiB, and not RAM; it claims nothing where nothing did
+settled_examples : (settled (claims_of_entries ram_and_acpi) 0x100000 3 ≡ true)
+    × (settled (claims_of_entries ram_and_acpi) 0x100000 1 ≡ false) × (settled (claims_of_entries ram_and_acpi) 0x200000 0 ≡ false)
+settled_examples = (rw later_does_not_win refl, rw later_does_not_win refl, refl)
 
 -- what is added claims beside what was there
 with_nvs : Claims
@@ -110,15 +94,13 @@ has_types = ((omega arith, omega arith), tt, (omega arith, (tt, tt)))
 one_type_0_is_enough : ¬ HaveTypes (edit.Clear ∷ edit.Remove page 0 ∷ [])
 one_type_0_is_enough have = let some : 0 < 0 = have.1.0 in absurd (omega arith)
 
-type_0_is_none : ¬ HasTypes (edit.Add page 0)
-type_0_is_none some = absurd (omega arith)
-
--- neither type of a change is 0
-no_change_to_type_0 : ¬ HasTypes (edit.Change page 1 0)
-no_change_to_type_0 some = let none : 0 < 0 = some.1 in absurd (omega arith)
-
-no_change_of_type_0 : ¬ HasTypes (edit.Change page 0 1)
-no_change_of_type_0 some = let none : 0 < 0 = some.0 in absurd (omega arith)
+-- type 0 is none, and neither type of a change is 0
+type_0_is_none : (¬ HasTypes (edit.Add page 0)) × (¬ HasTypes (edit.Change page 1 0)) × (¬ HasTypes (edit.Change page 0 1))
+type_0_is_none = (
+  λ some. absurd (omega arith),
+  λ some. let none : 0 < 0 = some.1 in absurd (omega arith),
+  λ some. let none : 0 < 0 = some.0 in absurd (omega arith),
+)
 
 -- edits go in their order: what is cleared first is added again, and what is added first is cleared
 after_examples : (after_edits (edit.Clear ∷ edit.Add page 1 ∷ []) ram_and_nvs 0x1000 1 ≡ true)
@@ -128,32 +110,21 @@ after_examples : (after_edits (edit.Clear ∷ edit.Add page 1 ∷ []) ram_and_nv
 after_examples = (refl, refl, refl, refl)
 
 -- a change takes the place of the one type and leaves the other
-changed_is_in : edited (edit.Change (record { base = 0; size = 0x200000 }) 1 4) (claims_of_entries ram_and_acpi) 0x100000 4 ≡ true
-changed_is_in = refl
-
-changed_is_out : edited (edit.Change (record { base = 0; size = 0x200000 }) 1 4) (claims_of_entries ram_and_acpi) 0x100000 1 ≡ false
-changed_is_out = refl
-
-other_is_kept : edited (edit.Change (record { base = 0; size = 0x200000 }) 1 4) (claims_of_entries ram_and_acpi) 0x100000 3 ≡ true
-other_is_kept = refl
+change_examples : (edited (edit.Change (record { base = 0; size = 0x200000 }) 1 4) (claims_of_entries ram_and_acpi) 0x100000 4 ≡ true)
+    × (edited (edit.Change (record { base = 0; size = 0x200000 }) 1 4) (claims_of_entries ram_and_acpi) 0x100000 1 ≡ false)
+    × (edited (edit.Change (record { base = 0; size = 0x200000 }) 1 4) (claims_of_entries ram_and_acpi) 0x100000 3 ≡ true)
+change_examples = (refl, refl, refl)
 
 -- 4 KiB from 0 on, and 640 KiB up to 1 MiB
 bios_areas : (covers first_page 0xFFF ≡ true) × (covers first_page 0x1000 ≡ false) × (covers bios_area 0x9FFFF ≡ false)
     × (covers bios_area 0xA0000 ≡ true) × (covers bios_area 0xFFFFF ≡ true) × (covers bios_area 0x100000 ≡ false)
 bios_areas = (refl, refl, refl, refl, refl, refl)
 
--- the trim makes the first page the BIOS's, and takes RAM away from 640 KiB on, and nothing below
-first_page_reserved : bios_trimmed (claims_of_entries ram_and_acpi) 0xFFF 2 ≡ true
-first_page_reserved = refl
-
-second_page_kept : bios_trimmed (claims_of_entries ram_and_acpi) 0x1000 1 ≡ true
-second_page_kept = refl
-
-bios_area_taken : bios_trimmed (claims_of_entries ram_and_acpi) 0xA0000 1 ≡ false
-bios_area_taken = refl
-
-below_bios_area_kept : bios_trimmed (claims_of_entries ram_and_acpi) 0x9FFFF 1 ≡ true
-below_bios_area_kept = refl
+-- the trim makes the first page the BIOS's and leaves the second; it takes RAM away from 640 KiB on, and nothing below
+trim_examples : (bios_trimmed (claims_of_entries ram_and_acpi) 0xFFF 2 ≡ true)
+    × (bios_trimmed (claims_of_entries ram_and_acpi) 0x1000 1 ≡ true) × (bios_trimmed (claims_of_entries ram_and_acpi) 0xA0000 1 ≡ false)
+    × (bios_trimmed (claims_of_entries ram_and_acpi) 0x9FFFF 1 ≡ true)
+trim_examples = (refl, refl, refl, refl)
 
 -- the whole way: RAM up to 2 MiB with ACPI data in it; an extension that has a page at 1.5 MiB as ACPI NVS;
 -- `memmap=516K$1M`, which reserves where ACPI data was and one page behind it; and an EFI map that has RAM up to 2 MiB, and ACPI data
@@ -198,7 +169,7 @@ changed x t u known small is_in none =
 
 -- the zero page alone: ACPI data at 1 MiB, RAM not beside it
 zero_page_examples : (of_zero_page ram_and_acpi 0x100000 3 ≡ true) × (of_zero_page ram_and_acpi 0x100000 1 ≡ false)
-zero_page_examples = (settled_keeps_acpi, settled_drops_ram)
+zero_page_examples = (settled_examples.0, settled_examples.1)
 
 -- at 1.5 MiB the extension's type is greater than RAM, and then greater than the option's
 nvs_with_extension : type_of (with_claims first_claims (claims_of_entries extension)) 0x180000 ≡ 4
@@ -207,21 +178,15 @@ nvs_with_extension =
     greatest_is (claims_of_entries ram_and_acpi 0x180000) 1 (omega arith) (λ some. refl) (λ k higher small. grind (arith, nat_tests)) in
     extended 0x180000 1 4 ram (omega arith) (λ some. refl) (λ k higher small. grind (arith, nat_tests))
 
-extension_wins : with_extension extension first_claims 0x180000 4 ≡ true
-extension_wins = rw nvs_with_extension refl
-
-ram_is_settled_away : with_extension extension first_claims 0x180000 1 ≡ false
-ram_is_settled_away = rw nvs_with_extension refl
+extension_wins : (with_extension extension first_claims 0x180000 4 ≡ true) × (with_extension extension first_claims 0x180000 1 ≡ false)
+extension_wins = (rw nvs_with_extension refl, rw nvs_with_extension refl)
 
 nvs_stays : type_of third_claims 0x180000 ≡ 4
 nvs_stays = changed 0x180000 4 4 nvs_with_extension (omega arith) (λ some. refl) (λ k higher small. grind (arith, nat_tests))
 
-option_does_not_lower : with_options edits efi second_claims 0x180000 2 ≡ false
-option_does_not_lower = rw nvs_stays refl
-
--- nor does the EFI map lower a type
-nvs_after_the_edits : with_options edits efi second_claims 0x180000 4 ≡ true
-nvs_after_the_edits = rw nvs_stays refl
+-- neither an option nor the EFI map lowers a type
+nvs_after_the_edits : (with_options edits efi second_claims 0x180000 2 ≡ false) × (with_options edits efi second_claims 0x180000 4 ≡ true)
+nvs_after_the_edits = (rw nvs_stays refl, rw nvs_stays refl)
 
 nvs_in_the_map : finished ram_and_acpi extension edits efi 0x180000 4 ≡ true
 nvs_in_the_map = rw nvs_stays refl
@@ -258,14 +223,11 @@ ram_until_the_trim x low =
     changed x 1 1 still (omega arith) (λ some. grind (arith, nat_tests)) (λ k higher small. grind (arith, nat_tests))
 
 first_byte_in_the_map : (finished ram_and_acpi extension edits efi 0 2 ≡ true) × (finished ram_and_acpi extension edits efi 0 1 ≡ false)
-first_byte_in_the_map =
-    let ram : type_of third_claims 0 ≡ 1 = ram_until_the_trim 0 (omega arith) in (rw ram refl, rw ram refl)
+first_byte_in_the_map = let ram : type_of third_claims 0 ≡ 1 = ram_until_the_trim 0 (omega arith) in (rw ram refl, rw ram refl)
 
-no_ram_from_640K : finished ram_and_acpi extension edits efi 0xA0000 1 ≡ false
-no_ram_from_640K = let ram : type_of third_claims 0xA0000 ≡ 1 = ram_until_the_trim 0xA0000 (omega arith) in rw ram refl
-
-ram_below_640K : finished ram_and_acpi extension edits efi 0x9FFFF 1 ≡ true
-ram_below_640K = let ram : type_of third_claims 0x9FFFF ≡ 1 = ram_until_the_trim 0x9FFFF (omega arith) in rw ram refl
+ram_below_640K : (finished ram_and_acpi extension edits efi 0xA0000 1 ≡ false)
+    × (finished ram_and_acpi extension edits efi 0x9FFFF 1 ≡ true)
+ram_below_640K = (rw (ram_until_the_trim 0xA0000 (omega arith)) refl, rw (ram_until_the_trim 0x9FFFF (omega arith)) refl)
 
 -- options and the EFI map go before the trim: RAM that they add from 0 to 1 MiB isn't RAM in the first page, nor from 640 KiB on
 trimmed_of_ram : (c : Claims) → (bios_trimmed c 0 1 ≡ false) × (bios_trimmed c 0xA0000 1 ≡ false)

@@ -1,12 +1,11 @@
 -- Small maps: the types of addresses, and the runs of them over all addresses.
-use Rattle.std.proofs.Common.{◌≡◌, ℕ, ◌^◌, ◌+◌, ◌*◌, ◌<◌, true, false, Some, None, List, [], ◌∷◌, refl, arith}
+use Rattle.std.proofs.Common.{◌≡◌, ℕ, ◌^◌, ◌+◌, ◌<◌, true, false, Some, None, List, [], ◌∷◌, refl, arith}
 use Rattle.std.proofs.lemmas.Bool.Decides.{nat_tests}
 use Rattle.address_runs.specs.Runs.{RunOf, value_at}
-use Rattle.e820_model.specs.declared.room.TheConstants.{E820_MAX_ENTRIES}
 use Rattle.e820_model.specs.Claims.{type_of}
 use Rattle.e820_model.specs.Map.{some_kind, kinds, same_kind, map_of, claims_of, AreClaims}
 use Rattle.e820_model.specs.Greater.{greater}
-use Rattle.e820_model.proofs.ClaimLaws.{type_top, map_unique}
+use Rattle.e820_model.proofs.ClaimLaws.{top, type_top, map_unique}
 
 run : ℕ → ℕ → ℕ → RunOf ℕ
 run base size kind = record { base = base; size = size; value = kind }
@@ -42,10 +41,8 @@ kinds_examples : (kinds (claims_of ram_and_acpi) 0x17FFFF ≡ Some 3) × (kinds 
     × (kinds (claims_of ram_and_acpi) 0x200000 ≡ None)
 unfolding run
 kinds_examples =
-    let acpi : type_of (claims_of ram_and_acpi) 0x17FFFF ≡ 3 = type_top ram_and_acpi 0x17FFFF are_claims in
-    let ram : type_of (claims_of ram_and_acpi) 0x180000 ≡ 1 = type_top ram_and_acpi 0x180000 are_claims in
-    let nothing : type_of (claims_of ram_and_acpi) 0x200000 ≡ 0 = type_top ram_and_acpi 0x200000 are_claims in
-    (rw acpi refl, rw ram refl, rw nothing refl)
+    let known : (x : ℕ) → type_of (claims_of ram_and_acpi) x ≡ top ram_and_acpi x = λ x. type_top ram_and_acpi x are_claims in
+    (rw (known 0x17FFFF) refl, rw (known 0x180000) refl, rw (known 0x200000) refl)
 
 -- the map: ACPI data parts the RAM
 abbrev three_runs : List (RunOf ℕ)
@@ -86,7 +83,3 @@ halves_are_one_run =
 -- no claims, no runs
 no_claims_no_runs : [] ≡ map_of (claims_of [])
 no_claims_no_runs = map_unique [] [] tt (record { runs = tt; each = λ x. rw (type_top [] x tt) refl })
-
--- the table has room for the zero page's 128 entries, and for three more of each of 1,024 nodes
-room_example : E820_MAX_ENTRIES ≡ 128 + 3 * 1024
-room_example = refl
