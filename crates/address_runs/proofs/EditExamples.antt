@@ -11,73 +11,40 @@ bytes base size = record { base = base; size = size }
 abbrev one_value : ℕ → Option ℕ
 one_value x = if x == 3 then Some 7 else None
 
-covered_bare : covered (bytes 2 2) 9 one_value 2 ≡ Some 9
-covered_bare = refl
+-- covering gives the value where nothing is carried, keeps what is, and ends with the range
+covered_examples : (covered (bytes 2 2) 9 one_value 2 ≡ Some 9) × (covered (bytes 2 2) 9 one_value 3 ≡ Some 7)
+    × (covered (bytes 2 2) 9 one_value 4 ≡ None)
+covered_examples = (refl, refl, refl)
 
-covered_keeps : covered (bytes 2 2) 9 one_value 3 ≡ Some 7
-covered_keeps = refl
+-- uncovering loses what the range carries, and nothing elsewhere
+uncovered_examples : (uncovered (bytes 2 2) one_value 3 ≡ None) × (uncovered (bytes 4 2) one_value 3 ≡ Some 7)
+uncovered_examples = (refl, refl)
 
-covered_ends : covered (bytes 2 2) 9 one_value 4 ≡ None
-covered_ends = refl
+-- relabelling changes what the range carries, leaves bare what is bare, and changes nothing elsewhere
+relabelled_examples : (relabelled (bytes 2 2) (λ v. v + 1) one_value 3 ≡ Some 8) × (relabelled (bytes 2 2) (λ v. v + 1) one_value 2 ≡ None)
+    × (relabelled (bytes 4 2) (λ v. v + 1) one_value 3 ≡ Some 7)
+relabelled_examples = (refl, refl, refl)
 
-uncovered_loses : uncovered (bytes 2 2) one_value 3 ≡ None
-uncovered_loses = refl
+-- replacing gives the value to what is bare and to what carries another, and ends with the range
+replaced_examples : (replaced (bytes 2 2) 9 one_value 2 ≡ Some 9) × (replaced (bytes 2 2) 9 one_value 3 ≡ Some 9)
+    × (replaced (bytes 2 2) 9 one_value 4 ≡ None)
+replaced_examples = (refl, refl, refl)
 
-uncovered_elsewhere : uncovered (bytes 4 2) one_value 3 ≡ Some 7
-uncovered_elsewhere = refl
+-- a change goes over what is inside the range, and over nothing outside
+amended_examples : (amended (λ carried. None) (bytes 2 2) one_value 3 ≡ None)
+    × (amended (λ carried. Some 9) (bytes 4 2) one_value 3 ≡ Some 7)
+amended_examples = (refl, refl)
 
-relabelled_changes : relabelled (bytes 2 2) (λ v. v + 1) one_value 3 ≡ Some 8
-relabelled_changes = refl
-
-relabelled_bare : relabelled (bytes 2 2) (λ v. v + 1) one_value 2 ≡ None
-relabelled_bare = refl
-
-relabelled_elsewhere : relabelled (bytes 4 2) (λ v. v + 1) one_value 3 ≡ Some 7
-relabelled_elsewhere = refl
-
-replaced_bare : replaced (bytes 2 2) 9 one_value 2 ≡ Some 9
-replaced_bare = refl
-
-replaced_carried : replaced (bytes 2 2) 9 one_value 3 ≡ Some 9
-replaced_carried = refl
-
-replaced_ends : replaced (bytes 2 2) 9 one_value 4 ≡ None
-replaced_ends = refl
-
-amended_inside : amended (λ carried. None) (bytes 2 2) one_value 3 ≡ None
-amended_inside = refl
-
-amended_outside : amended (λ carried. Some 9) (bytes 4 2) one_value 3 ≡ Some 7
-amended_outside = refl
-
-bare_address : bare (bytes 2 2) 9 one_value 2 ≡ Some 9
-bare_address = refl
-
-no_bare_address : bare (bytes 2 2) 9 one_value 3 ≡ None
-no_bare_address = refl
+-- an address of the range that carries nothing is bare, and one that carries something is not
+bare_examples : (bare (bytes 2 2) 9 one_value 2 ≡ Some 9) × (bare (bytes 2 2) 9 one_value 3 ≡ None)
+bare_examples = (refl, refl)
 
 -- two agree where both carry something and the test says so, or where neither carries anything
-both_bare : agree (λ m n. m == n) None None ≡ true
-both_bare = refl
-
-bare_and_value : agree (λ m n. m == n) None (Some 7) ≡ false
-bare_and_value = refl
-
-value_and_bare : agree (λ m n. m == n) (Some 7) None ≡ false
-value_and_bare = refl
-
-values_that_agree : agree (λ m n. m == n) (Some 7) (Some 7) ≡ true
-values_that_agree = refl
-
-values_that_differ : agree (λ m n. m == n) (Some 7) (Some 8) ≡ false
-values_that_differ = refl
+agree_examples : (agree (λ m n. m == n) None None ≡ true) × (agree (λ m n. m == n) None (Some 7) ≡ false)
+    × (agree (λ m n. m == n) (Some 7) None ≡ false) × (agree (λ m n. m == n) (Some 7) (Some 7) ≡ true)
+    × (agree (λ m n. m == n) (Some 7) (Some 8) ≡ false)
+agree_examples = (refl, refl, refl, refl, refl)
 
 -- the last address that carries something
-nothing_behind : NothingFrom 4 one_value
-nothing_behind x le = grind (arith, nat_tests)
-
-value_is_something : (n : ℕ) → Some n ≡ None → ⊥
-value_is_something n same = cc
-
-something_there : NothingFrom 3 one_value → ⊥
-something_there none = value_is_something 7 (none 3 (omega arith))
+nothing_behind : NothingFrom 4 one_value × (NothingFrom 3 one_value → ⊥)
+nothing_behind = ((λ x le. grind (arith, nat_tests)), λ none. let same : Some 7 ≡ None = none 3 (omega arith) in cc same)

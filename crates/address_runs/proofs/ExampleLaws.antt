@@ -14,15 +14,11 @@ abbrev gaps : ℕ → Option ℕ
 gaps x = if nat_lt x 2 then Some 1 else (if nat_lt x 4 then None else
     (if nat_lt x 6 then Some 1 else (if nat_lt x 7 then Some 2 else None)))
 
--- a gap parts two runs of one value, and touching values are two runs
-gaps_part_runs : runs_from (λ a b. a == b) gaps 0 8 ≡ run 0 2 1 ∷ (run 4 2 1 ∷ (run 6 1 2 ∷ []))
+-- a gap parts two runs of one value, and touching values are two runs; one value everywhere is one run
+from_examples : (runs_from (λ a b. a == b) gaps 0 8 ≡ run 0 2 1 ∷ (run 4 2 1 ∷ (run 6 1 2 ∷ [])))
+    × (runs_from (λ a b. a == b) (λ x. Some 7) 0 8 ≡ run 0 8 7 ∷ [])
 unfolding runs_from run
-gaps_part_runs = refl
-
--- one value everywhere is one run
-one_value_is_one_run : runs_from (λ a b. a == b) (λ x. Some 7) 0 8 ≡ run 0 8 7 ∷ []
-unfolding runs_from run
-one_value_is_one_run = refl
+from_examples = (refl, refl)
 
 -- a run has its base and its last address, and not the one behind
 lies_examples : (lies_in (run 4 2 1) 3 ≡ false) × (lies_in (run 4 2 1) 4 ≡ true) × (lies_in (run 4 2 1) 5 ≡ true)
@@ -59,17 +55,13 @@ touching_values_differ = (
 )
 
 -- not canonical: two runs that could be one, runs that overlap, an empty run
-could_be_one : ¬ AreRuns (run 0 2 1 ∷ (run 2 2 1 ∷ []))
+not_canonical : (¬ AreRuns (run 0 2 1 ∷ (run 2 2 1 ∷ []))) × (¬ AreRuns (run 0 3 1 ∷ (run 2 2 3 ∷ []))) × (¬ AreRuns (run 0 0 1 ∷ []))
 unfolding run
-could_be_one runs = runs.1.1 refl refl
-
-overlapping : ¬ AreRuns (run 0 3 1 ∷ (run 2 2 3 ∷ []))
-unfolding run
-overlapping runs = let apart : 3 ≤ 2 = runs.1.0 in absurd (omega arith)
-
-empty_run : ¬ AreRuns (run 0 0 1 ∷ [])
-unfolding run
-empty_run runs = let some : 0 < 0 = runs.0 in absurd (omega arith)
+not_canonical = (
+  λ runs. runs.1.1 refl refl,
+  λ runs. let apart : 3 ≤ 2 = runs.1.0 in absurd (omega arith),
+  λ runs. let some : 0 < 0 = runs.0 in absurd (omega arith),
+)
 
 -- an address in front of the runs behind it lengthens the first, begins one, or has no value
 led_examples : (led_by (λ a b. a == b) 3 (Some 1) (run 4 2 1 ∷ []) ≡ run 3 3 1 ∷ [])
@@ -161,8 +153,7 @@ unfolding run
 swept_to_three = record {
   runs = (omega arith, tt, tt);
   ends = (omega arith, λ touch. absurd (omega arith), tt);
-  each = λ x below. grind
-      (arith, nat_tests);
+  each = λ x below. grind (arith, nat_tests);
 }
 
 not_swept_to_five : ¬ IsSweptTo gaps 5 (run 0 2 1 ∷ [])
@@ -194,16 +185,11 @@ built_to_six = record {
   swept = record {
     runs = (omega arith, tt, tt);
     ends = (omega arith, λ touch. absurd (omega arith), tt);
-    each = λ x below. grind
-        (arith, nat_tests);
+    each = λ x below. grind (arith, nat_tests);
   };
   stays = λ x from until. grind (arith, nat_tests);
 }
 
-have_addresses : HaveAddresses (run 4 2 1 ∷ (run 0 9 2 ∷ []))
+have_addresses : HaveAddresses (run 4 2 1 ∷ (run 0 9 2 ∷ [])) × (¬ HaveAddresses (run 4 2 1 ∷ (run 0 0 2 ∷ [])))
 unfolding run
-have_addresses = (omega arith, (omega arith, tt))
-
-one_has_none : ¬ HaveAddresses (run 4 2 1 ∷ (run 0 0 2 ∷ []))
-unfolding run
-one_has_none have = let some : 0 < 0 = have.1.0 in absurd (omega arith)
+have_addresses = ((omega arith, (omega arith, tt)), λ have. let some : 0 < 0 = have.1.0 in absurd (omega arith))

@@ -1,7 +1,7 @@
 -- Canonical lists that agree at every address are equal, and `runs_of` is one.
-use Rattle.std.proofs.Common.{◌≡◌, ◌≢◌, ℕ, zero, suc, ◌+◌, ◌^◌, ◌<◌, ◌≤◌, ◌==◌, Bool, true, false, ◌&&◌, if◌then◌else◌, Option, Some, None, List, [], ◌∷◌, refl, sym, ◌∙◌, ap, subst, inl, inr, arith}
+use Rattle.std.proofs.Common.{◌≡◌, ◌≢◌, ℕ, zero, suc, ◌+◌, ◌^◌, ◌<◌, ◌≤◌, ◌==◌, Bool, true, false, ◌&&◌, if◌then◌else◌, Option, Some, None, List, [], ◌∷◌, refl, sym, ◌∙◌, ap, inl, inr, arith}
 use Rattle.std.proofs.lemmas.Bool.Decides.{nat_tests}
-use Rattle.std.proofs.lemmas.Bool.{cases_lt, cases_Bool, true≢false}
+use Rattle.std.proofs.lemmas.Bool.{cases_lt, true≢false}
 use Rattle.address_runs.specs.Runs.{RunOf, Tells, run_end, lies_in, value_at, IsBefore, AreRuns, IsRunsOf, one_address, led_by, runs_from, runs_of}
 use Rattle.address_runs.specs.Sweep.{StartFrom}
 
@@ -38,13 +38,12 @@ other_behind r (s ∷ ss) runs =
       | inl lt ↦ rw (none_below s.base (run_end r) (s ∷ ss) runs.2 starts lt) (λ same. cc)
       | inr ge ↦
           let touch : run_end r ≡ s.base = omega arith in
-          let lies : lies_in s (run_end r) ≡ true = inside s (run_end r) (omega arith) (omega arith) in
-          rw lies (λ same. let equal : r.value ≡ s.value = cc in runs.1.1 touch equal)
+          rw (inside s (run_end r) (omega arith) (omega arith)) (λ same. let equal : r.value ≡ s.value = cc in runs.1.1 touch equal)
     ]
 
 -- the value of the first run, at its base
 value_first : {X : Type 0} (r : RunOf X) (rs : List (RunOf X)) → 0 < r.size → value_at (r ∷ rs) r.base ≡ Some r.value
-value_first r rs some = let lies : lies_in r r.base ≡ true = inside r r.base (omega arith) (omega arith) in rw lies refl
+value_first r rs some = rw (inside r r.base (omega arith) (omega arith)) refl
 
 value_inside : {X : Type 0} (r : RunOf X) (rs : List (RunOf X)) (x : ℕ) → r.base ≤ x → x < run_end r → value_at (r ∷ rs) x ≡ Some r.value
 value_inside r rs x above below_end = rw (inside r x above below_end) refl
@@ -58,11 +57,8 @@ no_earlier : {X : Type 0} (r s : RunOf X) (rs ss : List (RunOf X)) → AreRuns (
 no_earlier r s rs ss rr ra same =
     elim (cases_lt r.base s.base) as (λ _. s.base ≤ r.base) [
       | inl lt ↦
-          let starts : StartFrom s.base (s ∷ ss) = omega arith in
-          let first : value_at (r ∷ rs) r.base ≡ Some r.value = value_first r rs rr.0 in
-          let none : value_at (s ∷ ss) r.base ≡ None = none_below s.base r.base (s ∷ ss) ra starts lt in
-          let both : value_at (r ∷ rs) r.base ≡ value_at (s ∷ ss) r.base = same r.base in
-          absurd (cc (sym first ∙ both ∙ none))
+          let none : value_at (s ∷ ss) r.base ≡ None = none_below s.base r.base (s ∷ ss) ra (omega arith) lt in
+          absurd (cc (sym (value_first r rs rr.0) ∙ same r.base ∙ none))
       | inr ge ↦ ge
     ]
 
@@ -79,14 +75,8 @@ no_shorter r s rs ss rr ra same bases values =
     ]
 
 same_run : {X : Type 0} (r s : RunOf X) → r.base ≡ s.base → r.size ≡ s.size → r.value ≡ s.value → r ≡ s
-same_run {X} r s bases sizes values =
-    let at : ℕ → RunOf X = λ b. record { base = b; size = r.size; value = r.value } in
-    let long : ℕ → RunOf X = λ n. record { base = s.base; size = n; value = r.value } in
-    let with_value : X → RunOf X = λ v. record { base = s.base; size = s.size; value = v } in
-    let a : at r.base ≡ at s.base = ap at bases in
-    let b : long r.size ≡ long s.size = ap long sizes in
-    let c : with_value r.value ≡ with_value s.value = ap with_value values in
-    a ∙ b ∙ c
+same_run r s bases sizes values =
+    let same : s ≡ record { base = r.base; size = r.size; value = r.value } = rw (bases, sizes, values) refl in sym same
 
 -- lists that agree everywhere still do behind their equal first runs
 same_rest : {X : Type 0} (r : RunOf X) (rs ss : List (RunOf X)) → AreRuns (r ∷ rs) → AreRuns (r ∷ ss)
@@ -106,16 +96,13 @@ same_lists {X} (r ∷ rs) (s ∷ ss) rr ra same =
     let one : s.base ≤ r.base = no_earlier r s rs ss rr ra same in
     let two : r.base ≤ s.base = no_earlier s r ss rs ra rr back in
     let bases : r.base ≡ s.base = omega arith in
-    let first : value_at (r ∷ rs) r.base ≡ Some r.value = value_first r rs rr.0 in
-    let other : value_at (s ∷ ss) s.base ≡ Some s.value = value_first s ss ra.0 in
-    let values : r.value ≡ s.value = cc (first, other, same r.base, bases) in
+    let values : r.value ≡ s.value = cc (value_first r rs rr.0, value_first s ss ra.0, same r.base, bases) in
     let ends : run_end s ≤ run_end r = no_shorter r s rs ss rr ra same bases values in
     let ends_too : run_end r ≤ run_end s = no_shorter s r ss rs ra rr back (sym bases) (sym values) in
     let sizes : r.size ≡ s.size = omega arith in
     let heads : s ≡ r = sym (same_run r s bases sizes values) in
-    let Tail : RunOf X → Type 0 = λ t. AreRuns (t ∷ ss) → ((x : ℕ) → value_at (r ∷ rs) x ≡ value_at (t ∷ ss) x) → (r ∷ rs) ≡ (t ∷ ss) in
-    let at_r : Tail r = λ runs equal. ap (λ ts. r ∷ ts) (same_lists rs ss rr.2 runs.2 (same_rest r rs ss rr runs equal)) in
-    subst Tail (sym heads) at_r ra same
+    let equal : (x : ℕ) → value_at (r ∷ rs) x ≡ value_at (r ∷ ss) x = λ x. same x ∙ ap (λ (t : RunOf X). value_at (t ∷ ss) x) heads in
+    rw heads (ap (λ ts. r ∷ ts) (same_lists rs ss rr.2 ra.2 (same_rest r rs ss rr (rw heads at ra) equal)))
 
 -- a function has one list of runs
 pub one_list : {X : Type 0} (f : ℕ → Option X) (rs ss : List (RunOf X)) → IsRunsOf f rs → IsRunsOf f ss → rs ≡ ss
@@ -138,26 +125,19 @@ before_longer x n v r (s ∷ ss) ends values before =
 -- an address with a value in front of a list behind it: canonical again
 runs_led_some : {X : Type 0} (same : X → X → Bool) → Tells same → (x : ℕ) (v : X) (r : RunOf X) (rs : List (RunOf X))
     → AreRuns (r ∷ rs) → x + 1 ≤ r.base → AreRuns (led_by same x (Some v) (r ∷ rs))
-runs_led_some {X} same tells x v r rs runs start =
-    let test : Bool = (r.base == x + 1) && same v r.value in
-    let longer : List (RunOf X) = record { base = x; size = r.size + 1; value = v } ∷ rs in
-    let another : List (RunOf X) = one_address x v ∷ (r ∷ rs) in
-    let Canonical : Bool → Type 0 = λ b. AreRuns (if b then longer else another) in
-    elim (cases_Bool test) as (λ _. Canonical test) [
-      | inl holds ↦
-          let both : (r.base ≡ x + 1) × (same v r.value ≡ true) = touches (same v r.value) r.base (x + 1) holds in
-          let ends : x + (r.size + 1) ≡ run_end r = omega arith in
-          let before : IsBefore (record { base = x; size = r.size + 1; value = v }) rs = before_longer x (r.size + 1) v r rs ends
-          (tells.true_is_equal v r.value both.1) runs.1 in
-          let canonical : Canonical true = (omega arith, before, runs.2) in
-          subst Canonical (sym holds) canonical
-      | inr fails ↦
-          let other : x + 1 ≡ r.base → v ≢ r.value =
-          λ touch equal. true≢false (sym (tells.equal_is_true v r.value equal)
-          ∙ touches_not (same v r.value) r.base (x + 1) fails (sym touch)) in
-          let canonical : Canonical false = (omega arith, (start, other), runs) in
-          subst Canonical (sym fails) canonical
-    ]
+runs_led_some same tells x v r rs runs start = by_test ((r.base == x + 1) && same v r.value) refl
+  where
+    by_test : (t : Bool) → ((r.base == x + 1) && same v r.value) ≡ t
+        → AreRuns (if t then record { base = x; size = r.size + 1; value = v } ∷ rs else one_address x v ∷ (r ∷ rs))
+    by_test true holds =
+        let both = touches (same v r.value) r.base (x + 1) holds in
+        let ends : x + (r.size + 1) ≡ run_end r = omega (arith, both.0) in
+        (omega arith, before_longer x (r.size + 1) v r rs ends (tells.true_is_equal v r.value both.1) runs.1, runs.2)
+    by_test false fails =
+        let other : x + 1 ≡ r.base → v ≢ r.value =
+        λ touch equal. true≢false (sym (tells.equal_is_true v r.value equal)
+        ∙ touches_not (same v r.value) r.base (x + 1) fails (sym touch)) in
+        (omega arith, (start, other), runs)
 
 runs_led : {X : Type 0} (same : X → X → Bool) → Tells same → (x : ℕ) (v : Option X) (rs : List (RunOf X))
     → AreRuns rs → StartFrom (x + 1) rs → AreRuns (led_by same x v rs)
@@ -170,18 +150,11 @@ start_led : {X : Type 0} (same : X → X → Bool) (x : ℕ) (v : Option X) (rs 
 start_led same x None [] start = tt
 start_led same x None (r ∷ rs) start = omega arith
 start_led same x (Some v) [] start = omega arith
-start_led {X} same x (Some v) (r ∷ rs) start =
-    let test : Bool = (r.base == x + 1) && same v r.value in
-    let longer : List (RunOf X) = record { base = x; size = r.size + 1; value = v } ∷ rs in
-    let another : List (RunOf X) = one_address x v ∷ (r ∷ rs) in
-    let Starts : Bool → Type 0 = λ b. StartFrom x (if b then longer else another) in
-    let first : Starts true = omega arith in
-    let second : Starts false = omega arith in
-    elim (cases_Bool test) as (λ _. Starts test) [
-      | inl holds ↦ subst Starts (sym holds) first
-      | inr fails ↦ subst Starts (sym fails)
-          second
-    ]
+start_led same x (Some v) (r ∷ rs) start = by_test ((r.base == x + 1) && same v r.value)
+  where
+    by_test : (t : Bool) → StartFrom x (if t then record { base = x; size = r.size + 1; value = v } ∷ rs else one_address x v ∷ (r ∷ rs))
+    by_test true = omega arith
+    by_test false = omega arith
 
 -- at the address itself the value leads, elsewhere the list behind it gives what it gave
 value_led : {X : Type 0} (same : X → X → Bool) → Tells same → (x : ℕ) (v : Option X) (rs : List (RunOf X)) (y : ℕ)
@@ -192,20 +165,17 @@ value_led same tells x None rs y runs start =
       | inr ge ↦ let lt : y < x + 1 = omega arith in rw (none_below (x + 1) y rs runs start lt) (grind (arith, nat_tests))
     ]
 value_led same tells x (Some v) [] y runs start = grind (arith, nat_tests)
-value_led {X} same tells x (Some v) (r ∷ rs) y runs start =
-    let test : Bool = (r.base == x + 1) && same v r.value in
-    let longer : List (RunOf X) = record { base = x; size = r.size + 1; value = v } ∷ rs in
-    let another : List (RunOf X) = one_address x v ∷ (r ∷ rs) in
-    let Gives : Bool → Type 0 = λ b. value_at (if b then longer else another) y ≡ (if y == x then Some v else value_at (r ∷ rs) y) in
-    elim (cases_Bool test) as (λ _. Gives test) [
-      | inl holds ↦
-          let both : (r.base ≡ x + 1) × (same v r.value ≡ true) = touches (same v r.value) r.base (x + 1) holds in
-          let equal : v ≡ r.value = tells.true_is_equal v r.value both.1 in
-          let at_base : r.base ≡ x + 1 = both.0 in
-          let gives : Gives true = grind (arith, nat_tests, equal, at_base) in
-          subst Gives (sym holds) gives
-      | inr fails ↦ let gives : Gives false = grind (arith, nat_tests) in subst Gives (sym fails) gives
-    ]
+value_led same tells x (Some v) (r ∷ rs) y runs start = by_test ((r.base == x + 1) && same v r.value) refl
+  where
+    by_test : (t : Bool) → ((r.base == x + 1) && same v r.value) ≡ t
+        → value_at (if t then record { base = x; size = r.size + 1; value = v } ∷ rs else one_address x v ∷ (r ∷ rs)) y
+        ≡ (if y == x then Some v else value_at (r ∷ rs) y)
+    by_test true holds =
+        let both = touches (same v r.value) r.base (x + 1) holds in
+        let equal : v ≡ r.value = tells.true_is_equal v r.value both.1 in
+        let at_base : r.base ≡ x + 1 = both.0 in
+        grind (arith, nat_tests, equal, at_base)
+    by_test false fails = grind (arith, nat_tests)
 
 -- the n addresses from x on, as `runs_from` lists them
 pub record IsRunsBetween {X : Type 0} (f : ℕ → Option X) (x n : ℕ) (rs : List (RunOf X)) : Type 0 where
