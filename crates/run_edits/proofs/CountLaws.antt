@@ -33,18 +33,16 @@ module _ {X : Type 0} where
       → total s x n ≤ few
       → total (edges same g) x n ≤ total (edges same f) x n + few
   total-more same f g s few x n each some =
-      let all : total (edges same g) x n ≤ total (λ y. edges same f y + s y) x n = total-fewer (edges same g) (λ y. edges same f y + s y)
-      x n (λ y above under. each y) in
-      let parts : total (λ y. edges same f y + s y) x n ≡ total (edges same f) x n + total s x n = total-add (edges same f) s x n in
+      let all = total-fewer (edges same g) (λ y. edges same f y + s y) x n (λ y above under. each y) in
+      let parts = total-add (edges same f) s x n in
       omega (arith, all, parts, some)
 
   pub room_by : (same : X → X → Bool) → Tells same → (f g : ℕ → Option X) (s : ℕ → ℕ) (few room : ℕ)
       → ((y : ℕ) → edges same g y ≤ edges same f y + s y)
       → ((at : ℕ) → at ≤ 2 ^ 64 → total s 0 at ≤ few) → total (edges same f) 0 (2 ^ 64) + few ≤ room → HasRoom same f g room
   room_by same tells f g s few room each some fits at le =
-      let front : total (edges same g) 0 at ≤ total (edges same f) 0 at + few = total-more same f g s few 0 at each (some at le) in
-      let whole : total (edges same f) 0 (2 ^ 64) ≡ total (edges same f) 0 at + total (edges same f) at (2 ^ 64 - at) =
-      total-split (edges same f) 0 at (2 ^ 64 - at) (2 ^ 64) at (omega arith) (omega arith) in
+      let front = total-more same f g s few 0 at each (some at le) in
+      let whole = total-split (edges same f) 0 at (2 ^ 64 - at) (2 ^ 64) at (omega arith) (omega arith) in
       omega (arith, front, whole, fits)
 
   pub length_by : (same : X → X → Bool) → Tells same → (rs ss : List (RunOf X)) (s : ℕ → ℕ) (few : ℕ) → AreRuns rs
@@ -52,10 +50,9 @@ module _ {X : Type 0} where
       → NothingFrom (2 ^ 64) (value_at ss) → ((y : ℕ) → edges same (value_at ss) y ≤ edges same (value_at rs) y + s y)
       → total s 0 (2 ^ 64) ≤ few → length ss ≤ length rs + few
   length_by same tells rs ss s few runs none more none_too each some =
-      let first : length rs ≡ total (edges same (value_at rs)) 0 (2 ^ 64) = all_ends same tells rs runs none in
-      let second : length ss ≡ total (edges same (value_at ss)) 0 (2 ^ 64) = all_ends same tells ss more none_too in
-      let sums : total (edges same (value_at ss)) 0 (2 ^ 64) ≤ total (edges same (value_at rs)) 0 (2 ^ 64) + few = total-more same
-      (value_at rs) (value_at ss) s few 0 (2 ^ 64) each some in
+      let first = all_ends same tells rs runs none in
+      let second = all_ends same tells ss more none_too in
+      let sums = total-more same (value_at rs) (value_at ss) s few 0 (2 ^ 64) each some in
       omega (arith, first, second, sums)
 
   -- inside its range a change that ends no run ends none
@@ -77,19 +74,17 @@ module _ {X : Type 0} where
       → (r : Extent) (f : ℕ → Option X) (x : ℕ)
       → edges same (amended change r f) x ≤ edges same f x + (spike r.base x + spike (r.base + r.size) x)
   amended_edges same tells change plain r f x =
-      elim (cases_Bool (covers r x)) as (λ _. edges same (amended change r f) x ≤ edges same f x +
-      (spike r.base x + spike (r.base + r.size) x)) [
-        | inl here ↦ elim (cases_Bool (covers r (x + 1))) as (λ _. edges same (amended change r f) x ≤ edges same f x +
-            (spike r.base x + spike (r.base + r.size) x)) [
-              | inl next ↦ let few = inside_edges same tells change plain (f x) (f (x + 1)) in rw (here, next) (omega (arith, few))
-              | inr out ↦ let few = edge-few same (change (f x)) (f (x + 1)) in rw (here, out, ends_here r x here out) (omega (arith, few))
-            ]
-        | inr before ↦ elim (cases_Bool (covers r (x + 1))) as (λ _. edges same (amended change r f) x ≤ edges same f x +
-            (spike r.base x + spike (r.base + r.size) x)) [
-              | inl next ↦ let few = edge-few same (f x) (change (f (x + 1))) in rw (before, next, begins_here r x before next)
-                  (omega (arith, few))
-              | inr out ↦ rw (before, out) (omega arith)
-            ]
+      let Few : Type 0 = edges same (amended change r f) x ≤ edges same f x + (spike r.base x + spike (r.base + r.size) x) in
+      elim (cases_Bool (covers r x)) as (λ _. Few) [
+        | inl here ↦ elim (cases_Bool (covers r (x + 1))) as (λ _. Few) [
+          | inl next ↦ let few = inside_edges same tells change plain (f x) (f (x + 1)) in rw (here, next) (omega (arith, few))
+          | inr out ↦ let few = edge-few same (change (f x)) (f (x + 1)) in rw (here, out, ends_here r x here out) (omega (arith, few))
+        ]
+        | inr before ↦ elim (cases_Bool (covers r (x + 1))) as (λ _. Few) [
+          | inl next ↦ let few = edge-few same (f x) (change (f (x + 1))) in rw (before, next, begins_here r x before next)
+              (omega (arith, few))
+          | inr out ↦ rw (before, out) (omega arith)
+        ]
       ]
 
   -- a range that is taken out ends no run at its end
@@ -127,16 +122,7 @@ module _ {X : Type 0} where
   bare_ends : (r : Extent) (w : X) (f : ℕ → Option X) → r.base + r.size ≤ 2 ^ 64 → NothingFrom (2 ^ 64) (bare r w f)
   bare_ends r w f ends x le = let past : r.base + r.size ≤ x = omega arith in rw (not_covered r x past) refl
 
-  pub pieces_ends : (same : X → X → Bool) → Tells same → (r : Extent) (w : X) (f : ℕ → Option X) → r.base + r.size ≤ 2 ^ 64
-      → length (runs_of same (bare r w f)) ≡ total (edges same (bare r w f)) 0 (2 ^ 64)
-  pieces_ends same tells r w f ends =
-      let none : NothingFrom (2 ^ 64) (bare r w f) = bare_ends r w f ends in
-      let known : IsRunsOf (bare r w f) (runs_of same (bare r w f)) = by_address same tells (bare r w f) none in
-      let told : value_at (runs_of same (bare r w f)) ≡ bare r w f = λ k x. known.each x k in
-      all_ends same tells (runs_of same (bare r w f)) known.runs (λ x le. known.each x ∙ none x le)
-      ∙ ap (λ (h : ℕ → Option X). total (edges same h) 0 (2 ^ 64)) told
-
-  -- how many runs there are after an edit
+  -- how many runs there are of a function
   runs_told : (same : X → X → Bool) → Tells same → (f : ℕ → Option X) → NothingFrom (2 ^ 64) f → length (runs_of same f)
       ≡ total (edges same f) 0 (2 ^ 64)
   runs_told same tells f none =
@@ -145,6 +131,11 @@ module _ {X : Type 0} where
       all_ends same tells (runs_of same f) known.runs (λ x le. known.each x ∙ none x le)
       ∙ ap (λ (h : ℕ → Option X). total (edges same h) 0 (2 ^ 64)) told
 
+  pub pieces_ends : (same : X → X → Bool) → Tells same → (r : Extent) (w : X) (f : ℕ → Option X) → r.base + r.size ≤ 2 ^ 64
+      → length (runs_of same (bare r w f)) ≡ total (edges same (bare r w f)) 0 (2 ^ 64)
+  pieces_ends same tells r w f ends = runs_told same tells (bare r w f) (bare_ends r w f ends)
+
+  -- how many runs an edit adds
   runs_more : (same : X → X → Bool) → Tells same → (f g : ℕ → Option X) (s : ℕ → ℕ) (few : ℕ) → NothingFrom (2 ^ 64) f
       → NothingFrom (2 ^ 64) g
       → ((y : ℕ) → edges same g y ≤ edges same f y + s y) → total s 0 (2 ^ 64) ≤ few

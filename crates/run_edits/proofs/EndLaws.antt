@@ -13,31 +13,26 @@ pub total-alike : (g h : ℕ → ℕ) (x n : ℕ) → ((y : ℕ) → x ≤ y →
 unfolding total
 total-alike g h x zero same = refl
 total-alike g h x (suc n) same =
-    let here : g x ≡ h x = same x (omega arith) (omega arith) in
-    let rest : total g (x + 1) n ≡ total h (x + 1) n = total-alike g h (x + 1) n (λ y above under. same y (omega arith) (omega arith)) in
-    rw (here, rest) refl
+    rw (same x (omega arith) (omega arith), total-alike g h (x + 1) n (λ y above under. same y (omega arith) (omega arith))) refl
 
 pub total-fewer : (g h : ℕ → ℕ) (x n : ℕ) → ((y : ℕ) → x ≤ y → y < x + n → g y ≤ h y) → total g x n ≤ total h x n
 unfolding total
 total-fewer g h x zero few = omega arith
 total-fewer g h x (suc n) few =
-    let here : g x ≤ h x = few x (omega arith) (omega arith) in
-    let rest : total g (x + 1) n ≤ total h (x + 1) n = total-fewer g h (x + 1) n (λ y above under. few y (omega arith) (omega arith)) in
-    omega arith
+    let rest = total-fewer g h (x + 1) n (λ y above under. few y (omega arith) (omega arith)) in
+    omega (arith, few x (omega arith) (omega arith), rest)
 
 pub total-quiet : (g : ℕ → ℕ) (x n : ℕ) → ((y : ℕ) → x ≤ y → y < x + n → g y ≡ 0) → total g x n ≡ 0
 unfolding total
 total-quiet g x zero none = refl
 total-quiet g x (suc n) none =
-    let here : g x ≡ 0 = none x (omega arith) (omega arith) in
-    let rest : total g (x + 1) n ≡ 0 = total-quiet g (x + 1) n (λ y above under. none y (omega arith) (omega arith)) in
-    omega arith
+    let rest = total-quiet g (x + 1) n (λ y above under. none y (omega arith) (omega arith)) in
+    omega (arith, none x (omega arith) (omega arith), rest)
 
 pub total-add : (g h : ℕ → ℕ) (x n : ℕ) → total (λ y. g y + h y) x n ≡ total g x n + total h x n
 unfolding total
 total-add g h x zero = refl
-total-add g h x (suc n) = let rest : total (λ y. g y + h y) (x + 1) n ≡ total g (x + 1) n + total h (x + 1) n = total-add g h (x + 1) n in
-    omega arith
+total-add g h x (suc n) = let rest = total-add g h (x + 1) n in omega (arith, rest)
 
 -- the first m addresses, and the n behind them
 pub total-split : (g : ℕ → ℕ) (x m n all middle : ℕ) → all ≡ m + n → middle ≡ x + m → total g x all ≡ total g x m + total g middle n
@@ -45,8 +40,7 @@ unfolding total
 total-split g x zero n all middle is at =
     let few : all ≡ n = omega arith in
     let here : x ≡ middle = omega arith in
-    let same : total g x all ≡ total g middle n = ap (λ (k : ℕ). total g x k) few ∙ ap (λ (y : ℕ). total g y n) here in
-    omega arith
+    rw (few, here) (omega arith)
 total-split g x (suc m) n all middle is at =
     let more : all ≡ suc (m + n) = omega arith in
     let whole : total g x all ≡ g x + total g (x + 1) (m + n) = ap (λ (k : ℕ). total g x k) more in
@@ -120,29 +114,23 @@ length_ends {X} same tells (r ∷ rs) x n runs ends none =
     let some : 0 < r.size = runs.0 in
     let behind_x : x < e = ends in
     let last : f (e - 1) ≡ Some r.value = rw (inside r (e - 1) (omega arith) (omega arith)) refl in
+    let tail : (y : ℕ) → e ≤ y → f y ≡ value_at rs y = λ y past. rw (behind r y past) refl in
     let within : e ≤ x + n = elim (cases_lt (e - 1) (x + n)) as (λ _. e ≤ x + n) [
       | inl lt ↦ omega arith
       | inr ge ↦ let clash : Some r.value ≡ None = sym last ∙ none (e - 1) ge in cc
     ] in
     let first : ℕ = e - 1 - x in
     let rest : ℕ = x + n - e in
-    let parts : total (edges same f) x n ≡ total (edges same f) x first + total (edges same f) (e - 1) (suc rest) =
-    total-split (edges same f) x first (suc rest) n (e - 1) (omega arith) (omega arith) in
-    let quiet : total (edges same f) x first ≡ 0 = total-quiet (edges same f) x first
-    (λ y above under. quiet_inside same tells r rs y runs (omega arith)) in
-    let next : total (edges same f) (e - 1) (suc rest) ≡ edges same f (e - 1) + total (edges same f) (e - 1 + 1) rest = total-next
-    (edges same f) (e - 1) rest in
+    let parts = total-split (edges same f) x first (suc rest) n (e - 1) (omega arith) (omega arith) in
+    let quiet = total-quiet (edges same f) x first (λ y above under. quiet_inside same tells r rs y runs (omega arith)) in
+    let next = total-next (edges same f) (e - 1) rest in
     let at_end : e - 1 + 1 ≡ e = omega arith in
-    let past : f e ≡ value_at rs e = rw (behind r e (omega arith)) refl in
-    let other : f e ≢ Some r.value = λ h. other_behind r rs runs (sym past ∙ h) in
+    let other : f e ≢ Some r.value = λ h. other_behind r rs runs (sym (tail e (omega arith)) ∙ h) in
     let one : edges same f (e - 1) ≡ 1 = rw (last, at_end) (edge-other same tells r.value (f e) other) in
-    let alike : total (edges same f) e rest ≡ total (edges same (value_at rs)) e rest = total-alike (edges same f)
-    (edges same (value_at rs)) e rest (λ y above under.
-    let here : f y ≡ value_at rs y = rw (behind r y (omega arith)) refl in
-    let there : f (y + 1) ≡ value_at rs (y + 1) = rw (behind r (y + 1) (omega arith)) refl in
-    rw (here, there) refl) in
-    let others : length rs ≡ total (edges same (value_at rs)) e rest = length_ends same tells rs e rest runs.2 (behind_run r rs runs)
-    (λ y far. sym (let here : f y ≡ value_at rs y = rw (behind r y (omega arith)) refl in here) ∙ none y (omega arith)) in
+    let alike = total-alike (edges same f) (edges same (value_at rs)) e rest
+    (λ y above under. rw (tail y above, tail (y + 1) (omega arith)) refl) in
+    let others = length_ends same tells rs e rest runs.2 (behind_run r rs runs)
+    (λ y far. sym (tail y (omega arith)) ∙ none y (omega arith)) in
     let moved : total (edges same f) (e - 1 + 1) rest ≡ total (edges same f) e rest = ap (λ (y : ℕ). total (edges same f) y rest) at_end in
     omega arith
 

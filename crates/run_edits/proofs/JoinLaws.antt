@@ -10,7 +10,7 @@ use Rattle.address_runs.specs.Sweep.{Stays, StartFrom, EndBy, EndsBehind, EndsFr
 use Rattle.address_runs.proofs.RunsLaws.{inside, behind, none_below}
 use Rattle.address_runs.proofs.SweepLaws.{none_behind, value_append_none, value_append_left, swept_over, swept_push}
 use Rattle.run_edits.specs.Records.{stretch, EndBefore}
-use Rattle.run_edits.specs.Ends.{total, edges, HasRoom}
+use Rattle.run_edits.specs.Ends.{edges, HasRoom}
 use Rattle.run_edits.proofs.EndLaws.{total-split, swept_ends, rest_ends}
 
 module _ {X : Type 0} where
@@ -86,7 +86,7 @@ module _ {X : Type 0} where
   ends_front [] rs r runs = tt
   ends_front (x ∷ []) rs r runs = (runs.1.0, (λ touch equal. runs.1.1 touch (let same : r.value ≡ x.value = cc in sym same)), tt)
   ends_front (x ∷ (y ∷ ys)) rs r runs =
-      let more : EndBy r.base (Some r.value) (y ∷ ys) = ends_front (y ∷ ys) rs r runs.2 in
+      let more = ends_front (y ∷ ys) rs r runs.2 in
       let order : run_end x ≤ y.base = runs.1.0 in
       let some : 0 < y.size = runs.2.0 in
       let far : run_end y ≤ r.base = more.0 in
@@ -119,10 +119,7 @@ module _ {X : Type 0} where
       → AreRuns whole → r.base < at → at ≤ run_end r
       → ((x : ℕ) → x < at → g x ≡ value_at whole x) → IsBuiltTo g at xs r.base (Some r.value)
   begun_inside whole g at xs rs r is runs lt le like =
-      let Begun : List (RunOf X) → Type 0 = λ l. AreRuns l → ((x : ℕ) → x < at → g x ≡ value_at l x)
-      → IsBuiltTo g at xs r.base (Some r.value) in
-      let begun : Begun (xs ++ r ∷ rs) = λ all same. begun_in g at xs rs r all lt le same in
-      subst Begun is begun runs like
+      begun_in g at xs rs r (rw is runs) lt le (λ x under. like x under ∙ ap (λ l. value_at l x) (sym is))
 
   ends_by : (at : ℕ) (v : Option X) (xs : List (RunOf X)) → EndBefore at xs → EndBy at v xs
   ends_by at v [] ends = tt
@@ -145,9 +142,7 @@ module _ {X : Type 0} where
       → EndBefore at xs → StartFrom at rs
       → ((x : ℕ) → x < at → g x ≡ value_at whole x) → IsBuiltTo g at xs at None
   begun_outside whole g at xs rs is runs ends starts like =
-      let Begun : List (RunOf X) → Type 0 = λ l. AreRuns l → ((x : ℕ) → x < at → g x ≡ value_at l x) → IsBuiltTo g at xs at None in
-      let begun : Begun (xs ++ rs) = λ all same. begun_bare g at xs rs all ends starts same in
-      subst Begun is begun runs like
+      begun_bare g at xs rs (rw is runs) ends starts (λ x under. like x under ∙ ap (λ l. value_at l x) (sym is))
 
   none_past : (at x : ℕ) (xs : List (RunOf X)) → EndBefore at xs → at ≤ x + 1 → value_at xs x ≡ None
   none_past at x [] ends le = refl
@@ -207,14 +202,10 @@ module _ {X : Type 0} where
       → IsRestFrom f to ys
       → length xs + length ys < room
   room_for same tells f g start from to v xs ys room has none order le swept lt some rest =
-      let one : length (stretch start from v) ≡ 1 = length_stretch start from v lt some in
-      let front : length (xs ++ stretch start from v) ≡ total (edges same g) 0 from = swept_ends same tells g from
-      (xs ++ stretch start from v) swept in
-      let parts : length (xs ++ stretch start from v) ≡ length xs + length (stretch start from v) = length-append xs
-      (stretch start from v) in
-      let back : length ys ≡ total (edges same f) to (2 ^ 64 - to) = rest_ends same tells f to ys rest none le in
-      let split : total (edges same f) from (2 ^ 64 - from) ≡ total (edges same f) from (to - from) + total (edges same f) to
-      (2 ^ 64 - to) =
-      total-split (edges same f) from (to - from) (2 ^ 64 - to) (2 ^ 64 - from) to (omega arith) (omega arith) in
-      let enough : total (edges same g) 0 from + total (edges same f) from (2 ^ 64 - from) ≤ room = has from (omega arith) in
+      let one = length_stretch start from v lt some in
+      let front = swept_ends same tells g from (xs ++ stretch start from v) swept in
+      let parts = length-append xs (stretch start from v) in
+      let back = rest_ends same tells f to ys rest none le in
+      let split = total-split (edges same f) from (to - from) (2 ^ 64 - to) (2 ^ 64 - from) to (omega arith) (omega arith) in
+      let enough = has from (omega arith) in
       omega (arith, one, front, parts, back, split, enough)
