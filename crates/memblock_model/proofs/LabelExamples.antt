@@ -7,44 +7,27 @@ use Rattle.memblock_model.specs.declared.tag.Tag.TheVariants as tag
 abbrev pub bytes : ℕ → ℕ → Extent
 bytes base size = record { base = base; size = size }
 
--- new memory has no node; a node takes the place of the one that was there
-new_memory : plain_label.node ≡ None
-new_memory = refl
+-- new memory has no node and no mirror
+new_memory_examples : (plain_label.node ≡ None) × (plain_label.mirror ≡ false)
+new_memory_examples = (refl, refl)
 
-gets_a_node : (with_node (Some 1) plain_label).node ≡ Some 1
-gets_a_node = refl
-
-gets_another : with_node (Some 2) (with_node (Some 1) plain_label) ≡ with_node (Some 2) plain_label
-gets_another = refl
-
-loses_its_node : with_node None (with_node (Some 1) plain_label) ≡ plain_label
-loses_its_node = refl
-
--- mirrored memory keeps its node, and a node keeps the mirror
-new_memory_is_not_mirrored : plain_label.mirror ≡ false
-new_memory_is_not_mirrored = refl
-
+-- mirrored memory keeps its node
 mirror_keeps_the_node : with_mirror (with_node (Some 1) plain_label) ≡ record { node = Some 1; mirror = true }
 mirror_keeps_the_node = refl
 
-node_keeps_the_mirror : with_node (Some 1) (with_mirror plain_label) ≡ record { node = Some 1; mirror = true }
-node_keeps_the_mirror = refl
+-- a node takes the place of none, and of the one that was there; no node does, too; and the mirror stays
+with_node_examples : ((with_node (Some 1) plain_label).node ≡ Some 1)
+    × (with_node (Some 2) (with_node (Some 1) plain_label) ≡ with_node (Some 2) plain_label)
+    × (with_node None (with_node (Some 1) plain_label) ≡ plain_label)
+    × (with_node (Some 1) (with_mirror plain_label) ≡ record { node = Some 1; mirror = true })
+with_node_examples = (refl, refl, refl, refl)
 
--- a tag tells what isn't memory, the node and the mirror
-tag_of_nothing : tag_for None ≡ tag.Absent
-tag_of_nothing = refl
+-- a tag tells what isn't memory, memory without a node, the node and the mirror
+tag_examples : (tag_for None ≡ tag.Absent) × (tag_for (Some plain_label) ≡ tag.Memory None false)
+    × (tag_for (Some (with_node (Some 0) plain_label)) ≡ tag.Memory (Some 0) false)
+    × (tag_for (Some (with_mirror plain_label)) ≡ tag.Memory None true)
+tag_examples = (refl, refl, refl, refl)
 
-tag_of_memory : tag_for (Some plain_label) ≡ tag.Memory None false
-tag_of_memory = refl
-
-tag_of_a_node : tag_for (Some (with_node (Some 0) plain_label)) ≡ tag.Memory (Some 0) false
-tag_of_a_node = refl
-
-tag_of_mirrored_memory : tag_for (Some (with_mirror plain_label)) ≡ tag.Memory None true
-tag_of_mirrored_memory = refl
-
-no_node_of_a_tag : node_of_tag tag.Absent ≡ None
-no_node_of_a_tag = refl
-
-seventh_node_of_a_tag : node_of_tag (tag.Memory (Some 7) true) ≡ Some 7
-seventh_node_of_a_tag = refl
+-- what isn't memory has no node; memory has the tag's
+node_of_tag_examples : (node_of_tag tag.Absent ≡ None) × (node_of_tag (tag.Memory (Some 7) true) ≡ Some 7)
+node_of_tag_examples = (refl, refl)

@@ -39,20 +39,6 @@ trimmed-whole f x all =
     (λ y above below. agree-same same_label label_tells (f y) (f x) (all y (record { above = above; below = below }))) in
     rw whole refl
 
--- a frame of two labels becomes bare
-pub trimmed-unlike : (f : Labels) (x y z : ℕ)
-    → IsInFrame x y → IsInFrame x z → f y ≢ f z → trimmed f x ≡ None
-unfolding trimmed
-trimmed-unlike f x y z at_y at_z unlike =
-    elim (cases_Bool (each_in (frame_around x) (λ u. agree same_label (f u) (f x)))) as (λ _. trimmed f x ≡ None) [
-      | inl holds ↦
-          let each : (u : ℕ) → x - x % 4096 ≤ u → u < x - x % 4096 + 4096 → agree same_label (f u) (f x) ≡ true =
-          each_in-each (frame_around x) (λ u. agree same_label (f u) (f x)) holds in
-          absurd (unlike (agree-yes same_label label_tells (f y) (f x) (each y at_y.above at_y.below)
-          ∙ sym (agree-yes same_label label_tells (f z) (f x) (each z at_z.above at_z.below))))
-      | inr fails ↦ rw fails refl
-    ]
-
 -- what is trimmed is the label of the whole frame, or nothing
 pub trimmed-cases : (f : Labels) (x : ℕ)
     → ((y : ℕ) → IsInFrame x y → f y ≡ f x) ⊎ (trimmed f x ≡ None)
@@ -64,6 +50,13 @@ trimmed-cases f x =
           (each_in-each (frame_around x) (λ u. agree same_label (f u) (f x)) holds y at_y.above at_y.below))
       | inr fails ↦ inr (rw fails refl)
     ]
+
+-- a frame of two labels becomes bare
+pub trimmed-unlike : (f : Labels) (x y z : ℕ)
+    → IsInFrame x y → IsInFrame x z → f y ≢ f z → trimmed f x ≡ None
+trimmed-unlike f x y z at_y at_z unlike =
+    elim (trimmed-cases f x) as (λ _. trimmed f x ≡ None)
+    [ inl one ↦ absurd (unlike (one y at_y ∙ sym (one z at_z))) | inr bare ↦ bare ]
 
 -- a trimmed frame has one label
 pub trimmed-frame : (f : Labels) (x y : ℕ) → IsInFrame x y → trimmed f y ≡ trimmed f x

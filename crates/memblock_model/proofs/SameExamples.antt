@@ -5,84 +5,38 @@ use Rattle.memblock_model.specs.declared.owner.Owner.TheVariants as owner
 use Rattle.memblock_model.specs.Labels.{plain_label, with_node, with_mirror}
 use Rattle.memblock_model.specs.Same.{same_which, same_node, same_switch, same_label, variant_of, owner_number, same_owner}
 
-one_table : same_which which.Memory which.Memory ≡ true
-one_table = refl
+-- each table is itself, and not the other one
+which_examples : (same_which which.Memory which.Memory ≡ true) × (same_which which.Reserved which.Reserved ≡ true)
+    × (same_which which.Memory which.Reserved ≡ false) × (same_which which.Reserved which.Memory ≡ false)
+which_examples = (refl, refl, refl, refl)
 
-other_table : same_which which.Reserved which.Reserved ≡ true
-other_table = refl
-
-two_tables : same_which which.Memory which.Reserved ≡ false
-two_tables = refl
-
-tables_exchanged : same_which which.Reserved which.Memory ≡ false
-tables_exchanged = refl
-
--- no node is none of the nodes, not node 0 either
-one_node : same_node (Some 3) (Some 3) ≡ true
-one_node = refl
-
-no_nodes : same_node None None ≡ true
-no_nodes = refl
-
-two_nodes : same_node (Some 3) (Some 4) ≡ false
-two_nodes = refl
-
-node_and_none : same_node None (Some 0) ≡ false
-node_and_none = refl
-
-none_and_node : same_node (Some 0) None ≡ false
-none_and_node = refl
+-- one node, no node twice, and two nodes; no node is none of the nodes, not node 0 either
+node_examples : (same_node (Some 3) (Some 3) ≡ true) × (same_node None None ≡ true) × (same_node (Some 3) (Some 4) ≡ false)
+    × (same_node None (Some 0) ≡ false) × (same_node (Some 0) None ≡ false)
+node_examples = (refl, refl, refl, refl, refl)
 
 -- both on, both off, or one of each
-one_switch : same_switch true true ≡ true
-one_switch = refl
+switch_examples : (same_switch true true ≡ true) × (same_switch false false ≡ true) × (same_switch true false ≡ false)
+    × (same_switch false true ≡ false)
+switch_examples = (refl, refl, refl, refl)
 
-switches_off : same_switch false false ≡ true
-switches_off = refl
+-- labels are the same where their nodes are and their mirrors: one node, and none beside node 0; one mirrored, the other not,
+-- both ways; both mirrored
+label_examples : (same_label (with_node (Some 3) plain_label) (with_node (Some 3) (with_node (Some 4) plain_label)) ≡ true)
+    × (same_label plain_label (with_node (Some 0) plain_label) ≡ false) × (same_label (with_mirror plain_label) plain_label ≡ false)
+    × (same_label plain_label (with_mirror plain_label) ≡ false)
+    × (same_label (with_mirror (with_node (Some 3) plain_label)) (with_node (Some 3) (with_mirror plain_label)) ≡ true)
+label_examples = (refl, refl, refl, refl, refl)
 
-two_switches : same_switch true false ≡ false
-two_switches = refl
+-- the first variant and the last
+variant_examples : (variant_of owner.Kernel ≡ 0) × (variant_of (owner.Script 7) ≡ 13)
+variant_examples = (refl, refl)
 
-switches_exchanged : same_switch false true ≡ false
-switches_exchanged = refl
+-- the number of a root, and of a table
+owner_number_examples : (owner_number (owner.Root 7) ≡ 7) × (owner_number (owner.Table which.Reserved) ≡ 1)
+owner_number_examples = (refl, refl)
 
--- labels are the same where their nodes are and their mirrors
-one_label : same_label (with_node (Some 3) plain_label) (with_node (Some 3) (with_node (Some 4) plain_label)) ≡ true
-one_label = refl
-
-two_labels : same_label plain_label (with_node (Some 0) plain_label) ≡ false
-two_labels = refl
-
-mirrored_and_not : same_label (with_mirror plain_label) plain_label ≡ false
-mirrored_and_not = refl
-
-not_and_mirrored : same_label plain_label (with_mirror plain_label) ≡ false
-not_and_mirrored = refl
-
-both_mirrored : same_label (with_mirror (with_node (Some 3) plain_label)) (with_node (Some 3) (with_mirror plain_label)) ≡ true
-both_mirrored = refl
-
-first_variant : variant_of owner.Kernel ≡ 0
-first_variant = refl
-
-last_variant : variant_of (owner.Script 7) ≡ 13
-last_variant = refl
-
-number_of_a_root : owner_number (owner.Root 7) ≡ 7
-number_of_a_root = refl
-
-number_of_a_table : owner_number (owner.Table which.Reserved) ≡ 1
-number_of_a_table = refl
-
--- an owner is another where its variant is, or its number
-one_owner : same_owner (owner.Script 7) (owner.Script 7) ≡ true
-one_owner = refl
-
-other_number : same_owner (owner.Script 7) (owner.Script 8) ≡ false
-other_number = refl
-
-other_variant : same_owner (owner.Root 7) (owner.Usage 7) ≡ false
-other_variant = refl
-
-other_place : same_owner (owner.Table which.Memory) (owner.Table which.Reserved) ≡ false
-other_place = refl
+-- an owner is itself, and another where its number is, its variant, or its table
+owner_examples : (same_owner (owner.Script 7) (owner.Script 7) ≡ true) × (same_owner (owner.Script 7) (owner.Script 8) ≡ false)
+    × (same_owner (owner.Root 7) (owner.Usage 7) ≡ false) × (same_owner (owner.Table which.Memory) (owner.Table which.Reserved) ≡ false)
+owner_examples = (refl, refl, refl, refl)

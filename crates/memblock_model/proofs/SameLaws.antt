@@ -1,6 +1,5 @@
 -- The tests of sameness tell.
-use Rattle.std.proofs.Common.{◌≡◌, ℕ, ◌==◌, Bool, true, false, ◌&&◌, if◌then◌else◌, Option, Some, None, refl, sym, ◌∙◌, ap, arith}
-use Rattle.std.proofs.lemmas.Bool.Decides.{nat_tests}
+use Rattle.std.proofs.Common.{◌≡◌, ℕ, ◌==◌, Bool, true, false, if◌then◌else◌, Option, Some, None, refl, sym, ◌∙◌, ap}
 use Rattle.std.proofs.lemmas.Bool.{eqb-true, eq-eqb, and_parts, and_from}
 use Rattle.address_runs.specs.Runs.{Tells}
 use Rattle.memblock_model.specs.declared.which.Which.TheVariants as which
@@ -69,20 +68,14 @@ numbered_again (owner.Usage n) = refl
 numbered_again (owner.Map n) = refl
 numbered_again (owner.Script n) = refl
 
-both_numbers : (m n v w : ℕ) → ((m == n) && (v == w)) ≡ true → (m ≡ n) × (v ≡ w)
-both_numbers m n v w h = grind (arith, nat_tests)
-
-numbers_both : (m n v w : ℕ) → m ≡ n → v ≡ w → ((m == n) && (v == w)) ≡ true
-numbers_both m n v w e f = grind (arith, nat_tests)
-
 owner_yes : (a b : Owner) → same_owner a b ≡ true → a ≡ b
 owner_yes a b h =
-    let both = both_numbers (variant_of a) (variant_of b) (owner_number a) (owner_number b) h in
-    sym (numbered_again a) ∙ ap (λ (v : ℕ). numbered v (owner_number a)) both.0 ∙ ap (λ (n : ℕ). numbered (variant_of b) n) both.1
-    ∙ numbered_again b
+    let both = and_parts _ _ h in
+    sym (numbered_again a) ∙ ap (λ (v : ℕ). numbered v (owner_number a)) (eqb-true _ _ both.0)
+    ∙ ap (λ (n : ℕ). numbered (variant_of b) n) (eqb-true _ _ both.1) ∙ numbered_again b
 
 pub owner_self : (a : Owner) → same_owner a a ≡ true
-owner_self a = numbers_both (variant_of a) (variant_of a) (owner_number a) (owner_number a) refl refl
+owner_self a = and_from _ _ (eq-eqb (variant_of a) _ refl) (eq-eqb (owner_number a) _ refl)
 
 pub owner_tells : Tells same_owner
 owner_tells = record { true_is_equal = owner_yes; equal_is_true = λ a b e. ap (λ (o : Owner). same_owner a o) (sym e) ∙ owner_self a }

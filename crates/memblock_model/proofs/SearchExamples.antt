@@ -1,6 +1,6 @@
 -- Small searches, computed: which addresses fit, and the best of them.
-use Rattle.std.proofs.Common.{◌≡◌, ℕ, ◌≤◌, ◌==◌, nat_lt, Bool, true, false, if◌then◌else◌, Some, None, List, [], ◌∷◌, refl, ◌∙◌, inl, inr, arith}
-use Rattle.std.proofs.lemmas.Bool.{cases_Bool}
+use Rattle.std.proofs.Common.{◌≡◌, ℕ, ◌≤◌, ◌==◌, nat_lt, true, false, if◌then◌else◌, Some, None, List, [], ◌∷◌, refl, ◌∙◌, arith}
+use Rattle.std.proofs.lemmas.Bool.{false_from_ne_true}
 use Rattle.std.proofs.lemmas.Bool.Decides.{nat_tests}
 use Rattle.bm_base.specs.Extent.{covers}
 use Rattle.memblock_model.specs.declared.owner.Owner.TheVariants as owner
@@ -10,69 +10,30 @@ use Rattle.memblock_model.specs.declared.item.Item.{Item}
 use Rattle.memblock_model.specs.declared.item.Item.TheVariants as item
 use Rattle.bm_base.specs.Each.{each_from, each_in}
 use Rattle.memblock_model.specs.Labels.{Label, Labels, plain_label, with_node, with_mirror}
-use Rattle.memblock_model.specs.Items.{owner_of, no_memory}
-use Rattle.memblock_model.specs.Tables.{reserved_of, table_of}
-use Rattle.memblock_model.specs.Search.{last_below, first_below, outermost, allows, suits, fits_in, top_in, best_in, fits, top, best}
-use Rattle.memblock_model.proofs.SearchLaws.{fits_in-parts, top_in-first, best_in-plain, best_in-last, best_in-fails}
+use Rattle.memblock_model.specs.Items.{no_memory}
+use Rattle.memblock_model.specs.Tables.{table_of}
+use Rattle.memblock_model.specs.Search.{last_below, first_below, outermost, allows, suits, fits_in, top_in, fits, top, best}
+use Rattle.memblock_model.proofs.SearchLaws.{fits_in-parts, top_in-first, best_in-plain, best_in-last, best_in-fails, plain_or_none}
 use Rattle.memblock_model.proofs.LabelExamples.{bytes}
 
--- the last number that passes, and none
-last_of_three : last_below (λ n. nat_lt n 3) 10 ≡ Some 2
-unfolding last_below
-last_of_three = refl
+-- the first of all that pass, or the last
+outermost_examples : (outermost true (λ n. nat_lt 2 n) 10 ≡ Some 3) × (outermost false (λ n. nat_lt 2 n) 10 ≡ Some 9)
+unfolding first_below last_below
+outermost_examples = (refl, refl)
 
-none_of_five : last_below (λ n. n == 5) 5 ≡ None
-unfolding last_below
-none_of_five = refl
-
--- the first number that passes, and none
-first_of_three : first_below (λ n. nat_lt 2 n) 10 ≡ Some 3
-unfolding first_below
-first_of_three = refl
-
-first_of_none : first_below (λ n. n == 5) 5 ≡ None
-unfolding first_below
-first_of_none = refl
-
-lowest_of_all : outermost true (λ n. nat_lt 2 n) 10 ≡ Some 3
-unfolding first_below
-lowest_of_all = refl
-
-highest_of_all : outermost false (λ n. nat_lt 2 n) 10 ≡ Some 9
-unfolding last_below
-highest_of_all = refl
-
--- any memory suits where no mirror is wanted, and mirrored memory alone where it is
-plain_memory_suits : suits false (Some plain_label) ≡ true
-plain_memory_suits = refl
-
-plain_memory_is_no_mirror : suits true (Some plain_label) ≡ false
-plain_memory_is_no_mirror = refl
-
-mirrored_memory_suits : suits true (Some (with_mirror plain_label)) ≡ true
-mirrored_memory_suits = refl
-
-nothing_is_no_mirror : suits true None ≡ false
-nothing_is_no_mirror = refl
+-- any memory suits where no mirror is wanted; where one is, plain memory doesn't, mirrored memory does, and nothing doesn't
+suits_examples : (suits false (Some plain_label) ≡ true) × (suits true (Some plain_label) ≡ false)
+    × (suits true (Some (with_mirror plain_label)) ≡ true) × (suits true None ≡ false)
+suits_examples = (refl, refl, refl, refl)
 
 abbrev of_node : ℕ → Label
 of_node node = with_node (Some node) plain_label
 
--- a query for any node takes memory without one too, a query for a node that node's memory alone
-any_node : allows None (Some plain_label) ≡ true
-any_node = refl
-
-this_node : allows (Some 1) (Some (of_node 1)) ≡ true
-this_node = refl
-
-other_node : allows (Some 1) (Some (of_node 2)) ≡ false
-other_node = refl
-
-nothing_allowed : allows (Some 1) None ≡ false
-nothing_allowed = refl
-
-no_node : allows (Some 1) (Some plain_label) ≡ false
-no_node = refl
+-- a query for any node takes memory without one, too; a query for a node that node's memory, not another's, not what is
+-- nothing, not memory without a node
+allows_examples : (allows None (Some plain_label) ≡ true) × (allows (Some 1) (Some (of_node 1)) ≡ true)
+    × (allows (Some 1) (Some (of_node 2)) ≡ false) × (allows (Some 1) None ≡ false) × (allows (Some 1) (Some plain_label) ≡ false)
+allows_examples = (refl, refl, refl, refl, refl)
 
 -- bytes 4096 to 4103 are memory of node 1, the rest of node 2; byte 4101 is claimed
 abbrev memory : Labels
@@ -88,82 +49,44 @@ pairs lo hi = record { lo = lo; hi = hi; size = 2; align = 2; node = Some 1 }
 abbrev any_pairs : Query
 any_pairs = record { lo = 0; hi = 4200; size = 2; align = 1; node = None }
 
-fits_above_claim : fits_in false memory claimed (pairs 0 4200) 4102 ≡ true
+-- above the claim; not over it, not in the other node, not in the first frame, not at an odd address, but there where any will
+-- do; not half in node 1 and half in node 2; not where there is no memory
+fits_in_examples : (fits_in false memory claimed (pairs 0 4200) 4102 ≡ true) × (fits_in false memory claimed (pairs 0 4200) 4100 ≡ false)
+    × (fits_in false memory claimed (pairs 0 4200) 4104 ≡ false) × (fits_in false memory claimed (pairs 0 4200) 4094 ≡ false)
+    × (fits_in false memory claimed (pairs 0 4200) 4097 ≡ false) × (fits_in false memory claimed any_pairs 4097 ≡ true)
+    × (fits_in false memory claimed any_pairs 4103 ≡ false) × (fits_in false no_memory claimed any_pairs 4098 ≡ false)
 unfolding fits_in each_in each_from
-fits_above_claim = refl
+fits_in_examples = (refl, refl, refl, refl, refl, refl, refl, refl)
 
-claimed_does_not_fit : fits_in false memory claimed (pairs 0 4200) 4100 ≡ false
+-- the window from its first byte, and not below it, to its last, and not past it
+window_examples : (fits_in false memory claimed (pairs 4098 4200) 4098 ≡ true)
+    × (fits_in false memory claimed (pairs 4098 4200) 4096 ≡ false) × (fits_in false memory claimed (pairs 0 4104) 4102 ≡ true)
+    × (fits_in false memory claimed (pairs 0 4103) 4102 ≡ false)
 unfolding fits_in each_in each_from
-claimed_does_not_fit = refl
+window_examples = (refl, refl, refl, refl)
 
-other_node_does_not_fit : fits_in false memory claimed (pairs 0 4200) 4104 ≡ false
-unfolding fits_in each_in each_from
-other_node_does_not_fit = refl
-
-first_frame_does_not_fit : fits_in false memory claimed (pairs 0 4200) 4094 ≡ false
-unfolding fits_in each_in each_from
-first_frame_does_not_fit = refl
-
-odd_does_not_fit : fits_in false memory claimed (pairs 0 4200) 4097 ≡ false
-unfolding fits_in each_in each_from
-odd_does_not_fit = refl
-
-odd_fits_at_any : fits_in false memory claimed any_pairs 4097 ≡ true
-unfolding fits_in each_in each_from
-odd_fits_at_any = refl
-
--- half in node 1 and half in node 2
-border_does_not_fit : fits_in false memory claimed any_pairs 4103 ≡ false
-unfolding fits_in each_in each_from
-border_does_not_fit = refl
-
-what_is_no_memory_does_not_fit : fits_in false no_memory claimed any_pairs 4098 ≡ false
-unfolding fits_in each_in each_from
-what_is_no_memory_does_not_fit = refl
-
--- the window from its first byte to its last
-fits_at_lo : fits_in false memory claimed (pairs 4098 4200) 4098 ≡ true
-unfolding fits_in each_in each_from
-fits_at_lo = refl
-
-below_lo_does_not_fit : fits_in false memory claimed (pairs 4098 4200) 4096 ≡ false
-unfolding fits_in each_in each_from
-below_lo_does_not_fit = refl
-
-fits_up_to_hi : fits_in false memory claimed (pairs 0 4104) 4102 ≡ true
-unfolding fits_in each_in each_from
-fits_up_to_hi = refl
-
-past_hi_does_not_fit : fits_in false memory claimed (pairs 0 4103) 4102 ≡ false
-unfolding fits_in each_in each_from
-past_hi_does_not_fit = refl
-
--- the greatest of those that fit
-greatest_that_fits : last_below (fits_in false memory claimed (pairs 0 4103)) 4110 ≡ Some 4098
+-- the last number that passes, none, and the greatest of those that fit
+last_examples : (last_below (λ n. nat_lt n 3) 10 ≡ Some 2) × (last_below (λ n. n == 5) 5 ≡ None)
+    × (last_below (fits_in false memory claimed (pairs 0 4103)) 4110 ≡ Some 4098)
 unfolding last_below fits_in each_in each_from
-greatest_that_fits = refl
+last_examples = (refl, refl, refl)
 
--- the least of those that fit, and what isn't mirrored doesn't fit where a mirror is wanted
-least_that_fits : first_below (fits_in false memory claimed (pairs 0 4104)) 4110 ≡ Some 4096
+-- the first number that passes, none, and the least of those that fit
+first_examples : (first_below (λ n. nat_lt 2 n) 10 ≡ Some 3) × (first_below (λ n. n == 5) 5 ≡ None)
+    × (first_below (fits_in false memory claimed (pairs 0 4104)) 4110 ≡ Some 4096)
 unfolding first_below fits_in each_in each_from
-least_that_fits = refl
-
-unmirrored_does_not_fit : fits_in true memory claimed (pairs 0 4104) 4096 ≡ false
-unfolding fits_in each_in each_from
-unmirrored_does_not_fit = refl
+first_examples = (refl, refl, refl)
 
 -- bytes 4096 to 4103 mirrored, and no more
 abbrev half_mirrored : Labels
 half_mirrored x = if nat_lt x 4104 then Some (with_mirror (of_node 1)) else Some (of_node 1)
 
-mirrored_fits : fits_in true half_mirrored claimed (pairs 0 5000) 4098 ≡ true
+-- where a mirror is wanted unmirrored memory doesn't fit, and mirrored memory does; nothing fits over its border
+mirrored_examples : (fits_in true memory claimed (pairs 0 4104) 4096 ≡ false)
+    × (fits_in true half_mirrored claimed (pairs 0 5000) 4098 ≡ true)
+    × (fits_in false half_mirrored claimed (record { lo = 0; hi = 5000; size = 2; align = 1; node = None }) 4103 ≡ false)
 unfolding fits_in each_in each_from
-mirrored_fits = refl
-
-over_its_border_does_not_fit : fits_in false half_mirrored claimed
-    (record { lo = 0; hi = 5000; size = 2; align = 1; node = None }) 4103 ≡ false
-unfolding fits_in each_in each_from
-over_its_border_does_not_fit = refl
+mirrored_examples = (refl, refl, refl)
 
 -- 64 KiB of memory: the best page below its end, and none where a claim leaves the first frame alone
 abbrev small : List Item
@@ -179,21 +102,13 @@ page_fits = refl
 page_ends : (b : ℕ) → fits_in false (table_of which.Memory small) (table_of which.Reserved small) page b ≡ true → b ≤ 0xF000
 page_ends b h = let high = (fits_in-parts false (table_of which.Memory small) (table_of which.Reserved small) page b h).high in omega arith
 
-plain_or_none : (b : Bool) → suits true (if b then Some plain_label else None) ≡ false
-plain_or_none true = refl
-plain_or_none false = refl
-
 small_is_plain : (x : ℕ) → suits true (table_of which.Memory small x) ≡ false
 small_is_plain x = plain_or_none (covers (bytes 0 0x10000) x)
 
-best_in_page : best_in false (table_of which.Memory small) (table_of which.Reserved small) page ≡ Some 0xF000
-unfolding fits
-best_in_page = best_in-last (table_of which.Memory small) (table_of which.Reserved small) page 0xF000 small_is_plain
-    (record { below = omega arith; passes = page_fits; last = λ b lt h. page_ends b h })
-
 best_page : best small page ≡ Some 0xF000
-unfolding best
-best_page = best_in_page
+unfolding best fits
+best_page = best_in-last (table_of which.Memory small) (table_of which.Reserved small) page 0xF000 small_is_plain
+    (record { below = omega arith; passes = page_fits; last = λ b lt h. page_ends b h })
 
 abbrev crowded : List Item
 crowded = item.Mem (bytes 0 0x10000) ∷ (item.Claim (bytes 0x1000 0xF000) owner.Kernel ∷ [])
@@ -207,20 +122,14 @@ nothing_fits b h =
     let place = fits_in-parts false (table_of which.Memory crowded) (table_of which.Reserved crowded) page b h in
     let high = place.high in
     let first = place.first in
-    let free : reserved_of (owner_of crowded) b ≡ None = place.free b (omega arith) (omega arith) in
-    let held : reserved_of (owner_of crowded) b ≡ Some plain_label = (let inside : covers (bytes 0x1000 0xF000) b
-    ≡ true = grind (arith, nat_tests) in rw inside refl) in
-    cc (free, held)
-
-no_best_in : best_in false (table_of which.Memory crowded) (table_of which.Reserved crowded) page ≡ None
-no_best_in = best_in-fails false (table_of which.Memory crowded) (table_of which.Reserved crowded) page
-    (λ b lt. elim (cases_Bool (fits_in false (table_of which.Memory crowded) (table_of which.Reserved crowded) page b))
-    as (λ _. fits_in false (table_of which.Memory crowded) (table_of which.Reserved crowded) page b ≡ false)
-    [ inl found ↦ absurd (nothing_fits b found) | inr fails ↦ fails ])
+    let inside : covers (bytes 0x1000 0xF000) b ≡ true = grind (arith, nat_tests) in
+    let free : Some plain_label ≡ None = rw inside at (place.free b (omega arith) (omega arith)) in
+    cc
 
 nothing_best : best crowded page ≡ None
 unfolding best
-nothing_best = no_best_in
+nothing_best = best_in-fails false (table_of which.Memory crowded) (table_of which.Reserved crowded) page
+    (λ b lt. false_from_ne_true _ (nothing_fits b))
 
 -- its lowest page, where the search goes up: never the first frame
 abbrev turned : List Item

@@ -1,15 +1,15 @@
 -- The greatest and the least number that pass a test, and the searches by them.
 use Rattle.std.proofs.Common.{◌≡◌, ◌⊎◌, ℕ, zero, suc, ◌+◌, ◌%◌, ◌^◌, ◌<◌, ◌≤◌, ◌==◌, Bool, true, false, ◌&&◌, nat_le, is_some, is_none, if◌then◌else◌, Option, Some, None, refl, sym, ◌∙◌, ap, subst, inl, inr, arith}
 use Rattle.std.proofs.lemmas.Bool.Decides.{nat_tests}
-use Rattle.std.proofs.lemmas.Bool.{cases_Bool, cases_lt, true≢false, and_from, and_parts}
-use Rattle.std.proofs.lemmas.Option.{same_Some}
+use Rattle.std.proofs.lemmas.Bool.{cases_Bool, cases_lt, true≢false, false_from_ne_true, and_from, and_parts}
+use Rattle.std.proofs.lemmas.Option.{same_Some, cond_some}
 use Rattle.std.specs.Option.{option_or}
 use Rattle.memblock_model.specs.declared.query.Query.{Query}
 use Rattle.bm_base.specs.Extent.{Extent}
 use Rattle.address_runs.specs.Edits.{agree}
 use Rattle.address_runs.proofs.EditLaws.{agree-yes, agree-same}
 use Rattle.bm_base.specs.Each.{each_in}
-use Rattle.memblock_model.specs.Labels.{Label, Labels}
+use Rattle.memblock_model.specs.Labels.{Label, Labels, plain_label}
 use Rattle.memblock_model.specs.Same.{same_label}
 use Rattle.memblock_model.specs.declared.mode.Mode.{Mode}
 use Rattle.memblock_model.specs.Search.{last_below, first_below, outermost, allows, suits, fits_in, top_in, best_in}
@@ -22,10 +22,7 @@ pub record IsLastBelow (p : ℕ → Bool) (n a : ℕ) : Type 0 where
   pub passes : p a ≡ true
   pub last : (b : ℕ) → b < n → p b ≡ true → b ≤ a
 
--- a number that passes, as the last one or as one before it
-last_here : (p : ℕ → Bool) (n : ℕ) → p n ≡ true → IsLastBelow p (suc n) n
-last_here p n passes = record { below = omega arith; passes = passes; last = λ b lt h. omega arith }
-
+-- a number that passes stays the last one where the next doesn't pass
 last_more : (p : ℕ → Bool) (n a : ℕ) → p n ≡ false → IsLastBelow p n a → IsLastBelow p (suc n) a
 last_more p n a fails known = record {
   below = let lt = known.below in omega arith;
@@ -42,8 +39,8 @@ unfolding last_below
 last_below-is p zero a h = cc
 last_below-is p (suc n) a h =
     elim (cases_Bool (p n)) as (λ _. IsLastBelow p (suc n) a) [
-      | inl passes ↦ let here : n ≡ a = same_Some n a (rw passes at h) in subst (λ (k : ℕ). IsLastBelow p (suc n) k) here
-          (last_here p n passes)
+      | inl passes ↦ subst (λ (k : ℕ). IsLastBelow p (suc n) k) (same_Some n a (rw passes at h))
+          (record { below = omega arith; passes = passes; last = λ b lt h. omega arith })
       | inr fails ↦ last_more p n a fails (last_below-is p n a (rw fails at h))
     ]
 
@@ -108,76 +105,45 @@ no_label : (o : Option Label) → is_none o ≡ true → o ≡ None
 no_label None h = refl
 no_label (Some n) h = absurd (true≢false (sym h))
 
-none_is : (o : Option Label) → o ≡ None → is_none o ≡ true
-none_is o e = ap is_none e
-
 pub fits_in-parts : (mirror : Bool) (memory reserved : Labels) (q : Query) (a : ℕ) → fits_in mirror memory reserved q a ≡ true
     → IsPlace mirror memory reserved q a
 unfolding fits_in
 fits_in-parts mirror memory reserved q a h =
+    let suited = and_parts _ _ h in
+    let allowed = and_parts _ _ suited.0 in
+    let held = and_parts _ _ allowed.0 in
+    let high = and_parts _ _ held.0 in
+    let bounds : ((a % q.align == 0) && nat_le q.lo a && nat_le 4096 a && nat_le (a + q.size) q.hi) ≡ true = high.0 in
     let place : Extent = record { base = a; size = q.size } in
     let test : ℕ → Bool = λ x. agree same_label (memory x) (memory a) && is_none (reserved x) in
-    let aligned : Bool = a % q.align == 0 in
-    let low : Bool = aligned && nat_le q.lo a in
-    let first : Bool = low && nat_le 4096 a in
-    let high : Bool = first && nat_le (a + q.size) q.hi in
-    let held : Bool = high && is_some (memory a) in
-    let allowed : Bool = held && allows q.node (memory a) in
-    let suited : Bool = allowed && suits mirror (memory a) in
-    let at_suited : suited ≡ true = (and_parts suited (each_in place test) h).0 in
-    let at_allowed : allowed ≡ true = (and_parts allowed (suits mirror (memory a)) at_suited).0 in
-    let at_held : held ≡ true = (and_parts held (allows q.node (memory a)) at_allowed).0 in
-    let at_high : high ≡ true = (and_parts high (is_some (memory a)) at_held).0 in
-    let at_first : first ≡ true = (and_parts first (nat_le (a + q.size) q.hi) at_high).0 in
-    let at_low : low ≡ true = (and_parts low (nat_le 4096 a) at_first).0 in
-    let at_aligned : aligned ≡ true = (and_parts aligned (nat_le q.lo a) at_low).0 in
-    let is_low : nat_le q.lo a ≡ true = (and_parts aligned (nat_le q.lo a) at_low).1 in
-    let is_first : nat_le 4096 a ≡ true = (and_parts low (nat_le 4096 a) at_first).1 in
-    let is_high : nat_le (a + q.size) q.hi ≡ true = (and_parts first (nat_le (a + q.size) q.hi) at_high).1 in
-    let each : (x : ℕ) → a ≤ x → x < a + q.size → test x ≡ true = each_in-each place test (and_parts suited (each_in place test) h).1 in
+    let each : (x : ℕ) → a ≤ x → x < a + q.size → test x ≡ true = each_in-each place test suited.1 in
     record {
-      aligned = grind (arith, nat_tests, at_aligned);
-      low = grind (arith, nat_tests, is_low);
-      first = grind (arith, nat_tests, is_first);
-      high = grind (arith, nat_tests, is_high);
-      held = (and_parts high (is_some (memory a)) at_held).1;
-      allowed = (and_parts held (allows q.node (memory a)) at_allowed).1;
-      suited = (and_parts allowed (suits mirror (memory a)) at_suited).1;
-      label = λ x above below. agree-yes same_label label_tells (memory x) (memory a)
-          (and_parts (agree same_label (memory x) (memory a)) (is_none (reserved x)) (each x above below)).0;
-      free = λ x above below. no_label (reserved x) (and_parts (agree same_label (memory x) (memory a)) (is_none (reserved x))
-          (each x above below)).1;
+      aligned = grind (arith, nat_tests, bounds);
+      low = grind (arith, nat_tests, bounds);
+      first = grind (arith, nat_tests, bounds);
+      high = grind (arith, nat_tests, bounds);
+      held = high.1;
+      allowed = held.1;
+      suited = allowed.1;
+      label = λ x above below. agree-yes same_label label_tells (memory x) (memory a) (and_parts _ _ (each x above below)).0;
+      free = λ x above below. no_label (reserved x) (and_parts _ _ (each x above below)).1;
     }
 
 pub fits_in-whole : (mirror : Bool) (memory reserved : Labels) (q : Query) (a : ℕ) → IsPlace mirror memory reserved q a
     → fits_in mirror memory reserved q a ≡ true
 unfolding fits_in
 fits_in-whole mirror memory reserved q a known =
-    let place : Extent = record { base = a; size = q.size } in
-    let test : ℕ → Bool = λ x. agree same_label (memory x) (memory a) && is_none (reserved x) in
-    let aligned : Bool = a % q.align == 0 in
-    let low : Bool = aligned && nat_le q.lo a in
-    let first : Bool = low && nat_le 4096 a in
-    let high : Bool = first && nat_le (a + q.size) q.hi in
-    let held : Bool = high && is_some (memory a) in
-    let allowed : Bool = held && allows q.node (memory a) in
-    let suited : Bool = allowed && suits mirror (memory a) in
-    let is_aligned = known.aligned in
-    let is_low = known.low in
-    let is_first = known.first in
-    let is_high = known.high in
-    let at_aligned : aligned ≡ true = grind (arith, nat_tests, is_aligned) in
-    let at_low : low ≡ true = and_from aligned (nat_le q.lo a) at_aligned (grind (arith, nat_tests, is_low)) in
-    let at_first : first ≡ true = and_from low (nat_le 4096 a) at_low (grind (arith, nat_tests, is_first)) in
-    let at_high : high ≡ true = and_from first (nat_le (a + q.size) q.hi) at_first (grind (arith, nat_tests, is_high)) in
-    let at_held : held ≡ true = and_from high (is_some (memory a)) at_high known.held in
-    let at_allowed : allowed ≡ true = and_from held (allows q.node (memory a)) at_held known.allowed in
-    let at_suited : suited ≡ true = and_from allowed (suits mirror (memory a)) at_allowed known.suited in
-    let each : each_in place test ≡ true = each_in-all place test (λ x above below.
-    and_from (agree same_label (memory x) (memory a)) (is_none (reserved x))
+    let aligned = known.aligned in
+    let low = known.low in
+    let first = known.first in
+    let high = known.high in
+    let bounds : ((a % q.align == 0) && nat_le q.lo a && nat_le 4096 a && nat_le (a + q.size) q.hi) ≡ true =
+    grind (arith, nat_tests, aligned, low, first, high) in
+    let each : each_in (record { base = a; size = q.size }) (λ x. agree same_label (memory x) (memory a) && is_none (reserved x)) ≡ true =
+    each_in-all _ _ (λ x above below. and_from _ _
     (agree-same same_label label_tells (memory x) (memory a) (known.label x above below))
-    (none_is (reserved x) (known.free x above below))) in
-    and_from suited (each_in place test) at_suited each
+    (ap is_none (known.free x above below))) in
+    and_from _ _ (and_from _ _ (and_from _ _ (and_from _ _ bounds known.held) known.allowed) known.suited) each
 
 -- what fits in mirrored memory fits in any
 fits_unmirrored : (mirror : Bool) (memory reserved : Labels) (q : Query) (a : ℕ) → fits_in mirror memory reserved q a ≡ true
@@ -200,18 +166,12 @@ fits_unmirrored mirror memory reserved q a h =
 unfit : (mirror : Bool) (memory reserved : Labels) (q : Query) (a : ℕ) → fits_in false memory reserved q a ≡ false
     → fits_in mirror memory reserved q a ≡ false
 unfit mirror memory reserved q a fails =
-    elim (cases_Bool (fits_in mirror memory reserved q a)) as (λ _. fits_in mirror memory reserved q a ≡ false) [
-      | inl fits ↦ absurd (true≢false (sym (fits_unmirrored mirror memory reserved q a fits) ∙ fails))
-      | inr none ↦ none
-    ]
+    false_from_ne_true _ (λ fits. true≢false (sym (fits_unmirrored mirror memory reserved q a fits) ∙ fails))
 
 unsuited : (mirror : Bool) (memory reserved : Labels) (q : Query) (a : ℕ) → suits mirror (memory a) ≡ false
     → fits_in mirror memory reserved q a ≡ false
 unsuited mirror memory reserved q a fails =
-    elim (cases_Bool (fits_in mirror memory reserved q a)) as (λ _. fits_in mirror memory reserved q a ≡ false) [
-      | inl fits ↦ absurd (true≢false (sym (fits_in-parts mirror memory reserved q a fits).suited ∙ fails))
-      | inr none ↦ none
-    ]
+    false_from_ne_true _ (λ fits. true≢false (sym (fits_in-parts mirror memory reserved q a fits).suited ∙ fails))
 
 -- of two answers there is none, or one
 or_none : (a b : Option ℕ) → option_or a b ≡ None → a ≡ None
@@ -222,17 +182,13 @@ neither : (a b : Option ℕ) → option_or a b ≡ None → b ≡ None
 neither None b h = h
 neither (Some n) b h = cc
 
-either : (a b : Option ℕ) (n : ℕ) → option_or a b ≡ Some n → (a ≡ Some n) ⊎ (b ≡ Some n)
+pub either : (a b : Option ℕ) (n : ℕ) → option_or a b ≡ Some n → (a ≡ Some n) ⊎ (b ≡ Some n)
 either None b n h = inr h
 either (Some m) b n h = inl h
 
 last_fails : (b : Bool) (n : ℕ) → (if b then Some n else None) ≡ None → b ≡ false
 last_fails true n h = cc
 last_fails false n h = refl
-
-last_passes : (b : Bool) (n a : ℕ) → (if b then Some n else None) ≡ Some a → (b ≡ true) × (n ≡ a)
-last_passes true n a h = (refl, same_Some n a h)
-last_passes false n a h = cc
 
 -- the number passes, and none of the lower ones does
 pub record IsFirstBelow (p : ℕ → Bool) (n a : ℕ) : Type 0 where
@@ -267,7 +223,7 @@ first_of p n a (Some m) is none h =
       ];
     })
 first_of p n a None is none h =
-    let at_n = last_passes (p n) n a h in
+    let at_n = cond_some (p n) n a h in
     subst (λ (k : ℕ). IsFirstBelow p (suc n) k) at_n.1 (record {
       below = omega arith;
       passes = at_n.0;
@@ -371,18 +327,19 @@ best_in-fits up memory reserved q a h =
 pub best_in-none : (up : Bool) (memory reserved : Labels) (q : Query) → best_in up memory reserved q ≡ None → (b : ℕ) → b < 2 ^ 64
     → fits_in false memory reserved q b ≡ false
 unfolding best_in
-best_in-none up memory reserved q h b lt = top_in-none (record { mirror = false; up = up }) memory reserved q
-    (neither (top_in (record { mirror = true; up = up }) memory reserved q)
-    (top_in (record { mirror = false; up = up }) memory reserved q) h) b lt
+best_in-none up memory reserved q h b lt = top_in-none (record { mirror = false; up = up }) memory reserved q (neither _ _ h) b lt
 
 pub best_in-fails : (up : Bool) (memory reserved : Labels) (q : Query) → ((b : ℕ) → b < 2 ^ 64 → fits_in false memory reserved q b ≡ false)
     → best_in up memory reserved q ≡ None
 unfolding best_in
 best_in-fails up memory reserved q none =
-    let mirrored : top_in (record { mirror = true; up = up }) memory reserved q ≡ None =
-    top_in-fails (record { mirror = true; up = up }) memory reserved q
-    (λ b lt. unfit true memory reserved q b (none b lt)) in
-    rw mirrored (top_in-fails (record { mirror = false; up = up }) memory reserved q none)
+    rw (top_in-fails (record { mirror = true; up = up }) memory reserved q (λ b lt. unfit true memory reserved q b (none b lt)))
+    (top_in-fails (record { mirror = false; up = up }) memory reserved q none)
+
+-- plain memory is not mirrored
+pub plain_or_none : (b : Bool) → suits true (if b then Some plain_label else None) ≡ false
+plain_or_none true = refl
+plain_or_none false = refl
 
 -- where nothing is mirrored it is the top one of any memory
 pub top_in-mirrorless : (up : Bool) (memory reserved : Labels) (q : Query) → ((x : ℕ) → suits true (memory x) ≡ false)

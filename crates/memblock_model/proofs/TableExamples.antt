@@ -1,9 +1,9 @@
 -- Small tables, computed: their records, their room and their places.
-use Rattle.std.proofs.Common.{◌≡◌, ℕ, ◌^◌, Some, None, List, [], ◌∷◌, length, refl, sym, ap, arith}
+use Rattle.std.proofs.Common.{◌≡◌, ◌^◌, Some, None, List, [], ◌∷◌, length, refl, sym, ap, arith}
 use Rattle.std.proofs.lemmas.Bool.Decides.{nat_tests}
 use Rattle.bm_base.specs.Extent.{Extent}
 use Rattle.address_runs.specs.Edits.{bare, NothingFrom}
-use Rattle.address_runs.specs.Runs.{RunOf, value_at, AreRuns, runs_from}
+use Rattle.address_runs.specs.Runs.{RunOf, runs_from}
 use Rattle.memblock_model.specs.declared.owner.Owner.TheVariants as owner
 use Rattle.memblock_model.specs.declared.which.Which.TheVariants as which
 use Rattle.memblock_model.specs.declared.item.Item.{Item}
@@ -19,47 +19,33 @@ use Rattle.memblock_model.proofs.LabelExamples.{bytes}
 abbrev seventh : Label
 seventh = with_node (Some 7) plain_label
 
--- the reserved table knows that a byte is claimed, and not for whom
-owner_forgotten : without_owner (Some owner.Kernel) ≡ Some plain_label
-owner_forgotten = refl
-
-nobody_is_nothing : without_owner None ≡ None
-nobody_is_nothing = refl
+-- the reserved table knows that a byte is claimed, and not for whom; nothing stays nothing
+without_owner_examples : (without_owner (Some owner.Kernel) ≡ Some plain_label) × (without_owner None ≡ None)
+without_owner_examples = (refl, refl)
 
 -- what the two tables say after one journal: byte 3 is claimed memory of node 7, byte 1 is memory without a node
 abbrev few : List Item
 few = item.Mem (bytes 1 4) ∷ (item.Node (bytes 3 2) 7 ∷ (item.Claim (bytes 2 2) owner.Kernel ∷ []))
 
-memory_has_a_node : table_of which.Memory few 3 ≡ Some seventh
-memory_has_a_node = refl
+-- memory with a node and without one, and a claimed byte without its node
+table_of_examples : (table_of which.Memory few 3 ≡ Some seventh) × (table_of which.Memory few 1 ≡ Some plain_label)
+    × (table_of which.Reserved few 3 ≡ Some plain_label)
+table_of_examples = (refl, refl, refl)
 
-memory_without_a_node : table_of which.Memory few 1 ≡ Some plain_label
-memory_without_a_node = refl
+-- a byte that nobody has, and a claimed one
+reserved_of_examples : (reserved_of (owner_of few) 4 ≡ None) × (reserved_of (owner_of few) 3 ≡ Some plain_label)
+reserved_of_examples = (refl, refl)
 
-claimed_without_a_node : table_of which.Reserved few 3 ≡ Some plain_label
-claimed_without_a_node = refl
+-- a claim covers no byte behind it, and a free uncovers
+reserved_after_examples : (reserved_after (reserved_of no_owners) (item.Claim (bytes 1 4) owner.Kernel) 5 ≡ None)
+    × (reserved_after (reserved_of (owner_of few)) (item.Free (bytes 3 1)) 3 ≡ None)
+reserved_after_examples = (refl, refl)
 
-unclaimed : reserved_of (owner_of few) 4 ≡ None
-unclaimed = refl
-
-claimed : reserved_of (owner_of few) 3 ≡ Some plain_label
-claimed = refl
-
--- a claim changes the one table, memory the other
-claim_covers : table_after which.Reserved (reserved_of no_owners) (item.Claim (bytes 1 4) owner.Kernel) 4 ≡ Some plain_label
-claim_covers = refl
-
-claim_covers_alone : reserved_after (reserved_of no_owners) (item.Claim (bytes 1 4) owner.Kernel) 5 ≡ None
-claim_covers_alone = refl
-
-free_uncovers : reserved_after (reserved_of (owner_of few)) (item.Free (bytes 3 1)) 3 ≡ None
-free_uncovers = refl
-
-claim_is_no_memory : table_after which.Memory no_memory (item.Claim (bytes 1 4) owner.Kernel) 4 ≡ None
-claim_is_no_memory = refl
-
-memory_is_no_claim : table_after which.Reserved (reserved_of no_owners) (item.Mem (bytes 1 4)) 4 ≡ None
-memory_is_no_claim = refl
+-- a claim changes the one table and not the other; memory changes the other and not the one
+table_after_examples : (table_after which.Reserved (reserved_of no_owners) (item.Claim (bytes 1 4) owner.Kernel) 4 ≡ Some plain_label)
+    × (table_after which.Memory no_memory (item.Claim (bytes 1 4) owner.Kernel) 4 ≡ None)
+    × (table_after which.Reserved (reserved_of no_owners) (item.Mem (bytes 1 4)) 4 ≡ None)
+table_after_examples = (refl, refl, refl)
 
 -- the reserved table doesn't say whose a byte is, so claims of two owners that touch are one record
 claims_are_one_record : runs_from same_label (table_of which.Reserved
@@ -78,52 +64,37 @@ nodes_are_two_records = refl
 abbrev memory_records : List (RunOf Label)
 memory_records = record { base = 1; size = 2; value = plain_label } ∷ (record { base = 3; size = 2; value = seventh } ∷ [])
 
-memory_each : (x : ℕ) → value_at memory_records x ≡ table_of which.Memory few x
-memory_each x = grind (arith, nat_tests)
-
 memory_ends : NothingFrom (2 ^ 64) (table_of which.Memory few)
 memory_ends x le = grind (arith, nat_tests)
 
-no_node_is_another : (n : ℕ) → None ≡ Some n → ⊥
-no_node_is_another n same = cc
-
 plain_is_another : plain_label ≡ seventh → ⊥
-plain_is_another same = no_node_is_another 7 (ap (λ (l : Label). l.node) same)
-
-memory_are_runs : AreRuns memory_records
-memory_are_runs = (omega arith, (omega arith, λ touch. plain_is_another), (omega arith, tt, tt))
+plain_is_another same = let apart : plain_label.node ≡ seventh.node = ap (λ (l : Label). l.node) same in cc
 
 records_of_memory : records_of which.Memory few ≡ memory_records
 unfolding records_of
 records_of_memory = sym (records_for-is (table_of which.Memory few) memory_records memory_ends
-    (record { runs = memory_are_runs; each = memory_each }))
+    (record {
+      runs = (omega arith, (omega arith, λ touch. plain_is_another), (omega arith, tt, tt));
+      each = λ x. grind (arith, nat_tests);
+    }))
 
 abbrev reserved_records : List (RunOf Label)
 reserved_records = record { base = 2; size = 2; value = plain_label } ∷ []
 
-reserved_each : (x : ℕ) → value_at reserved_records x ≡ table_of which.Reserved few x
-reserved_each x = grind (arith, nat_tests)
-
 reserved_ends : NothingFrom (2 ^ 64) (table_of which.Reserved few)
 reserved_ends x le = grind (arith, nat_tests)
-
-reserved_are_runs : AreRuns reserved_records
-reserved_are_runs = (omega arith, tt, tt)
 
 records_of_reserved : records_of which.Reserved few ≡ reserved_records
 unfolding records_of
 records_of_reserved = sym (records_for-is (table_of which.Reserved few) reserved_records reserved_ends
-    (record { runs = reserved_are_runs; each = reserved_each }))
+    (record { runs = (omega arith, tt, tt); each = λ x. grind (arith, nat_tests) }))
 
--- a record in the middle of the range leaves two pieces that it doesn't cover
-two_bare_pieces : runs_from same_label (bare (bytes 1 6) plain_label (table_of which.Memory (item.Mem (bytes 3 2) ∷ []))) 0 8
-    ≡ record { base = 1; size = 2; value = plain_label } ∷ (record { base = 5; size = 2; value = plain_label } ∷ [])
+-- a record in the middle of the range leaves two pieces that it doesn't cover, and none of a range within it
+bare_examples : (runs_from same_label (bare (bytes 1 6) plain_label (table_of which.Memory (item.Mem (bytes 3 2) ∷ []))) 0 8
+    ≡ record { base = 1; size = 2; value = plain_label } ∷ (record { base = 5; size = 2; value = plain_label } ∷ []))
+    × (runs_from same_label (bare (bytes 3 1) plain_label (table_of which.Memory (item.Mem (bytes 3 2) ∷ []))) 0 8 ≡ [])
 unfolding runs_from
-two_bare_pieces = refl
-
-nothing_bare : runs_from same_label (bare (bytes 3 1) plain_label (table_of which.Memory (item.Mem (bytes 3 2) ∷ []))) 0 8 ≡ []
-unfolding runs_from
-nothing_bare = refl
+bare_examples = (refl, refl)
 
 -- the bytes 1 to 6 of which 3 and 4 are memory: over all addresses, by the laws
 abbrev partly : Labels
@@ -132,50 +103,41 @@ partly = table_of which.Memory (item.Mem (bytes 3 2) ∷ [])
 abbrev two_runs : List (RunOf Label)
 two_runs = record { base = 1; size = 2; value = plain_label } ∷ (record { base = 5; size = 2; value = plain_label } ∷ [])
 
-two_runs_are_bare : (x : ℕ) → value_at two_runs x ≡ bare (bytes 1 6) plain_label partly x
-two_runs_are_bare x = grind (arith, nat_tests)
-
-two_runs_are_runs : AreRuns two_runs
-two_runs_are_runs = (omega arith, (omega arith, λ touch. absurd (omega arith)), (omega arith, tt, tt))
-
 bare_ends : NothingFrom (2 ^ 64) (bare (bytes 1 6) plain_label partly)
 bare_ends x le = grind (arith, nat_tests)
 
 records_for_bare : records_for (bare (bytes 1 6) plain_label partly) ≡ two_runs
 records_for_bare = sym (records_for-is (bare (bytes 1 6) plain_label partly) two_runs bare_ends
-    (record { runs = two_runs_are_runs; each = two_runs_are_bare }))
+    (record {
+      runs = (omega arith, (omega arith, λ touch. absurd (omega arith)), (omega arith, tt, tt));
+      each = λ x. grind (arith, nat_tests);
+    }))
 
 two_pieces : pieces (bytes 1 6) partly ≡ 2
 unfolding pieces
 two_pieces = ap length records_for_bare
-
-no_pieces_are_bare : (x : ℕ) → value_at [] x ≡ bare (bytes 3 2) plain_label partly x
-no_pieces_are_bare x = grind (arith, nat_tests)
 
 covered_ends : NothingFrom (2 ^ 64) (bare (bytes 3 2) plain_label partly)
 covered_ends x le = grind (arith, nat_tests)
 
 records_for_nothing : records_for (bare (bytes 3 2) plain_label partly) ≡ []
 records_for_nothing = sym (records_for-is (bare (bytes 3 2) plain_label partly) [] covered_ends
-    (record { runs = tt; each = no_pieces_are_bare }))
+    (record { runs = tt; each = λ x. grind (arith, nat_tests) }))
 
 no_pieces : pieces (bytes 3 2) partly ≡ 0
 unfolding pieces
 no_pieces = ap length records_for_nothing
 
--- room doubles for the table that grew, whatever number the item has
-room_doubles : room_of which.Memory (item.Grown which.Memory 4096 256 ∷
-    (item.Grown which.Reserved 8192 256 ∷ (item.Grown which.Memory 12288 512 ∷ []))) ≡ 512
-room_doubles = refl
+-- room doubles for the table that grew, and is 128 at first
+room_of_examples : (room_of which.Memory (item.Grown which.Memory 4096 256 ∷ (item.Grown which.Reserved 8192 256
+    ∷ (item.Grown which.Memory 12288 512 ∷ []))) ≡ 512)
+    × (room_of which.Memory (item.Grown which.Reserved 8192 256 ∷ []) ≡ 128)
+room_of_examples = (refl, refl)
 
-room_at_first : room_of which.Memory (item.Grown which.Reserved 8192 256 ∷ []) ≡ 128
-room_at_first = refl
-
-room_once_more : room_after which.Reserved 256 (item.Grown which.Reserved 8192 7) ≡ 512
-room_once_more = refl
-
-room_of_the_other : room_after which.Memory 256 (item.Grown which.Reserved 8192 7) ≡ 256
-room_of_the_other = refl
+-- it doubles whatever number the item has; the other table's stays
+room_after_examples : (room_after which.Reserved 256 (item.Grown which.Reserved 8192 7) ≡ 512)
+    × (room_after which.Memory 256 (item.Grown which.Reserved 8192 7) ≡ 256)
+room_after_examples = (refl, refl)
 
 -- nothing else speaks of room or place
 abbrev no_growth : List Item
@@ -185,36 +147,30 @@ no_growth = item.Mem (bytes 1 4) ∷ (item.Node (bytes 3 2) 7 ∷ (item.Trim ∷
 room_stays : room_of which.Reserved (item.Grown which.Reserved 8192 256 ∷ no_growth) ≡ 256
 room_stays = refl
 
-place_stays : moved_to which.Reserved (item.Grown which.Reserved 8192 256 ∷ no_growth) ≡ Some 8192
-place_stays = refl
+-- the place stays, too, and what never grew never moved
+moved_to_examples : (moved_to which.Reserved (item.Grown which.Reserved 8192 256 ∷ no_growth) ≡ Some 8192)
+    × (moved_to which.Reserved (item.Grown which.Memory 8192 256 ∷ no_growth) ≡ None)
+moved_to_examples = (refl, refl)
 
-never_moved : moved_to which.Reserved (item.Grown which.Memory 8192 256 ∷ no_growth) ≡ None
-never_moved = refl
-
-moved_again : moved_after which.Memory (Some 8192) (item.Grown which.Memory 4096 256) ≡ Some 4096
-moved_again = refl
-
-other_moved : moved_after which.Memory (Some 8192) (item.Grown which.Reserved 4096 256) ≡ Some 8192
-other_moved = refl
+-- a table moves again; the other's growth leaves it
+moved_after_examples : (moved_after which.Memory (Some 8192) (item.Grown which.Memory 4096 256) ≡ Some 4096)
+    × (moved_after which.Memory (Some 8192) (item.Grown which.Reserved 4096 256) ≡ Some 8192)
+moved_after_examples = (refl, refl)
 
 -- the kernel's image lies from 16 MiB to 48 MiB
 abbrev kernel : Extent
 kernel = bytes 0x1000000 0x2000000
 
-memory_built_in : built_in which.Memory kernel ≡ 0x2FFE000
-memory_built_in = refl
+-- the built-in places are its last two frames
+built_in_examples : (built_in which.Memory kernel ≡ 0x2FFE000) × (built_in which.Reserved kernel ≡ 0x2FFF000)
+built_in_examples = (refl, refl)
 
-reserved_built_in : built_in which.Reserved kernel ≡ 0x2FFF000
-reserved_built_in = refl
+-- the built-in place at first, then the newest
+place_of_examples : (place_of which.Memory kernel [] ≡ 0x2FFE000)
+    × (place_of which.Reserved kernel (item.Grown which.Reserved 8192 256 ∷ (item.Grown which.Memory 4096 256 ∷ [])) ≡ 8192)
+place_of_examples = (refl, refl)
 
-place_at_first : place_of which.Memory kernel [] ≡ 0x2FFE000
-place_at_first = refl
-
-newest_place : place_of which.Reserved kernel (item.Grown which.Reserved 8192 256 ∷ (item.Grown which.Memory 4096 256 ∷ [])) ≡ 8192
-newest_place = refl
-
-live_at_first : live which.Reserved kernel [] ≡ bytes 0x2FFF000 3072
-live_at_first = refl
-
-live_when_grown : live which.Memory kernel (item.Grown which.Memory 4096 256 ∷ []) ≡ bytes 4096 6144
-live_when_grown = refl
+-- the bytes of a table at first, and when it has grown
+live_examples : (live which.Reserved kernel [] ≡ bytes 0x2FFF000 3072)
+    × (live which.Memory kernel (item.Grown which.Memory 4096 256 ∷ []) ≡ bytes 4096 6144)
+live_examples = (refl, refl)

@@ -1,5 +1,5 @@
 -- Records and what a table says stand for one another, and each change of the one is the change of the other.
-use Rattle.std.proofs.Common.{◌≡◌, ℕ, ◌^◌, ◌≤◌, None, List, [], ◌∷◌, refl, sym, ◌∙◌, ap, inl, inr, arith}
+use Rattle.std.proofs.Common.{◌≡◌, ℕ, ◌^◌, ◌≤◌, None, List, [], ◌∷◌, sym, ◌∙◌, ap, inl, inr, arith}
 use Rattle.std.proofs.lemmas.Bool.{cases_Bool}
 use Rattle.std.specs.List.{fold}
 use Rattle.address_runs.specs.Runs.{RunOf, value_at, IsRunsOf}
@@ -7,13 +7,12 @@ use Rattle.address_runs.proofs.RunsLaws.{by_address, the_list}
 use Rattle.memblock_model.specs.declared.which.Which.{Which}
 use Rattle.memblock_model.specs.declared.item.Item.{Item}
 use Rattle.memblock_model.specs.declared.item.Item.TheVariants as item
-use Rattle.address_runs.specs.Edits.{agree, NothingFrom}
-use Rattle.bm_base.specs.Frames.{frame_around}
-use Rattle.bm_base.specs.Each.{each_in}
+use Rattle.address_runs.specs.Edits.{NothingFrom}
 use Rattle.memblock_model.specs.Labels.{Label, Labels}
 use Rattle.memblock_model.specs.Same.{same_which, same_label}
 use Rattle.memblock_model.specs.Items.{trimmed}
 use Rattle.memblock_model.specs.Tables.{records_for, room_after, room_of}
+use Rattle.memblock_model.proofs.LabelLaws.{trimmed-whole, trimmed-cases}
 use Rattle.memblock_model.proofs.SameLaws.{label_tells}
 
 -- the records are the runs
@@ -38,12 +37,8 @@ records-edit edit f g rs now ends old new same =
 
 -- a trim leaves nothing where nothing was
 pub nothing-trimmed : (at : ℕ) (f : Labels) → NothingFrom at f → NothingFrom at (trimmed f)
-unfolding trimmed
 nothing-trimmed at f none x le =
-    elim (cases_Bool (each_in (frame_around x) (λ y. agree same_label (f y) (f x)))) as (λ _. trimmed f x ≡ None) [
-      | inl whole ↦ rw whole (none x le)
-      | inr parts ↦ rw parts refl
-    ]
+    elim (trimmed-cases f x) as (λ _. trimmed f x ≡ None) [ inl one ↦ trimmed-whole f x one ∙ none x le | inr bare ↦ bare ]
 
 -- there is room for 128 records at least
 room_after-least : (w : Which) (n : ℕ) (i : Item) → 128 ≤ n → 128 ≤ room_after w n i
