@@ -1,7 +1,6 @@
 -- Why what stands behind further items may be told in parts: a table lies at an address until an item moves it away from there, and
 -- where it lies the older bytes don't count.
-use Rattle.std.proofs.Common.{◌≡◌, ℕ, ◌+◌, ◌*◌, ◌<◌, ◌≤◌, ◌==◌, Bool, true, false, ◌&&◌, ◌||◌, if◌then◌else◌, List, [], ◌∷◌, ◌++◌, length, refl, sym, ◌∙◌, ap, subst, append_assoc, arith, length-append}
-use Rattle.std.specs.Prelude.{unwrap_or}
+use Rattle.std.proofs.Common.{◌≡◌, ℕ, ◌+◌, ◌<◌, ◌≤◌, ◌==◌, Bool, true, false, ◌&&◌, ◌||◌, if◌then◌else◌, List, [], ◌∷◌, ◌++◌, length, refl, sym, ◌∙◌, ap, subst, append_assoc, arith, length-append}
 use Rattle.std.proofs.lemmas.Bool.{ne_eqb, or_parts}
 use Rattle.std.proofs.lemmas.List.{append-nil}
 use Rattle.std.proofs.Math.Seq.{drop-append_seam}
@@ -10,29 +9,21 @@ use Rattle.memblock_model.specs.declared.which.Which.{Which}
 use Rattle.memblock_model.specs.declared.which.Which.TheVariants as which
 use Rattle.memblock_model.specs.declared.item.Item.{Item}
 use Rattle.memblock_model.specs.declared.item.Item.TheVariants as item
-use Rattle.memblock_model.specs.Tables.{room_after, room_of, moved_after, moved_to, built_in, live}
+use Rattle.memblock_model.specs.Tables.{room_after, room_of, moved_after, moved_to, live}
 use Rattle.memblock_model.proofs.ItemLaws.{room_of-push, moved_to-push}
 use Rattle.memblock_ranges.specs.Tables.{Table, bytes_of}
+use Rattle.growth_model.proofs.PlacedLaws.{live_by, live-is}
 use Rattle.growth_model.specs.Bytes.{table_for, spelled_at, shown_by, shown, leaves, is_left, byte_after, Filled, filled, written, byte, AreMadeBy}
 
 -- a table's bytes behind one more item
 live-push : (w : Which) (kernel : Extent) (items : List Item) (i : Item) →
-    live w kernel (items ++ i ∷ [])
-    ≡ record { base = unwrap_or (moved_after w (moved_to w items) i) (built_in w kernel); size = 24 * room_after w (room_of w items) i }
-live-push w kernel items i = λ k. record {
-  base = unwrap_or (moved_to-push w items i k) (built_in w kernel);
-  size = 24 * room_of-push w items i k;
-}
+    live w kernel (items ++ i ∷ []) ≡ live_by w kernel (moved_after w (moved_to w items) i) (room_after w (room_of w items) i)
+live-push w kernel items i = live-is w kernel (items ++ i ∷ []) _ _ (moved_to-push w items i) (room_of-push w items i)
 
 -- an item that doesn't move a table away from an address leaves it there
 stays_at : (w : Which) (kernel : Extent) (items : List Item) (i : Item) (x : ℕ) → covers (live w kernel items) x ≡ true →
     leaves kernel items i x ≡ false →
-    covers (record {
-      base = unwrap_or (moved_after w (moved_to w items) i) (built_in w kernel);
-      size = 24 * room_after w (room_of w
-          items) i;
-    }) x
-    ≡ true
+    covers (live_by w kernel (moved_after w (moved_to w items) i) (room_after w (room_of w items) i)) x ≡ true
 stays_at which.Memory kernel items (item.Grown which.Memory place room) x here stays = cc
 stays_at which.Memory kernel items (item.Grown which.Reserved place room) x here stays = here
 stays_at which.Reserved kernel items (item.Grown which.Memory place room) x here stays = here
@@ -102,9 +93,7 @@ after-is kernel items more x b =
 
 pub after-along : (kernel : Extent) (items more longer : List Item) (x b : ℕ) → longer ≡ items ++ more →
     byte_after kernel items longer x b ≡ shown kernel longer x (if is_left kernel items more x then 0 else b)
-after-along kernel items more longer x b goes =
-    subst (λ (l : List Item). byte_after kernel items l x b ≡ shown kernel l x (if is_left kernel items more x then 0 else b)) (sym goes)
-    (after-is kernel items more x b)
+after-along kernel items more longer x b goes = rw goes (after-is kernel items more x b)
 
 -- what was left behind in two parts
 left_twice : (g h : ℕ → ℕ) (first second : Bool) (b : ℕ) → (second ≡ false → (c : ℕ) → g (h c) ≡ g c) →
@@ -129,11 +118,7 @@ after-after kernel items more further x b =
 
 pub after-chain : (kernel : Extent) (items more further mid last : List Item) (x b : ℕ) → mid ≡ items ++ more → last ≡ mid ++ further →
     byte_after kernel mid last x (byte_after kernel items mid x b) ≡ byte_after kernel items last x b
-after-chain kernel items more further mid last x b goes goes_on =
-    let P : List Item → Type 0 = λ m. byte_after kernel m (m ++ further) x (byte_after kernel items m x b)
-    ≡ byte_after kernel items (m ++ further) x b in
-    subst (λ (l : List Item). byte_after kernel mid l x (byte_after kernel items mid x b) ≡ byte_after kernel items l x b) (sym goes_on)
-    (subst P (sym goes) (after-after kernel items more further x b))
+after-chain kernel items more further mid last x b goes goes_on = rw (goes_on, goes) (after-after kernel items more further x b)
 
 -- fills that were made before change nothing later
 filled-later : (n m : ℕ) (fills : List Filled) (x b : ℕ) → AreMadeBy n fills → n < m → filled m fills x b ≡ b

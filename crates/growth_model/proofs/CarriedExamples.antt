@@ -27,11 +27,10 @@ grow_first : (items : List Item) → (change (item.Node page 3) items ≡ noded 
 grow_first items = (refl, refl, refl, refl)
 
 -- what a change comes to, with and without a refusal
-ends_well : ended (item.Trim ∷ []) (record { steps = (item.Free page ∷ []) ∷ []; refused = None }) ≡ Ok (item.Trim ∷ item.Free page ∷ [])
-ends_well = refl
-
-ends_refused : ended (item.Trim ∷ []) (record { steps = (item.Free page ∷ []) ∷ []; refused = Some full }) ≡ Err full
-ends_refused = refl
+ended_examples : (ended (item.Trim ∷ []) (record { steps = (item.Free page ∷ []) ∷ []; refused = None })
+    ≡ Ok (item.Trim ∷ item.Free page ∷ []))
+    × (ended (item.Trim ∷ []) (record { steps = (item.Free page ∷ []) ∷ []; refused = Some full }) ≡ Err full)
+ended_examples = (refl, refl)
 
 unless_examples : (unless_refused None [] ≡ Ok []) × (unless_refused (Some full) [] ≡ Err full)
 unless_examples = (refl, refl)

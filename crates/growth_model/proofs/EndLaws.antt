@@ -58,16 +58,13 @@ second_by (Err refusal.Memory) old new o p h = cut-second old new o.steps p.step
 -- the first change wasn't refused: so the second followed
 pub followed : (first second : Change) (items : List Item) → (first items).refused ≡ None
     → (first >> second) items ≡ both_steps (first items) (second (after items (first items)))
-followed first second items unrefused =
-    ap (λ (n : Option Refused). followed_by (first items) n (second (after items (first items)))) unrefused
+followed first second items unrefused = rw unrefused refl
 
 pub Ends-second : {T U : Type 0} (x : T) (r : Result U Refusal) (old mid new : List Item) (first second : Change)
     → Ends (Ok x) old mid first → Ends r mid new second → Ends r old new (first >> second)
 Ends-second x r old mid new first second was h =
-    let there : EndsBy r (after old (first old)) new (second (after old (first old))) =
-    subst (λ (m : List Item). EndsBy r m new (second m)) was.1 h in
-    subst (λ (o : Outcome). EndsBy r old new o) (sym (followed first second old was.0))
-    (second_by r old new (first old) (second (after old (first old))) there)
+    let there : EndsBy r (after old (first old)) new (second (after old (first old))) = rw (sym was.1) h in
+    rw (followed first second old was.0) (second_by r old new (first old) (second (after old (first old))) there)
 
 first_by : (T U : Type 0) (e : Refusal) (old new : List Item) (o : Outcome) (n : Option Refused) (p : Outcome) → o.refused ≡ n
     → EndsBy {T = T} (Err e) old new o → EndsBy {T = U} (Err e) old new (followed_by o n p)
@@ -117,8 +114,3 @@ pub Ends-error : (T U : Type 0) (e : Refusal) (old new : List Item) (change : Ch
 Ends-error T U refusal.NoGap old new change h = h
 Ends-error T U (refusal.NoGapForTable w room) old new change h = h
 Ends-error T U refusal.Memory old new change h = h
-
--- a first change that comes to nothing
-pub skips : (first second : Change) (items : List Item) → first items ≡ nothing items → (first >> second) items ≡ second items
-skips first second items none = ap (λ (o : Outcome). followed_by o o.refused (second (after items o))) none
-    ∙ ap (λ (t : List Item). let o : Outcome = record { steps = (second t).steps; refused = (second t).refused } in o) (append-nil items)

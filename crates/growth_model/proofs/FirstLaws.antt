@@ -1,5 +1,5 @@
 -- The first claim: the kernel's image, in which both tables lie at first.
-use Rattle.std.proofs.Common.{◌≡◌, ℕ, ◌+◌, ◌%◌, ◌^◌, ◌≤◌, true, false, None, List, [], ◌∷◌, length, refl, sym, ap, arith}
+use Rattle.std.proofs.Common.{◌≡◌, ℕ, ◌%◌, ◌^◌, ◌≤◌, true, false, None, List, [], ◌∷◌, length, refl, sym, ap, arith}
 use Rattle.std.proofs.lemmas.Bool.Decides.{nat_tests}
 use Rattle.bm_base.specs.Extent.{Extent, end_of, covers}
 use Rattle.memblock_model.specs.declared.which.Which.{Which}
@@ -10,14 +10,14 @@ use Rattle.memblock_model.specs.declared.item.Item.{Item}
 use Rattle.memblock_model.specs.declared.item.Item.TheVariants as item
 use Rattle.memblock_model.specs.Labels.{Labels}
 use Rattle.memblock_model.specs.Items.{no_owners}
-use Rattle.memblock_model.specs.Tables.{table_of, records_for, records_of, pieces, room_of, live}
+use Rattle.memblock_model.specs.Tables.{table_of, records_for, records_of, room_of, live}
 use Rattle.memblock_model.proofs.TableLaws.{records_for-is}
 use Rattle.memblock_ranges.proofs.CountLaws.{few-pieces}
 use Rattle.growth_model.specs.Outcome.{write}
 use Rattle.growth_model.specs.Growth.{count, is_full, new_in, two, claimed}
 use Rattle.growth_model.specs.Sound.{ShareNoFrame, Seated, IsImage}
 use Rattle.growth_model.proofs.IdleLaws.{claimed-idle}
-use Rattle.growth_model.proofs.SeatLaws.{covers-from, covers-to, Seat-new}
+use Rattle.growth_model.proofs.SeatLaws.{Seat-new}
 
 -- a table that says nothing has no records
 pub no_records : (f : Labels) → ((x : ℕ) → f x ≡ None) → length (records_for f) ≡ 0
@@ -34,16 +34,11 @@ first-full r small =
     let f = table_of which.Reserved [] in
     let few = few-pieces r f small (λ x le. refl) in
     let none = no_records f (λ x. refl) in
-    let enough : length (records_for f) + pieces r f ≤ 128 = omega arith in
-    grind (arith, nat_tests, enough)
+    grind (arith, nat_tests, few, none)
 
 pub first-full_by_two : is_full which.Reserved two [] ≡ false
 unfolding records_of
-first-full_by_two =
-    let f = table_of which.Reserved [] in
-    let none = no_records f (λ x. refl) in
-    let enough : length (records_for f) + 2 ≤ 128 = omega arith in
-    grind (arith, nat_tests, enough)
+first-full_by_two = let none = no_records (table_of which.Reserved []) (λ x. refl) in grind (arith, nat_tests, none)
 
 -- so each table fits at first
 pub no_table_full : (w : Which) → count w [] ≤ room_of w []
@@ -61,21 +56,13 @@ first_items kernel = item.Claim kernel owner.Kernel ∷ []
 abbrev first_live : Which → Extent → Extent
 first_live w kernel = live w kernel (first_items kernel)
 
-memory-inside : (kernel : Extent) (x : ℕ) → 8192 ≤ kernel.size → covers (first_live which.Memory kernel) x ≡ true → covers kernel x ≡ true
-memory-inside kernel x large at =
-    let inside = covers-from (first_live which.Memory kernel) x at in covers-to kernel x (omega arith) (omega arith)
-
-reserved-inside : (kernel : Extent) (x : ℕ) → 8192 ≤ kernel.size → covers (first_live which.Reserved kernel) x ≡ true
-    → covers kernel x ≡ true
-reserved-inside kernel x large at =
-    let inside = covers-from (first_live which.Reserved kernel) x at in covers-to kernel x (omega arith) (omega arith)
+live-inside : (w : Which) (kernel : Extent) (x : ℕ) → 8192 ≤ kernel.size → covers (first_live w kernel) x ≡ true → covers kernel x ≡ true
+live-inside which.Memory kernel x large at = grind (arith, nat_tests, large, at)
+live-inside which.Reserved kernel x large at = grind (arith, nat_tests, large, at)
 
 first-apart : (kernel : Extent) → end_of kernel % 4096 ≡ 0 → 8192 ≤ kernel.size
     → ShareNoFrame (first_live which.Memory kernel) (first_live which.Reserved kernel)
-first-apart kernel whole large x y at_x at_y same =
-    let m = covers-from (first_live which.Memory kernel) x at_x in
-    let r = covers-from (first_live which.Reserved kernel) y at_y in
-    omega arith
+first-apart kernel whole large x y at_x at_y same = grind (arith, nat_tests, whole, large, at_x, at_y, same)
 
 pub first-placed : (kernel : Extent) → IsImage kernel → Seated kernel (item.Claim kernel owner.Kernel ∷ [])
 first-placed kernel image =
@@ -86,9 +73,9 @@ first-placed kernel image =
       first = refl;
       seats = record {
         first = Seat-new no_owners (first_live which.Memory kernel) kernel owner.Kernel (omega arith) refl
-            (λ x at. memory-inside kernel x large at);
+            (λ x at. live-inside which.Memory kernel x large at);
         second = Seat-new no_owners (first_live which.Reserved kernel) kernel owner.Kernel (omega arith) refl
-            (λ x at. reserved-inside kernel x large at);
+            (λ x at. live-inside which.Reserved kernel x large at);
         apart = first-apart kernel whole large;
       };
     }

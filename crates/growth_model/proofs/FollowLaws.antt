@@ -14,8 +14,7 @@ use Rattle.growth_model.proofs.BytesLaws.{shown_by-again, after-along, after-cha
 -- two tables that are those of the items show what the items show
 pub shown-by : (kernel : Extent) (items : List Item) (m r : Table) (x b : ℕ) → m ≡ table_for which.Memory kernel items →
     r ≡ table_for which.Reserved kernel items → shown_by m r x b ≡ shown kernel items x b
-shown-by kernel items m r x b first second =
-    ap (λ (t : Table). shown_by t r x b) first ∙ ap (λ (t : Table). shown_by (table_for which.Memory kernel items) t x b) second
+shown-by kernel items m r x b first second = rw (first, second) refl
 
 -- tables that lie in their bytes do so also as those of the items
 pub spelled-by : (kernel : Extent) (items : List Item) (m r : Table) (f : ℕ → ℕ) → m ≡ table_for which.Memory kernel items →
@@ -40,8 +39,7 @@ follows-still kernel items m r f g first second spelled same =
 
 pub follows-none : (kernel : Extent) (items : List Item) (m r : Table) (f : ℕ → ℕ) → m ≡ table_for which.Memory kernel items →
     r ≡ table_for which.Reserved kernel items → AreSpelled m r f → Follows kernel items items f f
-follows-none kernel items m r f first second spelled =
-    follows-still kernel items m r f f first second spelled (λ x. refl)
+follows-none kernel items m r f first second spelled = follows-still kernel items m r f f first second spelled (λ x. refl)
 
 -- one item that moves no table: the premise on it is `λ x. refl`
 pub follows-item : (kernel : Extent) (items : List Item) (i : Item) (m r : Table) (f g : ℕ → ℕ) →

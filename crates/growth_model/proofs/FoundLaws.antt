@@ -1,7 +1,6 @@
 -- A place that a search found: nobody has its bytes, so neither table lies there.
-use Rattle.std.proofs.Common.{◌≡◌, ℕ, ◌+◌, ◌*◌, ◌%◌, ◌<◌, ◌≤◌, Bool, true, false, ◌==◌, if◌then◌else◌, min, Option, Some, None, List, [], ◌∷◌, ◌++◌, refl, ap, subst, inl, inr, ◌⊎◌, arith}
+use Rattle.std.proofs.Common.{◌≡◌, ℕ, ◌+◌, ◌*◌, ◌%◌, ◌<◌, ◌≤◌, Bool, true, false, ◌==◌, if◌then◌else◌, min, Option, Some, None, List, [], ◌∷◌, ◌++◌, refl, ap, subst, inl, inr, arith}
 use Rattle.std.proofs.lemmas.Bool.{and_parts}
-use Rattle.std.specs.Option.{option_or}
 use Rattle.bm_base.specs.Extent.{Extent, end_of, covers, Meet}
 use Rattle.memblock_model.specs.declared.which.Which.{Which}
 use Rattle.memblock_model.specs.declared.which.Which.TheVariants as which
@@ -12,7 +11,7 @@ use Rattle.memblock_model.specs.Items.{owner_of, limit_of}
 use Rattle.memblock_model.specs.Tables.{without_owner, table_of, live}
 use Rattle.memblock_model.specs.Items.{upward_of}
 use Rattle.memblock_model.specs.Search.{top, best}
-use Rattle.memblock_model.proofs.SearchLaws.{IsPlace, top_in-fits, best_in-fits, fits_in-parts}
+use Rattle.memblock_model.proofs.SearchLaws.{IsPlace, either, top_in-fits, best_in-fits, fits_in-parts}
 use Rattle.memblock_ranges.specs.Tables.{Contents, bytes_of, bytes_in, Overlaps}
 use Rattle.growth_model.specs.Growth.{in_whole_frames, frames_at, table_query, place_beside}
 use Rattle.memblock_model.specs.declared.request.Request.{Request}
@@ -25,17 +24,13 @@ use Rattle.growth_model.proofs.SeatLaws.{covers-from, frames-more, unclaimed-cle
 pub found-fits : (items : List Item) (q : Query) (place : ℕ) → best items q ≡ Some place
     → IsPlace false (table_of which.Memory items) (table_of which.Reserved items) q place
 unfolding best
-found-fits items q place found =
-    fits_in-parts false (table_of which.Memory items) (table_of which.Reserved items) q place
-    (best_in-fits (upward_of items) (table_of which.Memory items) (table_of which.Reserved items) q place found)
+found-fits items q place found = fits_in-parts false _ _ q place (best_in-fits _ _ _ q place found)
 
 pub top-fits : (items : List Item) (q : Query) (mirror : Bool) (place : ℕ) → top items q mirror ≡ Some place
     → IsPlace mirror (table_of which.Memory items) (table_of which.Reserved items) q place
 unfolding top
 top-fits items q mirror place found =
-    fits_in-parts mirror (table_of which.Memory items) (table_of which.Reserved items) q place
-    (top_in-fits (record { mirror = mirror; up = upward_of items }) (table_of which.Memory items)
-    (table_of which.Reserved items) q place found)
+    fits_in-parts mirror _ _ q place (top_in-fits (record { mirror = mirror; up = upward_of items }) _ _ q place found)
 
 pub no_owner : (o : Option Owner) → without_owner o ≡ None → o ≡ None
 no_owner None e = refl
@@ -52,10 +47,6 @@ fits-unclaimed items q mirror place known x at =
 pub found-unclaimed : (items : List Item) (q : Query) (place : ℕ) → best items q ≡ Some place
     → Unclaimed (owner_of items) (record { base = place; size = q.size })
 found-unclaimed items q place found = fits-unclaimed items q false place (found-fits items q place found)
-
-or_cases : (a b : Option ℕ) (place : ℕ) → option_or a b ≡ Some place → (a ≡ Some place) ⊎ (b ≡ Some place)
-or_cases None b place h = inr h
-or_cases (Some x) b place h = inl h
 
 -- a new place for a table with that room: aligned, nobody's, in the address space, and beside the range
 pub record IsNew (items : List Item) (avoid : Extent) (room place : ℕ) : Type 0 where
@@ -82,7 +73,7 @@ pub beside-new : (items : List Item) (avoid : Extent) (room place : ℕ) → pla
     → IsNew items avoid room place
 beside-new items avoid room place found =
     let behind = end_of avoid in let limit = limit_of items in let before = min avoid.base limit in
-    elim (or_cases (best items (table_query room behind limit)) (best items (table_query room 0 before)) place found)
+    elim (either (best items (table_query room behind limit)) (best items (table_query room 0 before)) place found)
     as (λ _. IsNew items avoid room place) [
       | inl above ↦ new_between items avoid room behind limit place (omega arith) (λ x from under low high. omega arith) above
       | inr below ↦ new_between items avoid room 0 before place (omega arith) (λ x from under low high. omega arith) below
@@ -136,7 +127,7 @@ first_found : (r : Request) (items : List Item) (limit place : ℕ) (all : List 
     → first_top items all ≡ Some place → IsFound r items limit place
 first_found r items limit place [] tried h = cc
 first_found r items limit place (a ∷ rest) tried h =
-    elim (or_cases (top items a.query a.mirror) (first_top items rest) place h) as (λ _. IsFound r items limit place) [
+    elim (either (top items a.query a.mirror) (first_top items rest) place h) as (λ _. IsFound r items limit place) [
       | inl here ↦ record { attempt = a; tried = tried.0; found = here }
       | inr later ↦ first_found r items limit place rest tried.1 later
     ]
@@ -157,8 +148,7 @@ place-unclaimed r items place h =
 pub place-within : (r : Request) (items : List Item) (place : ℕ) → place_for r items ≡ Some place → place + r.size ≤ limit_of items
 place-within r items place h =
     let was = place-found r items place h in
-    let known = top-fits items was.attempt.query was.attempt.mirror place was.found in
-    let high = known.high in
+    let high = (top-fits items was.attempt.query was.attempt.mirror place was.found).high in
     let tried = was.tried in
     omega arith
 
@@ -181,10 +171,8 @@ away-within kernel a b items inside away = (λ x at. away.0 x (inside x at), λ 
 
 -- such a range overlaps neither table, as the tables see it, and the other way round
 away_at : (kernel a : Extent) (items : List Item) (w : Which) → IsAway kernel a items → Meet (live w kernel items) a → ⊥
-away_at kernel a items which.Memory away (x, both) =
-    let parts = and_parts (covers (live which.Memory kernel items) x) (covers a x) both in away.0 x parts.1 parts.0
-away_at kernel a items which.Reserved away (x, both) =
-    let parts = and_parts (covers (live which.Reserved kernel items) x) (covers a x) both in away.1 x parts.1 parts.0
+away_at kernel a items which.Memory away (x, both) = let parts = and_parts _ _ both in away.0 x parts.1 parts.0
+away_at kernel a items which.Reserved away (x, both) = let parts = and_parts _ _ both in away.1 x parts.1 parts.0
 
 live_bytes : (kernel : Extent) (items : List Item) (t : Contents) (w : Which) → t.memory ≡ table_for which.Memory kernel items
     → t.reserved ≡ table_for which.Reserved kernel items → bytes_in w t ≡ live w kernel items
@@ -201,7 +189,6 @@ pub found-apart : (kernel : Extent) (items : List Item) (t : Contents) (room pla
     → t.reserved ≡ table_for which.Reserved kernel items → Seated kernel items
     → Unclaimed (owner_of items) (frames_at place (48 * room)) → ¬ Overlaps t (record { base = place; size = 48 * room })
 found-apart kernel items t room place memory reserved placed free =
-    away-apart kernel (record { base = place; size = 48 * room }) items t memory reserved
-    (away-within kernel (frames_at place (48 * room)) (record { base = place; size = 48 * room }) items
-    (frames-more (record { base = place; size = 48 * room }))
+    let range : Extent = record { base = place; size = 48 * room } in
+    away-apart kernel range items t memory reserved (away-within kernel (frames_at place (48 * room)) range items (frames-more range)
     (unclaimed-away kernel (frames_at place (48 * room)) items placed free))

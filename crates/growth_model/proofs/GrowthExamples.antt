@@ -1,10 +1,9 @@
 -- Small changes, computed: what is written step by step, which growth is refused, what an allocation tries, and how calls end.
-use Rattle.std.proofs.Common.{◌≡◌, ℕ, zero, suc, ◌+◌, ◌*◌, ◌%◌, ◌^◌, ◌<◌, ◌≤◌, Bool, true, false, if◌then◌else◌, nat_lt, Option, Some, None, List, [], ◌∷◌, ◌++◌, length, take, Ok, Err, refl, sym, ◌∙◌, ap, subst, arith}
-use Rattle.std.specs.Option.{option_or}
+use Rattle.std.proofs.Common.{◌≡◌, ℕ, zero, suc, ◌+◌, ◌*◌, ◌%◌, ◌^◌, ◌<◌, ◌≤◌, Bool, true, false, nat_lt, Option, Some, None, List, [], ◌∷◌, ◌++◌, length, take, Ok, Err, refl, sym, ap, arith}
 use Rattle.std.proofs.lemmas.Bool.{false_from_ne_true}
 use Rattle.std.proofs.lemmas.Bool.Decides.{nat_tests}
 use Rattle.bm_base.specs.Extent.{Extent, end_of, covers}
-use Rattle.address_runs.specs.Runs.{RunOf, value_at}
+use Rattle.address_runs.specs.Runs.{RunOf}
 use Rattle.address_runs.specs.Edits.{NothingFrom}
 use Rattle.memblock_model.specs.declared.which.Which.{Which}
 use Rattle.memblock_model.specs.declared.which.Which.TheVariants as which
@@ -17,7 +16,7 @@ use Rattle.memblock_model.specs.Items.{owner_of}
 use Rattle.memblock_model.specs.Tables.{table_of, records_of, room_of, live}
 use Rattle.memblock_model.specs.declared.query.Query.{Query}
 use Rattle.memblock_model.specs.Search.{suits, fits_in, top, best}
-use Rattle.memblock_model.proofs.SearchLaws.{IsLastBelow, fits_in-parts, fits_in-whole, top_in-last, top_in-fails, top_in-mirrorless, best_in-last, best_in-fails}
+use Rattle.memblock_model.proofs.SearchLaws.{IsLastBelow, fits_in-parts, fits_in-whole, top_in-last, top_in-fails, top_in-mirrorless, best_in-last, best_in-fails, plain_or_none}
 use Rattle.memblock_model.proofs.TableLaws.{records_for-is}
 use Rattle.memblock_ranges.proofs.CountLaws.{few-pieces}
 use Rattle.growth_model.specs.declared.refusal.Refusal.TheVariants as refusal
@@ -47,100 +46,72 @@ two_steps = record { steps = (item.Trim ∷ (item.Limit 5 ∷ [])) ∷ ((item.Li
 abbrev stopped : Outcome
 stopped = record { steps = (item.Trim ∷ []) ∷ []; refused = Some (record { which = which.Memory; room = 128 }) }
 
-all_joined : joined two_steps.steps ≡ item.Trim ∷ (item.Limit 5 ∷ (item.Limit 7 ∷ []))
-all_joined = refl
+-- all steps joined, and none
+joined_examples : (joined two_steps.steps ≡ item.Trim ∷ (item.Limit 5 ∷ (item.Limit 7 ∷ []))) × (joined [] ≡ [])
+joined_examples = (refl, refl)
 
-none_joined : joined [] ≡ []
-none_joined = refl
+-- what stands behind two steps, and behind a refusal
+behind_examples : (after (item.Limit 3 ∷ []) two_steps ≡ item.Limit 3 ∷ (item.Trim ∷ (item.Limit 5 ∷ (item.Limit 7 ∷ []))))
+    × (after [] stopped ≡ item.Trim ∷ [])
+behind_examples = (refl, refl)
 
-behind_two : after (item.Limit 3 ∷ []) two_steps ≡ item.Limit 3 ∷ (item.Trim ∷ (item.Limit 5 ∷ (item.Limit 7 ∷ [])))
-behind_two = refl
+-- nothing writes nothing, and isn't refused
+nothing_examples : ((nothing small).steps ≡ []) × ((nothing []).refused ≡ None)
+nothing_examples = (refl, refl)
 
-behind_refusal : after [] stopped ≡ item.Trim ∷ []
-behind_refusal = refl
+-- several items in one step
+step_examples : (step (item.Trim ∷ (item.Limit 5 ∷ [])) small ≡ record { steps = (item.Trim ∷ (item.Limit 5 ∷ [])) ∷ []; refused = None })
+    × (after (item.Trim ∷ []) (step (item.Trim ∷ (item.Trim ∷ [])) (item.Trim ∷ [])) ≡ item.Trim ∷ (item.Trim ∷ (item.Trim ∷ [])))
+step_examples = (refl, refl)
 
--- single changes
-nothing_written : (nothing small).steps ≡ []
-nothing_written = refl
+-- one item
+write_examples : (write item.Trim [] ≡ record { steps = (item.Trim ∷ []) ∷ []; refused = None })
+    × (after (item.Trim ∷ []) (write (item.Limit 5) (item.Trim ∷ [])) ≡ item.Trim ∷ (item.Limit 5 ∷ []))
+write_examples = (refl, refl)
 
-nothing_refused : (nothing []).refused ≡ None
-nothing_refused = refl
-
-one_step : step (item.Trim ∷ (item.Limit 5 ∷ [])) small ≡ record { steps = (item.Trim ∷ (item.Limit 5 ∷ [])) ∷ []; refused = None }
-one_step = refl
-
-step_behind : after (item.Trim ∷ []) (step (item.Trim ∷ (item.Trim ∷ [])) (item.Trim ∷ [])) ≡ item.Trim ∷ (item.Trim ∷ (item.Trim ∷ []))
-step_behind = refl
-
-one_item : write item.Trim [] ≡ record { steps = (item.Trim ∷ []) ∷ []; refused = None }
-one_item = refl
-
-item_behind : after (item.Trim ∷ []) (write (item.Limit 5) (item.Trim ∷ [])) ≡ item.Trim ∷ (item.Limit 5 ∷ [])
-item_behind = refl
-
-no_place : (refuse which.Reserved 128 small).refused ≡ Some (record { which = which.Reserved; room = 128 })
-no_place = refl
-
-no_place_writes_nothing : (refuse which.Memory 256 small).steps ≡ []
-no_place_writes_nothing = refl
+-- no place for a table: it is told for which room, and nothing is written
+refuse_examples : ((refuse which.Reserved 128 small).refused ≡ Some (record { which = which.Reserved; room = 128 }))
+    × ((refuse which.Memory 256 small).steps ≡ [])
+refuse_examples = (refl, refl)
 
 -- one behind the other, unless the first was refused
-both_follow : followed_by two_steps None stopped
-    ≡ record { steps = two_steps.steps ++ stopped.steps; refused = Some (record { which = which.Memory; room = 128 }) }
-both_follow = refl
+followed_by_examples : (followed_by two_steps None stopped
+    ≡ record { steps = two_steps.steps ++ stopped.steps; refused = Some (record { which = which.Memory; room = 128 }) })
+    × (followed_by stopped (Some (record { which = which.Memory; room = 128 })) two_steps ≡ stopped)
+followed_by_examples = (refl, refl)
 
-first_refused : followed_by stopped (Some (record { which = which.Memory; room = 128 })) two_steps ≡ stopped
-first_refused = refl
+-- so it is with two changes in turn: both, none behind a refusal, the first alone where the second is refused
+then_examples : ((write item.Trim >> write (item.Limit 5)) []
+    ≡ record { steps = (item.Trim ∷ []) ∷ ((item.Limit 5 ∷ []) ∷ []); refused = None })
+    × ((refuse which.Memory 128 >> write (item.Limit 5)) [] ≡ refuse which.Memory 128 [])
+    × ((write item.Trim >> refuse which.Memory 128) [] ≡ stopped)
+then_examples = (refl, refl, refl)
 
-in_turn : (write item.Trim >> write (item.Limit 5)) [] ≡ record { steps = (item.Trim ∷ []) ∷ ((item.Limit 5 ∷ []) ∷ []); refused = None }
-in_turn = refl
+-- a change that is due, and one that is not
+if_due_examples : (if_due (λ items. nat_lt 1 (length items)) (write item.Trim) small ≡ write item.Trim small)
+    × (if_due (λ items. nat_lt 5 (length items)) (write item.Trim) small ≡ nothing small)
+if_due_examples = (refl, refl)
 
-not_behind_refusal : (refuse which.Memory 128 >> write (item.Limit 5)) [] ≡ refuse which.Memory 128 []
-not_behind_refusal = refl
+-- a refusal is forgotten; where none is, nothing changes
+whatever_refused_examples : (whatever_refused (write item.Trim >> refuse which.Memory 128) [] ≡ write item.Trim [])
+    × (whatever_refused (write item.Trim) small ≡ write item.Trim small)
+whatever_refused_examples = (refl, refl)
 
-refused_second : (write item.Trim >> refuse which.Memory 128) [] ≡ stopped
-refused_second = refl
+-- whole frames: for one byte, for a frame and a half, for a frame
+whole_frames_examples : (in_whole_frames 1 ≡ 4096) × (in_whole_frames 6144 ≡ 8192) × (in_whole_frames 4096 ≡ 4096)
+whole_frames_examples = (refl, refl, refl)
 
-is_due : if_due (λ items. nat_lt 1 (length items)) (write item.Trim) small ≡ write item.Trim small
-is_due = refl
+-- the frames of a new table and of an old one
+frames_at_examples : (frames_at 65536 (48 * 128) ≡ record { base = 65536; size = 8192 })
+    × (frames_at 65536 (24 * 128) ≡ record { base = 65536; size = 4096 })
+frames_at_examples = (refl, refl)
 
-is_not_due : if_due (λ items. nat_lt 5 (length items)) (write item.Trim) small ≡ nothing small
-is_not_due = refl
-
-refusal_forgotten : whatever_refused (write item.Trim >> refuse which.Memory 128) [] ≡ write item.Trim []
-refusal_forgotten = refl
-
-nothing_to_forget : whatever_refused (write item.Trim) small ≡ write item.Trim small
-nothing_to_forget = refl
-
--- whole frames
-a_byte : in_whole_frames 1 ≡ 4096
-a_byte = refl
-
-two_frames : in_whole_frames 6144 ≡ 8192
-two_frames = refl
-
-exact_frame : in_whole_frames 4096 ≡ 4096
-exact_frame = refl
-
-new_table : frames_at 65536 (48 * 128) ≡ record { base = 65536; size = 8192 }
-new_table = refl
-
-old_table : frames_at 65536 (24 * 128) ≡ record { base = 65536; size = 4096 }
-old_table = refl
-
--- what a table looks for
-first_query : table_query 128 0 262144 ≡ record { lo = 0; hi = 262144; size = 8192; align = 4096; node = None }
-first_query = refl
-
-second_query : table_query 256 4096 8192 ≡ record { lo = 4096; hi = 8192; size = 12288; align = 4096; node = None }
-second_query = refl
+-- what a table looks for, at first and when it has grown
+table_query_examples : (table_query 128 0 262144 ≡ record { lo = 0; hi = 262144; size = 8192; align = 4096; node = None })
+    × (table_query 256 4096 8192 ≡ record { lo = 4096; hi = 8192; size = 12288; align = 4096; node = None })
+table_query_examples = (refl, refl)
 
 -- none of the small memory is mirrored
-plain_or_none : (b : Bool) → suits true (if b then Some plain_label else None) ≡ false
-plain_or_none true = refl
-plain_or_none false = refl
-
 small_is_plain : (x : ℕ) → suits true (table_of which.Memory small x) ≡ false
 small_is_plain x = plain_or_none (covers (record { base = 0; size = 262144 }) x)
 
@@ -199,19 +170,14 @@ no_window lo hi none =
 
 -- above the frame at 128 KiB there is room; above the last 64 KiB there is none, but there is below them
 above_place : place_beside (frame 32) 128 small ≡ Some 253952
-above_place = ap (λ (o : Option ℕ). option_or o (best small (table_query 128 0 131072)))
-    (window_place 135168 262144 253952 refl (omega arith) refl (omega arith) (omega arith))
+above_place = rw (window_place 135168 262144 253952 refl (omega arith) refl (omega arith) (omega arith)) refl
 
 below_place : place_beside (record { base = 196608; size = 65536 }) 128 small ≡ Some 188416
-below_place = ap (λ (o : Option ℕ). option_or o (best small (table_query 128 0 196608))) (no_window 262144 262144 (omega arith))
-    ∙ window_place 0 196608 188416 refl (omega arith) refl (omega arith) (omega arith)
+below_place = rw (no_window 262144 262144 (omega arith)) (window_place 0 196608 188416 refl (omega arith) refl (omega arith) (omega arith))
 
--- a table that never moved leaves nothing behind
-nothing_left : left 128 None ≡ []
-nothing_left = refl
-
-left_behind : left 256 (Some 65536) ≡ item.Free (record { base = 65536; size = 8192 }) ∷ []
-left_behind = refl
+-- a table that never moved leaves nothing behind; one that did leaves its frames
+left_items_examples : (left 128 None ≡ []) × (left 256 (Some 65536) ≡ item.Free (record { base = 65536; size = 8192 }) ∷ [])
+left_items_examples = (refl, refl)
 
 first_move : reserved_items 128 None 253952
     ≡ item.Grown which.Reserved 253952 256 ∷ (item.Claim (record { base = 253952; size = 8192 }) (owner.Table which.Reserved) ∷ [])
@@ -236,21 +202,19 @@ moved_with_all_its_room : (live which.Reserved image (moving 0) ≡ record { bas
 unfolding reserved_items
 moved_with_all_its_room = (refl, refl)
 
-no_place_for_table : reserved_growth_at 128 None None small ≡ refuse which.Reserved 128 small
+-- without a place the growth is refused, with one it is one step
+growth_at_examples : (reserved_growth_at 128 None None small ≡ refuse which.Reserved 128 small)
+    × ((reserved_growth_at 128 None (Some 253952) small).steps ≡ reserved_items 128 None 253952 ∷ [])
 unfolding reserved_growth_at
-no_place_for_table = refl
-
-place_for_table : (reserved_growth_at 128 None (Some 253952) small).steps ≡ reserved_items 128 None 253952 ∷ []
-unfolding reserved_growth_at
-place_for_table = refl
+growth_at_examples = (refl, refl)
 
 growth_above : reserved_growth (frame 32) small ≡ step (reserved_items 128 None 253952) small
 unfolding reserved_growth reserved_growth_at
-growth_above = ap (λ (o : Option ℕ). reserved_growth_at 128 None o small) above_place
+growth_above = rw above_place refl
 
 growth_below : reserved_growth (record { base = 196608; size = 65536 }) small ≡ step (reserved_items 128 None 188416) small
 unfolding reserved_growth reserved_growth_at
-growth_below = ap (λ (o : Option ℕ). reserved_growth_at 128 None o small) below_place
+growth_below = rw below_place refl
 
 -- the records of the small memory: one in each table
 abbrev memory_records : List (RunOf Label)
@@ -258,12 +222,6 @@ memory_records = record { base = 0; size = 262144; value = plain_label } ∷ []
 
 abbrev reserved_records : List (RunOf Label)
 reserved_records = record { base = 65536; size = 16384; value = plain_label } ∷ []
-
-memory_each : (x : ℕ) → value_at memory_records x ≡ table_of which.Memory small x
-memory_each x = grind (arith, nat_tests)
-
-reserved_each : (x : ℕ) → value_at reserved_records x ≡ table_of which.Reserved small x
-reserved_each x = grind (arith, nat_tests)
 
 memory_ends : NothingFrom (2 ^ 64) (table_of which.Memory small)
 memory_ends x le = grind (arith, nat_tests)
@@ -274,48 +232,38 @@ reserved_ends x le = grind (arith, nat_tests)
 memory_count : count which.Memory small ≡ 1
 unfolding records_of
 memory_count = ap length (sym (records_for-is (table_of which.Memory small) memory_records memory_ends
-    (record { runs = (omega arith, tt, tt); each = memory_each })))
+    (record { runs = (omega arith, tt, tt); each = λ x. grind (arith, nat_tests) })))
 
 reserved_count : count which.Reserved small ≡ 1
 unfolding records_of
 reserved_count = ap length (sym (records_for-is (table_of which.Reserved small) reserved_records reserved_ends
-    (record { runs = (omega arith, tt, tt); each = reserved_each })))
+    (record { runs = (omega arith, tt, tt); each = λ x. grind (arith, nat_tests) })))
 
 none_at_first : count which.Memory [] ≡ 0
 unfolding records_of
 none_at_first = no_records (table_of which.Memory []) (λ x. refl)
 
 -- an edit adds two pieces at most, so nothing is full; 128 further records would be too many
-few_new : (w : Which) (r : Extent) → end_of r ≤ 2 ^ 64 → NothingFrom (2 ^ 64) (table_of w small) → count w small ≡ 1 → new_in w r small ≤ 2
+new_has_room : (w : Which) (r : Extent) → end_of r ≤ 2 ^ 64 → NothingFrom (2 ^ 64) (table_of w small) → count w small ≡ 1
+    → is_full w (new_in w r) small ≡ false
 unfolding records_of
-few_new w r small_enough ends one = let few = few-pieces r (table_of w small) small_enough ends in omega arith
+new_has_room w r small_enough ends one = let few = few-pieces r (table_of w small) small_enough ends in grind (arith, nat_tests, one, few)
 
 claim_has_room : is_full which.Reserved (new_in which.Reserved (frame 32)) small ≡ false
-claim_has_room =
-    let few = few_new which.Reserved (frame 32) (omega arith) reserved_ends reserved_count in
-    let enough : count which.Reserved small + new_in which.Reserved (frame 32) small ≤ 128 = omega (arith, reserved_count, few) in
-    grind (arith, nat_tests, enough)
+claim_has_room = new_has_room which.Reserved (frame 32) (omega arith) reserved_ends reserved_count
 
 add_has_room : is_full which.Memory (new_in which.Memory (frame 64)) small ≡ false
-add_has_room =
-    let few = few_new which.Memory (frame 64) (omega arith) memory_ends memory_count in
-    let enough : count which.Memory small + new_in which.Memory (frame 64) small ≤ 128 = omega (arith, memory_count, few) in
-    grind (arith, nat_tests, enough)
+add_has_room = new_has_room which.Memory (frame 64) (omega arith) memory_ends memory_count
 
-has_room_for_two : is_full which.Reserved two small ≡ false
-has_room_for_two = let enough : count which.Reserved small + 2 ≤ 128 = omega (arith, reserved_count) in grind (arith, nat_tests, enough)
-
-memory_has_room_for_two : is_full which.Memory two small ≡ false
-memory_has_room_for_two = let enough : count which.Memory small + 2 ≤ 128 = omega (arith, memory_count) in grind (arith, nat_tests, enough)
+two_have_room : (w : Which) → count w small ≡ 1 → is_full w two small ≡ false
+two_have_room w one = grind (arith, nat_tests, one)
 
 too_many : is_full which.Memory (λ items. 128) small ≡ true
-too_many = let full : 128 < count which.Memory small + 128 = omega (arith, memory_count) in grind (arith, nat_tests, full)
+too_many = grind (arith, nat_tests, memory_count)
 
-always_two : two [] ≡ 2
-always_two = refl
-
-always_two_more : two small ≡ 2
-always_two_more = refl
+-- always two more
+two_examples : (two [] ≡ 2) × (two small ≡ 2)
+two_examples = (refl, refl)
 
 -- with room an item is written alone
 first_claim : claimed image owner.Kernel [] ≡ write (item.Claim image owner.Kernel) []
@@ -325,7 +273,7 @@ a_claim : claimed (frame 32) owner.Soft small ≡ write (item.Claim (frame 32) o
 a_claim = claimed-idle small (frame 32) owner.Soft claim_has_room
 
 a_free : freed (frame 16) small ≡ write (item.Free (frame 16)) small
-a_free = freed-idle small (frame 16) has_room_for_two
+a_free = freed-idle small (frame 16) (two_have_room which.Reserved reserved_count)
 
 free_of_nothing : freed (frame 1) [] ≡ write (item.Free (frame 1)) []
 free_of_nothing = freed-idle [] (frame 1) first-full_by_two
@@ -334,10 +282,10 @@ an_added_frame : added (frame 64) small ≡ write (item.Mem (frame 64)) small
 an_added_frame = added-idle small (frame 64) add_has_room
 
 a_node : noded (frame 1) 3 small ≡ write (item.Node (frame 1) 3) small
-a_node = noded-idle small (frame 1) 3 memory_has_room_for_two
+a_node = noded-idle small (frame 1) 3 (two_have_room which.Memory memory_count)
 
 a_mirror : mirrored (frame 1) small ≡ write (item.Mirror (frame 1)) small
-a_mirror = mirrored-idle small (frame 1) memory_has_room_for_two
+a_mirror = mirrored-idle small (frame 1) (two_have_room which.Memory memory_count)
 
 -- a table that is full grows until it isn't, twice at most
 abbrev moves : Change
@@ -348,53 +296,29 @@ unfolding records_of
 none_behind_a_move = no_records (table_of which.Memory (item.Grown which.Memory 4096 256 ∷ [])) (λ x. refl)
 
 first_full : (n : ℕ) → 128 < n → is_full which.Memory (λ items. n) [] ≡ true
-first_full n many = let full : 128 < count which.Memory [] + n = omega arith in grind (arith, nat_tests, full)
+first_full n many = grind (arith, nat_tests, many)
 
 then_room : (n : ℕ) → n ≤ 256 → is_full which.Memory (λ items. n) (item.Grown which.Memory 4096 256 ∷ []) ≡ false
-then_room n few =
-    let enough : count which.Memory (item.Grown which.Memory 4096 256 ∷ []) + n ≤ 256 = omega (arith, none_behind_a_move) in
-    grind (arith, nat_tests, enough)
+then_room n few = grind (arith, nat_tests, none_behind_a_move, few)
 
 then_full : (n : ℕ) → 256 < n → is_full which.Memory (λ items. n) (item.Grown which.Memory 4096 256 ∷ []) ≡ true
-then_full n many =
-    let full : 256 < count which.Memory (item.Grown which.Memory 4096 256 ∷ []) + n = omega arith in grind (arith, nat_tests, full)
-
-due_moves : (more : List Item → ℕ) (items : List Item) → is_full which.Memory more items ≡ true
-    → if_due (is_full which.Memory more) moves items ≡ moves items
-due_moves more items full = rw full refl
-
-idle_moves : (more : List Item → ℕ) (items : List Item) → is_full which.Memory more items ≡ false
-    → if_due (is_full which.Memory more) moves items ≡ nothing items
-idle_moves more items room = rw room refl
+then_full n many = grind (arith, nat_tests, many)
 
 once : grown which.Memory (λ items. 200) moves [] ≡ moves []
-once =
-    let due = is_full which.Memory (λ items. 200) in
-    ap (λ (o : Outcome). followed_by o o.refused (if_due due moves (after [] o)))
-    (due_moves (λ items. 200) [] (first_full 200 (omega arith)))
-    ∙ ap (λ (o : Outcome). let both : Outcome = record { steps = (moves []).steps ++ o.steps; refused = o.refused } in both)
-    (idle_moves (λ items. 200) (item.Grown which.Memory 4096 256 ∷ []) (then_room 200 (omega arith)))
+once = rw (first_full 200 (omega arith), then_room 200 (omega arith)) refl
 
 twice : grown which.Memory (λ items. 300) moves [] ≡ (moves >> moves) []
-twice =
-    let due = is_full which.Memory (λ items. 300) in
-    ap (λ (o : Outcome). followed_by o o.refused (if_due due moves (after [] o)))
-    (due_moves (λ items. 300) [] (first_full 300 (omega arith)))
-    ∙ ap (λ (o : Outcome). let both : Outcome = record { steps = (moves []).steps ++ o.steps; refused = o.refused } in both)
-    (due_moves (λ items. 300) (item.Grown which.Memory 4096 256 ∷ []) (then_full 300 (omega arith)))
+twice = rw (first_full 300 (omega arith), then_full 300 (omega arith)) refl
 
--- the old place of the memory table
-no_old_frames : old_frames 128 None ≡ None
-no_old_frames = refl
-
-two_old_frames : old_frames 256 (Some 65536) ≡ Some (record { base = 65536; size = 8192 })
-two_old_frames = refl
+-- the old place of the memory table: none, or two frames
+old_frames_examples : (old_frames 128 None ≡ None) × (old_frames 256 (Some 65536) ≡ Some (record { base = 65536; size = 8192 }))
+old_frames_examples = (refl, refl)
 
 nothing_to_leave : leave None small ≡ nothing small
 nothing_to_leave = refl
 
 a_frame_to_leave : leave (Some (frame 16)) small ≡ write (item.Free (frame 16)) small
-a_frame_to_leave = ap (λ (o : Outcome). let whole : Outcome = record { steps = o.steps; refused = None } in whole) a_free
+a_frame_to_leave = rw a_free refl
 
 leaving_is_never_refused : (frames : Extent) (items : List Item) → (leave (Some frames) items).refused ≡ None
 leaving_is_never_refused frames items = refl
@@ -404,21 +328,14 @@ free_behind_127 : (range : Extent) (items : List Item) → count which.Reserved 
     → place_beside range 128 items ≡ None → freed range items ≡ refuse which.Reserved 128 items
 unfolding freed reserved_growth reserved_growth_at
 free_behind_127 range items many room none =
-    let due = is_full which.Reserved two in
-    let past : room_of which.Reserved items < count which.Reserved items + 2 = omega (arith, many, room) in
-    let full : is_full which.Reserved two items ≡ true = grind (arith, nat_tests, past) in
-    let first : if_due due (reserved_growth range) items ≡ refuse which.Reserved 128 items = rw full (rw room (rw none refl)) in
-    let both : Outcome → Outcome = λ o. followed_by o o.refused (if_due due (reserved_growth range) (after items o)) in
-    ap (λ (o : Outcome). followed_by (both o) (both o).refused (write (item.Free range) (after items (both o)))) first
+    let full : is_full which.Reserved two items ≡ true = grind (arith, nat_tests, many, room) in
+    rw (full, room, none) refl
 
 -- the growth of the memory table: the claim of its new place, and the move
 place_claimed : claimed (frames_at 253952 6144) (owner.Table which.Memory) small
     ≡ write (item.Claim (record { base = 253952; size = 8192 }) (owner.Table which.Memory)) small
 place_claimed = claimed-idle small (frames_at 253952 6144) (owner.Table which.Memory)
-    (let few = few_new which.Reserved (frames_at 253952 6144) (omega arith) reserved_ends reserved_count in
-    let enough : count which.Reserved small + new_in which.Reserved (frames_at 253952 6144) small ≤ 128 =
-    omega (arith, reserved_count, few) in
-    grind (arith, nat_tests, enough))
+    (new_has_room which.Reserved (frames_at 253952 6144) (omega arith) reserved_ends reserved_count)
 
 abbrev first_growth : Outcome
 first_growth = record {
@@ -429,8 +346,7 @@ first_growth = record {
 
 place_taken : memory_growth_at 128 None (Some 253952) small ≡ first_growth
 unfolding memory_growth_at
-place_taken = ap (λ (o : Outcome). followed_by o o.refused ((write (item.Grown which.Memory 253952 256) >> leave None) (after small o)))
-    place_claimed
+place_taken = rw place_claimed refl
 
 no_place_taken : memory_growth_at 128 None None small ≡ refuse which.Memory 128 small
 unfolding memory_growth_at
@@ -438,8 +354,7 @@ no_place_taken = refl
 
 memory_grows : memory_growth small ≡ first_growth
 unfolding memory_growth
-memory_grows = ap (λ (o : Option ℕ). memory_growth_at 128 None o small)
-    (window_place 0 262144 253952 refl (omega arith) refl (omega arith) (omega arith)) ∙ place_taken
+memory_grows = rw (window_place 0 262144 253952 refl (omega arith) refl (omega arith) (omega arith)) place_taken
 
 -- memory goes on above the limit, and the new place doesn't
 abbrev half_allowed : List Item
@@ -465,34 +380,23 @@ from_the_middle = record { size = 4096; align = 8192; min = 131072; max = Some 1
 abbrev of_node_one : Request
 of_node_one = record from_the_middle { exact = true }
 
-the_limit_ends_it : (attempt a_frame 262144 0 false None).query ≡ record { lo = 0; hi = 262144; size = 4096; align = 4096; node = None }
-the_limit_ends_it = refl
+-- the limit ends a search, or the maximum; a mirror is asked for, or any memory will do
+attempt_examples : ((attempt a_frame 262144 0 false None).query ≡ record { lo = 0; hi = 262144; size = 4096; align = 4096; node = None })
+    × ((attempt from_the_middle 262144 131072 true (Some 1)).query
+    ≡ record { lo = 131072; hi = 196608; size = 4096; align = 8192; node = Some 1 })
+    × ((attempt a_frame 262144 0 true None).mirror ≡ true) × ((attempt a_frame 262144 0 false None).mirror ≡ false)
+attempt_examples = (refl, refl, refl, refl)
 
-the_maximum_ends_it : (attempt from_the_middle 262144 131072 true (Some 1)).query
-    ≡ record { lo = 131072; hi = 196608; size = 4096; align = 8192; node = Some 1 }
-the_maximum_ends_it = refl
+-- any node behind the one that is wanted, unless that one alone will do; nothing where none is wanted
+anywhere_examples : (anywhere from_the_middle 262144 0 true (Some 1) ≡ attempt from_the_middle 262144 0 true None ∷ [])
+    × (anywhere of_node_one 262144 0 false (Some 1) ≡ []) × (anywhere a_frame 262144 0 false None ≡ [])
+anywhere_examples = (refl, refl, refl)
 
-the_mirror_is_asked_for : (attempt a_frame 262144 0 true None).mirror ≡ true
-the_mirror_is_asked_for = refl
-
-any_memory_will_do : (attempt a_frame 262144 0 false None).mirror ≡ false
-any_memory_will_do = refl
-
-any_node_behind_it : anywhere from_the_middle 262144 0 true (Some 1) ≡ attempt from_the_middle 262144 0 true None ∷ []
-any_node_behind_it = refl
-
-no_other_node : anywhere of_node_one 262144 0 false (Some 1) ≡ []
-no_other_node = refl
-
-no_node_to_leave : anywhere a_frame 262144 0 false None ≡ []
-no_node_to_leave = refl
-
-both_nodes : nodes from_the_middle 262144 131072 false
-    ≡ attempt from_the_middle 262144 131072 false (Some 1) ∷ (attempt from_the_middle 262144 131072 false None ∷ [])
-both_nodes = refl
-
-one_node : nodes of_node_one 262144 131072 true ≡ attempt of_node_one 262144 131072 true (Some 1) ∷ []
-one_node = refl
+-- both searches, or that of the node alone
+nodes_examples : (nodes from_the_middle 262144 131072 false
+    ≡ attempt from_the_middle 262144 131072 false (Some 1) ∷ (attempt from_the_middle 262144 131072 false None ∷ []))
+    × (nodes of_node_one 262144 131072 true ≡ attempt of_node_one 262144 131072 true (Some 1) ∷ [])
+nodes_examples = (refl, refl)
 
 -- mirrored memory of any node goes before other memory of the node
 a_round_of_four : round from_the_middle 262144 131072
@@ -504,13 +408,12 @@ a_round_of_two : round of_node_one 262144 131072
     ≡ attempt of_node_one 262144 131072 true (Some 1) ∷ (attempt of_node_one 262144 131072 false (Some 1) ∷ [])
 a_round_of_two = refl
 
-two_rounds : attempts of_node_one 262144 ≡ attempt of_node_one 262144 131072 true (Some 1)
-    ∷ (attempt of_node_one 262144 131072 false (Some 1) ∷ (attempt of_node_one 262144 0 true (Some 1)
-    ∷ (attempt of_node_one 262144 0 false (Some 1) ∷ [])))
-two_rounds = refl
-
-one_round : attempts a_frame 262144 ≡ attempt a_frame 262144 0 true None ∷ (attempt a_frame 262144 0 false None ∷ [])
-one_round = refl
+-- a minimum is tried first and then left; without one there is one round
+attempts_examples : (attempts of_node_one 262144
+    ≡ attempt of_node_one 262144 131072 true (Some 1) ∷ (attempt of_node_one 262144 131072 false (Some 1)
+    ∷ (attempt of_node_one 262144 0 true (Some 1) ∷ (attempt of_node_one 262144 0 false (Some 1) ∷ []))))
+    × (attempts a_frame 262144 ≡ attempt a_frame 262144 0 true None ∷ (attempt a_frame 262144 0 false None ∷ []))
+attempts_examples = (refl, refl)
 
 abbrev any_memory : Query → Attempt
 any_memory q = record { query = q; mirror = false }
@@ -567,31 +470,23 @@ wanted_behind_all cut = fewer_of_two cut.count cut.short cut.stands
 wanted_at_a_refusal : Ends {T = ℕ} (Err refusal.Memory) small small (refuse which.Memory 128) → ⊥
 wanted_at_a_refusal cut = let none : cut.count < 0 = cut.short in omega (arith, none)
 
-ends_well : EndsBy {T = ℕ} (Ok 3) [] (item.Trim ∷ (item.Limit 5 ∷ (item.Limit 7 ∷ []))) two_steps
-ends_well = (refl, refl)
+-- a call that ends well, and one that is refused; a gap is never wanting
+ends_by_examples : (EndsBy {T = ℕ} (Ok 3) [] (item.Trim ∷ (item.Limit 5 ∷ (item.Limit 7 ∷ []))) two_steps)
+    × (EndsBy {T = ℕ} (Err (refusal.NoGapForTable which.Memory 128)) [] (item.Trim ∷ []) stopped)
+    × (EndsBy {T = ℕ} (Err refusal.NoGap) [] [] two_steps → ⊥)
+ends_by_examples = ((refl, refl), (refl, refl), λ h. h)
 
-ends_refused : EndsBy {T = ℕ} (Err (refusal.NoGapForTable which.Memory 128)) [] (item.Trim ∷ []) stopped
-ends_refused = (refl, refl)
-
-never_without_gap : EndsBy {T = ℕ} (Err refusal.NoGap) [] [] two_steps → ⊥
-never_without_gap h = h
-
-a_claim_ends : Ends {T = ℕ} (Ok 3) small (small ++ item.Trim ∷ []) (write item.Trim)
-a_claim_ends = (refl, refl)
-
-memory_ran_out : Ends {T = ℕ} (Err refusal.Memory) small small (write item.Trim)
-memory_ran_out = record { count = 0; short = omega arith; stands = refl }
+-- all of a change is written, or memory ran out before any of it
+ends_examples : (Ends {T = ℕ} (Ok 3) small (small ++ item.Trim ∷ []) (write item.Trim))
+    × (Ends {T = ℕ} (Err refusal.Memory) small small (write item.Trim))
+ends_examples = ((refl, refl), record { count = 0; short = omega arith; stands = refl })
 
 no_gap : Allocates (Err refusal.NoGap) small small None 4096 owner.Soft
 no_gap = (refl, refl)
 
 a_gap : Allocates (Ok 131072) small (small ++ item.Claim (frame 32) owner.Soft ∷ []) (Some 131072) 4096 owner.Soft
-a_gap = (
-  refl,
-  subst (λ (o : Outcome). EndsBy {T = ℕ} (Ok 131072) small (small ++ item.Claim (frame 32) owner.Soft ∷ []) o) (sym a_claim)
-      (refl, refl),
-)
+a_gap = (refl, rw a_claim (refl, refl))
 
 -- the place that was found is answered, and no other
 another_place : Allocates (Ok 4096) small (small ++ item.Claim (frame 32) owner.Soft ∷ []) (Some 131072) 4096 owner.Soft → ⊥
-another_place ends = let wrong : 4096 ≡ 131072 = ends.0 in absurd (omega (arith, wrong))
+another_place ends = let wrong : 4096 ≡ 131072 = ends.0 in omega (arith, wrong)

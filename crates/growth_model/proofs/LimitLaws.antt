@@ -17,6 +17,7 @@ use Rattle.growth_model.specs.Ends.{Ends}
 use Rattle.growth_model.proofs.CutLaws.{EachCut, cuts-last, cuts-ends, cuts-then, cuts-grown, cuts-map}
 use Rattle.growth_model.proofs.FoundLaws.{found-fits}
 use Rattle.growth_model.proofs.PlacedLaws.{moves-of, rooms-of}
+use Rattle.growth_model.proofs.PlacedReservedLaws.{reserved-moves, reserved-rooms}
 
 -- the memory table's newest place is that one, and its room that one
 abbrev pub LiesAt : Option ℕ → ℕ → List Item → Type 0
@@ -25,15 +26,8 @@ LiesAt m n t = (moved_to which.Memory t ≡ m) × (room_of which.Memory t ≡ n)
 -- no growth of the reserved table moves the other, and so no claim and no free does
 grew-stays : (m : Option ℕ) (n room : ℕ) (old : Option ℕ) (place : ℕ) (t : List Item) → LiesAt m n t
     → LiesAt m n (t ++ reserved_items room old place)
-unfolding reserved_items
-grew-stays m n room None place t at = (
-  moves-of which.Memory t (reserved_items room None place) ∙ at.0,
-  rooms-of which.Memory t (reserved_items room None place) ∙ at.1,
-)
-grew-stays m n room (Some q) place t at = (
-  moves-of which.Memory t (reserved_items room (Some q) place) ∙ at.0,
-  rooms-of which.Memory t (reserved_items room (Some q) place) ∙ at.1,
-)
+grew-stays m n room old place t at =
+    (reserved-moves which.Memory t room old place ∙ at.0, reserved-rooms which.Memory t room old place ∙ at.1)
 
 at-stays : (m : Option ℕ) (n room : ℕ) (old found : Option ℕ) (t : List Item) → LiesAt m n t
     → EachCut (LiesAt m n) t (reserved_growth_at room old found t).steps
@@ -60,16 +54,14 @@ pub claimed-stays : (m : Option ℕ) (n : ℕ) (a : Extent) (o : Owner) (t : Lis
     → EachCut (LiesAt m n) t (claimed a o t).steps
 unfolding claimed
 claimed-stays m n a o t at =
-    let i : Item = item.Claim a o in
-    behind-growths m n a (new_in which.Reserved a) i t
-    (λ u here. (moves-of which.Memory u (i ∷ []) ∙ here.0, rooms-of which.Memory u (i ∷ []) ∙ here.1)) at
+    behind-growths m n a (new_in which.Reserved a) (item.Claim a o) t
+    (λ u here. (moves-of which.Memory u _ ∙ here.0, rooms-of which.Memory u _ ∙ here.1)) at
 
 freed-stays : (m : Option ℕ) (n : ℕ) (a : Extent) (t : List Item) → LiesAt m n t → EachCut (LiesAt m n) t (freed a t).steps
 unfolding freed
 freed-stays m n a t at =
-    let i : Item = item.Free a in
-    behind-growths m n a two i t
-    (λ u here. (moves-of which.Memory u (i ∷ []) ∙ here.0, rooms-of which.Memory u (i ∷ []) ∙ here.1)) at
+    behind-growths m n a two (item.Free a) t
+    (λ u here. (moves-of which.Memory u _ ∙ here.0, rooms-of which.Memory u _ ∙ here.1)) at
 
 pub leave-stays : (m : Option ℕ) (n : ℕ) (old : Option Extent) (t : List Item) → LiesAt m n t → EachCut (LiesAt m n) t (leave old t).steps
 leave-stays m n None t at = at

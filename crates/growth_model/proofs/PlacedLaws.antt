@@ -23,18 +23,14 @@ live_by w kernel place room = record { base = unwrap_or place (built_in w kernel
 
 pub live-is : (w : Which) (kernel : Extent) (items : List Item) (place : Option ℕ) (room : ℕ) → moved_to w items ≡ place
     → room_of w items ≡ room → live w kernel items ≡ live_by w kernel place room
-live-is w kernel items place room at wide = ap (λ (o : Option ℕ). live_by w kernel o (room_of w items)) at
-    ∙ ap (λ (n : ℕ). live_by w kernel place n) wide
+live-is w kernel items place room at wide = rw (at, wide) refl
 
 pub live-same : (w : Which) (kernel : Extent) (items t : List Item) → moved_to w t ≡ moved_to w items → room_of w t ≡ room_of w items
     → live w kernel t ≡ live w kernel items
 live-same w kernel items t at wide = live-is w kernel t (moved_to w items) (room_of w items) at wide
 
 pub Seats-same : (own now : Owners) (m n r s : Extent) → now ≡ own → n ≡ m → s ≡ r → Seats own m r → Seats now n s
-Seats-same own now m n r s owners memory reserved known =
-    subst (λ (e : Extent). Seats now n e) (sym reserved)
-    (subst (λ (e : Extent). Seats now e r) (sym memory)
-    (subst (λ (f : Owners). Seats f m r) (sym owners) known))
+Seats-same own now m n r s owners memory reserved known = rw (owners, memory, reserved) known
 
 -- further items, and what becomes of the places
 pub placed-more : (kernel : Extent) (items more : List Item) (own : Owners) (m r : Extent) → Seated kernel items

@@ -126,14 +126,8 @@ taken-along : (kernel : Extent) (t : List Item) (room : ℕ) (old : Option ℕ) 
     → moved_to which.Memory t ≡ old → place % 4096 ≡ 0 → Unclaimed (owner_of t) (frames_at place (48 * room)) → Seated kernel t
     → IsTaken kernel (t ++ item.Claim (frames_at place (48 * room)) (for_table which.Memory) ∷ []) room old place
 taken-along kernel t room old place wide was aligned free placed =
-    let new : IsFree t place = record {
-      aligned = aligned;
-      free = subst (λ (n : ℕ). Unclaimed (owner_of t) (frames_at place (48 * n))) (sym wide) free;
-    } in
-    subst (λ (o : Option ℕ). IsTaken kernel (t ++ item.Claim (frames_at place (48 * room)) (for_table which.Memory) ∷ []) room o place) was
-    (subst (λ (n : ℕ). IsTaken kernel (t ++ item.Claim (frames_at place (48 * n)) (for_table which.Memory) ∷ []) n
-    (moved_to which.Memory t) place) wide
-    (taken-is kernel t place new placed))
+    let new : IsFree t place = record { aligned = aligned; free = rw wide free } in
+    rw (sym wide, sym was) (taken-is kernel t place new placed)
 
 pub claimed-taken : {T : Type 0} (x : T) (kernel : Extent) (items u : List Item) (place : ℕ) → Seated kernel items
     → best items (table_query (room_of which.Memory items) 0 (limit_of items)) ≡ Some place
@@ -147,8 +141,7 @@ claimed-taken x kernel items u place placed is ends =
     let t = roomy a (new_in which.Reserved a) items in
     let going = room-going kernel a (new_in which.Reserved a) items placed in
     let fits = found-fits items q place is in
-    subst (λ (v : List Item). IsTaken kernel v room old place)
-    (sym (ends.1 ∙ claimed-after items a (for_table which.Memory) ends.0))
+    rw (ends.1 ∙ claimed-after items a (for_table which.Memory) ends.0)
     (taken-along kernel t room old place going.aside.wide going.aside.place fits.aligned
     (going.aside.free (found-unclaimed items q place is)) going.placed)
 
@@ -191,37 +184,35 @@ memory-cuts kernel items placed =
 grown-placed : (kernel : Extent) (items : List Item) (more : List Item → ℕ) → Seated kernel items
     → Seated kernel (after items (grown which.Memory more memory_growth items))
 grown-placed kernel items more placed = cuts-last (Seated kernel) items (grown which.Memory more memory_growth items).steps
-    (cuts-grown (Seated kernel) which.Memory more memory_growth items (λ t here. memory-cuts kernel t here) placed)
+    (cuts-grown (Seated kernel) which.Memory more memory_growth items (memory-cuts kernel) placed)
+
+-- so does each item that is written behind room for its records, and keeps the places
+marked-cuts : (kernel : Extent) (items : List Item) (more : List Item → ℕ) (i : Item)
+    → ((t : List Item) → Seated kernel t → Seated kernel (t ++ i ∷ [])) → Seated kernel items
+    → EachCut (Seated kernel) items ((grown which.Memory more memory_growth >> write i) items).steps
+marked-cuts kernel items more i keeps placed =
+    let here = grown-placed kernel items more placed in
+    cuts-then (Seated kernel) items (grown which.Memory more memory_growth) (write i)
+    (cuts-grown (Seated kernel) which.Memory more memory_growth items (memory-cuts kernel) placed)
+    (λ _. (here, keeps (after items (grown which.Memory more memory_growth items)) here))
 
 -- throughout the changes of memory
 pub added-cuts : (kernel : Extent) (items : List Item) (r : Extent) → Seated kernel items
     → EachCut (Seated kernel) items (added r items).steps
 unfolding added
 added-cuts kernel items r placed =
-    let more = new_in which.Memory r in
-    let here = grown-placed kernel items more placed in
-    cuts-then (Seated kernel) items (grown which.Memory more memory_growth) (write (item.Mem r))
-    (cuts-grown (Seated kernel) which.Memory more memory_growth items (λ t was. memory-cuts kernel t was) placed)
-    (λ _. (here, mem-placed kernel (after items (grown which.Memory more memory_growth items)) r here))
-
--- so does each item that is written behind room for two records, and keeps the places
-marked-cuts : (kernel : Extent) (items : List Item) (i : Item) → ((t : List Item) → Seated kernel t → Seated kernel (t ++ i ∷ []))
-    → Seated kernel items → EachCut (Seated kernel) items ((grown which.Memory two memory_growth >> write i) items).steps
-marked-cuts kernel items i keeps placed =
-    let here = grown-placed kernel items two placed in
-    cuts-then (Seated kernel) items (grown which.Memory two memory_growth) (write i)
-    (cuts-grown (Seated kernel) which.Memory two memory_growth items (λ t was. memory-cuts kernel t was) placed)
-    (λ _. (here, keeps (after items (grown which.Memory two memory_growth items)) here))
+    marked-cuts kernel items (new_in which.Memory r) (item.Mem r) (λ t here. mem-placed kernel t r here) placed
 
 pub noded-cuts : (kernel : Extent) (items : List Item) (r : Extent) (node : ℕ) → Seated kernel items
     → EachCut (Seated kernel) items (noded r node items).steps
 unfolding noded
-noded-cuts kernel items r node placed = marked-cuts kernel items (item.Node r node) (λ t here. node-placed kernel t r node here) placed
+noded-cuts kernel items r node placed =
+    marked-cuts kernel items two (item.Node r node) (λ t here. node-placed kernel t r node here) placed
 
 pub mirrored-cuts : (kernel : Extent) (items : List Item) (r : Extent) → Seated kernel items
     → EachCut (Seated kernel) items (mirrored r items).steps
 unfolding mirrored
-mirrored-cuts kernel items r placed = marked-cuts kernel items (item.Mirror r) (λ t here. mirror-placed kernel t r here) placed
+mirrored-cuts kernel items r placed = marked-cuts kernel items two (item.Mirror r) (λ t here. mirror-placed kernel t r here) placed
 
 -- throughout the claim of a place that an allocation found, whoever it is for
 pub allocated-cuts : (kernel : Extent) (items : List Item) (r : Request) (place : ℕ) (o : Owner) → place_for r items ≡ Some place

@@ -1,26 +1,26 @@
 -- The places of both tables stay good throughout a growth of the reserved table, a claim and a free.
 use Rattle.std.proofs.Common.{◌≡◌, ℕ, ◌*◌, true, Option, Some, None, List, [], ◌∷◌, ◌++◌, refl, sym, subst, inl, inr, arith}
 use Rattle.std.proofs.lemmas.Bool.{cases_Bool, false_from_ne_true}
+use Rattle.std.proofs.lemmas.Bool.Decides.{nat_tests}
 use Rattle.bm_base.specs.Extent.{Extent, covers}
 use Rattle.address_runs.specs.Edits.{uncovered, replaced}
+use Rattle.memblock_model.specs.declared.which.Which.{Which}
 use Rattle.memblock_model.specs.declared.which.Which.TheVariants as which
 use Rattle.memblock_model.specs.declared.owner.Owner.{Owner}
 use Rattle.memblock_model.specs.declared.item.Item.{Item}
 use Rattle.memblock_model.specs.declared.item.Item.TheVariants as item
 use Rattle.memblock_model.specs.Items.{Owners, owner_of, limit_of}
-use Rattle.memblock_model.specs.Tables.{room_of, moved_to, live}
+use Rattle.memblock_model.specs.Tables.{room_after, room_of, moved_after, moved_to, live}
 use Rattle.growth_model.specs.Outcome.{after, write}
 use Rattle.growth_model.specs.Growth.{frames_at, place_beside, reserved_items, reserved_growth_at, reserved_growth, new_in, two, grown, claimed, freed}
 use Rattle.growth_model.specs.Sound.{Clear, Unclaimed, Seats, Seated, IsAway}
 use Rattle.growth_model.proofs.CutLaws.{EachCut, cuts-last, cuts-then, cuts-grown, cuts-map, after-then, then-unrefused}
-use Rattle.growth_model.proofs.SeatLaws.{frames-more}
 use Rattle.growth_model.proofs.FoundLaws.{IsNew, beside-new}
 use Rattle.growth_model.proofs.PlacedLaws.{live_by, live-is, live-same, placed-more, owners-of, moves-of, rooms-of, limits-of, MayTake, claim-placed, free-placed, Aside, aside-same, aside-on, Going, away-still, take-still, for_table, move-seats, leave-seats}
 
 -- bytes without an owner stay so when others are claimed, and when any are freed
 claim-unclaimed : (own : Owners) (a r : Extent) (o : Owner) → Clear a r → Unclaimed own a → Unclaimed (replaced r o own) a
-claim-unclaimed own a r o clear free x at =
-    rw (false_from_ne_true (covers r x) (λ in_r. clear x at in_r)) (free x at)
+claim-unclaimed own a r o clear free x at = rw (false_from_ne_true (covers r x) (λ in_r. clear x at in_r)) (free x at)
 
 free-unclaimed : (own : Owners) (a r : Extent) → Unclaimed own a → Unclaimed (uncovered r own) a
 free-unclaimed own a r free x at =
@@ -36,25 +36,30 @@ new_place t place = frames_at place (48 * room_of which.Reserved t)
 abbrev pub claimed_place : List Item → ℕ → Owners
 claimed_place t place = replaced (new_place t place) (for_table which.Reserved) (owner_of t)
 
+-- such a growth moves that table and doubles its room, and leaves the other
+pub reserved-moves : (w : Which) (t : List Item) (room : ℕ) (old : Option ℕ) (place : ℕ)
+    → moved_to w (t ++ reserved_items room old place) ≡ moved_after w (moved_to w t) (item.Grown which.Reserved place (2 * room))
+unfolding reserved_items
+reserved-moves w t room None place = moves-of w t (reserved_items room None place)
+reserved-moves w t room (Some q) place = moves-of w t (reserved_items room (Some q) place)
+
+pub reserved-rooms : (w : Which) (t : List Item) (room : ℕ) (old : Option ℕ) (place : ℕ)
+    → room_of w (t ++ reserved_items room old place) ≡ room_after w (room_of w t) (item.Grown which.Reserved place (2 * room))
+unfolding reserved_items
+reserved-rooms w t room None place = rooms-of w t (reserved_items room None place)
+reserved-rooms w t room (Some q) place = rooms-of w t (reserved_items room (Some q) place)
+
 grew-live : (kernel : Extent) (t : List Item) (old : Option ℕ) (place : ℕ)
     → live which.Reserved kernel (grew t old place) ≡ live_by which.Reserved kernel (Some place) (2 * room_of which.Reserved t)
-unfolding reserved_items
-grew-live kernel t None place = live-is which.Reserved kernel (grew t None place) (Some place) (2 * room_of which.Reserved t)
-    (moves-of which.Reserved t (reserved_items (room_of which.Reserved t) None place))
-    (rooms-of which.Reserved t (reserved_items (room_of which.Reserved t) None place))
-grew-live kernel t (Some q) place = live-is which.Reserved kernel (grew t (Some q) place) (Some place) (2 * room_of which.Reserved t)
-    (moves-of which.Reserved t (reserved_items (room_of which.Reserved t) (Some q) place))
-    (rooms-of which.Reserved t (reserved_items (room_of which.Reserved t) (Some q) place))
+grew-live kernel t old place = live-is which.Reserved kernel (grew t old place) (Some place) (2 * room_of which.Reserved t)
+    (reserved-moves which.Reserved t (room_of which.Reserved t) old place)
+    (reserved-rooms which.Reserved t (room_of which.Reserved t) old place)
 
-grew-moved : (t : List Item) (old : Option ℕ) (place : ℕ) → moved_to which.Memory (grew t old place) ≡ moved_to which.Memory t
-unfolding reserved_items
-grew-moved t None place = moves-of which.Memory t (reserved_items (room_of which.Reserved t) None place)
-grew-moved t (Some q) place = moves-of which.Memory t (reserved_items (room_of which.Reserved t) (Some q) place)
-
-grew-room : (t : List Item) (old : Option ℕ) (place : ℕ) → room_of which.Memory (grew t old place) ≡ room_of which.Memory t
-unfolding reserved_items
-grew-room t None place = rooms-of which.Memory t (reserved_items (room_of which.Reserved t) None place)
-grew-room t (Some q) place = rooms-of which.Memory t (reserved_items (room_of which.Reserved t) (Some q) place)
+grew-memory : (kernel : Extent) (t : List Item) (old : Option ℕ) (place : ℕ)
+    → live which.Memory kernel (grew t old place) ≡ live which.Memory kernel t
+grew-memory kernel t old place = live-same which.Memory kernel t (grew t old place)
+    (reserved-moves which.Memory t (room_of which.Reserved t) old place)
+    (reserved-rooms which.Memory t (room_of which.Reserved t) old place)
 
 pub grew-limit : (t : List Item) (old : Option ℕ) (place : ℕ) → limit_of (grew t old place) ≡ limit_of t
 unfolding reserved_items
@@ -73,15 +78,13 @@ grew-owners-again t q place = owners-of t (reserved_items (room_of which.Reserve
 -- the place itself lies in its frames
 pub place-inside : (room place x : ℕ) → covers (record { base = place; size = 24 * (2 * room) }) x ≡ true
     → covers (frames_at place (48 * room)) x ≡ true
-place-inside room place x at =
-    let e : 24 * (2 * room) ≡ 48 * room = omega arith in
-    subst (λ (n : ℕ). covers (frames_at place n) x ≡ true) e (frames-more (record { base = place; size = 24 * (2 * room) }) x at)
+place-inside room place x at = grind (arith, nat_tests, at)
 
 grew-aside : (kernel a : Extent) (t : List Item) (old : Option ℕ) (place : ℕ) → IsNew t a (room_of which.Reserved t) place
     → (Unclaimed (owner_of t) a → Unclaimed (owner_of (grew t old place)) a) → Aside kernel a t (grew t old place)
 grew-aside kernel a t old place new free = record {
-  place = grew-moved t old place;
-  wide = grew-room t old place;
+  place = reserved-moves which.Memory t (room_of which.Reserved t) old place;
+  wide = reserved-rooms which.Memory t (room_of which.Reserved t) old place;
   bound = grew-limit t old place;
   free = free;
   clear = λ _. subst (λ (e : Extent). Clear a e) (sym (grew-live kernel t old place))
@@ -97,8 +100,7 @@ grew-going kernel a t None place was new placed =
     let more = reserved_items room None place in
     record {
       placed = placed-more kernel t more (claimed_place t place) memory (live_by which.Reserved kernel (Some place) (2 * room)) placed
-          (grew-owners-first t place) (live-same which.Memory kernel t (t ++ more) (grew-moved t None place) (grew-room t None place))
-          (grew-live kernel t None place)
+          (grew-owners-first t place) (grew-memory kernel t None place) (grew-live kernel t None place)
           (move-seats (owner_of t) memory (live which.Reserved kernel t) which.Reserved room place new.aligned new.free placed.seats);
       aside = grew-aside kernel a t None place new (λ free.
           subst (λ (f : Owners). Unclaimed f a) (sym (grew-owners-first t place))
@@ -115,9 +117,7 @@ grew-going kernel a t (Some q) place was new placed =
     record {
       placed = placed-more kernel t more (uncovered (frames_at q (24 * room)) (claimed_place t place)) memory
           (live_by which.Reserved kernel (Some place) (2 * room)) placed
-          (grew-owners-again t q place) (live-same which.Memory kernel t (t ++ more) (grew-moved t (Some q) place)
-          (grew-room t (Some q) place))
-          (grew-live kernel t (Some q) place)
+          (grew-owners-again t q place) (grew-memory kernel t (Some q) place) (grew-live kernel t (Some q) place)
           (leave-seats (owner_of t) memory (live_by which.Reserved kernel (Some q) room) which.Reserved room place new.aligned new.free
           seats);
       aside = grew-aside kernel a t (Some q) place new (λ free.
@@ -175,22 +175,20 @@ pub claimed-cuts : (kernel : Extent) (items : List Item) (r : Extent) (o : Owner
 unfolding claimed
 claimed-cuts kernel items r o may placed =
     let more = new_in which.Reserved r in
-    let t = roomy r more items in
     let going = room-going kernel r more items placed in
     cuts-then (Seated kernel) items (grown which.Reserved more (reserved_growth r)) (write (item.Claim r o))
     (room-placed kernel r more items placed)
-    (λ _. (going.placed, claim-placed kernel t r o (take-still kernel r o items t going.aside may) going.placed))
+    (λ _. (going.placed, claim-placed kernel (roomy r more items) r o (take-still kernel r o items _ going.aside may) going.placed))
 
 -- throughout a free
 pub freed-cuts : (kernel : Extent) (items : List Item) (r : Extent) → IsAway kernel r items → Seated kernel items
     → EachCut (Seated kernel) items (freed r items).steps
 unfolding freed
 freed-cuts kernel items r away placed =
-    let t = roomy r two items in
     let going = room-going kernel r two items placed in
     cuts-then (Seated kernel) items (grown which.Reserved two (reserved_growth r)) (write (item.Free r))
     (room-placed kernel r two items placed)
-    (λ _. (going.placed, free-placed kernel t r (away-still kernel r items t going.aside away) going.placed))
+    (λ _. (going.placed, free-placed kernel (roomy r two items) r (away-still kernel r items _ going.aside away) going.placed))
 
 -- a claim that wasn't refused wrote its item behind growths beside its range
 pub claimed-after : (items : List Item) (r : Extent) (o : Owner) → (claimed r o items).refused ≡ None

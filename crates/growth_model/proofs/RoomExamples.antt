@@ -1,14 +1,13 @@
 -- Small lists of items, computed: whether a table doubled, and whether it has room.
-use Rattle.std.proofs.Common.{◌≡◌, ◌+◌, ◌^◌, true, false, [], ◌∷◌, refl, sym, ◌∙◌, ap, subst, arith}
+use Rattle.std.proofs.Common.{◌≡◌, ◌+◌, ◌^◌, true, false, [], ◌∷◌, refl, sym, ◌∙◌, ap, arith}
 use Rattle.std.proofs.lemmas.Bool.{true≢false}
 use Rattle.std.proofs.lemmas.Bool.Decides.{nat_tests}
 use Rattle.memblock_model.specs.declared.which.Which.TheVariants as which
 use Rattle.memblock_model.specs.declared.item.Item.TheVariants as item
 use Rattle.memblock_model.specs.Tables.{records_of}
-use Rattle.growth_model.specs.Outcome.{Outcome, Change, after, nothing, if_due}
+use Rattle.growth_model.specs.Outcome.{Outcome, Change, after, nothing}
 use Rattle.growth_model.specs.Growth.{is_full, two, grown}
 use Rattle.growth_model.specs.Room.{IsInSpace, HasDoubled, HasRoomBehind}
-use Rattle.growth_model.proofs.EndLaws.{skips}
 use Rattle.growth_model.proofs.FirstLaws.{nothing_said}
 
 in_space : IsInSpace []
@@ -26,24 +25,18 @@ other_stays : HasDoubled which.Reserved [] (item.Grown which.Memory 4096 256 ∷
 other_stays doubled = let room = doubled.room in omega (arith, room)
 
 -- growths that come to nothing leave a table without room for 129 records more
+past_room : is_full which.Memory (λ items. 129) [] ≡ true
+past_room = grind (arith, nat_tests)
+
 no_growth : grown which.Memory (λ items. 129) nothing [] ≡ nothing []
-no_growth =
-    let full : is_full which.Memory (λ items. 129) [] ≡ true = grind (arith, nat_tests) in
-    let once : Change = if_due (is_full which.Memory (λ items. 129)) nothing in
-    let idle : once [] ≡ nothing [] = rw full refl in
-    skips once once [] idle ∙ idle
+no_growth = rw (past_room, past_room) refl
 
 no_room : HasRoomBehind which.Memory (λ items. 129) nothing [] → ⊥
 no_room has =
-    let full : is_full which.Memory (λ items. 129) [] ≡ true = grind (arith, nat_tests) in
-    let room : is_full which.Memory (λ items. 129) [] ≡ false =
-    subst (λ (o : Outcome). is_full which.Memory (λ items. 129) (after [] o) ≡ false) no_growth
-    (has (ap (λ (o : Outcome). o.refused) no_growth)) in
-    true≢false (sym full ∙ room)
+    let clash : is_full which.Memory (λ items. 129) (after [] (nothing [])) ≡ false =
+    rw no_growth at (has (ap (λ (o : Outcome). o.refused) no_growth)) in
+    true≢false (sym past_room ∙ clash)
 
 -- and none is due where there is room
 has_room : (growth : Change) → is_full which.Memory two [] ≡ false → HasRoomBehind which.Memory two growth []
-has_room growth room unrefused =
-    let once : Change = if_due (is_full which.Memory two) growth in
-    let idle : once [] ≡ nothing [] = rw room refl in
-    subst (λ (o : Outcome). is_full which.Memory two (after [] o) ≡ false) (sym (skips once once [] idle ∙ idle)) room
+has_room growth room unrefused = rw (room, room, room) refl

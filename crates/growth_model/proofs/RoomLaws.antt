@@ -21,7 +21,7 @@ use Rattle.memblock_model.specs.Tables.{without_owner, reserved_of, table_of, re
 use Rattle.memblock_model.proofs.ItemLaws.{reserved_of-replaced, reserved_of-uncovered}
 use Rattle.memblock_model.proofs.TableLaws.{room_of-least}
 use Rattle.memblock_ranges.proofs.CountLaws.{length-covered, length-uncovered, few-pieces, one-piece}
-use Rattle.growth_model.specs.Outcome.{Outcome, Change, after, if_due, write, ◌>>◌}
+use Rattle.growth_model.specs.Outcome.{Change, after, if_due, write, ◌>>◌}
 use Rattle.growth_model.specs.Growth.{count, is_full, new_in, two, frames_at, place_beside, table_query, reserved_items, reserved_growth_at, reserved_growth, claimed, old_frames, leave, memory_growth_at, memory_growth}
 use Rattle.growth_model.specs.Sound.{Unclaimed, Seated, Fits}
 use Rattle.growth_model.specs.Room.{IsInSpace, HasDoubled, HasRoomBehind}
@@ -29,7 +29,7 @@ use Rattle.growth_model.proofs.CutLaws.{cuts-last, after-then, then-unrefused}
 use Rattle.growth_model.proofs.SeatLaws.{covers-to}
 use Rattle.growth_model.proofs.FoundLaws.{IsNew, beside-new}
 use Rattle.growth_model.proofs.PlacedLaws.{moves-of, rooms-of, for_table, Going, aside-same}
-use Rattle.growth_model.proofs.PlacedReservedLaws.{grew, new_place, claimed_place, grew-limit, grew-owners-first, grew-owners-again, reserved-cuts}
+use Rattle.growth_model.proofs.PlacedReservedLaws.{grew, new_place, claimed_place, reserved-rooms, grew-limit, grew-owners-first, grew-owners-again, reserved-cuts}
 use Rattle.growth_model.proofs.QuietLaws.{memory_growth-quiet, quiet-memory, quiet-limit}
 use Rattle.growth_model.proofs.LimitLaws.{LiesAt, claimed-stays, leave-stays}
 
@@ -57,9 +57,7 @@ module _ (w : Which) (more : List Item → ℕ) (growth : Change)
   ]
 
   grew-well : (t : List Item) → Bounded w t → once t ≡ growth t → (once t).refused ≡ None → Well w t (after t (once t))
-  grew-well t bounded is unrefused =
-      subst (λ (o : Outcome). Well w t (after t o)) (sym is)
-      (doubles t bounded (subst (λ (o : Outcome). o.refused ≡ None) is unrefused))
+  grew-well t bounded is unrefused = rw is (doubles t bounded (rw is at unrefused))
 
   enough : (t u v : List Item) → count w t ≤ room_of w t → HasDoubled w t u → HasDoubled w u v → more v ≤ count w v + 2
       → is_full w more v ≡ false
@@ -139,16 +137,11 @@ module _ (avoid : Extent) (t : List Item) (place : ℕ) (new : IsNew t avoid (ro
   grew-bounded (Some q) =
       nothing-uncovered (2 ^ 64) (frames_at q (24 * room_of which.Reserved t)) (covered claim plain_label table) claimed-bounded
 
-  grew-room : (old : Option ℕ) → room_of which.Reserved (grew t old place) ≡ 2 * room_of which.Reserved t
-  unfolding reserved_items
-  grew-room None = rooms-of which.Reserved t (reserved_items (room_of which.Reserved t) None place)
-  grew-room (Some q) = rooms-of which.Reserved t (reserved_items (room_of which.Reserved t) (Some q) place)
-
   grew-well-by : (old : Option ℕ) → Well which.Reserved t (grew t old place)
   unfolding records_of
   grew-well-by old = record {
     doubled = record {
-      room = grew-room old;
+      room = reserved-rooms which.Reserved t (room_of which.Reserved t) old place;
       few = subst (λ (f : Labels). length (records_for f) ≤ length (records_for table) + 2) (sym (grew-table-is old)) (grew-few old);
     };
     bounded = record {
@@ -202,8 +195,7 @@ memory-room_at t (Some place) unrefused =
 memory-room : (t : List Item) → (memory_growth t).refused ≡ None
     → room_of which.Memory (after t (memory_growth t)) ≡ 2 * room_of which.Memory t
 unfolding memory_growth
-memory-room t unrefused =
-    memory-room_at t (best t (table_query (room_of which.Memory t) 0 (limit_of t))) unrefused
+memory-room t unrefused = memory-room_at t (best t (table_query (room_of which.Memory t) 0 (limit_of t))) unrefused
 
 memory-well : (t : List Item) → Bounded which.Memory t → (memory_growth t).refused ≡ None
     → Well which.Memory t (after t (memory_growth t))
@@ -293,8 +285,7 @@ pub free-claimed : (kernel range : Extent) (who : Owner) (items : List Item) →
     ⊎ IsSome (place_beside range (room_of which.Reserved items) items)
     → (claimed range who items).refused ≡ None
 unfolding claimed
-free-claimed kernel range who items space fits placed some ends free (inl idle) =
-    rw (idle, append-nil items, idle) refl
+free-claimed kernel range who items space fits placed some ends free (inl idle) = rw (idle, append-nil items, idle) refl
 free-claimed kernel range who items space fits placed some ends free (inr found) =
     elim (cases_Bool (is_full which.Reserved (new_in which.Reserved range) items)) as (λ _. (claimed range who items).refused ≡ None) [
       | inl full ↦

@@ -21,21 +21,15 @@ covers-to a x le lt = grind (arith, nat_tests)
 
 -- the first byte of a frame of theirs is a byte of the range
 frame-first : (a : Extent) (x : ℕ) → a.base % 4096 ≡ 0 → covers (frames a) x ≡ true → covers a (4096 * (x / 4096)) ≡ true
-frame-first a x aligned h =
-    let at = covers-from (frames a) x h in
-    covers-to a (4096 * (x / 4096)) (omega arith) (omega arith)
+frame-first a x aligned h = grind (arith, nat_tests, aligned, h)
 
 -- with a byte they have its whole frame
 frame-whole : (a : Extent) (x y : ℕ) → a.base % 4096 ≡ 0 → covers (frames a) x ≡ true → y / 4096 ≡ x / 4096 → covers (frames a) y ≡ true
-frame-whole a x y aligned h same =
-    let at = covers-from (frames a) x h in
-    covers-to (frames a) y (omega arith) (omega arith)
+frame-whole a x y aligned h same = grind (arith, nat_tests, aligned, h, same)
 
 -- they have the range
 pub frames-more : (a : Extent) (x : ℕ) → covers a x ≡ true → covers (frames a) x ≡ true
-frames-more a x h =
-    let at = covers-from a x h in
-    covers-to (frames a) x (omega arith) (omega arith)
+frames-more a x h = grind (arith, nat_tests, h)
 
 first-frame : (x : ℕ) → 4096 * (x / 4096) / 4096 ≡ x / 4096
 first-frame x = omega arith
@@ -45,8 +39,7 @@ Apart-swap a b apart x y at_x at_y same = apart y x at_y at_x (sym same)
 
 -- the frames of a place miss the other place
 pub apart-clear : (a b : Extent) → a.base % 4096 ≡ 0 → ShareNoFrame a b → Clear (frames a) b
-apart-clear a b aligned apart x at_a at_b =
-    apart (4096 * (x / 4096)) x (frame-first a x aligned at_a) at_b (first-frame x)
+apart-clear a b aligned apart x at_a at_b = apart (4096 * (x / 4096)) x (frame-first a x aligned at_a) at_b (first-frame x)
 
 -- a byte without an owner lies in no place of a table
 unkept : (own : Owners) (x : ℕ) → own x ≡ None → keeps (own x) ≡ true → ⊥

@@ -1,5 +1,5 @@
 -- Small places and owners, computed: where a table may lie, what meets it, and what may be claimed.
-use Rattle.std.proofs.Common.{◌≡◌, true, false, nat_lt, if◌then◌else◌, Some, None, List, [], ◌∷◌, ◌++◌, length, refl, sym, ap, inl, inr, arith}
+use Rattle.std.proofs.Common.{◌≡◌, ℕ, ◌%◌, ◌≤◌, true, false, nat_lt, if◌then◌else◌, Some, None, List, [], ◌∷◌, ◌++◌, length, refl, sym, ap, inl, inr, arith}
 use Rattle.std.proofs.lemmas.Bool.Decides.{nat_tests}
 use Rattle.memblock_model.specs.declared.which.Which.TheVariants as which
 use Rattle.memblock_model.specs.declared.owner.Owner.TheVariants as owner
@@ -8,82 +8,64 @@ use Rattle.memblock_model.specs.declared.item.Item.TheVariants as item
 use Rattle.bm_base.specs.Extent.{covers}
 use Rattle.memblock_model.specs.Items.{Owners, owner_of}
 use Rattle.memblock_model.specs.Labels.{plain_label}
-use Rattle.memblock_model.specs.Tables.{table_of, records_of, live}
+use Rattle.memblock_model.specs.Tables.{table_of, records_of}
 use Rattle.memblock_model.proofs.TableLaws.{records_for-is}
 use Rattle.growth_model.specs.Growth.{count}
 use Rattle.growth_model.specs.Sound.{keeps, Seat, ShareNoFrame, Clear, Unclaimed, Seats, Seated, Fits, Sound, IsImage, HasBegun, IsAway, MayClaim}
-use Rattle.growth_model.proofs.SeatLaws.{covers-from}
 use Rattle.growth_model.proofs.FirstLaws.{no_table_full, first-placed}
 use Rattle.growth_model.proofs.GrowthExamples.{image, frame}
 
 -- a table may lie in the kernel's bytes and in a table's, not in nobody's
-kernel_keeps : keeps (Some owner.Kernel) ≡ true
-kernel_keeps = refl
-
-table_keeps : keeps (Some (owner.Table which.Reserved)) ≡ true
-table_keeps = refl
-
-nobody_may_not : keeps None ≡ false
-nobody_may_not = refl
+keeps_examples : (keeps (Some owner.Kernel) ≡ true) × (keeps (Some (owner.Table which.Reserved)) ≡ true) × (keeps None ≡ false)
+keeps_examples = (refl, refl, refl)
 
 -- the first four frames are the kernel's, but for one byte of the script in the third
 abbrev claims : Owners
 claims x = if nat_lt x 9000 then Some owner.Kernel else (if nat_lt x 9001 then Some (owner.Script 1) else
     (if nat_lt x 16384 then Some owner.Kernel else None))
 
-a_spot : Seat claims (record { base = 4096; size = 3072 })
-a_spot = record {
-  aligned = refl;
-  kept = λ x at. let inside = covers-from (record { base = 4096; size = 3072 }) x at in
-      let low : nat_lt x 9000 ≡ true = grind (arith, nat_tests) in rw low refl;
+-- a table may lie in its first two frames
+a_spot : (base : ℕ) → base % 4096 ≡ 0 → base ≤ 4096 → Seat claims (record { base = base; size = 3072 })
+a_spot base aligned below = record {
+  aligned = aligned;
+  kept = λ x at. let low : nat_lt x 9000 ≡ true = grind (arith, nat_tests, below, at) in rw low refl;
 }
 
-not_aligned : Seat claims (record { base = 4097; size = 16 }) → ⊥
-not_aligned seat = let aligned = seat.aligned in cc
+-- not where it isn't aligned, not amid a frame, and not over the script's byte
+no_spots : (Seat claims (record { base = 4097; size = 16 }) → ⊥) × (Seat claims (record { base = 2048; size = 16 }) → ⊥)
+    × (Seat claims (record { base = 8192; size = 3072 }) → ⊥)
+no_spots = (
+  λ seat. let aligned = seat.aligned in cc,
+  λ seat. let aligned = seat.aligned in cc,
+  λ seat. let kept = seat.kept 9000 refl in cc,
+)
 
-amid_a_frame : Seat claims (record { base = 2048; size = 16 }) → ⊥
-amid_a_frame seat = let aligned = seat.aligned in cc
-
-not_of_script : Seat claims (record { base = 8192; size = 3072 }) → ⊥
-not_of_script seat = let kept = seat.kept 9000 refl in cc
-
--- two frames, and one frame twice
+-- two frames are apart
 two_frames_apart : ShareNoFrame (record { base = 0; size = 3072 }) (record { base = 4096; size = 3072 })
-two_frames_apart x y at_x at_y same =
-    let a = covers-from (record { base = 0; size = 3072 }) x at_x in
-    let b = covers-from (record { base = 4096; size = 3072 }) y at_y in
-    omega arith
+two_frames_apart x y at_x at_y same = grind (arith, nat_tests, at_x, at_y, same)
 
-one_frame : ShareNoFrame (record { base = 0; size = 16 }) (record { base = 32; size = 16 }) → ⊥
-one_frame apart = apart 0 32 refl refl refl
-
-both_halves : ShareNoFrame (record { base = 0; size = 16 }) (record { base = 2048; size = 16 }) → ⊥
-both_halves apart = apart 0 2048 refl refl refl
+-- one frame twice isn't, and neither are both halves of one
+sharing_examples : (ShareNoFrame (record { base = 0; size = 16 }) (record { base = 32; size = 16 }) → ⊥)
+    × (ShareNoFrame (record { base = 0; size = 16 }) (record { base = 2048; size = 16 }) → ⊥)
+sharing_examples = (λ apart. apart 0 32 refl refl refl, λ apart. apart 0 2048 refl refl refl)
 
 -- which is enough to be clear
 one_frame_clear : Clear (record { base = 0; size = 16 }) (record { base = 32; size = 16 })
-one_frame_clear x at_a at_b =
-    let a = covers-from (record { base = 0; size = 16 }) x at_a in
-    let b = covers-from (record { base = 32; size = 16 }) x at_b in
-    omega arith
+one_frame_clear x at_a at_b = grind (arith, nat_tests, at_a, at_b)
 
 one_byte_in_both : Clear (record { base = 0; size = 33 }) (record { base = 32; size = 16 }) → ⊥
 one_byte_in_both clear = clear 32 refl refl
 
 nobodys : Unclaimed claims (record { base = 16384; size = 4096 })
-nobodys x at = let inside = covers-from (record { base = 16384; size = 4096 }) x at in grind (arith, nat_tests)
+nobodys x at = grind (arith, nat_tests, at)
 
 one_byte_claimed : Unclaimed claims (record { base = 16383; size = 4096 }) → ⊥
 one_byte_claimed free = let first = free 16383 refl in cc
 
 both_spots : Seats claims (record { base = 0; size = 3072 }) (record { base = 4096; size = 3072 })
 both_spots = record {
-  first = record {
-    aligned = refl;
-    kept = λ x at. let inside = covers-from (record { base = 0; size = 3072 }) x at in
-        let low : nat_lt x 9000 ≡ true = grind (arith, nat_tests) in rw low refl;
-  };
-  second = a_spot;
+  first = a_spot 0 refl (omega arith);
+  second = a_spot 4096 refl (omega arith);
   apart = two_frames_apart;
 }
 
@@ -94,11 +76,9 @@ not_one_spot_twice seats = seats.apart 0 0 refl refl refl
 is_image : IsImage image
 is_image = record { whole = refl; large = omega arith }
 
-too_small : IsImage (frame 16) → ⊥
-too_small known = let large = known.large in omega arith
-
-ends_amid_a_frame : IsImage (record { base = 65536; size = 16000 }) → ⊥
-ends_amid_a_frame known = let whole = known.whole in cc
+-- one frame is too small, and an image doesn't end amid a frame
+no_images : (IsImage (frame 16) → ⊥) × (IsImage (record { base = 65536; size = 16000 }) → ⊥)
+no_images = (λ known. let large = known.large in omega arith, λ known. let whole = known.whole in cc)
 
 abbrev begun : List Item
 begun = item.Claim image owner.Kernel ∷ []
@@ -129,11 +109,9 @@ sound_at_first = record { placed = placed_at_first; fits = image_fits }
 nothing_is_sound : Sound image [] → ⊥
 nothing_is_sound sound = nothing_placed sound.placed
 
-has_begun : HasBegun begun
-has_begun = tt
-
-has_not_begun : HasBegun [] → ⊥
-has_not_begun h = h
+-- one claim is a beginning, and no item is none
+begun_examples : (HasBegun begun) × (HasBegun [] → ⊥)
+begun_examples = (tt, λ h. h)
 
 -- where the script claimed a frame of the image no table may lie any more, and in the next frame one may
 abbrev scripted : Owners
@@ -145,33 +123,21 @@ not_where_the_script_claimed seat = let kept = seat.kept 65536 refl in cc
 beside_the_scripts_frame : Seat scripted (record { base = 69632; size = 3072 })
 beside_the_scripts_frame = record {
   aligned = refl;
-  kept = λ x at. let inside = covers-from (record { base = 69632; size = 3072 }) x at in
-      let behind : covers (frame 16) x ≡ false = grind (arith, nat_tests) in
-      let among : covers image x ≡ true = grind (arith, nat_tests) in rw (behind, among) refl;
+  kept = λ x at. let behind : covers (frame 16) x ≡ false = grind (arith, nat_tests, at) in
+      let among : covers image x ≡ true = grind (arith, nat_tests, at) in rw (behind, among) refl;
 }
 
 -- the first frames of the image meet neither table, its last two do
 away : IsAway image (frame 16) begun
-away = (
-  λ x at_a at_t. let a = covers-from (frame 16) x at_a in let t = covers-from (live which.Memory image begun) x at_t in omega arith,
-  λ x at_a at_t. let a = covers-from (frame 16) x at_a in let t = covers-from (live which.Reserved image begun) x at_t in omega arith,
-)
+away = (λ x at_a at_t. grind (arith, nat_tests, at_a, at_t), λ x at_a at_t. grind (arith, nat_tests, at_a, at_t))
 
 not_away : IsAway image (frame 18) begun → ⊥
 not_away known = known.0 73728 refl refl
 
--- the image is claimed first, for the kernel; then the script may not have the tables' bytes, and others may
-image_first : MayClaim image [] image owner.Kernel
-image_first = (refl, refl)
-
-nothing_else_first : MayClaim image [] image owner.Soft → ⊥
-nothing_else_first may = let who = may.1 in cc
-
-others_anywhere : MayClaim image begun (frame 18) owner.Soft
-others_anywhere = inl refl
-
-script_elsewhere : MayClaim image begun (frame 16) (owner.Script 1)
-script_elsewhere = inr away
+-- the image is claimed first, for the kernel and nobody else; then others may have the tables' bytes, and the script bytes beside them
+may_claim_examples : (MayClaim image [] image owner.Kernel) × (MayClaim image [] image owner.Soft → ⊥)
+    × (MayClaim image begun (frame 18) owner.Soft) × (MayClaim image begun (frame 16) (owner.Script 1))
+may_claim_examples = ((refl, refl), λ may. let who = may.1 in cc, inl refl, inr away)
 
 script_not_there : MayClaim image begun (frame 18) (owner.Script 1) → ⊥
 script_not_there (inl kept) = cc

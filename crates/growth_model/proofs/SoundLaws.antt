@@ -32,9 +32,7 @@ stands-by kernel r old new o keeps stands begun ends = λ _. cuts-ends (Seated k
 claim-cuts : (kernel : Extent) (items : List Item) (r : Extent) (o : Owner) → IsImage kernel → end_of r ≤ 2 ^ 64
     → Stands kernel items → MayClaim kernel items r o → EachCut (Stands kernel) items (claimed r o items).steps
 claim-cuts kernel [] r o image small stands may =
-    let first : Seated kernel (item.Claim r o ∷ []) =
-    subst (λ (e : Extent). Seated kernel (item.Claim e o ∷ [])) (sym may.0)
-    (subst (λ (w : Owner). Seated kernel (item.Claim kernel w ∷ [])) (sym may.1) (first-placed kernel image)) in
+    let first : Seated kernel (item.Claim r o ∷ []) = rw (may.0, may.1) (first-placed kernel image) in
     subst (λ (c : Outcome). EachCut (Stands kernel) [] c.steps) (sym (first-claimed r o small)) (stands, λ _. first)
 claim-cuts kernel (i ∷ is) r o image small stands may =
     cuts-map (Seated kernel) (Stands kernel) (i ∷ is) (claimed r o (i ∷ is)).steps (λ t placed _. placed)
@@ -50,22 +48,22 @@ claim-stands kernel r old new range who image small stands may ends =
 pub free-stands : {T : Type 0} (kernel : Extent) (r : Result T Refusal) (old new : List Item) (range : Extent)
     → Stands kernel old → HasBegun old → IsAway kernel range old → Ends r old new (freed range) → Stands kernel new
 free-stands kernel r old new range stands begun away ends =
-    stands-by kernel r old new (freed range old) (λ placed. freed-cuts kernel old range away placed) stands begun ends
+    stands-by kernel r old new (freed range old) (freed-cuts kernel old range away) stands begun ends
 
 pub add-stands : {T : Type 0} (kernel : Extent) (r : Result T Refusal) (old new : List Item) (range : Extent)
     → Stands kernel old → HasBegun old → Ends r old new (added range) → Stands kernel new
 add-stands kernel r old new range stands begun ends =
-    stands-by kernel r old new (added range old) (λ placed. added-cuts kernel old range placed) stands begun ends
+    stands-by kernel r old new (added range old) (added-cuts kernel old range) stands begun ends
 
 pub node-stands : {T : Type 0} (kernel : Extent) (r : Result T Refusal) (old new : List Item) (range : Extent) (node : ℕ)
     → Stands kernel old → HasBegun old → Ends r old new (noded range node) → Stands kernel new
 node-stands kernel r old new range node stands begun ends =
-    stands-by kernel r old new (noded range node old) (λ placed. noded-cuts kernel old range node placed) stands begun ends
+    stands-by kernel r old new (noded range node old) (noded-cuts kernel old range node) stands begun ends
 
 pub mirror-stands : {T : Type 0} (kernel : Extent) (r : Result T Refusal) (old new : List Item) (range : Extent)
     → Stands kernel old → HasBegun old → Ends r old new (mirrored range) → Stands kernel new
 mirror-stands kernel r old new range stands begun ends =
-    stands-by kernel r old new (mirrored range old) (λ placed. mirrored-cuts kernel old range placed) stands begun ends
+    stands-by kernel r old new (mirrored range old) (mirrored-cuts kernel old range) stands begun ends
 
 -- an allocation, whoever it is for
 pub alloc-placed : (kernel : Extent) (r : Result ℕ Refusal) (old new : List Item) (q : Request) (who : Owner)

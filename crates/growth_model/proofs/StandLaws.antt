@@ -23,17 +23,14 @@ pub live-clear : (kernel : Extent) (items : List Item) → Seated kernel items �
     Clear (live which.Memory kernel items) (live which.Reserved kernel items)
 live-clear kernel items placed = λ x here too. placed.seats.apart x x here too refl
 
-beside_memory : (kernel : Extent) (items : List Item) (x : ℕ) → Seated kernel items →
-    covers (live which.Reserved kernel items) x ≡ true → covers (live which.Memory kernel items) x ≡ false
-beside_memory kernel items x placed here = false_from_ne_true _ (λ too. live-clear kernel items placed x too here)
-
 -- the byte at an address of a table's place is that of the spelling
 pub journal-stands : (w : Which) (kernel : Extent) (items : List Item) (f : ℕ → ℕ) (x : ℕ) → Seated kernel items →
     AreSpelled (table_for which.Memory kernel items) (table_for which.Reserved kernel items) f → covers (live w kernel items) x ≡ true →
     f x ≡ spelled_at (table_for w kernel items) x
 journal-stands which.Memory kernel items f x placed spelled here = spelled x ∙ rw here refl
 journal-stands which.Reserved kernel items f x placed spelled here =
-    let beside = beside_memory kernel items x placed here in
+    let beside : covers (live which.Memory kernel items) x ≡ false =
+    false_from_ne_true _ (λ too. live-clear kernel items placed x too here) in
     spelled x ∙ rw (beside, here) refl
 
 -- and the other way round: where the bytes at both places are those of the spellings, the tables lie in their bytes
@@ -64,16 +61,13 @@ length-spelled_table (r ∷ rs) (suc n) few =
     ap (λ (k : ℕ). length (spelling_of r ++ spelled_table rs k)) left ∙ length-append (spelling_of r) (spelled_table rs n)
     ∙ omega (arith, first, rest)
 
-lies : (a n k : ℕ) → k < n → covers (record { base = a; size = n }) (a + k) ≡ true
-lies a n k below = grind (arith, nat_tests)
-
 spelled_here : (w : Which) (kernel : Extent) (items : List Item) (f : ℕ → ℕ) (k : ℕ) → Seated kernel items →
     AreSpelled (table_for which.Memory kernel items) (table_for which.Reserved kernel items) f → k < 24 * room_of w items →
     get_or (spelled_table (records_of w items) (room_of w items)) k 0 ≡ f (place_of w kernel items + k)
 spelled_here w kernel items f k placed spelled below =
     let place = place_of w kernel items in
     let back : place + k - place ≡ k = omega arith in
-    sym (journal-stands w kernel items f (place + k) placed spelled (lies place (24 * room_of w items) k below)
+    sym (journal-stands w kernel items f (place + k) placed spelled (grind (arith, nat_tests, below))
     ∙ ap (λ (i : ℕ). get_or (spelled_table (records_of w items) (room_of w items)) i 0) back)
 
 -- the same as one list: the bytes at the place of a table are the spelling of its records

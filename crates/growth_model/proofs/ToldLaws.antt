@@ -1,5 +1,5 @@
 -- What the edits of the two tables make of each byte, as one equation for all addresses.
-use Rattle.std.proofs.Common.{◌≡◌, ℕ, ◌+◌, ◌-◌, ◌*◌, ◌<◌, ◌≤◌, Bool, true, false, if◌then◌else◌, List, get_or, sym, ◌∙◌, ap, arith}
+use Rattle.std.proofs.Common.{◌≡◌, ℕ, ◌+◌, ◌-◌, ◌*◌, Bool, true, false, if◌then◌else◌, List, get_or, sym, ◌∙◌, ap, arith}
 use Rattle.std.proofs.lemmas.Bool.{cond_both}
 use Rattle.std.proofs.lemmas.Bool.Decides.{nat_tests}
 use Rattle.bm_base.specs.Extent.{covers}
@@ -17,11 +17,9 @@ use Rattle.growth_model.specs.Bytes.{spelled_at, shown_by, left_by}
 pub listed-told : (t : Table) (f : ℕ → ℕ) (x : ℕ) → bytes_at f t.place (24 * t.room) ≡ spelled_table t.records t.room →
     covers (bytes_of t) x ≡ true → f x ≡ spelled_at t x
 listed-told t f x spelled here =
-    let low : t.place ≤ x = grind (arith, nat_tests) in
-    let high : x < t.place + 24 * t.room = grind (arith, nat_tests) in
-    let back : t.place + (x - t.place) ≡ x = omega arith in
-    sym (ap (λ (bs : List ℕ). get_or bs (x - t.place) 0) (sym spelled) ∙ get-bytes_at f t.place (24 * t.room) (x - t.place) (omega arith)
-    ∙ ap f back)
+    let back : t.place + (x - t.place) ≡ x = grind (arith, nat_tests, here) in
+    sym (ap (λ (bs : List ℕ). get_or bs (x - t.place) 0) (sym spelled)
+    ∙ get-bytes_at f t.place (24 * t.room) (x - t.place) (grind (arith, nat_tests, here)) ∙ ap f back)
 
 -- a byte of a table that stands in the store is that of the table's spelling
 pub table-told : (t : Table) (s : List Stored) (x : ℕ) → StandsIn t s → covers (bytes_of t) x ≡ true → byte_of s x ≡ spelled_at t x
