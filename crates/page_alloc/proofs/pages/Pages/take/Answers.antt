@@ -89,11 +89,6 @@ returns-after-take-clause-ok c =
     ≡ step (state_of d) (acts.Pages c.args.id c.args.order c.args.node c.args.zone)))
     c.self.view_is (came c).0.0
 
-pub returns-after-take-clause-refused : goal.returns-after-take-clause-refused
-returns-after-take-clause-refused c =
-    subst (λ (d : Book). IfOk c.match-take.result (λ outcome. (outcome ≡ outcomes.Taken) ⊎ (outcome ≡ outcomes.NoBlock) → behind c ≡ d))
-    c.self.view_is (came c).0.1
-
 -- memory for the ID is wanting, and no block serves anyway
 pub returns-in_default-clause-ok : goal.returns-in_default-clause-ok
 returns-in_default-clause-ok c =
