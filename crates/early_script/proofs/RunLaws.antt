@@ -1,5 +1,5 @@
 -- How a line ends, by how memblock's call ended, and that it leaves the bytes to the items where it fills nothing.
-use Rattle.std.proofs.Common.{◌≡◌, ℕ, Bool, true, false, nat_le, if◌then◌else◌, Option, Some, None, List, ◌++◌, length, Result, Ok, Err, IsOk, IsErr, refl, sym, ◌∙◌, ap, subst, arith, inl, inr}
+use Rattle.std.proofs.Common.{◌≡◌, ℕ, Bool, true, false, nat_le, if◌then◌else◌, Option, Some, None, List, ◌++◌, length, Result, Ok, Err, IsOk, refl, sym, ◌∙◌, ap, arith, inl, inr}
 use Rattle.std.proofs.lemmas.Bool.{true≢false}
 use Rattle.std.proofs.Math.Seq.{take-length}
 use Rattle.bm_base.specs.declared.memory.Memory.{Memory}
@@ -10,9 +10,8 @@ use Rattle.memblock_model.specs.Items.{owner_of}
 use Rattle.memblock_model.specs.declared.request.Request.{Request}
 use Rattle.growth_model.specs.Outcome as growth
 use Rattle.growth_model.specs.Outcome.{joined}
-use Rattle.growth_model.specs.Growth.{claimed}
 use Rattle.growth_model.specs.Request.{place_for}
-use Rattle.growth_model.specs.Ends.{IsCut, EndsBy, Ends, Allocates}
+use Rattle.growth_model.specs.Ends.{IsCut}
 use Rattle.growth_model.proofs.EndLaws.{cut-short}
 use Rattle.growth_model.specs.Bytes.{byte_after, Filled, Follows}
 use Rattle.early_script.specs.declared.outcome.Outcome.{Outcome}
@@ -42,41 +41,6 @@ only-answers (Err memory) old new d only acts =
       | inl cut ↦ let short = cut.short in absurd (omega (arith, none, short))
       | inr behind ↦ absurd (true≢false (sym behind.0 ∙ only.untaken))
     ]
-
--- a line that found want of memory behind its change
-pub acts-wanting : (T : Type 0) (x : T) (r : Result Outcome Memory) (old new : State) (d : Deed) → IsErr r → d.takes ≡ true →
-    EndsBy {T = T} (Ok x) old.items new.items (d.change old.items) → new.kernel ≡ old.kernel → new.ids ≡ old.ids → Acts r old new d
-acts-wanting T x (Ok answer) old new d wants takes ends kernel ids = absurd (true≢false (sym wants))
-acts-wanting T x (Err memory) old new d wants takes ends kernel ids = (inr (takes, ends.0, ends.1), kernel, ids)
-
-alloc_wanting : (r : Result Outcome Memory) (old new : State) (id : ℕ) (q : Request) (base : ℕ) (place : Option ℕ) → IsErr r →
-    is_live old.ids id ≡ false → place_for q old.items ≡ place →
-    Allocates (Ok base) old.items new.items place q.size (owner.Script id) → new.kernel ≡ old.kernel → new.ids ≡ old.ids →
-    Acts r old new (alloc_deed old id q)
-alloc_wanting r old new id q base None wants free found allocates kernel ids = let clash = allocates.0 in cc
-alloc_wanting r old new id q base (Some place) wants free found allocates kernel ids =
-    let here : Acts r old new (alloc_at old id q.size (Some place)) =
-    acts-wanting ℕ base r old new (alloc_at old id q.size (Some place)) wants refl allocates.1 kernel ids in
-    subst (λ (t : Bool). Acts r old new (if t then answers old outcomes.Taken else alloc_at old id q.size (place_for q old.items)))
-    (sym free)
-    (subst (λ (o : Option ℕ). Acts r old new (alloc_at old id q.size o)) (sym found) here)
-
-pub alloc-wanting : (r : Result Outcome Memory) (old new : State) (id : ℕ) (q : Request) (base : ℕ) → IsErr r →
-    is_live old.ids id ≡ false → Allocates (Ok base) old.items new.items (place_for q old.items) q.size (owner.Script id) →
-    new.kernel ≡ old.kernel → new.ids ≡ old.ids → Acts r old new (alloc_deed old id q)
-alloc-wanting r old new id q base wants free allocates kernel ids =
-    alloc_wanting r old new id q base (place_for q old.items) wants free refl allocates kernel ids
-
-pub reserve-wanting : (r : Result Outcome Memory) (old new : State) (id : ℕ) (range : Extent) (u : Unit {0}) → IsErr r →
-    is_live old.ids id ≡ false → touches old.kernel old.items range ≡ false →
-    Ends {T = Unit {0}} (Ok u) old.items new.items (claimed range (owner.Script id)) → new.kernel ≡ old.kernel → new.ids ≡ old.ids →
-    Acts r old new (reserve_deed old id range)
-reserve-wanting r old new id range u wants free away ends kernel ids =
-    let claim : Deed = reserved_for old id range in
-    let here : Acts r old new claim = acts-wanting (Unit {0}) u r old new claim wants refl ends kernel ids in
-    subst (λ (t : Bool). Acts r old new (if t then answers old outcomes.Taken else
-    (if touches old.kernel old.items range then answers old outcomes.TableInUse else claim))) (sym free)
-    (subst (λ (t : Bool). Acts r old new (if t then answers old outcomes.TableInUse else claim)) (sym away) here)
 
 -- without a fill, the bytes behind a line are those that the items make
 pub bytes-quiet : (result : Result Outcome Memory) (old new : State) (d : Deed) (f g : ℕ → ℕ) → d.fill ≡ None →
