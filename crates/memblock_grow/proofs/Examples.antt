@@ -1,5 +1,5 @@
 -- Small tables, computed: what is kept, where a table may go, and whether it is full.
-use Rattle.std.proofs.Common.{◌≡◌, ℕ, ◌+◌, ◌*◌, ◌^◌, ◌<◌, ◌≤◌, ◌%◌, Bool, true, false, ◌||◌, if◌then◌else◌, Option, Some, None, List, [], ◌∷◌, length, Err, refl, sym, ◌∙◌, ap, inl, inr, arith}
+use Rattle.std.proofs.Common.{◌≡◌, ℕ, ◌+◌, ◌*◌, ◌^◌, ◌<◌, ◌≤◌, ◌%◌, true, false, ◌||◌, if◌then◌else◌, Option, Some, None, List, [], ◌∷◌, length, Err, refl, sym, ◌∙◌, ap, inl, inr, arith}
 use Rattle.std.proofs.lemmas.Bool.{cases_Bool, true≢false}
 use Rattle.std.proofs.Math.Bool.{or-false}
 use Rattle.std.proofs.lemmas.Bool.Decides.{nat_tests}
@@ -15,7 +15,7 @@ use Rattle.memblock_model.specs.declared.item.Item.TheVariants as item
 use Rattle.memblock_model.specs.Labels.{plain_label, with_mirror}
 use Rattle.memblock_model.specs.Tables.{table_of}
 use Rattle.memblock_model.specs.Search.{suits, fits_in}
-use Rattle.memblock_model.proofs.SearchLaws.{IsLastBelow, fits_in-parts, fits_in-whole, top_in-last, top_in-mirrorless, best_in-last, best_in-fails}
+use Rattle.memblock_model.proofs.SearchLaws.{IsLastBelow, fits_in-parts, fits_in-whole, top_in-last, top_in-mirrorless, best_in-last, best_in-fails, plain_or_none}
 use Rattle.memblock_ranges.specs.Tables.{Table, Contents}
 use Rattle.memblock_ranges.proofs.CountLaws.{one-piece}
 use Rattle.growth_model.specs.declared.refusal.Refusal.TheVariants as refusal
@@ -175,10 +175,6 @@ plain = record {
 }
 
 -- none of it is mirrored
-plain_or_none : (b : Bool) → suits true (if b then Some plain_label else None) ≡ false
-plain_or_none true = refl
-plain_or_none false = refl
-
 none_mirrored : (x : ℕ) → suits true (value_at plain.memory.records x) ≡ false
 none_mirrored x = plain_or_none (covers (record { base = 0; size = 65536 }) x)
 
