@@ -1,8 +1,8 @@
 #!/usr/bin/env python3
 """copies.py [CRATE..]: the lemmas that stand more than once.
 
-Prints each statement in crates/*/proofs that, but for the names of its variables, stands in another file too: of the crates, of the toolchain's library
-std, or of a port that crates.txt names. Given crates, only those statements of which one stands there. A line each: the crate and the file, or
+Prints each statement in crates/*/proofs that, but for the names of its variables, stands in another file too: of the crates, or, where it is public
+there, of the toolchain's library std or a port that crates.txt names. Given crates, only those statements of which one stands there. A line each: the crate and the file, or
 where the toolchain has it, and the lemma's name. Answers are left out, and statements that say little (under 40 characters).
 
 A row is a place to look: what is private has to become `pub`, with its file `pub mod` in proofs/Lib.antt, and a lemma of a crate above serves nothing
@@ -46,12 +46,12 @@ def files():
             yield path, f"({os.path.relpath(path, root)})"
 
 
-def statements(text):
-    """The name and the statement of each lemma of a file."""
+def statements(text, hidden):
+    """The name and the statement of each lemma of a file; of the hidden ones, too, where they are asked for."""
     for part in re.split(r"\n\s*\n", text):
         lines = [line for line in part.split("\n") if not line.lstrip().startswith("--")]
         head = HEAD.match(lines[0]) if lines else None
-        if head and not lines[0].startswith("use "):
+        if head and not lines[0].startswith("use ") and (hidden or lines[0].startswith("pub ")):
             name = head.group(1)
             told = [lines[0][head.end() :]]
             for line in lines[1:]:
@@ -78,7 +78,7 @@ def main():
     found = {}
     for path, told in files():
         with open(path, encoding="utf-8") as file:
-            for name, statement in statements(file.read()):
+            for name, statement in statements(file.read(), not told.startswith("(")):
                 bare = without_names(statement)
                 if len(bare) >= LEAST and not bare.startswith("goal ."):
                     found.setdefault(bare, set()).add((told, name))
