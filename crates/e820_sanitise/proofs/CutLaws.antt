@@ -42,35 +42,27 @@ parts_test range inner r x k =
     )
     (grind (arith, nat_tests))
 
--- one claim of a list under a removal of one type, of all, and under a change
+-- the type that a claim has inside the range
+inside_test : (v from k : ℕ) (to : Option ℕ)
+    → is_value (if v == from then to else Some v) k ≡ (if v == from then is_value to k else (k == v))
+inside_test v from k to =
+    elim (cases_Bool (v == from)) as (λ _. is_value (if v == from then to else Some v) k ≡ (if v == from then is_value to k else (k == v))) [
+      | inl equal ↦ rw equal refl
+      | inr other ↦ rw other refl
+    ]
+
+-- one claim of a list under a removal of one type, and under a change
 remove_step : (lies in_range rest : Bool) (v kind k : ℕ)
     → ((lies && (if in_range then is_value (if v == kind then None else Some v) k else (k == v))) || (rest && not (in_range && k == kind)))
     ≡ (((lies && k == v) || rest) && not (in_range && k == kind))
-remove_step lies in_range rest v kind k =
-    elim (cases_Bool (v == kind)) as (λ _. ((lies && (if in_range then is_value (if v == kind then None else Some v) k else (k == v)))
-    || (rest && not (in_range && k == kind)))
-    ≡ (((lies && k == v) || rest) && not (in_range && k == kind))) [
-      | inl equal ↦ rw equal (grind (arith, nat_tests))
-      | inr other ↦ rw other (grind (arith, nat_tests))
-    ]
-
-remove_all_step : (lies in_range rest : Bool) (v k : ℕ)
-    → ((lies && (if in_range then false else (k == v))) || (rest && not in_range)) ≡ (((lies && k == v) || rest) && not in_range)
-remove_all_step lies in_range rest v k = grind (arith, nat_tests)
+remove_step lies in_range rest v kind k = rw (inside_test v kind k None) (grind (arith, nat_tests))
 
 change_step : (lies in_range rest rest_from : Bool) (v from to k : ℕ)
     → ((lies && (if in_range then is_value (if v == from then Some to else Some v) k else (k == v)))
     || (if in_range then ((rest_from && k == to) || (rest && not (k == from))) else rest))
     ≡ (if in_range then ((((lies && from == v) || rest_from) && k == to) || (((lies && k == v) || rest) && not (k == from))) else
     ((lies && k == v) || rest))
-change_step lies in_range rest rest_from v from to k =
-    elim (cases_Bool (v == from)) as (λ _. ((lies && (if in_range then is_value (if v == from then Some to else Some v) k else (k == v)))
-    || (if in_range then ((rest_from && k == to) || (rest && not (k == from))) else rest))
-    ≡ (if in_range then ((((lies && from == v) || rest_from) && k == to) || (((lies && k == v) || rest) && not (k == from))) else
-    ((lies && k == v) || rest))) [
-      | inl equal ↦ rw equal (grind (arith, nat_tests))
-      | inr other ↦ rw other (grind (arith, nat_tests))
-    ]
+change_step lies in_range rest rest_from v from to k = rw (inside_test v from k (Some to)) (grind (arith, nat_tests))
 
 remove_test : (range : Extent) (kind : ℕ) (rs : List (RunOf ℕ)) (x k : ℕ)
     → claims_of (cut_out range (Some kind) None rs) x k ≡ edited (edit.Remove range kind) (claims_of rs) x k
@@ -85,16 +77,11 @@ remove_all_test : (range : Extent) (rs : List (RunOf ℕ)) (x k : ℕ)
 remove_all_test range [] x k = refl
 remove_all_test range (r ∷ rs) x k =
     claims_append_at (parts range None r) (cut_out range None None rs) x k
-    ∙ rw (parts_test range None r x k, remove_all_test range rs x k)
-    (remove_all_step (lies_in r x) (covers range x) (claims_of rs x k) r.value k)
-
-change_none : (b : Bool) → (if b then false else false) ≡ false
-change_none true = refl
-change_none false = refl
+    ∙ rw (parts_test range None r x k, remove_all_test range rs x k) (grind (arith, nat_tests))
 
 change_test : (range : Extent) (from to : ℕ) (rs : List (RunOf ℕ)) (x k : ℕ)
     → claims_of (cut_out range (Some from) (Some to) rs) x k ≡ edited (edit.Change range from to) (claims_of rs) x k
-change_test range from to [] x k = sym (change_none (covers range x))
+change_test range from to [] x k = grind (arith, nat_tests)
 change_test range from to (r ∷ rs) x k =
     claims_append_at (parts range (left_inside (Some from) (Some to) r.value) r) (cut_out range (Some from) (Some to) rs) x k
     ∙ rw (parts_test range (left_inside (Some from) (Some to) r.value) r x k, change_test range from to rs x k)
@@ -145,10 +132,7 @@ pub are_between : (from until kind : ℕ) → until < 2 ^ 64 → 0 < kind → ki
 are_between from until kind space some small =
     elim (cases_Bool (nat_lt from until)) as (λ _. AreClaims (between from until kind)) [
       | inl above ↦
-          let lt : from < until = grind (arith, nat_tests) in
-          let one : AreClaims (record { base = from; size = until - from; value = kind } ∷ []) =
-          (omega arith, omega arith, some, small, tt) in
-          rw above one
+          let lt : from < until = grind (arith, nat_tests) in rw above (omega arith, omega arith, some, small, tt)
       | inr none ↦ rw none tt
     ]
 
@@ -165,21 +149,18 @@ type_inside : (meant instead : Option ℕ) (kind : ℕ) → IsType instead → 0
 type_inside meant instead kind type some small =
     elim (cases_Bool (is_meant meant kind)) as (λ _. IsType (left_inside meant instead kind)) [
       | inl one ↦ rw one type
-      | inr other ↦ let own : IsType (Some kind) = (some, small) in rw other own
+      | inr other ↦ rw other (some, small)
     ]
 
 pub are_cut : (range : Extent) (meant instead : Option ℕ) (rs : List (RunOf ℕ)) → IsType instead → AreClaims rs
     → AreClaims (cut_out range meant instead rs)
 are_cut range meant instead [] type claims = tt
 are_cut range meant instead (r ∷ rs) type claims =
-    let first : AreClaims (between r.base (min range.base (run_end r)) r.value) = are_between r.base (min range.base (run_end r)) r.value
-    (omega arith) claims.2 claims.3 in
-    let second : AreClaims (between_if (max range.base r.base) (min (end_of range) (run_end r)) (left_inside meant instead r.value)) =
-    are_between_if (max range.base r.base) (min (end_of range) (run_end r)) (left_inside meant instead r.value) (omega arith)
-    (type_inside meant instead r.value type claims.2 claims.3) in
-    let third : AreClaims (between (max (end_of range) r.base) (run_end r) r.value) = are_between (max (end_of range) r.base) (run_end r)
-    r.value (omega arith) claims.2 claims.3 in
-    are_append _ _ (are_append _ _ (are_append _ _ first second) third) (are_cut range meant instead rs type claims.4)
+    are_append _ _ (are_append _ _ (are_append _ _ (are_between r.base (min range.base (run_end r)) r.value (omega arith) claims.2 claims.3)
+    (are_between_if (max range.base r.base) (min (end_of range) (run_end r)) (left_inside meant instead r.value) (omega arith)
+    (type_inside meant instead r.value type claims.2 claims.3)))
+    (are_between (max (end_of range) r.base) (run_end r) r.value (omega arith) claims.2 claims.3))
+    (are_cut range meant instead rs type claims.4)
 
 -- claims that changed as they should, or not at all, are claims
 pub are_either : {T E : Type 0} (r : Result T E) (new changed old : List (RunOf ℕ)) → OnOk r (new ≡ changed) → OnErr r (new ≡ old)
