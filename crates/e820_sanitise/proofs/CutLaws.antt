@@ -64,51 +64,38 @@ change_step : (lies in_range rest rest_from : Bool) (v from to k : ℕ)
     ((lies && k == v) || rest))
 change_step lies in_range rest rest_from v from to k = rw (inside_test v from k (Some to)) (grind (arith, nat_tests))
 
-remove_test : (range : Extent) (kind : ℕ) (rs : List (RunOf ℕ)) (x k : ℕ)
-    → claims_of (cut_out range (Some kind) None rs) x k ≡ edited (edit.Remove range kind) (claims_of rs) x k
-remove_test range kind [] x k = refl
-remove_test range kind (r ∷ rs) x k =
-    claims_append_at (parts range (left_inside (Some kind) None r.value) r) (cut_out range (Some kind) None rs) x k
-    ∙ rw (parts_test range (left_inside (Some kind) None r.value) r x k, remove_test range kind rs x k)
-    (remove_step (lies_in r x) (covers range x) (claims_of rs x k) r.value kind k)
-
-remove_all_test : (range : Extent) (rs : List (RunOf ℕ)) (x k : ℕ)
-    → claims_of (cut_out range None None rs) x k ≡ edited (edit.RemoveAll range) (claims_of rs) x k
-remove_all_test range [] x k = refl
-remove_all_test range (r ∷ rs) x k =
-    claims_append_at (parts range None r) (cut_out range None None rs) x k
-    ∙ rw (parts_test range None r x k, remove_all_test range rs x k) (grind (arith, nat_tests))
-
-change_test : (range : Extent) (from to : ℕ) (rs : List (RunOf ℕ)) (x k : ℕ)
-    → claims_of (cut_out range (Some from) (Some to) rs) x k ≡ edited (edit.Change range from to) (claims_of rs) x k
-change_test range from to [] x k = grind (arith, nat_tests)
-change_test range from to (r ∷ rs) x k =
-    claims_append_at (parts range (left_inside (Some from) (Some to) r.value) r) (cut_out range (Some from) (Some to) rs) x k
-    ∙ rw (parts_test range (left_inside (Some from) (Some to) r.value) r x k, change_test range from to rs x k)
-    (change_step (lies_in r x) (covers range x) (claims_of rs x k) (claims_of rs x from) r.value from to k)
+alike : (f g : ℕ → ℕ → Bool) → ((x k : ℕ) → f x k ≡ g x k) → f ≡ g
+alike f g same = λ i x k. same x k i
 
 -- so the cut lists are the edited claims
 pub remove_same : (range : Extent) (kind : ℕ) (rs : List (RunOf ℕ))
     → claims_of (cut_out range (Some kind) None rs) ≡ edited (edit.Remove range kind) (claims_of rs)
-remove_same range kind rs = λ i x k. remove_test range kind rs x k i
+remove_same range kind [] = refl
+remove_same range kind (r ∷ rs) =
+    alike _ _ (λ x k. claims_append_at (parts range (left_inside (Some kind) None r.value) r) (cut_out range (Some kind) None rs) x k
+    ∙ rw (parts_test range (left_inside (Some kind) None r.value) r x k, remove_same range kind rs)
+    (remove_step (lies_in r x) (covers range x) (claims_of rs x k) r.value kind k))
 
 pub remove_all_same : (range : Extent) (rs : List (RunOf ℕ))
     → claims_of (cut_out range None None rs) ≡ edited (edit.RemoveAll range) (claims_of rs)
-remove_all_same range rs = λ i x k. remove_all_test range rs x k i
+remove_all_same range [] = refl
+remove_all_same range (r ∷ rs) =
+    alike _ _ (λ x k. claims_append_at (parts range None r) (cut_out range None None rs) x k
+    ∙ rw (parts_test range None r x k, remove_all_same range rs) (grind (arith, nat_tests)))
 
 pub change_same : (range : Extent) (from to : ℕ) (rs : List (RunOf ℕ))
     → claims_of (cut_out range (Some from) (Some to) rs) ≡ edited (edit.Change range from to) (claims_of rs)
-change_same range from to rs = λ i x k. change_test range from to rs x k i
-
-add_test : (range : Extent) (kind : ℕ) (rs : List (RunOf ℕ)) (x k : ℕ)
-    → claims_of (rs ++ between range.base (end_of range) kind) x k ≡ edited (edit.Add range kind) (claims_of rs) x k
-add_test range kind rs x k =
-    claims_append_at rs (between range.base (end_of range) kind) x k
-    ∙ ap (λ b. claims_of rs x k || b) (between_test range.base (end_of range) kind x k)
+change_same range from to [] = alike _ _ (λ x k. grind (arith, nat_tests))
+change_same range from to (r ∷ rs) =
+    alike _ _ (λ x k. claims_append_at (parts range (left_inside (Some from) (Some to) r.value) r) (cut_out range (Some from) (Some to) rs) x k
+    ∙ rw (parts_test range (left_inside (Some from) (Some to) r.value) r x k, change_same range from to rs)
+    (change_step (lies_in r x) (covers range x) (claims_of rs x k) (claims_of rs x from) r.value from to k))
 
 pub add_same : (range : Extent) (kind : ℕ) (rs : List (RunOf ℕ))
     → claims_of (rs ++ between range.base (end_of range) kind) ≡ edited (edit.Add range kind) (claims_of rs)
-add_same range kind rs = λ i x k. add_test range kind rs x k i
+add_same range kind rs =
+    alike _ _ (λ x k. claims_append_at rs (between range.base (end_of range) kind) x k
+    ∙ ap (λ b. claims_of rs x k || b) (between_test range.base (end_of range) kind x k))
 
 -- the claims of entries
 claim_test : (e : Entry) (x k : ℕ) → claims_of (claim_of e) x k ≡ (is_covered_by e x && nat_lt 0 k && k == e.kind)

@@ -1,7 +1,6 @@
-use Rattle.std.proofs.Common.{rules, ◌≡◌, ◌<◌, Some, None, ◌++◌, OnOk, ap, sym, ◌∙◌, arith}
+use Rattle.std.proofs.Common.{rules, ◌≡◌, ◌<◌, Some, None, ◌++◌, OnOk, ap, ◌∙◌, arith}
 use Rattle.std.proofs.lemmas.Result.{on_ok_weaker}
 use Rattle.bm_base.specs.Extent.{end_of}
-use Rattle.e820_model.specs.Claims.{edited}
 use Rattle.e820_model.specs.Map.{claims_of}
 use Rattle.e820_sanitise.specs.Cuts.{between}
 use Rattle.e820_sanitise.proofs.CutLaws.{add_same, remove_same, remove_all_same, change_same, are_cut, are_either}
@@ -12,15 +11,13 @@ returns-in-Add-clause-same c =
     let added : OnOk c.push_between.result (c.push_between.new.claims.items ≡ c.args.claims.now.items
     ++ between c.in-Add.range.base (end_of c.in-Add.range) c.in-Add.kind) = search rules in
     on_ok_weaker c.push_between.result
-    (λ is. ap claims_of is ∙ add_same c.in-Add.range c.in-Add.kind c.args.claims.now.items
-    ∙ ap (λ e. edited e (claims_of c.args.claims.now.items)) (sym c.in-Add.is))
+    (λ is. ap claims_of is ∙ rw c.in-Add.is (add_same c.in-Add.range c.in-Add.kind c.args.claims.now.items))
     added
 
 pub returns-in-Remove-clause-same : goal.returns-in-Remove-clause-same
 returns-in-Remove-clause-same c =
     on_ok_weaker c.cut.result
-    (λ is. ap claims_of is ∙ remove_same c.in-Remove.range c.in-Remove.kind c.args.claims.now.items
-    ∙ ap (λ e. edited e (claims_of c.args.claims.now.items)) (sym c.in-Remove.is))
+    (λ is. ap claims_of is ∙ rw c.in-Remove.is (remove_same c.in-Remove.range c.in-Remove.kind c.args.claims.now.items))
     c.cut.ensures.ok
 
 pub returns-in-Remove-clause-claims : goal.returns-in-Remove-clause-claims
@@ -31,8 +28,7 @@ returns-in-Remove-clause-claims c =
 pub returns-in-RemoveAll-clause-same : goal.returns-in-RemoveAll-clause-same
 returns-in-RemoveAll-clause-same c =
     on_ok_weaker c.cut-in-RemoveAll.result
-    (λ is. ap claims_of is ∙ remove_all_same c.in-RemoveAll.range c.args.claims.now.items
-    ∙ ap (λ e. edited e (claims_of c.args.claims.now.items)) (sym c.in-RemoveAll.is))
+    (λ is. ap claims_of is ∙ rw c.in-RemoveAll.is (remove_all_same c.in-RemoveAll.range c.args.claims.now.items))
     c.cut-in-RemoveAll.ensures.ok
 
 pub returns-in-RemoveAll-clause-claims : goal.returns-in-RemoveAll-clause-claims
@@ -43,8 +39,7 @@ returns-in-RemoveAll-clause-claims c =
 pub returns-in-Change-clause-same : goal.returns-in-Change-clause-same
 returns-in-Change-clause-same c =
     on_ok_weaker c.cut-in-Change.result
-    (λ is. ap claims_of is ∙ change_same c.in-Change.range c.in-Change.from c.in-Change.to c.args.claims.now.items
-    ∙ ap (λ e. edited e (claims_of c.args.claims.now.items)) (sym c.in-Change.is))
+    (λ is. ap claims_of is ∙ rw c.in-Change.is (change_same c.in-Change.range c.in-Change.from c.in-Change.to c.args.claims.now.items))
     c.cut-in-Change.ensures.ok
 
 pub returns-in-Change-clause-claims : goal.returns-in-Change-clause-claims
