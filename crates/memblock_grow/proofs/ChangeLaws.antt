@@ -1,5 +1,5 @@
 -- A change that makes room and then writes one item: how it ends, wherever it ends.
-use Rattle.std.proofs.Common.{◌≡◌, ℕ, false, List, [], ◌∷◌, ◌++◌, Result, Ok, Err, IsErrAnd, sym, ap, subst, arith}
+use Rattle.std.proofs.Common.{◌≡◌, ℕ, false, List, [], ◌∷◌, ◌++◌, Result, Ok, Err, IsErrAnd, ap, subst, arith}
 use Rattle.bm_base.specs.Extent.{Extent}
 use Rattle.phys_store.specs.Bytes.{byte_of}
 use Rattle.memblock_model.specs.declared.item.Item.{Item}
@@ -8,11 +8,11 @@ use Rattle.growth_model.specs.declared.refusal.Refusal.{Refusal}
 use Rattle.growth_model.specs.declared.refusal.Refusal.TheVariants as refusal
 use Rattle.growth_model.specs.Outcome.{Change, ◌>>◌, write}
 use Rattle.growth_model.specs.Ends.{Ends}
-use Rattle.growth_model.specs.Bytes.{leaves, Follows}
-use Rattle.growth_model.proofs.EndLaws.{Ends-second, Ends-first, Ends-step, Ends-wanting, Ends-along}
+use Rattle.growth_model.specs.Bytes.{leaves}
+use Rattle.growth_model.proofs.EndLaws.{Ends-second, Ends-first, Ends-step, Ends-wanting}
 use Rattle.growth_model.proofs.FollowLaws.{follows-item, follows-then}
 use Rattle.memblock_grow.specs.declared.aim.Aim.{Aim}
-use Rattle.memblock_grow.specs.Kept.{AreKept, AreTold}
+use Rattle.memblock_grow.specs.Kept.{AreKept, AreTold, Keeps, KeepsBytes}
 
 -- an error that is handed on
 pub handed : {T : Type 0} (r : Result T Refusal) (e : Refusal) → IsErrAnd r (λ (n : Refusal). n ≡ e) → r ≡ Err e
@@ -21,31 +21,26 @@ handed (Err n) e h = ap (λ (m : Refusal). Err m) h
 
 pub change-fails : (growths : Change) (i : Item) (e : Refusal) (r : Result (Unit {0}) Refusal) (old new : List Item)
     → IsErrAnd r (λ (n : Refusal). n ≡ e) → Ends {T = Unit {0}} (Err e) old new growths → Ends r old new (growths >> write i)
-change-fails growths i e r old new is h =
-    Ends-along (Err e) r old new (growths >> write i) (sym (handed r e is)) (Ends-first (Unit {0}) (Unit {0}) e old new growths (write i) h)
+change-fails growths i e r old new is h = rw (handed r e is) (Ends-first (Unit {0}) (Unit {0}) e old new growths (write i) h)
 
 pub change-wants : (growths : Change) (i : Item) (r : Result (Unit {0}) Refusal) (old mid new : List Item)
     → IsErrAnd r (λ (n : Refusal). n ≡ refusal.Memory) → Ends {T = Unit {0}} (Ok tt) old mid growths
     → new ≡ mid → Ends r old new (growths >> write i)
 change-wants growths i r old mid new is h same =
-    Ends-along (Err refusal.Memory) r old new (growths >> write i) (sym (handed r refusal.Memory is))
-    (subst (λ (l : List Item). Ends {T = Unit {0}} (Err refusal.Memory) old l (growths >> write i)) (sym same)
-    (Ends-second {T = Unit {0}} {U = Unit {0}} tt (Err refusal.Memory) old mid mid growths (write i) h
-    (Ends-wanting (Unit {0}) mid (write i) (omega arith))))
+    rw (handed r refusal.Memory is, same) (Ends-second {T = Unit {0}} {U = Unit {0}} tt (Err refusal.Memory) old mid mid growths (write i) h
+    (Ends-wanting (Unit {0}) mid (write i) (omega arith)))
 
 pub change-done : (growths : Change) (i : Item) (old mid new : List Item) → Ends {T = Unit {0}} (Ok tt) old mid growths
     → new ≡ mid ++ i ∷ [] → Ends {T = Unit {0}} (Ok tt) old new (growths >> write i)
 change-done growths i old mid new h is =
-    subst (λ (l : List Item). Ends {T = Unit {0}} (Ok tt) old l (growths >> write i)) (sym is)
-    (Ends-second {T = Unit {0}} {U = Unit {0}} tt (Ok tt) old mid (mid ++ i ∷ []) growths (write i) h
+    rw is (Ends-second {T = Unit {0}} {U = Unit {0}} tt (Ok tt) old mid (mid ++ i ∷ []) growths (write i) h
     (Ends-step {T = Unit {0}} tt mid (i ∷ [])))
 
 -- and what it makes of each byte, by an item that leaves no place
-pub change-bytes : (kernel : Extent) (old mid new : List Item) (i : Item) (t u v : Contents) (at : Aim) → new ≡ mid ++ i ∷ []
-    → ((x : ℕ) → leaves kernel mid i x ≡ false) → AreKept kernel new v at → AreTold u v
-    → Follows kernel old mid (byte_of t.store) (byte_of u.store) → Follows kernel old new (byte_of t.store) (byte_of v.store)
-change-bytes kernel old mid new i t u v at is stays kept told before =
-    let after = subst (λ (l : List Item). AreKept kernel l v at) is kept in
-    subst (λ (l : List Item). Follows kernel old l (byte_of t.store) (byte_of v.store)) (sym is)
-    (follows-then kernel old mid (mid ++ i ∷ []) (byte_of t.store) (byte_of u.store) (byte_of v.store) before
-    (follows-item kernel mid i v.memory v.reserved (byte_of u.store) (byte_of v.store) stays after.memory after.reserved told))
+pub change-bytes : (i : Item) {old mid new : List Item} {t : Contents} (u : Contents) {v : Contents} {at : Aim} → new ≡ mid ++ i ∷ []
+    → ((kernel : Extent) (x : ℕ) → leaves kernel mid i x ≡ false) → Keeps old t new v at → AreTold u v → KeepsBytes old t mid u at
+    → KeepsBytes old t new v at
+change-bytes i {mid} u {v} {at} is stays kept told before = λ kernel known spelled.
+    let after = subst (λ (l : List Item). AreKept kernel l v at) is (kept kernel known) in
+    rw is (follows-then _ _ _ _ _ _ _ (before kernel known spelled)
+    (follows-item kernel mid i v.memory v.reserved (byte_of u.store) (byte_of v.store) (stays kernel) after.memory after.reserved told))

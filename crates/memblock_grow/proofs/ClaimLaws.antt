@@ -37,11 +37,10 @@ claim-begins range who items unrefused =
     subst (λ (o : Outcome). 0 < length o.steps) (sym (followed growths last items (then-unrefused items growths last unrefused).0))
     (omega (arith, more))
 
-pub claim-prepares : (r : Result (Unit {0}) Refusal) (place : Extent) (who : Owner) (items longer : List Item) (s t : List Stored)
+pub claim-prepares : (r : Result (Unit {0}) Refusal) (who : Owner) {place : Extent} {items longer : List Item} {s t : List Stored}
     → (claimed place who items).refused ≡ None → Ends r items longer (claimed place who) → PreparesWith place items longer s t
     → OnErr r (PreparesBy r items longer s t)
-claim-prepares (Ok x) place who items longer s t unrefused ends h = tt
-claim-prepares (Err refusal.NoGap) place who items longer s t unrefused ends h = absurd ends
-claim-prepares (Err (refusal.NoGapForTable w room)) place who items longer s t unrefused ends h =
-    let clash = sym unrefused ∙ ends.0 in cc
-claim-prepares (Err refusal.Memory) place who items longer s t unrefused ends h = (place, h)
+claim-prepares (Ok x) who unrefused ends h = tt
+claim-prepares (Err refusal.NoGap) who unrefused ends h = absurd ends
+claim-prepares (Err (refusal.NoGapForTable w room)) who unrefused ends h = let clash = sym unrefused ∙ ends.0 in cc
+claim-prepares (Err refusal.Memory) who {place} unrefused ends h = (place, h)

@@ -25,99 +25,14 @@ use Rattle.growth_model.specs.Bytes.{table_for}
 use Rattle.memblock_grow.specs.declared.aim.Aim.{Aim}
 use Rattle.memblock_grow.specs.Kept.{AreKept, aimed}
 
-table-eq : (a b : Table) → a.records ≡ b.records → a.place ≡ b.place → a.room ≡ b.room → a ≡ b
-table-eq a b p q r = λ k. record { records = p k; place = q k; room = r k }
-
--- each table by its word
-pub table-is : (w : Which) (kernel : Extent) (items : List Item) (t : Contents) (at : Aim) → AreKept kernel items t at
-    → table_in w t ≡ table_for w kernel items
-table-is which.Memory kernel items t at kept = kept.memory
-table-is which.Reserved kernel items t at kept = kept.reserved
-
-pub records-are : (w : Which) (kernel : Extent) (items : List Item) (t : Contents) (at : Aim) → AreKept kernel items t at
-    → records_in w t ≡ records_of w items
-records-are w kernel items t at kept = ap (λ (s : Table). s.records) (table-is w kernel items t at kept)
-
-pub room-is : (w : Which) (kernel : Extent) (items : List Item) (t : Contents) (at : Aim) → AreKept kernel items t at
-    → room_in w t ≡ room_of w items
-room-is w kernel items t at kept = ap (λ (s : Table). s.room) (table-is w kernel items t at kept)
-
-pub place-is : (w : Which) (kernel : Extent) (items : List Item) (t : Contents) (at : Aim) → AreKept kernel items t at
-    → place_in w t ≡ place_of w kernel items
-place-is w kernel items t at kept = ap (λ (s : Table). s.place) (table-is w kernel items t at kept)
-
--- what a table says
-pub values-are : (w : Which) (kernel : Extent) (items : List Item) (t : Contents) (at : Aim) → AreKept kernel items t at
-    → value_at (records_in w t) ≡ table_of w items
-unfolding records_of
-values-are w kernel items t at kept =
-    ap (λ (rs : List (RunOf Label)). value_at rs) (records-are w kernel items t at kept) ∙ value_at-records (table_of w items) (kept.ends w)
-
-pub values-end : (w : Which) (kernel : Extent) (items : List Item) (t : Contents) (at : Aim) → AreKept kernel items t at
-    → NothingFrom (2 ^ 64) (value_at (records_in w t))
-values-end w kernel items t at kept =
-    subst (λ (f : Labels). NothingFrom (2 ^ 64) f) (sym (values-are w kernel items t at kept)) (kept.ends w)
-
--- its records are those of what it says
-pub records-again : (w : Which) (kernel : Extent) (items : List Item) (t : Contents) (at : Aim) → AreKept kernel items t at
-    → records_for (value_at (records_in w t)) ≡ records_in w t
-unfolding records_of
-records-again w kernel items t at kept =
-    ap records_for (values-are w kernel items t at kept) ∙ sym (records-are w kernel items t at kept)
-
-pub few-kept : (w : Which) (kernel : Extent) (items : List Item) (t : Contents) (at : Aim) → AreKept kernel items t at
-    → length (records_in w t) ≤ room_in w t
-few-kept w kernel items t at kept =
-    let fits = kept.fits w in
-    let n = ap length (records-are w kernel items t at kept) in
-    let m = room-is w kernel items t at kept in
-    omega (arith, fits, n, m)
-
--- the same tables
-pub kept-same : (kernel : Extent) (items : List Item) (t u : Contents) (at : Aim) → u.memory ≡ t.memory → u.reserved ≡ t.reserved
-    → AreKept kernel items t at → AreKept kernel items u at
-kept-same kernel items t u at first second kept = record {
-  memory = first ∙ kept.memory;
-  reserved = second ∙ kept.reserved;
-  limit = kept.limit;
-  upward = kept.upward;
-  ends = kept.ends;
-  fits = kept.fits;
-  far = kept.far;
-}
-
--- an item that moves no table
-pub record IsQuiet (i : Item) : Type 0 where
-  pub room : (w : Which) (n : ℕ) → room_after w n i ≡ n
-  pub moved : (w : Which) (o : Option ℕ) → moved_after w o i ≡ o
-
-quiet-room : (w : Which) (items : List Item) (i : Item) → IsQuiet i → room_of w (items ++ i ∷ []) ≡ room_of w items
-quiet-room w items i quiet = room_of-push w items i ∙ quiet.room w (room_of w items)
-
-quiet-moved : (w : Which) (items : List Item) (i : Item) → IsQuiet i → moved_to w (items ++ i ∷ []) ≡ moved_to w items
-quiet-moved w items i quiet = moved_to-push w items i ∙ quiet.moved w (moved_to w items)
-
-quiet-place : (w : Which) (kernel : Extent) (items : List Item) (i : Item) → IsQuiet i
-    → place_of w kernel (items ++ i ∷ []) ≡ place_of w kernel items
-quiet-place w kernel items i quiet = ap (λ (o : Option ℕ). unwrap_or o (built_in w kernel)) (quiet-moved w items i quiet)
-
-table-edited : (w : Which) (kernel : Extent) (items : List Item) (i : Item) (old new : Table) → IsQuiet i
-    → NothingFrom (2 ^ 64) (table_of w items) → old ≡ table_for w kernel items
-    → new ≡ record old { records = records_for (table_after w (value_at old.records) i) } → new ≡ table_for w kernel (items ++ i ∷ [])
-table-edited w kernel items i old new quiet ends was is =
-    table-eq new (table_for w kernel (items ++ i ∷ []))
-    (edited-items w items i old.records new.records ends (ap (λ (t : Table). t.records) was) (ap (λ (t : Table). t.records) is))
-    (ap (λ (t : Table). t.place) is ∙ ap (λ (t : Table). t.place) was ∙ sym (quiet-place w kernel items i quiet))
-    (ap (λ (t : Table). t.room) is ∙ ap (λ (t : Table). t.room) was ∙ sym (quiet-room w items i quiet))
-
-table-stays : (w : Which) (kernel : Extent) (items : List Item) (i : Item) (old new : Table) → IsQuiet i
-    → table_after w (table_of w items) i ≡ table_of w items → old ≡ table_for w kernel items → new ≡ old
+-- the table of the items and one more, by its records, its place and its room
+table-by : (w : Which) (kernel : Extent) (items : List Item) (i : Item) (new : Table) → new.records ≡ records_of w (items ++ i ∷ [])
+    → new.place ≡ unwrap_or (moved_after w (moved_to w items) i) (built_in w kernel) → new.room ≡ room_after w (room_of w items) i
     → new ≡ table_for w kernel (items ++ i ∷ [])
-table-stays w kernel items i old new quiet same was is =
-    table-eq new (table_for w kernel (items ++ i ∷ []))
-    (ap (λ (t : Table). t.records) is ∙ untouched-items w items i old.records (ap (λ (t : Table). t.records) was) same)
-    (ap (λ (t : Table). t.place) is ∙ ap (λ (t : Table). t.place) was ∙ sym (quiet-place w kernel items i quiet))
-    (ap (λ (t : Table). t.room) is ∙ ap (λ (t : Table). t.room) was ∙ sym (quiet-room w items i quiet))
+table-by w kernel items i new p q r =
+    let place = q ∙ sym (ap (λ (o : Option ℕ). unwrap_or o (built_in w kernel)) (moved_to-push w items i)) in
+    let room = r ∙ sym (room_of-push w items i) in
+    λ k. record { records = p k; place = place k; room = room k }
 
 -- each has room for its records, as the tables see it
 fits-by : (kernel : Extent) (items : List Item) (m r : Table) → m ≡ table_for which.Memory kernel items
@@ -125,280 +40,245 @@ fits-by : (kernel : Extent) (items : List Item) (m r : Table) → m ≡ table_fo
 fits-by kernel items m r first second few too which.Memory = subst (λ (t : Table). length t.records ≤ t.room) first few
 fits-by kernel items m r first second few too which.Reserved = subst (λ (t : Table). length t.records ≤ t.room) second too
 
-kept-quiet : (kernel : Extent) (items : List Item) (i : Item) (t u : Contents) (at to : Aim) → IsQuiet i → EndsInSpace i
-    → limit_after at.limit i ≡ to.limit → upward_after at.upward i ≡ to.upward → u.memory ≡ table_for which.Memory kernel (items ++ i ∷ [])
-    → u.reserved ≡ table_for which.Reserved kernel (items ++ i ∷ []) → length u.memory.records ≤ u.memory.room
-    → length u.reserved.records ≤ u.reserved.room → AreKept kernel items t at → AreKept kernel (items ++ i ∷ []) u to
-kept-quiet kernel items i t u at to quiet space limited directed first second few too kept = record {
-  memory = first;
-  reserved = second;
-  limit = limit_of-push items i ∙ ap (λ (n : ℕ). limit_after n i) kept.limit ∙ limited;
-  upward = upward_of-push items i ∙ ap (λ (b : Bool). upward_after b i) kept.upward ∙ directed;
-  ends = λ w. items-within w items i space (kept.ends w);
-  fits = fits-by kernel (items ++ i ∷ []) u.memory u.reserved first second few too;
-  far = λ w place moved. subst (λ (n : ℕ). place + in_whole_frames (24 * n) < 2 ^ 64) (sym (quiet-room w items i quiet))
-      (kept.far w place (sym (quiet-moved w items i quiet) ∙ moved));
-}
+-- an item that moves no table
+abbrev IsQuiet : Item → Type 0
+IsQuiet i = ((w : Which) (n : ℕ) → room_after w n i ≡ n) × ((w : Which) (o : Option ℕ) → moved_after w o i ≡ o)
 
-kept-reserved : (kernel : Extent) (items : List Item) (i : Item) (t u : Contents) (at : Aim) → IsQuiet i → EndsInSpace i
-    → limit_after at.limit i ≡ at.limit → upward_after at.upward i ≡ at.upward → ((f : Labels) → table_after which.Memory f i ≡ f)
-    → u.reserved ≡ record t.reserved { records = records_for (table_after which.Reserved (value_at t.reserved.records) i) }
-    → u.memory ≡ t.memory → length u.reserved.records ≤ u.reserved.room → AreKept kernel items t at
-    → AreKept kernel (items ++ i ∷ []) u at
-kept-reserved kernel items i t u at quiet space limited directed other is same few kept =
-    kept-quiet kernel items i t u at at quiet space limited directed
-    (table-stays which.Memory kernel items i t.memory u.memory quiet (other (table_of which.Memory items)) kept.memory same)
-    (table-edited which.Reserved kernel items i t.reserved u.reserved quiet (kept.ends which.Reserved) kept.reserved is)
-    (subst (λ (s : Table). length s.records ≤ s.room) (sym same) (few-kept which.Memory kernel items t at kept))
-    few kept
+module _ {kernel : Extent} {items : List Item} {t : Contents} {at : Aim} (kept : AreKept kernel items t at) where
+  -- each table by its word
+  pub table-is : (w : Which) → table_in w t ≡ table_for w kernel items
+  table-is which.Memory = kept.memory
+  table-is which.Reserved = kept.reserved
 
-kept-memory : (kernel : Extent) (items : List Item) (i : Item) (t u : Contents) (at : Aim) → IsQuiet i → EndsInSpace i
-    → limit_after at.limit i ≡ at.limit → upward_after at.upward i ≡ at.upward → ((f : Labels) → table_after which.Reserved f i ≡ f)
-    → u.memory ≡ record t.memory { records = records_for (table_after which.Memory (value_at t.memory.records) i) }
-    → u.reserved ≡ t.reserved → length u.memory.records ≤ u.memory.room → AreKept kernel items t at
-    → AreKept kernel (items ++ i ∷ []) u at
-kept-memory kernel items i t u at quiet space limited directed other is same few kept =
-    kept-quiet kernel items i t u at at quiet space limited directed
-    (table-edited which.Memory kernel items i t.memory u.memory quiet (kept.ends which.Memory) kept.memory is)
-    (table-stays which.Reserved kernel items i t.reserved u.reserved quiet (other (table_of which.Reserved items)) kept.reserved same)
-    few
-    (subst (λ (s : Table). length s.records ≤ s.room) (sym same) (few-kept which.Reserved kernel items t at kept))
-    kept
+  pub records-are : (w : Which) → records_in w t ≡ records_of w items
+  records-are w = ap (λ (s : Table). s.records) (table-is w)
 
--- how many records a table has after an edit
-pub few-covered : (w : Which) (kernel : Extent) (items : List Item) (t : Contents) (at : Aim) (range : Extent) → end_of range < 2 ^ 64
-    → AreKept kernel items t at
-    → length (records_for (covered range plain_label (value_at (records_in w t)))) ≤ length (records_in w t) + pieces range (value_at
-    (records_in w t))
-few-covered w kernel items t at range ends kept =
-    let f = value_at (records_in w t) in
-    let few = length-covered range plain_label f (omega arith) (values-end w kernel items t at kept) in
-    let again = ap length (records-again w kernel items t at kept) in
-    omega (arith, few, again)
+  pub room-is : (w : Which) → room_in w t ≡ room_of w items
+  room-is w = ap (λ (s : Table). s.room) (table-is w)
 
-pub few-uncovered : (w : Which) (kernel : Extent) (items : List Item) (t : Contents) (at : Aim) (range : Extent) → AreKept kernel items t at
-    → length (records_for (uncovered range (value_at (records_in w t)))) ≤ length (records_in w t) + 1
-few-uncovered w kernel items t at range kept =
-    let f = value_at (records_in w t) in
-    let few = length-uncovered range f (values-end w kernel items t at kept) in
-    let again = ap length (records-again w kernel items t at kept) in
-    omega (arith, few, again)
+  pub place-is : (w : Which) → place_in w t ≡ place_of w kernel items
+  place-is w = ap (λ (s : Table). s.place) (table-is w)
 
-pub kept-claim : (kernel : Extent) (items : List Item) (t u : Contents) (at : Aim) (range : Extent) (who : Owner) → end_of range < 2 ^ 64
-    → length t.reserved.records + pieces range (value_at t.reserved.records) ≤ t.reserved.room
-    → u.reserved ≡ record t.reserved { records = records_for (covered range plain_label (value_at t.reserved.records)) }
-    → u.memory ≡ t.memory → AreKept kernel items t at → AreKept kernel (items ++ item.Claim range who ∷ []) u at
-kept-claim kernel items t u at range who ends room is same kept =
-    let few = few-covered which.Reserved kernel items t at range ends kept in
-    let n = ap (λ (s : Table). length s.records) is in
-    let m = ap (λ (s : Table). s.room) is in
-    kept-reserved kernel items (item.Claim range who) t u at (record { room = λ w n. refl; moved = λ w o. refl }) (omega arith) refl refl
-    (λ f. refl) is same (omega (arith, few, n, m, room)) kept
+  -- what a table says
+  pub values-are : (w : Which) → value_at (records_in w t) ≡ table_of w items
+  unfolding records_of
+  values-are w = ap (λ (rs : List (RunOf Label)). value_at rs) (records-are w) ∙ value_at-records (table_of w items) (kept.ends w)
 
-pub kept-free : (kernel : Extent) (items : List Item) (t u : Contents) (at : Aim) (range : Extent) → end_of range < 2 ^ 64
-    → length t.reserved.records + 2 ≤ t.reserved.room
-    → u.reserved ≡ record t.reserved { records = records_for (uncovered range (value_at t.reserved.records)) }
-    → u.memory ≡ t.memory → AreKept kernel items t at → AreKept kernel (items ++ item.Free range ∷ []) u at
-kept-free kernel items t u at range ends room is same kept =
-    let few = few-uncovered which.Reserved kernel items t at range kept in
-    let n = ap (λ (s : Table). length s.records) is in
-    let m = ap (λ (s : Table). s.room) is in
-    kept-reserved kernel items (item.Free range) t u at (record { room = λ w n. refl; moved = λ w o. refl }) (omega arith) refl refl
-    (λ f. refl) is same (omega (arith, few, n, m, room)) kept
+  values-end : (w : Which) → NothingFrom (2 ^ 64) (value_at (records_in w t))
+  values-end w = subst (λ (f : Labels). NothingFrom (2 ^ 64) f) (sym (values-are w)) (kept.ends w)
 
-pub kept-mem : (kernel : Extent) (items : List Item) (t u : Contents) (at : Aim) (range : Extent) → end_of range < 2 ^ 64
-    → length t.memory.records + pieces range (value_at t.memory.records) ≤ t.memory.room
-    → u.memory ≡ record t.memory { records = records_for (covered range plain_label (value_at t.memory.records)) }
-    → u.reserved ≡ t.reserved → AreKept kernel items t at → AreKept kernel (items ++ item.Mem range ∷ []) u at
-kept-mem kernel items t u at range ends room is same kept =
-    let few = few-covered which.Memory kernel items t at range ends kept in
-    let n = ap (λ (s : Table). length s.records) is in
-    let m = ap (λ (s : Table). s.room) is in
-    kept-memory kernel items (item.Mem range) t u at (record { room = λ w n. refl; moved = λ w o. refl }) (omega arith) refl refl
-    (λ f. refl) is same (omega (arith, few, n, m, room)) kept
+  -- its records are those of what it says
+  records-again : (w : Which) → records_for (value_at (records_in w t)) ≡ records_in w t
+  unfolding records_of
+  records-again w = ap records_for (values-are w) ∙ sym (records-are w)
 
--- a label that changes
-kept-relabelled : (kernel : Extent) (items : List Item) (i : Item) (t u : Contents) (at : Aim) (range : Extent) (change : Label → Label)
-    → IsQuiet i → EndsInSpace i → limit_after at.limit i ≡ at.limit → upward_after at.upward i ≡ at.upward
-    → ((f : Labels) → table_after which.Reserved f i ≡ f) → ((f : Labels) → table_after which.Memory f i ≡ relabelled range change f)
-    → length t.memory.records + 2 ≤ t.memory.room
-    → u.memory ≡ record t.memory { records = records_for (relabelled range change (value_at t.memory.records)) }
-    → u.reserved ≡ t.reserved → AreKept kernel items t at → AreKept kernel (items ++ i ∷ []) u at
-kept-relabelled kernel items i t u at range change quiet space limited directed other changed room is same kept =
-    let f = value_at t.memory.records in
-    let few = length-relabelled range change f (values-end which.Memory kernel items t at kept) in
-    let again = ap length (records-again which.Memory kernel items t at kept) in
-    let n = ap (λ (s : Table). length s.records) is in
-    let m = ap (λ (s : Table). s.room) is in
-    kept-memory kernel items i t u at quiet space limited directed other
-    (is ∙ ap (λ (g : Labels). let s : Table = record t.memory { records = records_for g } in s) (sym (changed f))) same
-    (omega (arith, few, again, n, m, room)) kept
+  pub few-kept : (w : Which) → length (records_in w t) ≤ room_in w t
+  few-kept w = omega (arith, kept.fits w, ap length (records-are w), room-is w)
 
-pub kept-node : (kernel : Extent) (items : List Item) (t u : Contents) (at : Aim) (range : Extent) (node : ℕ) → end_of range < 2 ^ 64
-    → length t.memory.records + 2 ≤ t.memory.room
-    → u.memory ≡ record t.memory { records = records_for (relabelled range (with_node (Some node)) (value_at t.memory.records)) }
-    → u.reserved ≡ t.reserved → AreKept kernel items t at → AreKept kernel (items ++ item.Node range node ∷ []) u at
-kept-node kernel items t u at range node ends room is same kept =
-    kept-relabelled kernel items (item.Node range node) t u at range (with_node (Some node))
-    (record { room = λ w n. refl; moved = λ w o. refl }) (omega arith) refl refl (λ f. refl) (λ f. refl) room is same kept
+  -- how many records a table has after an edit
+  pub few-covered : (w : Which) (range : Extent) → end_of range < 2 ^ 64
+      → length (records_for (covered range plain_label (value_at (records_in w t))))
+      ≤ length (records_in w t) + pieces range (value_at (records_in w t))
+  few-covered w range ends =
+      let few = length-covered range plain_label (value_at (records_in w t)) (omega arith) (values-end w) in
+      omega (arith, few, ap length (records-again w))
 
-pub kept-mirror : (kernel : Extent) (items : List Item) (t u : Contents) (at : Aim) (range : Extent) → end_of range < 2 ^ 64
-    → length t.memory.records + 2 ≤ t.memory.room
-    → u.memory ≡ record t.memory { records = records_for (relabelled range with_mirror (value_at t.memory.records)) }
-    → u.reserved ≡ t.reserved → AreKept kernel items t at → AreKept kernel (items ++ item.Mirror range ∷ []) u at
-kept-mirror kernel items t u at range ends room is same kept =
-    kept-relabelled kernel items (item.Mirror range) t u at range with_mirror
-    (record { room = λ w n. refl; moved = λ w o. refl }) (omega arith) refl refl (λ f. refl) (λ f. refl) room is same kept
+  few-uncovered : (w : Which) (range : Extent)
+      → length (records_for (uncovered range (value_at (records_in w t)))) ≤ length (records_in w t) + 1
+  few-uncovered w range =
+      let few = length-uncovered range (value_at (records_in w t)) (values-end w) in omega (arith, few, ap length (records-again w))
 
-pub kept-trim : (kernel : Extent) (items : List Item) (t u : Contents) (at : Aim)
-    → u.memory ≡ record t.memory { records = records_for (trimmed (value_at t.memory.records)) }
-    → u.reserved ≡ t.reserved → AreKept kernel items t at → AreKept kernel (items ++ item.Trim ∷ []) u at
-kept-trim kernel items t u at is same kept =
-    let few = length-trimmed (value_at t.memory.records) (values-end which.Memory kernel items t at kept) in
-    let again = ap length (records-again which.Memory kernel items t at kept) in
-    let was = few-kept which.Memory kernel items t at kept in
-    let n = ap (λ (s : Table). length s.records) is in
-    let m = ap (λ (s : Table). s.room) is in
-    kept-memory kernel items item.Trim t u at (record { room = λ w n. refl; moved = λ w o. refl }) tt refl refl
-    (λ f. refl) is same (omega (arith, few, again, n, m, was)) kept
+  few-relabelled : (range : Extent) (change : Label → Label)
+      → length (records_for (relabelled range change (value_at t.memory.records))) ≤ length t.memory.records + 2
+  few-relabelled range change =
+      let few = length-relabelled range change (value_at t.memory.records) (values-end which.Memory) in
+      omega (arith, few, ap length (records-again which.Memory))
+
+  -- the frames of a table's place end in the address space, behind a quiet item and behind a growth
+  far-quiet : (i : Item) → IsQuiet i → (w : Which) (place : ℕ) → moved_after w (moved_to w items) i ≡ Some place
+      → place + in_whole_frames (24 * room_after w (room_of w items) i) < 2 ^ 64
+  far-quiet i quiet w place moved = subst (λ (n : ℕ). place + in_whole_frames (24 * n) < 2 ^ 64) (sym (quiet.0 w (room_of w items)))
+      (kept.far w place (sym (quiet.1 w (moved_to w items)) ∙ moved))
+
+  far-grown : (v w : Which) (base room : ℕ) → base + in_whole_frames (48 * room_of w items) < 2 ^ 64 → (place : ℕ)
+      → moved_after v (moved_to v items) (item.Grown w base room) ≡ Some place
+      → place + in_whole_frames (24 * room_after v (room_of v items) (item.Grown w base room)) < 2 ^ 64
+  far-grown which.Memory which.Memory base room small place is = let here = same_Some base place is in omega (arith, here, small)
+  far-grown which.Memory which.Reserved base room small place is = kept.far which.Memory place is
+  far-grown which.Reserved which.Memory base room small place is = kept.far which.Reserved place is
+  far-grown which.Reserved which.Reserved base room small place is = let here = same_Some base place is in omega (arith, here, small)
+
+module _ {kernel : Extent} {items : List Item} {t : Contents} {at : Aim} (kept : AreKept kernel items t at) (u : Contents) where
+  -- the same tables
+  pub kept-same : u.memory ≡ t.memory → u.reserved ≡ t.reserved → AreKept kernel items u at
+  kept-same first second = record {
+    memory = first ∙ kept.memory;
+    reserved = second ∙ kept.reserved;
+    limit = kept.limit;
+    upward = kept.upward;
+    ends = kept.ends;
+    fits = kept.fits;
+    far = kept.far;
+  }
+
+  -- a table that an item leaves, one that it edits, and one that moves
+  table-stays : (w : Which) (i : Item) → table_after w (table_of w items) i ≡ table_of w items
+      → room_after w (room_of w items) i ≡ room_of w items → moved_after w (moved_to w items) i ≡ moved_to w items
+      → table_in w u ≡ table_in w t → table_in w u ≡ table_for w kernel (items ++ i ∷ [])
+  table-stays w i same stays moved is =
+      let was = is ∙ table-is kept w in
+      table-by w kernel items i (table_in w u)
+      (ap (λ (s : Table). s.records) was ∙ untouched-items w items i (records_of w items) refl same)
+      (ap (λ (s : Table). s.place) was ∙ sym (ap (λ (o : Option ℕ). unwrap_or o (built_in w kernel)) moved))
+      (ap (λ (s : Table). s.room) was ∙ sym stays)
+
+  table-edited : (w : Which) (i : Item) → IsQuiet i
+      → table_in w u ≡ record (table_in w t) { records = records_for (table_after w (value_at (records_in w t)) i) }
+      → table_in w u ≡ table_for w kernel (items ++ i ∷ [])
+  table-edited w i quiet is =
+      table-by w kernel items i (table_in w u)
+      (edited-items w items i (records_in w t) (records_in w u) (kept.ends w) (records-are kept w) (ap (λ (s : Table). s.records) is))
+      (ap (λ (s : Table). s.place) is ∙ place-is kept w
+      ∙ sym (ap (λ (o : Option ℕ). unwrap_or o (built_in w kernel)) (quiet.1 w (moved_to w items))))
+      (ap (λ (s : Table). s.room) is ∙ room-is kept w ∙ sym (quiet.0 w (room_of w items)))
+
+  table-moved : (w : Which) (place room : ℕ) → table_after w (table_of w items) (item.Grown w place room) ≡ table_of w items
+      → room_after w (room_of w items) (item.Grown w place room) ≡ 2 * room_of w items
+      → moved_after w (moved_to w items) (item.Grown w place room) ≡ Some place
+      → table_in w u ≡ record (table_in w t) { place = place; room = 2 * room_in w t }
+      → table_in w u ≡ table_for w kernel (items ++ item.Grown w place room ∷ [])
+  table-moved w place room same twice moved is =
+      let i : Item = item.Grown w place room in
+      table-by w kernel items i (table_in w u)
+      (ap (λ (s : Table). s.records) is ∙ untouched-items w items i (records_in w t) (records-are kept w) same)
+      (ap (λ (s : Table). s.place) is ∙ sym (ap (λ (o : Option ℕ). unwrap_or o (built_in w kernel)) moved))
+      (ap (λ (s : Table). s.room) is ∙ ap (λ (n : ℕ). 2 * n) (room-is kept w) ∙ sym twice)
+
+  table-quiet : (w : Which) (i : Item) → IsQuiet i → ((f : Labels) → table_after w f i ≡ f) → table_in w u ≡ table_in w t
+      → table_in w u ≡ table_for w kernel (items ++ i ∷ [])
+  table-quiet w i quiet same is = table-stays w i (same (table_of w items)) (quiet.0 w (room_of w items)) (quiet.1 w (moved_to w items)) is
+
+  few-stays : (w : Which) → table_in w u ≡ table_in w t → length (records_in w u) ≤ room_in w u
+  few-stays w is = subst (λ (s : Table). length s.records ≤ s.room) (sym is) (few-kept kept w)
+
+  few-moved : (w : Which) (place : ℕ) → table_in w u ≡ record (table_in w t) { place = place; room = 2 * room_in w t }
+      → length (records_in w u) ≤ room_in w u
+  few-moved w place is =
+      subst (λ (s : Table). length s.records ≤ s.room) (sym is) (let few = few-kept kept w in omega (arith, few))
+
+  -- one item more
+  kept-by : (i : Item) (to : Aim) → EndsInSpace i → limit_after at.limit i ≡ to.limit → upward_after at.upward i ≡ to.upward
+      → u.memory ≡ table_for which.Memory kernel (items ++ i ∷ []) → u.reserved ≡ table_for which.Reserved kernel (items ++ i ∷ [])
+      → length u.memory.records ≤ u.memory.room → length u.reserved.records ≤ u.reserved.room
+      → ((w : Which) (place : ℕ) → moved_after w (moved_to w items) i ≡ Some place
+      → place + in_whole_frames (24 * room_after w (room_of w items) i) < 2 ^ 64) → AreKept kernel (items ++ i ∷ []) u to
+  kept-by i to space limited directed first second few too far = record {
+    memory = first;
+    reserved = second;
+    limit = limit_of-push items i ∙ ap (λ (n : ℕ). limit_after n i) kept.limit ∙ limited;
+    upward = upward_of-push items i ∙ ap (λ (b : Bool). upward_after b i) kept.upward ∙ directed;
+    ends = λ w. items-within w items i space (kept.ends w);
+    fits = fits-by kernel (items ++ i ∷ []) u.memory u.reserved first second few too;
+    far = λ w place moved. subst (λ (n : ℕ). place + in_whole_frames (24 * n) < 2 ^ 64) (sym (room_of-push w items i))
+        (far w place (sym (moved_to-push w items i) ∙ moved));
+  }
+
+  -- an edit of one table
+  kept-reserved : (i : Item) → IsQuiet i → EndsInSpace i → limit_after at.limit i ≡ at.limit → upward_after at.upward i ≡ at.upward
+      → ((f : Labels) → table_after which.Memory f i ≡ f)
+      → u.reserved ≡ record t.reserved { records = records_for (table_after which.Reserved (value_at t.reserved.records) i) }
+      → u.memory ≡ t.memory → length (records_for (table_after which.Reserved (value_at t.reserved.records) i)) ≤ t.reserved.room
+      → AreKept kernel (items ++ i ∷ []) u at
+  kept-reserved i quiet space limited directed other is same few =
+      kept-by i at space limited directed
+      (table-quiet which.Memory i quiet other same) (table-edited which.Reserved i quiet is)
+      (few-stays which.Memory same) (subst (λ (s : Table). length s.records ≤ s.room) (sym is) few) (far-quiet kept i quiet)
+
+  kept-memory : (i : Item) → IsQuiet i → EndsInSpace i → limit_after at.limit i ≡ at.limit → upward_after at.upward i ≡ at.upward
+      → ((f : Labels) → table_after which.Reserved f i ≡ f)
+      → u.memory ≡ record t.memory { records = records_for (table_after which.Memory (value_at t.memory.records) i) }
+      → u.reserved ≡ t.reserved → length (records_for (table_after which.Memory (value_at t.memory.records) i)) ≤ t.memory.room
+      → AreKept kernel (items ++ i ∷ []) u at
+  kept-memory i quiet space limited directed other is same few =
+      kept-by i at space limited directed (table-edited which.Memory i quiet is)
+      (table-quiet which.Reserved i quiet other same)
+      (subst (λ (s : Table). length s.records ≤ s.room) (sym is) few) (few-stays which.Reserved same) (far-quiet kept i quiet)
+
+  pub kept-claim : (range : Extent) (who : Owner) → end_of range < 2 ^ 64
+      → length t.reserved.records + pieces range (value_at t.reserved.records) ≤ t.reserved.room
+      → u.reserved ≡ record t.reserved { records = records_for (covered range plain_label (value_at t.reserved.records)) }
+      → u.memory ≡ t.memory → AreKept kernel (items ++ item.Claim range who ∷ []) u at
+  kept-claim range who ends room is same =
+      let few = few-covered kept which.Reserved range ends in
+      kept-reserved (item.Claim range who) (λ w n. refl, λ w o. refl) (omega arith) refl refl (λ f. refl) is same
+      (omega (arith, few, room))
+
+  pub kept-free : (range : Extent) → end_of range < 2 ^ 64 → length t.reserved.records + 2 ≤ t.reserved.room
+      → u.reserved ≡ record t.reserved { records = records_for (uncovered range (value_at t.reserved.records)) }
+      → u.memory ≡ t.memory → AreKept kernel (items ++ item.Free range ∷ []) u at
+  kept-free range ends room is same =
+      let few = few-uncovered kept which.Reserved range in
+      kept-reserved (item.Free range) (λ w n. refl, λ w o. refl) (omega arith) refl refl (λ f. refl) is same (omega (arith, few, room))
+
+  pub kept-mem : (range : Extent) → end_of range < 2 ^ 64
+      → length t.memory.records + pieces range (value_at t.memory.records) ≤ t.memory.room
+      → u.memory ≡ record t.memory { records = records_for (covered range plain_label (value_at t.memory.records)) }
+      → u.reserved ≡ t.reserved → AreKept kernel (items ++ item.Mem range ∷ []) u at
+  kept-mem range ends room is same =
+      let few = few-covered kept which.Memory range ends in
+      kept-memory (item.Mem range) (λ w n. refl, λ w o. refl) (omega arith) refl refl (λ f. refl) is same (omega (arith, few, room))
+
+  -- a label that changes
+  pub kept-node : (range : Extent) (node : ℕ) → end_of range < 2 ^ 64 → length t.memory.records + 2 ≤ t.memory.room
+      → u.memory ≡ record t.memory { records = records_for (relabelled range (with_node (Some node)) (value_at t.memory.records)) }
+      → u.reserved ≡ t.reserved → AreKept kernel (items ++ item.Node range node ∷ []) u at
+  kept-node range node ends room is same =
+      let few = few-relabelled kept range (with_node (Some node)) in
+      kept-memory (item.Node range node) (λ w n. refl, λ w o. refl) (omega arith) refl refl (λ f. refl) is same (omega (arith, few, room))
+
+  pub kept-mirror : (range : Extent) → end_of range < 2 ^ 64 → length t.memory.records + 2 ≤ t.memory.room
+      → u.memory ≡ record t.memory { records = records_for (relabelled range with_mirror (value_at t.memory.records)) }
+      → u.reserved ≡ t.reserved → AreKept kernel (items ++ item.Mirror range ∷ []) u at
+  kept-mirror range ends room is same =
+      let few = few-relabelled kept range with_mirror in
+      kept-memory (item.Mirror range) (λ w n. refl, λ w o. refl) (omega arith) refl refl (λ f. refl) is same (omega (arith, few, room))
+
+  pub kept-trim : u.memory ≡ record t.memory { records = records_for (trimmed (value_at t.memory.records)) } → u.reserved ≡ t.reserved
+      → AreKept kernel (items ++ item.Trim ∷ []) u at
+  kept-trim is same =
+      let few = length-trimmed (value_at t.memory.records) (values-end kept which.Memory) in
+      let was = few-kept kept which.Memory in
+      kept-memory item.Trim (λ w n. refl, λ w o. refl) tt refl refl (λ f. refl) is same
+      (omega (arith, few, was, ap length (records-again kept which.Memory)))
+
+  -- the table that a growth moves, and the other one
+  pub kept-grown : (w : Which) (place room : ℕ) → place + in_whole_frames (48 * room_of w items) < 2 ^ 64
+      → table_in w u ≡ record (table_in w t) { place = place; room = 2 * room_in w t } → other_in w u ≡ other_in w t
+      → AreKept kernel (items ++ item.Grown w place room ∷ []) u at
+  kept-grown which.Memory place room small is same =
+      kept-by (item.Grown which.Memory place room) at tt refl refl (table-moved which.Memory place room refl refl refl is)
+      (table-stays which.Reserved (item.Grown which.Memory place room) refl refl refl same) (few-moved which.Memory place is)
+      (few-stays which.Reserved same) (λ v. far-grown kept v which.Memory place room small)
+  kept-grown which.Reserved place room small is same =
+      kept-by (item.Grown which.Reserved place room) at tt refl refl
+      (table-stays which.Memory (item.Grown which.Reserved place room) refl refl refl same)
+      (table-moved which.Reserved place room refl refl refl is) (few-stays which.Memory same) (few-moved which.Reserved place is)
+      (λ v. far-grown kept v which.Reserved place room small)
 
 -- the limit and the direction are values of their own
-kept-aimed : (kernel : Extent) (items : List Item) (i : Item) (t : Contents) (at to : Aim) → IsQuiet i → EndsInSpace i
-    → limit_after at.limit i ≡ to.limit → upward_after at.upward i ≡ to.upward
-    → ((w : Which) → table_after w (table_of w items) i ≡ table_of w items) → AreKept kernel items t at
-    → AreKept kernel (items ++ i ∷ []) t to
-kept-aimed kernel items i t at to quiet space limited directed same kept =
-    kept-quiet kernel items i t t at to quiet space limited directed
-    (table-stays which.Memory kernel items i t.memory t.memory quiet (same which.Memory) kept.memory refl)
-    (table-stays which.Reserved kernel items i t.reserved t.reserved quiet (same which.Reserved) kept.reserved refl)
-    (few-kept which.Memory kernel items t at kept) (few-kept which.Reserved kernel items t at kept) kept
+module _ {kernel : Extent} {items : List Item} {t : Contents} {at : Aim} (kept : AreKept kernel items t at) where
+  kept-aimed : (i : Item) (to : Aim) → IsQuiet i → EndsInSpace i → limit_after at.limit i ≡ to.limit
+      → upward_after at.upward i ≡ to.upward → ((f : Labels) → table_after which.Memory f i ≡ f)
+      → ((f : Labels) → table_after which.Reserved f i ≡ f) → AreKept kernel (items ++ i ∷ []) t to
+  kept-aimed i to quiet space limited directed first second =
+      kept-by kept t i to space limited directed
+      (table-quiet kept t which.Memory i quiet first refl) (table-quiet kept t which.Reserved i quiet second refl)
+      (few-kept kept which.Memory) (few-kept kept which.Reserved) (far-quiet kept i quiet)
 
-limit-says : (w : Which) (f : Labels) (to : ℕ) → table_after w f (item.Limit to) ≡ f
-limit-says which.Memory f to = refl
-limit-says which.Reserved f to = refl
+  pub kept-limit : (to : ℕ) → AreKept kernel (items ++ item.Limit to ∷ []) t (aimed to at.upward)
+  kept-limit to =
+      kept-aimed (item.Limit to) (aimed to at.upward) (λ w n. refl, λ w o. refl) tt refl refl (λ f. refl) (λ f. refl)
 
-pub kept-limit : (kernel : Extent) (items : List Item) (t : Contents) (at : Aim) (to : ℕ) → AreKept kernel items t at
-    → AreKept kernel (items ++ item.Limit to ∷ []) t (aimed to at.upward)
-kept-limit kernel items t at to kept =
-    kept-aimed kernel items (item.Limit to) t at (aimed to at.upward) (record { room = λ w n. refl; moved = λ w o. refl }) tt refl refl
-    (λ w. limit-says w (table_of w items) to) kept
-
-upward-says : (w : Which) (f : Labels) (on : Bool) → table_after w f (item.Upward on) ≡ f
-upward-says which.Memory f on = refl
-upward-says which.Reserved f on = refl
-
-pub kept-upward : (kernel : Extent) (items : List Item) (t : Contents) (at : Aim) (on : Bool) → AreKept kernel items t at
-    → AreKept kernel (items ++ item.Upward on ∷ []) t (aimed at.limit on)
-kept-upward kernel items t at on kept =
-    kept-aimed kernel items (item.Upward on) t at (aimed at.limit on) (record { room = λ w n. refl; moved = λ w o. refl }) tt refl refl
-    (λ w. upward-says w (table_of w items) on) kept
-
--- the table that a growth moves, and the other one
-table-moved : (w : Which) (kernel : Extent) (items : List Item) (place room : ℕ) (old new : Table)
-    → table_after w (table_of w items) (item.Grown w place room) ≡ table_of w items
-    → room_after w (room_of w items) (item.Grown w place room) ≡ 2 * room_of w items
-    → moved_after w (moved_to w items) (item.Grown w place room) ≡ Some place
-    → old ≡ table_for w kernel items → new ≡ record old { place = place; room = 2 * old.room }
-    → new ≡ table_for w kernel (items ++ item.Grown w place room ∷ [])
-table-moved w kernel items place room old new same twice moved was is =
-    let i : Item = item.Grown w place room in
-    table-eq new (table_for w kernel (items ++ i ∷ []))
-    (ap (λ (t : Table). t.records) is ∙ untouched-items w items i old.records (ap (λ (t : Table). t.records) was) same)
-    (ap (λ (t : Table). t.place) is
-    ∙ sym (ap (λ (o : Option ℕ). unwrap_or o (built_in w kernel)) (moved_to-push w items i ∙ moved)))
-    (ap (λ (t : Table). t.room) is ∙ ap (λ (t : Table). 2 * t.room) was ∙ sym (room_of-push w items i ∙ twice))
-
-table-unmoved : (v w : Which) (kernel : Extent) (items : List Item) (place room : ℕ) (old new : Table)
-    → table_after v (table_of v items) (item.Grown w place room) ≡ table_of v items
-    → room_after v (room_of v items) (item.Grown w place room) ≡ room_of v items
-    → moved_after v (moved_to v items) (item.Grown w place room) ≡ moved_to v items
-    → old ≡ table_for v kernel items → new ≡ old → new ≡ table_for v kernel (items ++ item.Grown w place room ∷ [])
-table-unmoved v w kernel items place room old new same stays moved was is =
-    let i : Item = item.Grown w place room in
-    table-eq new (table_for v kernel (items ++ i ∷ []))
-    (ap (λ (t : Table). t.records) is ∙ untouched-items v items i old.records (ap (λ (t : Table). t.records) was) same)
-    (ap (λ (t : Table). t.place) is ∙ ap (λ (t : Table). t.place) was
-    ∙ sym (ap (λ (o : Option ℕ). unwrap_or o (built_in v kernel)) (moved_to-push v items i ∙ moved)))
-    (ap (λ (t : Table). t.room) is ∙ ap (λ (t : Table). t.room) was ∙ sym (room_of-push v items i ∙ stays))
-
-far-moved : (w : Which) (items : List Item) (place room : ℕ) → place + in_whole_frames (48 * room_of w items) < 2 ^ 64
-    → room_after w (room_of w items) (item.Grown w place room) ≡ 2 * room_of w items
-    → moved_after w (moved_to w items) (item.Grown w place room) ≡ Some place
-    → (p : ℕ) → moved_to w (items ++ item.Grown w place room ∷ []) ≡ Some p
-    → p + in_whole_frames (24 * room_of w (items ++ item.Grown w place room ∷ [])) < 2 ^ 64
-far-moved w items place room small twice moved p is =
-    let i : Item = item.Grown w place room in
-    let here : place ≡ p = same_Some place p (sym (moved_to-push w items i ∙ moved) ∙ is) in
-    let wide : 24 * room_of w (items ++ i ∷ []) ≡ 48 * room_of w items =
-    ap (λ (n : ℕ). 24 * n) (room_of-push w items i ∙ twice) ∙ omega arith in
-    subst (λ (n : ℕ). p + in_whole_frames n < 2 ^ 64) (sym wide)
-    (subst (λ (n : ℕ). n + in_whole_frames (48 * room_of w items) < 2 ^ 64) here small)
-
-far-unmoved : (v w : Which) (kernel : Extent) (items : List Item) (place room : ℕ) (t : Contents) (at : Aim) → AreKept kernel items t at
-    → room_after v (room_of v items) (item.Grown w place room) ≡ room_of v items
-    → moved_after v (moved_to v items) (item.Grown w place room) ≡ moved_to v items
-    → (p : ℕ) → moved_to v (items ++ item.Grown w place room ∷ []) ≡ Some p
-    → p + in_whole_frames (24 * room_of v (items ++ item.Grown w place room ∷ [])) < 2 ^ 64
-far-unmoved v w kernel items place room t at kept stays moved p is =
-    let i : Item = item.Grown w place room in
-    subst (λ (n : ℕ). p + in_whole_frames (24 * n) < 2 ^ 64) (sym (room_of-push v items i ∙ stays))
-    (kept.far v p (sym (moved_to-push v items i ∙ moved) ∙ is))
-
-far-memory : (kernel : Extent) (items : List Item) (place room : ℕ) (t : Contents) (at : Aim) → AreKept kernel items t at
-    → place + in_whole_frames (48 * room_of which.Memory items) < 2 ^ 64 → (v : Which) (p : ℕ)
-    → moved_to v (items ++ item.Grown which.Memory place room ∷ []) ≡ Some p
-    → p + in_whole_frames (24 * room_of v (items ++ item.Grown which.Memory place room ∷ [])) < 2 ^ 64
-far-memory kernel items place room t at kept small which.Memory = far-moved which.Memory items place room small refl refl
-far-memory kernel items place room t at kept small which.Reserved =
-    far-unmoved which.Reserved which.Memory kernel items place room t at kept refl refl
-
-far-reserved : (kernel : Extent) (items : List Item) (place room : ℕ) (t : Contents) (at : Aim) → AreKept kernel items t at
-    → place + in_whole_frames (48 * room_of which.Reserved items) < 2 ^ 64 → (v : Which) (p : ℕ)
-    → moved_to v (items ++ item.Grown which.Reserved place room ∷ []) ≡ Some p
-    → p + in_whole_frames (24 * room_of v (items ++ item.Grown which.Reserved place room ∷ [])) < 2 ^ 64
-far-reserved kernel items place room t at kept small which.Memory =
-    far-unmoved which.Memory which.Reserved kernel items place room t at kept refl refl
-far-reserved kernel items place room t at kept small which.Reserved = far-moved which.Reserved items place room small refl refl
-
-twice-few : (old new : Table) (place : ℕ) → new ≡ record old { place = place; room = 2 * old.room } → length old.records ≤ old.room
-    → length new.records ≤ new.room
-twice-few old new place is few =
-    let n = ap (λ (s : Table). length s.records) is in
-    let m = ap (λ (s : Table). s.room) is in
-    omega (arith, n, m, few)
-
-pub kept-grown : (w : Which) (kernel : Extent) (items : List Item) (place room : ℕ) (t u : Contents) (at : Aim)
-    → place + in_whole_frames (48 * room_of w items) < 2 ^ 64
-    → table_in w u ≡ record (table_in w t) { place = place; room = 2 * room_in w t } → other_in w u ≡ other_in w t
-    → AreKept kernel items t at → AreKept kernel (items ++ item.Grown w place room ∷ []) u at
-kept-grown which.Memory kernel items place room t u at small is same kept =
-    let i : Item = item.Grown which.Memory place room in
-    let first = table-moved which.Memory kernel items place room t.memory u.memory refl refl refl kept.memory is in
-    let second = table-unmoved which.Reserved which.Memory kernel items place room t.reserved u.reserved refl refl refl kept.reserved same
-    in
-    record {
-      memory = first;
-      reserved = second;
-      limit = limit_of-push items i ∙ kept.limit;
-      upward = upward_of-push items i ∙ kept.upward;
-      ends = λ w. items-within w items i tt (kept.ends w);
-      fits = fits-by kernel (items ++ i ∷ []) u.memory u.reserved first second
-          (twice-few t.memory u.memory place is (few-kept which.Memory kernel items t at kept))
-          (subst (λ (s : Table). length s.records ≤ s.room) (sym same) (few-kept which.Reserved kernel items t at kept));
-      far = far-memory kernel items place room t at kept small;
-    }
-kept-grown which.Reserved kernel items place room t u at small is same kept =
-    let i : Item = item.Grown which.Reserved place room in
-    let first = table-unmoved which.Memory which.Reserved kernel items place room t.memory u.memory refl refl refl kept.memory same in
-    let second = table-moved which.Reserved kernel items place room t.reserved u.reserved refl refl refl kept.reserved is in
-    record {
-      memory = first;
-      reserved = second;
-      limit = limit_of-push items i ∙ kept.limit;
-      upward = upward_of-push items i ∙ kept.upward;
-      ends = λ w. items-within w items i tt (kept.ends w);
-      fits = fits-by kernel (items ++ i ∷ []) u.memory u.reserved first second
-          (subst (λ (s : Table). length s.records ≤ s.room) (sym same) (few-kept which.Memory kernel items t at kept))
-          (twice-few t.reserved u.reserved place is (few-kept which.Reserved kernel items t at kept));
-      far = far-reserved kernel items place room t at kept small;
-    }
+  pub kept-upward : (on : Bool) → AreKept kernel (items ++ item.Upward on ∷ []) t (aimed at.limit on)
+  kept-upward on =
+      kept-aimed (item.Upward on) (aimed at.limit on) (λ w n. refl, λ w o. refl) tt refl refl (λ f. refl) (λ f. refl)

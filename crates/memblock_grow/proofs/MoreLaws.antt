@@ -2,14 +2,12 @@
 use Rattle.std.proofs.Common.{◌≡◌, ℕ, ◌+◌, ◌^◌, ◌<◌, ◌≤◌, true, false, nat_lt, List, [], ◌∷◌, length, Result, Ok, Err, OnOk, refl, sym, ◌∙◌, ap, subst, arith}
 use Rattle.std.proofs.lemmas.Bool.Decides.{nat_tests}
 use Rattle.bm_base.specs.Extent.{Extent}
-use Rattle.address_runs.specs.Runs.{RunOf}
 use Rattle.memblock_model.specs.declared.which.Which.{Which}
 use Rattle.memblock_model.specs.declared.which.Which.TheVariants as which
 use Rattle.memblock_model.specs.declared.item.Item.{Item}
 use Rattle.memblock_model.specs.Labels.{Labels}
-use Rattle.memblock_model.specs.Tables.{table_of, records_of, pieces, room_of}
-use Rattle.memblock_model.proofs.TableLaws.{records_for-is}
-use Rattle.memblock_ranges.specs.Tables.{Table, Contents, table_in, records_in, room_in}
+use Rattle.memblock_model.specs.Tables.{table_of, records_of, pieces}
+use Rattle.memblock_ranges.specs.Tables.{Contents, table_in, records_in, room_in}
 use Rattle.memblock_ranges.proofs.CountLaws.{few-pieces}
 use Rattle.growth_model.specs.declared.refusal.Refusal.{Refusal}
 use Rattle.growth_model.specs.Outcome.{Change}
@@ -17,6 +15,7 @@ use Rattle.growth_model.specs.Growth.{is_full, count, grown, reserved_growth, me
 use Rattle.growth_model.specs.Ends.{Ends}
 use Rattle.growth_model.specs.Sound.{HasBegun}
 use Rattle.growth_model.specs.Room.{IsInSpace, HasRoomBehind}
+use Rattle.growth_model.proofs.FirstLaws.{no_records}
 use Rattle.growth_model.proofs.RoomLaws.{enough-claimed, enough-freed, enough-added, enough-labelled}
 use Rattle.memblock_grow.specs.declared.aim.Aim.{Aim}
 use Rattle.memblock_grow.specs.declared.more.More.{More}
@@ -25,74 +24,55 @@ use Rattle.memblock_grow.specs.Kept.{AreKept}
 use Rattle.memblock_grow.specs.More.{more_by, more_in, HasRoom, EndsInSpace}
 use Rattle.memblock_grow.proofs.KeptLaws.{records-are, room-is, values-are}
 
-more-is : (w : Which) (m : More) (kernel : Extent) (items : List Item) (t : Contents) (at : Aim) → AreKept kernel items t at
-    → more_in m (table_in w t) ≡ more_by w m items
-more-is w (more.PiecesOf range) kernel items t at kept = ap (λ (f : Labels). pieces range f) (values-are w kernel items t at kept)
-more-is w more.Two kernel items t at kept = refl
+module _ {kernel : Extent} {items : List Item} {t : Contents} {at : Aim} (kept : AreKept kernel items t at) where
+  more-is : (w : Which) (m : More) → more_in m (table_in w t) ≡ more_by w m items
+  more-is w (more.PiecesOf range) = ap (λ (f : Labels). pieces range f) (values-are kept w)
+  more-is w more.Two = refl
 
--- full by the tables is full by the items
-pub full-is : (w : Which) (m : More) (kernel : Extent) (items : List Item) (t : Contents) (at : Aim) → AreKept kernel items t at
-    → nat_lt (room_in w t) (length (records_in w t) + more_in m (table_in w t)) ≡ is_full w (more_by w m) items
-full-is w m kernel items t at kept =
-    ap (λ (n : ℕ). nat_lt n (length (records_in w t) + more_in m (table_in w t))) (room-is w kernel items t at kept)
-    ∙ ap (λ (rs : List (RunOf _)). nat_lt (room_of w items) (length rs + more_in m (table_in w t))) (records-are w kernel items t at kept)
-    ∙ ap (λ (n : ℕ). nat_lt (room_of w items) (count w items + n)) (more-is w m kernel items t at kept)
+  -- full by the tables is full by the items
+  pub full-is : (w : Which) (m : More)
+      → nat_lt (room_in w t) (length (records_in w t) + more_in m (table_in w t)) ≡ is_full w (more_by w m) items
+  full-is w m = rw (room-is kept w, records-are kept w, more-is w m) refl
 
-pub room-by : (m : More) (t : Table) → nat_lt t.room (length t.records + more_in m t) ≡ false → HasRoom m t
-room-by m t h = grind (arith, nat_tests, h)
-
-pub full-by : (m : More) (t : Table) → HasRoom m t → nat_lt t.room (length t.records + more_in m t) ≡ false
-full-by m t h = grind (arith, nat_tests, h)
-
--- the table has room, as the items have it
-pub room-of : (w : Which) (m : More) (kernel : Extent) (items : List Item) (t : Contents) (at : Aim) → AreKept kernel items t at
-    → is_full w (more_by w m) items ≡ false → HasRoom m (table_in w t)
-room-of w m kernel items t at kept h = room-by m (table_in w t) (full-is w m kernel items t at kept ∙ h)
+  -- the table has room, as the items have it
+  pub room-of : (w : Which) (m : More) → is_full w (more_by w m) items ≡ false → HasRoom m (table_in w t)
+  room-of w m h = let full = full-is w m ∙ h in grind (arith, nat_tests, full)
 
 -- at the beginning nothing is full
-no-records : (w : Which) → count w [] ≡ 0
-unfolding records_of
-no-records which.Memory = sym (ap length (records_for-is (table_of which.Memory []) [] (λ x le. refl)
-    (record { runs = tt; each = λ x. refl })))
-no-records which.Reserved =
-    sym (ap length (records_for-is (table_of which.Reserved []) [] (λ x le. refl) (record { runs = tt; each = λ x. refl })))
-
 few-more : (m : More) → EndsInSpace m → more_by which.Reserved m [] ≤ 2
 unfolding records_of
 few-more (more.PiecesOf range) ends =
     let few = few-pieces range (table_of which.Reserved []) (omega arith) (λ x le. refl) in
-    let none = no-records which.Reserved in
+    let none = no_records (table_of which.Reserved []) (λ x. refl) in
     omega (arith, few, none)
 few-more more.Two ends = omega arith
 
 pub full-begun : (m : More) (items : List Item) → EndsInSpace m → is_full which.Reserved (more_by which.Reserved m) items ≡ true
     → HasBegun items
+unfolding records_of
 full-begun m [] ends h =
-    let none = no-records which.Reserved in let few = few-more m ends in
+    let none = no_records (table_of which.Reserved []) (λ x. refl) in
+    let few = few-more m ends in
     let full : 128 < count which.Reserved [] + more_by which.Reserved m [] = grind (arith, nat_tests, h) in
     absurd (omega (arith, none, few, full))
 full-begun m (i ∷ is) ends h = tt
 
 -- two growths are enough, as the law over items has it
-pub space-of : (kernel : Extent) (items : List Item) (t : Contents) (at : Aim) → AreKept kernel items t at → at.limit ≤ 2 ^ 64
-    → IsInSpace items
-space-of kernel items t at kept low = record { ends = kept.ends; limit = subst (λ (n : ℕ). n ≤ 2 ^ 64) (sym kept.limit) low }
+module _ {kernel : Extent} {items : List Item} {t : Contents} {at : Aim} (kept : AreKept kernel items t at) (low : at.limit ≤ 2 ^ 64) where
+  pub space-of : IsInSpace items
+  space-of = record { ends = kept.ends; limit = subst (λ (n : ℕ). n ≤ 2 ^ 64) (sym kept.limit) low }
 
-pub reserved-enough : (m : More) (avoid kernel : Extent) (items : List Item) (t : Contents) (at : Aim) → AreKept kernel items t at
-    → at.limit ≤ 2 ^ 64 → EndsInSpace m → HasRoomBehind which.Reserved (more_by which.Reserved m) (reserved_growth avoid) items
-reserved-enough (more.PiecesOf range) avoid kernel items t at kept low ends =
-    enough-claimed avoid range items (space-of kernel items t at kept low) kept.fits (omega arith)
-reserved-enough more.Two avoid kernel items t at kept low ends = enough-freed avoid items (space-of kernel items t at kept low) kept.fits
+  pub reserved-enough : (m : More) (avoid : Extent) → EndsInSpace m
+      → HasRoomBehind which.Reserved (more_by which.Reserved m) (reserved_growth avoid) items
+  reserved-enough (more.PiecesOf range) avoid ends = enough-claimed avoid range items space-of kept.fits (omega arith)
+  reserved-enough more.Two avoid ends = enough-freed avoid items space-of kept.fits
 
-pub memory-enough : (m : More) (kernel : Extent) (items : List Item) (t : Contents) (at : Aim) → AreKept kernel items t at
-    → at.limit ≤ 2 ^ 64 → EndsInSpace m → HasRoomBehind which.Memory (more_by which.Memory m) memory_growth items
-memory-enough (more.PiecesOf range) kernel items t at kept low ends =
-    enough-added range items (space-of kernel items t at kept low) kept.fits (omega arith)
-memory-enough more.Two kernel items t at kept low ends = enough-labelled items (space-of kernel items t at kept low) kept.fits
+  pub memory-enough : (m : More) → EndsInSpace m → HasRoomBehind which.Memory (more_by which.Memory m) memory_growth items
+  memory-enough (more.PiecesOf range) ends = enough-added range items space-of kept.fits (omega arith)
+  memory-enough more.Two ends = enough-labelled items space-of kept.fits
 
-pub room-behind : (w : Which) (m : More) (growth : Change) (kernel : Extent) (items longer : List Item) (u : Contents) (at : Aim)
-    (r : Result (Unit {0}) Refusal) → HasRoomBehind w (more_by w m) growth items → Ends r items longer (grown w (more_by w m) growth)
-    → AreKept kernel longer u at → OnOk r (HasRoom m (table_in w u))
-room-behind w m growth kernel items longer u at (Ok x) law ends kept =
-    room-of w m kernel longer u at kept (ap (is_full w (more_by w m)) ends.1 ∙ law ends.0)
-room-behind w m growth kernel items longer u at (Err e) law ends kept = tt
+pub room-behind : (w : Which) (m : More) (growth : Change) (items : List Item) {kernel : Extent} {longer : List Item} {u : Contents}
+    {at : Aim} (r : Result (Unit {0}) Refusal) → HasRoomBehind w (more_by w m) growth items
+    → Ends r items longer (grown w (more_by w m) growth) → AreKept kernel longer u at → OnOk r (HasRoom m (table_in w u))
+room-behind w m growth items (Ok x) law ends kept = room-of kept w m (ap (is_full w (more_by w m)) ends.1 ∙ law ends.0)
+room-behind w m growth items (Err e) law ends kept = tt

@@ -1,9 +1,9 @@
 -- The places that the tables' own search finds are those of the items, and what a table leaves is what the items say.
-use Rattle.std.proofs.Common.{◌≡◌, ◌≢◌, ℕ, ◌+◌, ◌*◌, ◌^◌, ◌<◌, ◌≤◌, ◌==◌, Bool, true, false, min, if◌then◌else◌, Option, Some, None, List, [], ◌∷◌, refl, sym, ◌∙◌, ap, subst, inl, inr, fold, arith}
+use Rattle.std.proofs.Common.{◌≡◌, ◌≢◌, ℕ, ◌+◌, ◌*◌, ◌^◌, ◌<◌, ◌≤◌, ◌==◌, Bool, true, false, min, if◌then◌else◌, Option, Some, None, List, [], ◌∷◌, refl, sym, ◌∙◌, ap, inl, inr, fold, arith}
 use Rattle.std.proofs.lemmas.Bool.{cases_Bool, eq-eqb}
 use Rattle.std.proofs.lemmas.Bool.Decides.{nat_tests}
 use Rattle.std.specs.Prelude.{unwrap_or}
-use Rattle.std.specs.Option.{option_map, option_or, SomeIff}
+use Rattle.std.specs.Option.{option_map, SomeIff}
 use Rattle.bm_base.specs.Extent.{Extent, end_of}
 use Rattle.address_runs.specs.Runs.{value_at}
 use Rattle.memblock_model.specs.declared.which.Which.{Which}
@@ -13,9 +13,8 @@ use Rattle.memblock_model.specs.declared.item.Item.{Item}
 use Rattle.memblock_model.specs.declared.item.Item.TheVariants as item
 use Rattle.memblock_model.specs.Labels.{Labels}
 use Rattle.memblock_model.specs.Same.{same_which}
-use Rattle.memblock_model.specs.Items.{limit_of}
-use Rattle.memblock_model.specs.Tables.{table_of, room_of, room_after, moved_to, moved_after, place_of, built_in}
-use Rattle.memblock_model.specs.Search.{suits, fits_in, top_in, best_in, top, best}
+use Rattle.memblock_model.specs.Tables.{room_of, room_after, moved_to, moved_after, built_in}
+use Rattle.memblock_model.specs.Search.{suits, fits_in, best_in, top, best}
 use Rattle.memblock_model.proofs.SearchLaws.{top_in-mirrorless, best_in-fits, best_in-fails, fits_in-parts}
 use Rattle.memblock_ranges.specs.Tables.{Contents, room_in, place_in}
 use Rattle.boot_journal.specs.Mirrors.{mirrors_in}
@@ -23,7 +22,7 @@ use Rattle.boot_journal.proofs.MirrorLaws.{unmirrored}
 use Rattle.growth_model.specs.Request.{Attempt}
 use Rattle.growth_model.specs.Growth.{in_whole_frames, frames_at, table_query, place_beside, old_frames}
 use Rattle.memblock_grow.specs.declared.aim.Aim.{Aim}
-use Rattle.memblock_grow.specs.Kept.{AreKept, aimed}
+use Rattle.memblock_grow.specs.Kept.{AreKept}
 use Rattle.memblock_grow.specs.Places.{KnowsMirrors, top_of, mirrored_of, best_of, frames_between, frames_beside, left_frames}
 use Rattle.memblock_grow.proofs.KeptLaws.{values-are, room-is, place-is}
 
@@ -42,57 +41,42 @@ pub best_in-high : (up : Bool) (memory reserved : Labels) (q : Query) (place : �
 best_in-high up memory reserved q place found =
     (fits_in-parts false memory reserved q place (best_in-fits up memory reserved q place found)).high
 
--- the tables know of each mirror
-pub knows-mirrors : (kernel : Extent) (items : List Item) (t : Contents) (at : Aim) → AreKept kernel items t at → KnowsMirrors items t
-knows-mirrors kernel items t at kept none x =
-    ap (λ (f : Labels). suits true (f x)) (values-are which.Memory kernel items t at kept) ∙ unmirrored items none x
-
--- without one no search finds mirrored memory
+-- without a mirror no search finds mirrored memory
 pub top-mirrorless : (items : List Item) (t : Contents) (up : Bool) (q : Query) → KnowsMirrors items t → mirrors_in items ≡ false
     → mirrored_of t up q ≡ None
 top-mirrorless items t up q knows none =
     top_in-mirrorless up (value_at t.memory.records) (value_at t.reserved.records) q (knows none)
 
--- the top and the best place by the tables are those by the items
-pub top-is : (kernel : Extent) (items : List Item) (t : Contents) (at : Aim) (a : Attempt) → AreKept kernel items t at
-    → top_of t at.upward a ≡ top items a.query a.mirror
-unfolding top
-top-is kernel items t at a kept =
-    ap (λ (f : Labels). top_in (record { mirror = a.mirror; up = at.upward }) f (value_at t.reserved.records) a.query)
-    (values-are which.Memory kernel items t at kept)
-    ∙ ap (λ (f : Labels). top_in (record { mirror = a.mirror; up = at.upward }) (table_of which.Memory items) f a.query)
-    (values-are which.Reserved kernel items t at kept)
-    ∙ ap (λ (b : Bool). top_in (record { mirror = a.mirror; up = b }) (table_of which.Memory items) (table_of which.Reserved items) a.query)
-    (sym kept.upward)
+module _ {kernel : Extent} {items : List Item} {t : Contents} {at : Aim} (kept : AreKept kernel items t at) where
+  -- the tables know of each mirror
+  pub knows-mirrors : KnowsMirrors items t
+  knows-mirrors none x = ap (λ (f : Labels). suits true (f x)) (values-are kept which.Memory) ∙ unmirrored items none x
 
-pub best-is : (kernel : Extent) (items : List Item) (t : Contents) (at : Aim) (q : Query) → AreKept kernel items t at
-    → best_of t at.upward q ≡ best items q
-unfolding best
-best-is kernel items t at q kept =
-    ap (λ (f : Labels). best_in at.upward f (value_at t.reserved.records) q) (values-are which.Memory kernel items t at kept)
-    ∙ ap (λ (f : Labels). best_in at.upward (table_of which.Memory items) f q) (values-are which.Reserved kernel items t at kept)
-    ∙ ap (λ (b : Bool). best_in b (table_of which.Memory items) (table_of which.Reserved items) q) (sym kept.upward)
+  -- the top and the best place by the tables are those by the items
+  pub top-is : (a : Attempt) → top_of t at.upward a ≡ top items a.query a.mirror
+  unfolding top
+  top-is a = rw (values-are kept which.Memory, values-are kept which.Reserved, kept.upward) refl
 
-pub between-is : (kernel : Extent) (items : List Item) (t : Contents) (at : Aim) (lo hi : ℕ) → AreKept kernel items t at
-    → frames_between t at.upward (room_in which.Memory t) lo hi
-    ≡ option_map (λ place. frames_at place (48 * room_of which.Memory items)) (best items (table_query (room_of which.Memory items) lo hi))
-between-is kernel items t at lo hi kept =
-    ap (λ (n : ℕ). frames_between t at.upward n lo hi) (room-is which.Memory kernel items t at kept)
-    ∙ ap (λ (o : Option ℕ). option_map (λ place. frames_at place (48 * room_of which.Memory items)) o)
-    (best-is kernel items t at (table_query (room_of which.Memory items) lo hi) kept)
+  pub best-is : (q : Query) → best_of t at.upward q ≡ best items q
+  unfolding best
+  best-is q = rw (values-are kept which.Memory, values-are kept which.Reserved, kept.upward) refl
 
-pub beside-is : (kernel : Extent) (items : List Item) (t : Contents) (at : Aim) (avoid : Extent) → AreKept kernel items t at
-    → frames_beside t at (room_in which.Reserved t) avoid
-    ≡ option_map (λ place. frames_at place (48 * room_of which.Reserved items)) (place_beside avoid (room_of which.Reserved items) items)
-beside-is kernel items t at avoid kept =
-    let n = room_of which.Reserved items in
-    let frames : Option ℕ → Option Extent = λ o. option_map (λ place. frames_at place (48 * n)) o in
-    ap (λ (m : ℕ). frames_beside t at m avoid) (room-is which.Reserved kernel items t at kept)
-    ∙ ap (λ (m : ℕ). frames_beside t (aimed m at.upward) n avoid) (sym kept.limit)
-    ∙ ap (λ (o : Option ℕ). frames (option_or o (best_of t at.upward (table_query n 0 (min avoid.base (limit_of items))))))
-    (best-is kernel items t at (table_query n (end_of avoid) (limit_of items)) kept)
-    ∙ ap (λ (o : Option ℕ). frames (option_or (best items (table_query n (end_of avoid) (limit_of items))) o))
-    (best-is kernel items t at (table_query n 0 (min avoid.base (limit_of items))) kept)
+  pub between-is : (lo hi : ℕ) → frames_between t at.upward (room_in which.Memory t) lo hi
+      ≡ option_map (λ place. frames_at place (48 * room_of which.Memory items))
+      (best items (table_query (room_of which.Memory items) lo hi))
+  between-is lo hi = rw (room-is kept which.Memory, best-is (table_query (room_of which.Memory items) lo hi)) refl
+
+  pub beside-is : (avoid : Extent) → frames_beside t at (room_in which.Reserved t) avoid
+      ≡ option_map (λ place. frames_at place (48 * room_of which.Reserved items))
+      (place_beside avoid (room_of which.Reserved items) items)
+  beside-is avoid =
+      let n = room_of which.Reserved items in
+      rw (
+        room-is kept which.Reserved,
+        best-is (table_query n (end_of avoid) at.limit),
+        best-is (table_query n 0 (min avoid.base at.limit)),
+        kept.limit,
+      ) refl
 
 -- what is found among frames is found
 pub record IsPlaceOf (o : Option ℕ) (n : ℕ) (place : Extent) : Type 0 where
@@ -142,27 +126,23 @@ unfolding Moved
 left-by n built None h = let first : (n == 128) ≡ true = eq-eqb n 128 h in rw first refl
 left-by n built (Some p) h = let later : (n == 128) ≡ false = grind (arith, nat_tests) in rw later refl
 
--- what a table leaves is what the items say of its old place
-pub left-is : (w : Which) (kernel : Extent) (items : List Item) (t : Contents) (at : Aim) → AreKept kernel items t at
-    → left_frames (place_in w t) (room_in w t) ≡ old_frames (room_of w items) (moved_to w items)
-left-is w kernel items t at kept =
-    ap (λ (n : ℕ). left_frames n (room_in w t)) (place-is w kernel items t at kept)
-    ∙ ap (λ (n : ℕ). left_frames (place_of w kernel items) n) (room-is w kernel items t at kept)
-    ∙ left-by (room_of w items) (built_in w kernel) (moved_to w items) (moved-is w items)
-
 far-by : (n built : ℕ) (o : Option ℕ) → Moved n o → n ≢ 128 → ((p : ℕ) → o ≡ Some p → p + in_whole_frames (24 * n) < 2 ^ 64)
     → unwrap_or o built + in_whole_frames (24 * n) < 2 ^ 64
 unfolding Moved
 far-by n built None h other far = absurd (other h)
 far-by n built (Some p) h other far = far p refl
 
-pub left-far : (w : Which) (kernel : Extent) (items : List Item) (t : Contents) (at : Aim) → AreKept kernel items t at
-    → room_in w t ≢ 128 → place_in w t + in_whole_frames (24 * room_in w t) < 2 ^ 64
-left-far w kernel items t at kept other =
-    let n = room-is w kernel items t at kept in
-    let here = far-by (room_of w items) (built_in w kernel) (moved_to w items) (moved-is w items) (λ e. other (n ∙ e)) (kept.far w) in
-    subst (λ (m : ℕ). m + in_whole_frames (24 * room_in w t) < 2 ^ 64) (sym (place-is w kernel items t at kept))
-    (subst (λ (m : ℕ). place_of w kernel items + in_whole_frames (24 * m) < 2 ^ 64) (sym n) here)
+module _ {kernel : Extent} {items : List Item} {t : Contents} {at : Aim} (kept : AreKept kernel items t at) where
+  -- what a table leaves is what the items say of its old place
+  pub left-is : (w : Which) → left_frames (place_in w t) (room_in w t) ≡ old_frames (room_of w items) (moved_to w items)
+  left-is w =
+      rw (place-is kept w, room-is kept w) (left-by (room_of w items) (built_in w kernel) (moved_to w items) (moved-is w items))
+
+  pub left-far : (w : Which) → room_in w t ≢ 128 → place_in w t + in_whole_frames (24 * room_in w t) < 2 ^ 64
+  left-far w other =
+      let here = far-by (room_of w items) (built_in w kernel) (moved_to w items) (moved-is w items) (λ e. other (room-is kept w ∙ e))
+      (kept.far w) in
+      rw (place-is kept w, room-is kept w) here
 
 -- the answers of the search among frames
 pub between-none : (t : Contents) (up : Bool) (room lo hi : ℕ) → hi < 2 ^ 64 → ¬ (in_whole_frames (48 * room) < 2 ^ 64)
@@ -189,10 +169,3 @@ between-some t up room lo hi size base o is found new small =
     ∙ ap (λ (n : ℕ). Some (let e : Extent = record { base = base; size = n } in e)) is
     ∙ sym (ap (λ (o : Option ℕ). option_map (λ place. frames_at place (48 * room)) o)
     (sym (ap (λ (n : ℕ). best_of t up (sized lo hi n)) is) ∙ found))
-
-pub between-nowhere : (t : Contents) (up : Bool) (room lo hi size : ℕ) → size ≡ in_whole_frames (48 * room)
-    → best_of t up (sized lo hi size) ≡ None
-    → None ≡ frames_between t up room lo hi
-between-nowhere t up room lo hi size is none =
-    sym (ap (λ (o : Option ℕ). option_map (λ place. frames_at place (48 * room)) o)
-    (sym (ap (λ (n : ℕ). best_of t up (sized lo hi n)) is) ∙ none))

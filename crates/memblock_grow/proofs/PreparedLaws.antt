@@ -2,7 +2,7 @@
 use Rattle.std.proofs.Common.{◌≡◌, ℕ, ◌*◌, Bool, true, false, ◌||◌, List, [], ◌∷◌, ◌++◌, Result, Ok, Err, OnErr, refl, sym, ◌∙◌, ap, subst, append_assoc, arith}
 use Rattle.std.proofs.lemmas.Bool.Decides.{nat_tests}
 use Rattle.std.proofs.lemmas.List.{append-nil}
-use Rattle.std.proofs.Math.Bool.{or_assoc, or_comm}
+use Rattle.std.proofs.Math.Bool.{or_assoc}
 use Rattle.bm_base.specs.Extent.{Extent, covers}
 use Rattle.phys_store.specs.Bytes.{Stored, is_ready}
 use Rattle.memblock_model.specs.declared.which.Which.{Which}
@@ -19,98 +19,86 @@ grown-append (i ∷ is) b x =
     ap (λ (c : Bool). grows_over i x || c) (grown-append is b x)
     ∙ sym (or_assoc (grows_over i x) (is_grown_over is x) (is_grown_over b x))
 
--- one item was written, and what it grows over prepared
-prepares-once : (items longer : List Item) (i : Item) (s t : List Stored) → longer ≡ items ++ i ∷ []
-    → ((x : ℕ) → is_ready t x ≡ (grows_over i x || is_ready s x)) → Prepares items longer s t
-prepares-once items longer i s t is each = record {
-  more = i ∷ [];
-  goes_on = is;
-  each = λ x. each x ∙ sym (or_assoc (grows_over i x) false (is_ready s x));
-}
-
--- one call behind another
-pub prepares-then : (items mid last : List Item) (s t u : List Stored) → Prepares items mid s t → Prepares mid last t u
-    → Prepares items last s u
-prepares-then items mid last s t u first second = record {
-  more = first.more ++ second.more;
-  goes_on = second.goes_on ∙ ap (λ (is : List Item). is ++ second.more) first.goes_on ∙ append_assoc items first.more second.more;
-  each = λ x. second.each x ∙ ap (λ (b : Bool). is_grown_over second.more x || b) (first.each x)
-      ∙ sym (or_assoc (is_grown_over second.more x) (is_grown_over first.more x) (is_ready s x))
-      ∙ ap (λ (b : Bool). b || is_ready s x) (or_comm (is_grown_over second.more x) (is_grown_over first.more x)
-      ∙ sym (grown-append first.more second.more x));
-}
-
--- an item that is no growth prepares nothing more
-pub prepares-item : (old mid new : List Item) (i : Item) (s t u : List Stored) → Prepares old mid s t → new ≡ mid ++ i ∷ []
-    → ((x : ℕ) → grows_over i x ≡ false) → ((x : ℕ) → is_ready u x ≡ is_ready t x) → Prepares old new s u
-prepares-item old mid new i s t u first is none same =
-    prepares-then old mid new s t u first
-    (prepares-once mid new i t u is (λ x. same x ∙ ap (λ (b : Bool). b || is_ready t x) (sym (none x))))
-
--- and with one place more
-join : (g c s : Bool) → (g || (c || s)) ≡ ((g || (c || false)) || s)
-join true c s = refl
-join false true s = refl
-join false false s = refl
-
+-- what further items and a place prepare, in another order
 swap : (g h c s : Bool) → (h || (c || (g || s))) ≡ ((g || h) || (c || s))
 swap false h c s = refl
 swap true true c s = refl
 swap true false true s = refl
 swap true false false s = refl
 
-pub prepares-with : (place : Extent) (items longer : List Item) (s p t : List Stored)
+-- one call behind another
+pub prepares-then : {items mid last : List Item} {s t u : List Stored} → Prepares items mid s t → Prepares mid last t u
+    → Prepares items last s u
+prepares-then {s} first second = record {
+  more = first.more ++ second.more;
+  goes_on = second.goes_on ∙ ap (λ (is : List Item). is ++ second.more) first.goes_on ∙ append_assoc _ first.more second.more;
+  each = λ x. rw (second.each x, first.each x, grown-append first.more second.more x)
+      (swap (is_grown_over first.more x) (is_grown_over second.more x) false (is_ready s x));
+}
+
+-- an item that is no growth prepares nothing more
+pub prepares-item : (i : Item) {old mid new : List Item} {s t u : List Stored} → Prepares old mid s t → new ≡ mid ++ i ∷ []
+    → ((x : ℕ) → grows_over i x ≡ false) → ((x : ℕ) → is_ready u x ≡ is_ready t x) → Prepares old new s u
+prepares-item i first is none same =
+    prepares-then first (record { more = i ∷ []; goes_on = is; each = λ x. rw (none x) (same x) })
+
+-- and with one place more
+pub prepares-with : {place : Extent} {items longer : List Item} {s p t : List Stored}
     → ((x : ℕ) → is_ready p x ≡ (covers place x || is_ready s x)) → Prepares items longer p t → PreparesWith place items longer s t
-prepares-with place items longer s p t first h = record {
+prepares-with first h = record {
   more = h.more;
   goes_on = h.goes_on;
   each = λ x. h.each x ∙ ap (λ (b : Bool). is_grown_over h.more x || b) (first x);
 }
 
-with-then : (place : Extent) (items mid last : List Item) (s t u : List Stored) → Prepares items mid s t → PreparesWith place mid last t u
-    → PreparesWith place items last s u
-with-then place items mid last s t u first second = record {
+with-then : {place : Extent} {items mid last : List Item} {s t u : List Stored} → Prepares items mid s t
+    → PreparesWith place mid last t u → PreparesWith place items last s u
+with-then {place} {s} first second = record {
   more = first.more ++ second.more;
-  goes_on = second.goes_on ∙ ap (λ (is : List Item). is ++ second.more) first.goes_on ∙ append_assoc items first.more second.more;
-  each = λ x. second.each x ∙ ap (λ (b : Bool). is_grown_over second.more x || (covers place x || b)) (first.each x)
-      ∙ swap (is_grown_over first.more x) (is_grown_over second.more x) (covers place x) (is_ready s x)
-      ∙ ap (λ (b : Bool). b || (covers place x || is_ready s x)) (sym (grown-append first.more second.more x));
+  goes_on = second.goes_on ∙ ap (λ (is : List Item). is ++ second.more) first.goes_on ∙ append_assoc _ first.more second.more;
+  each = λ x. rw (second.each x, first.each x, grown-append first.more second.more x)
+      (swap (is_grown_over first.more x) (is_grown_over second.more x) (covers place x) (is_ready s x));
 }
 
 -- a table grew into that place, to twice the room
-pub with-growth : (items mid longer : List Item) (w : Which) (n base room : ℕ) (place : Extent) (s t u : List Stored)
+join : (g c s : Bool) → (g || (c || s)) ≡ ((g || (c || false)) || s)
+join true c s = refl
+join false true s = refl
+join false false s = refl
+
+pub with-growth : (w : Which) (n : ℕ) {items mid longer : List Item} {base room : ℕ} {place : Extent} {s t u : List Stored}
     → PreparesWith place items mid s t → longer ≡ mid ++ item.Grown w base room ∷ [] → base ≡ place.base → room ≡ 2 * n
     → place ≡ frames_at place.base (48 * n) → ((x : ℕ) → is_ready u x ≡ is_ready t x) → Prepares items longer s u
-with-growth items mid longer w n base room place s t u h is here twice frames same =
+with-growth w n {base} {room} {place} {s} h is here twice frames same =
     let i : Item = item.Grown w base room in
     let bytes : 48 * n ≡ 24 * room = omega (arith, twice) in
     let whole : place ≡ frames_at base (24 * room) =
     frames ∙ ap (λ (m : ℕ). frames_at place.base m) bytes ∙ ap (λ (b : ℕ). frames_at b (24 * room)) (sym here) in
     record {
       more = h.more ++ i ∷ [];
-      goes_on = is ∙ ap (λ (is : List Item). is ++ i ∷ []) h.goes_on ∙ append_assoc items h.more (i ∷ []);
+      goes_on = is ∙ ap (λ (is : List Item). is ++ i ∷ []) h.goes_on ∙ append_assoc _ h.more (i ∷ []);
       each = λ x. same x ∙ h.each x ∙ ap (λ (e : Extent). is_grown_over h.more x || (covers e x || is_ready s x)) whole
           ∙ join (is_grown_over h.more x) (grows_over i x) (is_ready s x)
           ∙ ap (λ (b : Bool). b || is_ready s x) (sym (grown-append h.more (i ∷ []) x));
     }
 
-pub prepares-growth : (items longer : List Item) (w : Which) (n base room : ℕ) (place : Extent) (s t : List Stored)
+pub prepares-growth : (w : Which) (n : ℕ) {items longer : List Item} {base room : ℕ} {place : Extent} {s t : List Stored}
     → longer ≡ items ++ item.Grown w base room ∷ [] → base ≡ place.base → room ≡ 2 * n → place ≡ frames_at place.base (48 * n)
     → ((x : ℕ) → is_ready t x ≡ (covers place x || is_ready s x)) → Prepares items longer s t
-prepares-growth items longer w n base room place s t is here twice frames each =
-    with-growth items items longer w n base room place s t t (record { more = []; goes_on = sym (append-nil items); each = each }) is here
-    twice frames (λ x. refl)
+prepares-growth w n {items} {t} is here twice frames each =
+    with-growth w n {mid = items} {t = t} (record { more = []; goes_on = sym (append-nil items); each = each }) is here twice frames
+    (λ x. refl)
 
 -- by the end of a call: what is exact is so at each end
 abbrev nowhere : Extent
 nowhere = record { base = 0; size = 0 }
 
-pub by-exact : {T : Type 0} (r : Result T Refusal) (items longer : List Item) (s t : List Stored) → Prepares items longer s t
+pub by-exact : {T : Type 0} (r : Result T Refusal) {items longer : List Item} {s t : List Stored} → Prepares items longer s t
     → PreparesBy r items longer s t
-by-exact (Ok x) items longer s t h = h
-by-exact (Err refusal.NoGap) items longer s t h = h
-by-exact (Err (refusal.NoGapForTable w room)) items longer s t h = h
-by-exact (Err refusal.Memory) items longer s t h = (
+by-exact (Ok x) h = h
+by-exact (Err refusal.NoGap) h = h
+by-exact (Err (refusal.NoGapForTable w room)) h = h
+by-exact (Err refusal.Memory) {s} h = (
   nowhere,
   record {
     more = h.more;
@@ -122,23 +110,20 @@ by-exact (Err refusal.Memory) items longer s t h = (
 )
 
 -- where nothing more was written, and where nothing was
-pub by-item : {T : Type 0} (r : Result T Refusal) (items mid longer : List Item) (s t : List Stored) → longer ≡ mid
+pub by-item : {T : Type 0} (r : Result T Refusal) {items mid longer : List Item} {s t : List Stored} → longer ≡ mid
     → Prepares items mid s t → PreparesBy r items longer s t
-by-item r items mid longer s t same h =
-    by-exact r items longer s t (subst (λ (l : List Item). Prepares items l s t) (sym same) h)
+by-item r {items} {s} {t} same h = by-exact r (subst (λ (l : List Item). Prepares items l s t) (sym same) h)
 
-pub none-on-err : (T : Type 0) (r : Result T Refusal) (items : List Item) (s t : List Stored) → t ≡ s
+pub none-on-err : {T : Type 0} (r : Result T Refusal) (items : List Item) {s t : List Stored} → t ≡ s
     → OnErr r (PreparesBy r items items s t)
-none-on-err T (Ok x) items s t same = tt
-none-on-err T (Err e) items s t same =
-    by-exact {T = T} (Err e) items items s t
+none-on-err (Ok x) items same = tt
+none-on-err {T} (Err e) items same = by-exact {T = T} (Err e)
     (record { more = []; goes_on = sym (append-nil items); each = λ x. ap (λ (u : List Stored). is_ready u x) same })
 
 -- a call behind others, and an error that is handed on
-pub by-then : {T : Type 0} (r : Result T Refusal) (items mid last : List Item) (s t u : List Stored) → Prepares items mid s t
-    → PreparesBy r mid last t u → PreparesBy r items last s u
-by-then (Ok x) items mid last s t u first second = prepares-then items mid last s t u first second
-by-then (Err refusal.NoGap) items mid last s t u first second = prepares-then items mid last s t u first second
-by-then (Err (refusal.NoGapForTable w room)) items mid last s t u first second = prepares-then items mid last s t u first second
-by-then (Err refusal.Memory) items mid last s t u first second =
-    (second.0, with-then second.0 items mid last s t u first second.1)
+pub by-then : {T : Type 0} (r : Result T Refusal) {items mid : List Item} (last : List Item) {s t : List Stored} (u : List Stored)
+    → Prepares items mid s t → PreparesBy r mid last t u → PreparesBy r items last s u
+by-then (Ok x) last u first second = prepares-then first second
+by-then (Err refusal.NoGap) last u first second = prepares-then first second
+by-then (Err (refusal.NoGapForTable w room)) last u first second = prepares-then first second
+by-then (Err refusal.Memory) last u first second = (second.0, with-then first second.1)

@@ -1,6 +1,6 @@
 -- The place that an allocation finds by the tables is the one that the items say, and how the claim of it ends.
 use Rattle.std.proofs.lemmas.Bool.{cases_Bool}
-use Rattle.std.proofs.Common.{◌≡◌, ℕ, ◌+◌, ◌^◌, ◌<◌, Bool, true, false, inl, inr, Option, Some, None, List, [], ◌∷◌, Result, Ok, Err, IsErrAnd, refl, sym, ◌∙◌, ap, subst, arith}
+use Rattle.std.proofs.Common.{◌≡◌, ℕ, ◌+◌, ◌^◌, ◌<◌, Bool, true, false, inl, inr, Option, Some, None, List, [], ◌∷◌, Result, Ok, Err, IsErrAnd, refl, sym, ◌∙◌, ap, arith}
 use Rattle.std.specs.Option.{option_or}
 use Rattle.bm_base.specs.Extent.{Extent}
 use Rattle.memblock_model.specs.declared.owner.Owner.{Owner}
@@ -25,13 +25,6 @@ use Rattle.memblock_grow.specs.Places.{KnowsMirrors, first_of}
 use Rattle.memblock_grow.proofs.PlaceLaws.{top-is, top-mirrorless}
 use Rattle.memblock_grow.proofs.ChangeLaws.{handed}
 
-first-is : (kernel : Extent) (items : List Item) (t : Contents) (at : Aim) (all : List Attempt) → AreKept kernel items t at
-    → first_of t at.upward all ≡ first_top items all
-first-is kernel items t at [] kept = refl
-first-is kernel items t at (a ∷ rest) kept =
-    ap (λ (o : Option ℕ). option_or o (first_of t at.upward rest)) (top-is kernel items t at a kept)
-    ∙ ap (λ (o : Option ℕ). option_or (top items a.query a.mirror) o) (first-is kernel items t at rest kept)
-
 -- where nothing is mirrored no search of mirrored memory finds a place
 anywhere-mirrorless : (items : List Item) (t : Contents) (up : Bool) (r : Request) (limit lo : ℕ) (wanted : Option ℕ) → KnowsMirrors items t
     → mirrors_in items ≡ false → first_of t up (anywhere r limit lo true wanted) ≡ None
@@ -50,25 +43,26 @@ nodes-mirrorless items t up r limit lo knows none =
     (top-mirrorless items t up (attempt r limit lo true r.node).query knows none)
     ∙ anywhere-mirrorless items t up r limit lo r.node knows none
 
-pub place-is-for : (kernel : Extent) (items : List Item) (t : Contents) (at : Aim) (r : Request) (o found : Option ℕ)
-    → AreKept kernel items t at
-    → o ≡ first_of t at.upward (attempts r at.limit) → o ≡ found → place_for r items ≡ found
-place-is-for kernel items t at r o found kept is some =
-    sym (is ∙ ap (λ (n : ℕ). first_of t at.upward (attempts r n)) (sym kept.limit)
-    ∙ first-is kernel items t at (attempts r (limit_of items)) kept)
-    ∙ some
+module _ {kernel : Extent} {items : List Item} {t : Contents} {at : Aim} (kept : AreKept kernel items t at) where
+  first-is : (all : List Attempt) → first_of t at.upward all ≡ first_top items all
+  first-is [] = refl
+  first-is (a ∷ rest) =
+      ap (λ (o : Option ℕ). option_or o (first_of t at.upward rest)) (top-is kept a)
+      ∙ ap (λ (o : Option ℕ). option_or (top items a.query a.mirror) o) (first-is rest)
 
-pub place-small : (kernel : Extent) (items : List Item) (t : Contents) (at : Aim) (r : Request) (place : ℕ) → AreKept kernel items t at
-    → place_for r items ≡ Some place → at.limit < 2 ^ 64 → place + r.size < 2 ^ 64
-place-small kernel items t at r place kept found small =
-    let high = place-within r items place found in
-    let limit = kept.limit in
-    omega (arith, high, limit, small)
+  pub place-is-for : (r : Request) {o found : Option ℕ} → o ≡ first_of t at.upward (attempts r at.limit) → o ≡ found
+      → place_for r items ≡ found
+  place-is-for r is some =
+      sym (is ∙ ap (λ (n : ℕ). first_of t at.upward (attempts r n)) (sym kept.limit) ∙ first-is (attempts r (limit_of items))) ∙ some
 
-pub place-allowed : (kernel : Extent) (items : List Item) (t : Contents) (at : Aim) (r : Request) (place : ℕ) (who : Owner)
+  pub place-small : (r : Request) {place : ℕ} → place_for r items ≡ Some place → at.limit < 2 ^ 64 → place + r.size < 2 ^ 64
+  place-small r {place} found small =
+      let high = place-within r items place found in let limit = kept.limit in omega (arith, high, limit, small)
+
+pub place-allowed : {kernel : Extent} {items : List Item} {t : Contents} {at : Aim} (r : Request) {place : ℕ} (who : Owner)
     → IsMemblock kernel items t at → HasBegun items → place_for r items ≡ Some place
     → AllowsClaim items t at (record { base = place; size = r.size }) who
-place-allowed kernel items t at r place who whole begun found =
+place-allowed {kernel} {items} r {place} who whole begun found =
     let range : Extent = record { base = place; size = r.size } in (
       kernel,
       whole,
@@ -76,21 +70,18 @@ place-allowed kernel items t at r place who whole begun found =
           (unclaimed-away kernel range items (whole.placed begun) (place-unclaimed r items place found)),
     )
 
-pub alloc-none : (items : List Item) (o : Option ℕ) (size : ℕ) (who : Owner) → o ≡ None
+pub alloc-none : (items : List Item) {o : Option ℕ} (size : ℕ) (who : Owner) → o ≡ None
     → Allocates (Err refusal.NoGap) items items o size who
-alloc-none items o size who none = subst (λ (p : Option ℕ). Allocates (Err refusal.NoGap) items items p size who) (sym none) (refl, refl)
+alloc-none items size who none = rw none (refl, refl)
 
-pub alloc-fails : (items new : List Item) (o : Option ℕ) (place size : ℕ) (who : Owner) (e : Refusal) (r : Result ℕ Refusal)
+pub alloc-fails : (items new : List Item) {o : Option ℕ} {place : ℕ} (size : ℕ) (who : Owner) (e : Refusal) (r : Result ℕ Refusal)
     → o ≡ Some place → IsErrAnd r (λ (n : Refusal). n ≡ e)
     → Ends {T = Unit {0}} (Err e) items new (claimed (record { base = place; size = size }) who)
     → Allocates r items new o size who
-alloc-fails items new o place size who e r some is h =
-    subst (λ (p : Option ℕ). Allocates r items new p size who) (sym some)
-    (subst (λ (s : Result ℕ Refusal). Allocates s items new (Some place) size who) (sym (handed r e is))
-    (tt, Ends-error (Unit {0}) ℕ e items new (claimed (record { base = place; size = size }) who) h))
+alloc-fails items new {place} size who e r some is h =
+    rw (some, handed r e is) (tt, Ends-error (Unit {0}) ℕ e items new (claimed (record { base = place; size = size }) who) h)
 
-pub alloc-done : (items new : List Item) (o : Option ℕ) (place size : ℕ) (who : Owner) → o ≡ Some place
+pub alloc-done : (items new : List Item) {o : Option ℕ} {place : ℕ} (size : ℕ) (who : Owner) → o ≡ Some place
     → Ends {T = Unit {0}} (Ok tt) items new (claimed (record { base = place; size = size }) who)
     → Allocates (Ok place) items new o size who
-alloc-done items new o place size who some h =
-    subst (λ (p : Option ℕ). Allocates (Ok place) items new p size who) (sym some) (refl, h)
+alloc-done items new size who some h = rw some (refl, h)

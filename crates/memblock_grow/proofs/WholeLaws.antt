@@ -1,7 +1,6 @@
 -- What holds between calls holds behind each.
 use Rattle.std.proofs.Common.{List}
 use Rattle.bm_base.specs.Extent.{Extent}
-use Rattle.phys_store.specs.Bytes.{byte_of}
 use Rattle.memblock_model.specs.declared.item.Item.{Item}
 use Rattle.memblock_ranges.specs.Tables.{Contents}
 use Rattle.growth_model.proofs.SoundLaws.{Stands}
@@ -9,28 +8,25 @@ use Rattle.growth_model.proofs.FollowLaws.{follows-stands, follows-then}
 use Rattle.memblock_grow.specs.declared.aim.Aim.{Aim}
 use Rattle.memblock_grow.specs.Kept.{IsMemblock, Keeps, KeepsBytes}
 
-pub whole-on : (kernel : Extent) (items longer : List Item) (t u : Contents) (at : Aim) → IsMemblock kernel items t at
+pub whole-on : {kernel : Extent} {items longer : List Item} {t u : Contents} {at : Aim} → IsMemblock kernel items t at
     → Keeps items t longer u at → KeepsBytes items t longer u at → Stands kernel longer → IsMemblock kernel longer u at
-whole-on kernel items longer t u at m keeps bytes stands =
+whole-on {kernel} m keeps bytes stands =
     let kept = keeps kernel m.kept in
     record {
       image = m.image;
       kept = kept;
       placed = stands;
-      spelled = follows-stands kernel items longer u.memory u.reserved (byte_of t.store) (byte_of u.store) kept.memory kept.reserved
-          (bytes kernel m.kept m.spelled);
+      spelled = follows-stands _ _ _ _ _ _ _ kept.memory kept.reserved (bytes kernel m.kept m.spelled);
     }
 
 -- one call behind another
-pub keeps-then : (items mid last : List Item) (t u v : Contents) (at : Aim) → Keeps items t mid u at → Keeps mid u last v at
+pub keeps-then : {items mid last : List Item} {t u v : Contents} {at : Aim} → Keeps items t mid u at → Keeps mid u last v at
     → Keeps items t last v at
-keeps-then items mid last t u v at first second = λ kernel kept. second kernel (first kernel kept)
+keeps-then first second = λ kernel kept. second kernel (first kernel kept)
 
-pub bytes-then : (items mid last : List Item) (t u v : Contents) (at : Aim) → Keeps items t mid u at → KeepsBytes items t mid u at
-    → KeepsBytes mid u last v at → KeepsBytes items t last v at
-bytes-then items mid last t u v at keeps first second = λ kernel kept spelled.
+pub bytes-then : {items mid last : List Item} {t u : Contents} (v : Contents) {at : Aim} → Keeps items t mid u at
+    → KeepsBytes items t mid u at → KeepsBytes mid u last v at → KeepsBytes items t last v at
+bytes-then v keeps first second = λ kernel kept spelled.
     let there = keeps kernel kept in
     let on = first kernel kept spelled in
-    follows-then kernel items mid last (byte_of t.store) (byte_of u.store) (byte_of v.store) on
-    (second kernel there (follows-stands kernel items mid u.memory u.reserved (byte_of t.store) (byte_of u.store) there.memory
-    there.reserved on))
+    follows-then _ _ _ _ _ _ _ on (second kernel there (follows-stands _ _ _ _ _ _ _ there.memory there.reserved on))

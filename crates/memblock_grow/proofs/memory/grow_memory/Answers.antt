@@ -1,10 +1,9 @@
-use Rattle.std.proofs.Common.{◌≡◌, ◌≢◌, ◌+◌, ◌*◌, ◌^◌, ◌<◌, refl, sym, ap, subst}
+use Rattle.std.proofs.Common.{◌≡◌, ◌*◌, ◌^◌, ◌<◌, refl, ap, subst}
 use Rattle.bm_base.specs.Extent.{Extent, end_of}
 use Rattle.memblock_model.specs.declared.which.Which.TheVariants as which
 use Rattle.memblock_model.specs.Tables.{room_of, moved_to}
 use Rattle.boot_journal.specs.Contents.{Contents as Journal}
-use Rattle.memblock_ranges.specs.declared.region.Head.{Head}
-use Rattle.growth_model.specs.Growth.{in_whole_frames, old_frames}
+use Rattle.growth_model.specs.Growth.{old_frames}
 use Rattle.growth_model.proofs.PlacedMemoryLaws.{IsTaken}
 use Rattle.memblock_grow.specs.Kept.{Keeps, KeepsBytes}
 use Rattle.memblock_grow.specs.Prepared.{Prepares}
@@ -18,17 +17,15 @@ use Rattle.memblock_grow.proofs.memory.grow_memory.Goals.{In-Some, In_ok-take_pl
 
 -- the place was found below the limit
 found : (c : In-Some) → IsBest c.args.journal.now.items c.in-Some.place
-found c =
-    best-found c.requires.kept.0 c.args.journal.now.items c.args.tables.now c.args.aim c.head-head.result.room c.place_between.result
-    c.in-Some.place c.requires.kept.1.kept (ap (λ (h : Head). h.room) c.head-head.ensures.head) c.place_between.ensures c.in-Some.is
+found c = best-found c.requires.kept.1.kept c.head-head.ensures.head c.place_between.ensures c.in-Some.is
 
 -- behind its claim nobody else has it
 taken : (c : In_ok-take_place) → IsBest c.args.journal.now.items c.in-Some.place
     → IsTaken c.requires.kept.0 c.take_place.new.journal.items (room_of which.Memory c.args.journal.now.items)
     (moved_to which.Memory c.args.journal.now.items) c.in-Some.place.base
 taken c known =
-    best-taken c.requires.kept.0 c.args.journal.now.items c.take_place.new.journal.items c.in-Some.place
-    (c.requires.kept.1.placed c.requires.begun) known c.in_ok-take_place.ensures.ends
+    best-taken known c.requires.kept.0 c.take_place.new.journal.items (c.requires.kept.1.placed c.requires.begun)
+    c.in_ok-take_place.ensures.ends
 
 -- what stands once the table has moved there
 record HasMoved (c : After-relocate) : Type 0 where
@@ -53,84 +50,58 @@ moved c known =
       is = known.is;
       ends = subst (λ (e : Extent). end_of e < 2 ^ 64) c.place.view_is c.place.invariant;
     } in
-    let twice = twice-is which.Memory c.requires.kept.0 c.args.journal.now.items c.args.tables.now c.args.aim c.head-head.result.room
-    c.requires.kept.1.kept (ap (λ (h : Head). h.room) c.head-head.ensures.head) in
+    let twice = twice-is c.requires.kept.1.kept which.Memory c.head-head.ensures.head in
+    let room = 2 * c.head-head.result.room in
     let next = c.in_ok-push.ensures.ok in
     record {
       tables = tables;
-      left = left-found which.Memory c.requires.kept.0 c.args.journal.now.items c.args.tables.now c.args.aim c.head-head.result
-          c.left_place-old.result c.requires.kept.1.kept c.head-head.ensures.head c.left_place-old.ensures;
+      left = left-found c.requires.kept.1.kept which.Memory c.head-head.ensures.head c.left_place-old.ensures;
       twice = twice;
-      kept = memory-keeps c.args.journal.now.items c.take_place.new.journal.items c.push.new.self.items c.args.tables.now
-          c.take_place.new.tables c.relocate.new.tables c.args.aim c.place.inside.base (2 * c.head-head.result.room)
-          c.in-Some.place tables c.take_place.ensures.kept next;
-      bytes = memory-tells c.args.journal.now.items c.take_place.new.journal.items c.push.new.self.items c.args.tables.now
-          c.take_place.new.tables c.relocate.new.tables c.args.aim c.place.inside.base (2 * c.head-head.result.room)
-          c.in-Some.place tables c.take_place.ensures.kept c.take_place.ensures.bytes next;
-      prepared = with-growth c.args.journal.now.items c.take_place.new.journal.items c.push.new.self.items which.Memory
-          (room_of which.Memory c.args.journal.now.items) c.place.inside.base (2 * c.head-head.result.room) c.in-Some.place
-          c.args.tables.now.store c.take_place.new.tables.store c.relocate.new.tables.store c.in_ok-take_place.ensures.prepared next
+      kept = memory-keeps c.place.inside.base room tables c.take_place.ensures.kept next;
+      bytes = memory-tells c.place.inside.base room tables c.take_place.ensures.kept next c.take_place.ensures.bytes;
+      prepared = with-growth which.Memory (room_of which.Memory c.args.journal.now.items) c.in_ok-take_place.ensures.prepared next
           tables.here twice known.is c.relocate.ensures.ready;
     }
 
 pub place_between-requires-clause-some : goal.place_between-requires-clause-some
-place_between-requires-clause-some c =
-    room-some which.Memory c.requires.kept.0 c.args.journal.now.items c.args.tables.now c.args.aim c.head-head.result
-    c.requires.kept.1.kept c.head-head.ensures.head
+place_between-requires-clause-some c = room-some c.requires.kept.1.kept which.Memory c.head-head.ensures.head
 
 pub place_between-requires-clause-mirrors : goal.place_between-requires-clause-mirrors
-place_between-requires-clause-mirrors c =
-    knows-mirrors c.requires.kept.0 c.args.journal.now.items c.args.tables.now c.args.aim c.requires.kept.1.kept
+place_between-requires-clause-mirrors c = knows-mirrors c.requires.kept.1.kept
 
 pub returns-in_default-clause-ends : goal.returns-in_default-clause-ends
 returns-in_default-clause-ends c =
-    memory-none c.requires.kept.0 c.args.journal.now.items c.args.tables.now c.args.aim c.head-head.result.room c.place_between.result
-    c.requires.kept.1.kept (ap (λ (h : Head). h.room) c.head-head.ensures.head) c.place_between.ensures c.in_default.is
+    memory-none c.requires.kept.1.kept c.head-head.ensures.head c.place_between.ensures c.in_default.is
 
 pub returns-in_default-clause-bytes : goal.returns-in_default-clause-bytes
-returns-in_default-clause-bytes c = λ kernel kept spelled.
-    still-bytes kernel c.args.journal.now.items c.args.journal.now.items c.args.tables.now c.args.tables.now c.args.aim refl (λ x. refl)
-    kept spelled
+returns-in_default-clause-bytes c = still-bytes c.args.tables.now refl (λ x. refl)
 
 pub left_place-old-requires : goal.left_place-old-requires
-left_place-old-requires c =
-    let head = c.head-head.ensures.head in
-    record {
-      far = subst (λ (h : Head). h.room ≢ 128 → h.place + in_whole_frames (24 * h.room) < 2 ^ 64) (sym head)
-          (left-far which.Memory c.requires.kept.0 c.args.journal.now.items c.args.tables.now c.args.aim c.requires.kept.1.kept);
-    }
+left_place-old-requires c = record { far = rw c.head-head.ensures.head (left-far c.requires.kept.1.kept which.Memory) }
 
 pub take_place-requires-clause-some : goal.take_place-requires-clause-some
 take_place-requires-clause-some c =
-    let known = found (goal.at.take_place-requires-clause-some c).In-Some in
-    frames-some which.Memory c.args.journal.now.items c.in-Some.place known.is
+    frames-some which.Memory c.args.journal.now.items (found (goal.at.take_place-requires-clause-some c).In-Some).is
 
 pub take_place-requires-clause-free : goal.take_place-requires-clause-free
-take_place-requires-clause-free c =
-    best-free c.args.journal.now.items c.in-Some.place (found (goal.at.take_place-requires-clause-free c).In-Some)
+take_place-requires-clause-free c = best-free (found (goal.at.take_place-requires-clause-free c).In-Some)
 
 pub returns-in_err-take_place-clause-ends : goal.returns-in_err-take_place-clause-ends
 returns-in_err-take_place-clause-ends c =
-    let known = found (goal.at.returns-in_err-take_place-clause-ends c).In-Some in
-    memory-fails c.args.journal.now.items c.take_place.new.journal.items c.in-Some.place c.in_err-take_place.field-0.0
-    c.from_residual.result known c.from_residual.ensures.1 c.in_err-take_place.ensures.ends
+    memory-fails (found (goal.at.returns-in_err-take_place-clause-ends c).In-Some) c.take_place.new.journal.items
+    c.in_err-take_place.field-0.0 c.from_residual.result c.from_residual.ensures.1 c.in_err-take_place.ensures.ends
 
 pub returns-in_err-push-clause-ends : goal.returns-in_err-push-clause-ends
 returns-in_err-push-clause-ends c =
-    let known = found (goal.at.returns-in_err-push-clause-ends c).In-Some in
-    memory-wants c.args.journal.now.items c.take_place.new.journal.items c.push.new.self.items c.in-Some.place
-    c.from_residual-in_err-push.result known c.from_residual-in_err-push.ensures.1 c.in_ok-take_place.ensures.ends
+    memory-wants (found (goal.at.returns-in_err-push-clause-ends c).In-Some) c.take_place.new.journal.items c.push.new.self.items
+    c.from_residual-in_err-push.result c.from_residual-in_err-push.ensures.1 c.in_ok-take_place.ensures.ends
     (ap (λ (j : Journal). j.items) c.in_err-push.ensures.err)
 
 pub relocate-requires-clause-apart : goal.relocate-requires-clause-apart
 relocate-requires-clause-apart c =
     let at = goal.at.relocate-requires-clause-apart c in
-    memory-apart c.requires.kept.0 c.args.journal.now.items c.take_place.new.journal.items c.args.tables.now c.take_place.new.tables
-    c.args.aim
-    c.place.inside.base c.in-Some.place c.requires.kept.1.kept
-    (c.take_place.ensures.kept c.requires.kept.0 c.requires.kept.1.kept)
-    c.take_place.ensures.memory (ap (λ (e : Extent). e.base) c.place.view_is)
-    (taken at.In_ok-take_place (found at.In-Some))
+    memory-apart c.in-Some.place c.requires.kept.1.kept (c.take_place.ensures.kept c.requires.kept.0 c.requires.kept.1.kept)
+    c.take_place.ensures.memory (ap (λ (e : Extent). e.base) c.place.view_is) (taken at.In_ok-take_place (found at.In-Some))
 
 pub leave-requires-clause-some : goal.leave-requires-clause-some
 leave-requires-clause-some c =
@@ -141,35 +112,28 @@ pub leave-requires-clause-away : goal.leave-requires-clause-away
 leave-requires-clause-away c =
     let at = goal.at.leave-requires-clause-away c in
     let m = moved at.After-relocate (found at.In-Some) in
-    memory-free c.requires.kept.0 c.args.journal.now.items c.take_place.new.journal.items c.push.new.self.items c.args.tables.now
-    c.take_place.new.tables c.relocate.new.tables c.args.aim c.place.inside.base (2 * c.head-head.result.room) c.in-Some.place
-    c.left_place-old.result c.requires.kept.1 m.tables c.take_place.ensures.kept c.take_place.ensures.bytes m.twice
-    (taken at.In_ok-take_place (found at.In-Some)) m.left c.in_ok-push.ensures.ok
+    memory-free c.place.inside.base (2 * c.head-head.result.room) m.tables c.take_place.ensures.kept c.in_ok-push.ensures.ok
+    c.take_place.ensures.bytes m.twice c.requires.kept.1 (taken at.In_ok-take_place (found at.In-Some)) c.left_place-old.result m.left
 
 pub returns-clause-ends : goal.returns-clause-ends
 returns-clause-ends c =
     let at = goal.at.returns-clause-ends c in
     let m = moved at.After-relocate (found at.In-Some) in
-    memory-done c.args.journal.now.items c.take_place.new.journal.items c.push.new.self.items c.leave.new.journal.items c.in-Some.place
-    c.place.inside.base (2 * c.head-head.result.room) c.left_place-old.result c.leave.result (found at.In-Some) m.tables.here m.twice
-    m.left c.in_ok-take_place.ensures.ends c.in_ok-push.ensures.ok c.leave.ensures.ends
+    memory-done (found at.In-Some) c.take_place.new.journal.items c.push.new.self.items c.leave.new.journal.items c.place.inside.base
+    (2 * c.head-head.result.room) c.left_place-old.result c.leave.result m.tables.here m.twice m.left c.in_ok-take_place.ensures.ends
+    c.in_ok-push.ensures.ok c.leave.ensures.ends
 
 pub returns-clause-kept : goal.returns-clause-kept
 returns-clause-kept c =
-    let at = goal.at.returns-clause-kept c in
-    keeps-then c.args.journal.now.items c.push.new.self.items c.leave.new.journal.items c.args.tables.now c.relocate.new.tables
-    c.leave.new.tables c.args.aim (moved at.After-relocate (found at.In-Some)).kept c.leave.ensures.kept
+    let at = goal.at.returns-clause-kept c in keeps-then (moved at.After-relocate (found at.In-Some)).kept c.leave.ensures.kept
 
 pub returns-clause-bytes : goal.returns-clause-bytes
 returns-clause-bytes c =
     let at = goal.at.returns-clause-bytes c in
     let m = moved at.After-relocate (found at.In-Some) in
-    bytes-then c.args.journal.now.items c.push.new.self.items c.leave.new.journal.items c.args.tables.now c.relocate.new.tables
-    c.leave.new.tables c.args.aim m.kept m.bytes c.leave.ensures.bytes
+    bytes-then c.leave.new.tables m.kept m.bytes c.leave.ensures.bytes
 
 pub returns-clause-prepared : goal.returns-clause-prepared
 returns-clause-prepared c =
     let at = goal.at.returns-clause-prepared c in
-    by-exact c.leave.result c.args.journal.now.items c.leave.new.journal.items c.args.tables.now.store c.leave.new.tables.store
-    (prepares-then c.args.journal.now.items c.push.new.self.items c.leave.new.journal.items c.args.tables.now.store
-    c.relocate.new.tables.store c.leave.new.tables.store (moved at.After-relocate (found at.In-Some)).prepared c.leave.ensures.prepared)
+    by-exact c.leave.result (prepares-then (moved at.After-relocate (found at.In-Some)).prepared c.leave.ensures.prepared)

@@ -11,19 +11,13 @@ pub returns-then-is_full-clause-ends : goal.returns-then-is_full-clause-ends
 returns-then-is_full-clause-ends c =
     Ends-due c.grow_memory.result c.args.journal.now.items c.grow_memory.new.journal.items
     (is_full which.Memory (more_by which.Memory c.args.more.now)) memory_growth
-    (sym (full-is which.Memory c.args.more.now c.requires.kept.0 c.args.journal.now.items c.args.tables.now c.args.aim
-    c.requires.kept.1.kept)
-    ∙ sym c.is_full.ensures.full ∙ c.if-is_full.true) c.grow_memory.ensures.ends
+    (sym (full-is c.requires.kept.1.kept which.Memory c.args.more.now) ∙ sym c.is_full.ensures.full ∙ c.if-is_full.true)
+    c.grow_memory.ensures.ends
 
 pub returns-else-is_full-clause-ends : goal.returns-else-is_full-clause-ends
 returns-else-is_full-clause-ends c =
-    Ends-idle {T = Unit {0}} tt c.args.journal.now.items
-    (is_full which.Memory (more_by which.Memory c.args.more.now)) memory_growth
-    (sym (full-is which.Memory c.args.more.now c.requires.kept.0 c.args.journal.now.items c.args.tables.now c.args.aim
-    c.requires.kept.1.kept)
-    ∙ sym c.is_full.ensures.full ∙ c.if-is_full.false)
+    Ends-idle {T = Unit {0}} tt c.args.journal.now.items (is_full which.Memory (more_by which.Memory c.args.more.now)) memory_growth
+    (sym (full-is c.requires.kept.1.kept which.Memory c.args.more.now) ∙ sym c.is_full.ensures.full ∙ c.if-is_full.false)
 
 pub returns-else-is_full-clause-bytes : goal.returns-else-is_full-clause-bytes
-returns-else-is_full-clause-bytes c = λ kernel kept spelled.
-    still-bytes kernel c.args.journal.now.items c.args.journal.now.items c.args.tables.now c.args.tables.now c.args.aim refl (λ x. refl)
-    kept spelled
+returns-else-is_full-clause-bytes c = still-bytes c.args.tables.now refl (λ x. refl)

@@ -14,9 +14,7 @@ pub grow_memory_once-requires-2-clause-kept : goal.grow_memory_once-requires-2-c
 grow_memory_once-requires-2-clause-kept c =
     let first = c.grow_memory_once in (
       c.requires.kept.0,
-      whole-on c.requires.kept.0 c.args.journal.now.items first.new.journal.items c.args.tables.now first.new.tables c.args.aim
-          c.requires.kept.1
-          first.ensures.kept first.ensures.bytes
+      whole-on c.requires.kept.1 first.ensures.kept first.ensures.bytes
           (memory_once-stands c.requires.kept.0 first.result c.args.journal.now.items first.new.journal.items
           (is_full which.Memory (more_by which.Memory c.args.more.now)) c.requires.kept.1.placed c.requires.begun first.ensures.ends),
     )
@@ -28,31 +26,22 @@ returns-clause-ends c =
     c.grow_memory_once-2.new.journal.items once once c.in_ok-grow_memory_once.ensures.ends c.grow_memory_once-2.ensures.ends
 
 pub returns-clause-kept : goal.returns-clause-kept
-returns-clause-kept c =
-    keeps-then c.args.journal.now.items c.grow_memory_once.new.journal.items c.grow_memory_once-2.new.journal.items c.args.tables.now
-    c.grow_memory_once.new.tables c.grow_memory_once-2.new.tables c.args.aim c.grow_memory_once.ensures.kept
-    c.grow_memory_once-2.ensures.kept
+returns-clause-kept c = keeps-then c.grow_memory_once.ensures.kept c.grow_memory_once-2.ensures.kept
 
 pub returns-clause-bytes : goal.returns-clause-bytes
 returns-clause-bytes c =
-    bytes-then c.args.journal.now.items c.grow_memory_once.new.journal.items c.grow_memory_once-2.new.journal.items c.args.tables.now
-    c.grow_memory_once.new.tables c.grow_memory_once-2.new.tables c.args.aim c.grow_memory_once.ensures.kept
-    c.grow_memory_once.ensures.bytes c.grow_memory_once-2.ensures.bytes
+    bytes-then c.grow_memory_once-2.new.tables c.grow_memory_once.ensures.kept c.grow_memory_once.ensures.bytes
+    c.grow_memory_once-2.ensures.bytes
 
 pub returns-clause-prepared : goal.returns-clause-prepared
 returns-clause-prepared c =
-    let first = c.grow_memory_once in
     let second = c.grow_memory_once-2 in
-    by-then second.result c.args.journal.now.items first.new.journal.items second.new.journal.items c.args.tables.now.store
-    first.new.tables.store second.new.tables.store c.in_ok-grow_memory_once.ensures.prepared second.ensures.prepared
+    by-then second.result second.new.journal.items second.new.tables.store c.in_ok-grow_memory_once.ensures.prepared
+    second.ensures.prepared
 
 pub returns-clause-room : goal.returns-clause-room
 returns-clause-room c =
-    let second = c.grow_memory_once-2 in
-    let kernel = c.requires.kept.0 in
     let kept = c.requires.kept.1.kept in
-    room-behind which.Memory c.args.more.now memory_growth kernel c.args.journal.now.items second.new.journal.items second.new.tables
-    c.args.aim second.result
-    (memory-enough c.args.more.now kernel c.args.journal.now.items c.args.tables.now c.args.aim kept (omega arith)
-    c.grow_memory_once.ensures.within)
-    (returns-clause-ends c) (returns-clause-kept c kernel kept)
+    room-behind which.Memory c.args.more.now memory_growth c.args.journal.now.items c.grow_memory_once-2.result
+    (memory-enough kept (omega arith) c.args.more.now c.grow_memory_once.ensures.within) (returns-clause-ends c)
+    (returns-clause-kept c c.requires.kept.0 kept)

@@ -1,10 +1,8 @@
-use Rattle.std.proofs.Common.{List, sym, ap, subst, refl}
+use Rattle.std.proofs.Common.{ap, refl}
 use Rattle.memblock_model.specs.declared.which.Which.TheVariants as which
-use Rattle.memblock_model.specs.declared.item.Item.{Item}
 use Rattle.memblock_model.specs.declared.item.Item.TheVariants as item
 use Rattle.boot_journal.specs.Contents.{Contents as Journal}
 use Rattle.growth_model.specs.Growth.{memory_growth, two, grown, noded}
-use Rattle.memblock_grow.specs.Kept.{AreKept}
 use Rattle.memblock_grow.proofs.KeptLaws.{kept-node}
 use Rattle.memblock_grow.proofs.PreparedLaws.{prepares-item, by-item}
 use Rattle.memblock_grow.proofs.ChangeLaws.{change-fails, change-wants, change-done, change-bytes}
@@ -27,8 +25,7 @@ returns-in_err-push-clause-ends c =
 
 pub returns-in_err-push-clause-prepared : goal.returns-in_err-push-clause-prepared
 returns-in_err-push-clause-prepared c =
-    by-item c.from_residual-in_err-push.result c.args.journal.now.items c.make_memory_room.new.journal.items c.push.new.self.items
-    c.args.tables.now.store c.make_memory_room.new.tables.store (ap (λ (j : Journal). j.items) c.in_err-push.ensures.err)
+    by-item c.from_residual-in_err-push.result (ap (λ (j : Journal). j.items) c.in_err-push.ensures.err)
     c.in_ok-make_memory_room.ensures.prepared
 
 pub returns-clause-ends : goal.returns-clause-ends
@@ -40,21 +37,15 @@ returns-clause-ends c =
 
 pub returns-clause-kept : goal.returns-clause-kept
 returns-clause-kept c = λ kernel kept.
-    subst (λ (l : List Item). AreKept kernel l c.relabel.new.tables c.args.aim) (sym c.in_ok-push.ensures.ok)
-    (kept-node kernel c.make_memory_room.new.journal.items c.make_memory_room.new.tables c.relabel.new.tables c.args.aim c.args.range
-    c.args.node c.relabel.ensures.within c.in_ok-make_memory_room.ensures.room c.relabel.ensures.memory c.relabel.ensures.reserved
-    (c.make_memory_room.ensures.kept kernel kept))
+    rw c.in_ok-push.ensures.ok (kept-node (c.make_memory_room.ensures.kept kernel kept) c.relabel.new.tables c.args.range c.args.node
+    c.relabel.ensures.within c.in_ok-make_memory_room.ensures.room c.relabel.ensures.memory c.relabel.ensures.reserved)
 
 pub returns-clause-bytes : goal.returns-clause-bytes
-returns-clause-bytes c = λ kernel kept spelled.
-    change-bytes kernel c.args.journal.now.items c.make_memory_room.new.journal.items c.push.new.self.items
-    (item.Node c.args.range c.args.node)
-    c.args.tables.now c.make_memory_room.new.tables c.relabel.new.tables c.args.aim c.in_ok-push.ensures.ok (λ x. refl)
-    (returns-clause-kept c kernel kept) c.relabel.ensures.bytes (c.make_memory_room.ensures.bytes kernel kept spelled)
+returns-clause-bytes c =
+    change-bytes (item.Node c.args.range c.args.node) c.make_memory_room.new.tables c.in_ok-push.ensures.ok (λ kernel x. refl)
+    (returns-clause-kept c) c.relabel.ensures.bytes c.make_memory_room.ensures.bytes
 
 pub returns-clause-prepared : goal.returns-clause-prepared
 returns-clause-prepared c =
-    let room = c.make_memory_room in
-    prepares-item c.args.journal.now.items room.new.journal.items c.push.new.self.items (item.Node c.args.range c.args.node)
-    c.args.tables.now.store room.new.tables.store c.relabel.new.tables.store c.in_ok-make_memory_room.ensures.prepared
-    c.in_ok-push.ensures.ok (λ x. refl) c.relabel.ensures.ready
+    prepares-item (item.Node c.args.range c.args.node) c.in_ok-make_memory_room.ensures.prepared c.in_ok-push.ensures.ok (λ x. refl)
+    c.relabel.ensures.ready

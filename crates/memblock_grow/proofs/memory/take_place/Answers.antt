@@ -1,10 +1,10 @@
-use Rattle.std.proofs.Common.{Err, refl, sym}
+use Rattle.std.proofs.Common.{refl}
 use Rattle.memblock_model.specs.declared.which.Which.TheVariants as which
 use Rattle.memblock_model.specs.declared.owner.Owner.{Owner}
 use Rattle.memblock_model.specs.declared.owner.Owner.TheVariants as owner
 use Rattle.growth_model.specs.declared.refusal.Refusal.TheVariants as refusal
 use Rattle.growth_model.specs.Growth.{claimed}
-use Rattle.growth_model.proofs.EndLaws.{Ends-along, Ends-wanting}
+use Rattle.growth_model.proofs.EndLaws.{Ends-wanting}
 use Rattle.memblock_grow.specs.Kept.{IsMemblock, Keeps, KeepsBytes}
 use Rattle.memblock_grow.specs.Prepared.{PreparesWith}
 use Rattle.memblock_grow.proofs.KeptLaws.{kept-same}
@@ -18,52 +18,36 @@ use Rattle.memblock_grow.proofs.memory.take_place.Goals.{After-prepare, After-cl
 
 -- preparing leaves the tables and the bytes
 keeps : (c : After-prepare) → Keeps c.args.journal.now.items c.args.tables.now c.args.journal.now.items c.prepare.new.self c.args.aim
-keeps c = λ kernel kept.
-    kept-same kernel c.args.journal.now.items c.args.tables.now c.prepare.new.self c.args.aim c.prepare.ensures.memory
-    c.prepare.ensures.reserved kept
+keeps c = λ kernel kept. kept-same kept c.prepare.new.self c.prepare.ensures.memory c.prepare.ensures.reserved
 
 tells : (c : After-prepare) → KeepsBytes c.args.journal.now.items c.args.tables.now c.args.journal.now.items c.prepare.new.self c.args.aim
-tells c = λ kernel kept spelled.
-    still-bytes kernel c.args.journal.now.items c.args.journal.now.items c.args.tables.now c.prepare.new.self c.args.aim refl
-    c.prepare.ensures.bytes kept spelled
+tells c = still-bytes c.prepare.new.self refl c.prepare.ensures.bytes
 
 whole : (c : After-prepare) → IsMemblock c.requires.kept.0 c.args.journal.now.items c.prepare.new.self c.args.aim
-whole c =
-    whole-on c.requires.kept.0 c.args.journal.now.items c.args.journal.now.items c.args.tables.now c.prepare.new.self c.args.aim
-    c.requires.kept.1 (keeps c) (tells c) c.requires.kept.1.placed
+whole c = whole-on c.requires.kept.1 (keeps c) (tells c) c.requires.kept.1.placed
 
 pub returns-in_err-may_claim-clause-bytes : goal.returns-in_err-may_claim-clause-bytes
-returns-in_err-may_claim-clause-bytes c = λ kernel kept spelled.
-    still-bytes kernel c.args.journal.now.items c.args.journal.now.items c.args.tables.now c.args.tables.now c.args.aim refl (λ x. refl)
-    kept spelled
+returns-in_err-may_claim-clause-bytes c = still-bytes c.args.tables.now refl (λ x. refl)
 
 pub returns-in_err-prepare-clause-ends : goal.returns-in_err-prepare-clause-ends
 returns-in_err-prepare-clause-ends c =
     let who : Owner = owner.Table which.Memory in
-    Ends-along (Err refusal.Memory) c.from_residual-in_err-prepare.result c.args.journal.now.items c.args.journal.now.items
-    (claimed c.args.place who)
-    (sym (handed c.from_residual-in_err-prepare.result refusal.Memory c.from_residual-in_err-prepare.ensures.1))
+    rw (handed c.from_residual-in_err-prepare.result refusal.Memory c.from_residual-in_err-prepare.ensures.1)
     (Ends-wanting (Unit {0}) c.args.journal.now.items (claimed c.args.place who)
     (claim-begins c.args.place who c.args.journal.now.items (c.in_ok-may_claim.ensures.ok who)))
 
 pub returns-in_err-prepare-clause-bytes : goal.returns-in_err-prepare-clause-bytes
-returns-in_err-prepare-clause-bytes c = λ kernel kept spelled.
-    still-bytes kernel c.args.journal.now.items c.args.journal.now.items c.args.tables.now c.prepare.new.self c.args.aim refl
-    c.prepare.ensures.bytes kept spelled
+returns-in_err-prepare-clause-bytes c = still-bytes c.prepare.new.self refl c.prepare.ensures.bytes
 
 pub returns-in_err-prepare-clause-err : goal.returns-in_err-prepare-clause-err
 returns-in_err-prepare-clause-err c =
-    none-on-err (Unit {0}) c.from_residual-in_err-prepare.result c.args.journal.now.items c.args.tables.now.store c.prepare.new.self.store
-    c.in_err-prepare.ensures.err
+    none-on-err c.from_residual-in_err-prepare.result c.args.journal.now.items c.in_err-prepare.ensures.err
 
 with-place : (c : After-claim) → PreparesWith c.args.place c.args.journal.now.items c.claim.new.journal.items c.args.tables.now.store
     c.claim.new.tables.store
-with-place c =
-    prepares-with c.args.place c.args.journal.now.items c.claim.new.journal.items c.args.tables.now.store c.prepare.new.self.store
-    c.claim.new.tables.store c.in_ok-prepare.ensures.ready c.claim.ensures.prepared
+with-place c = prepares-with c.in_ok-prepare.ensures.ready c.claim.ensures.prepared
 
 pub returns-clause-err : goal.returns-clause-err
 returns-clause-err c =
-    claim-prepares c.claim.result c.args.place (owner.Table which.Memory) c.args.journal.now.items c.claim.new.journal.items
-    c.args.tables.now.store c.claim.new.tables.store (c.in_ok-may_claim.ensures.ok (owner.Table which.Memory)) c.claim.ensures.ends
+    claim-prepares c.claim.result (owner.Table which.Memory) (c.in_ok-may_claim.ensures.ok (owner.Table which.Memory)) c.claim.ensures.ends
     (with-place (goal.at.returns-clause-err c).After-claim)

@@ -1,10 +1,8 @@
-use Rattle.std.proofs.Common.{List, sym, ap, subst, refl}
+use Rattle.std.proofs.Common.{ap, refl}
 use Rattle.memblock_model.specs.declared.which.Which.TheVariants as which
-use Rattle.memblock_model.specs.declared.item.Item.{Item}
 use Rattle.memblock_model.specs.declared.item.Item.TheVariants as item
 use Rattle.boot_journal.specs.Contents.{Contents as Journal}
 use Rattle.growth_model.specs.Growth.{reserved_growth, new_in, grown, claimed}
-use Rattle.memblock_grow.specs.Kept.{AreKept}
 use Rattle.memblock_grow.proofs.KeptLaws.{kept-claim}
 use Rattle.memblock_grow.proofs.PreparedLaws.{prepares-item}
 use Rattle.memblock_grow.proofs.ChangeLaws.{change-fails, change-wants, change-done, change-bytes}
@@ -34,21 +32,15 @@ returns-clause-ends c =
 
 pub returns-clause-kept : goal.returns-clause-kept
 returns-clause-kept c = λ kernel kept.
-    subst (λ (l : List Item). AreKept kernel l c.cover.new.tables c.args.aim) (sym c.in_ok-push.ensures.ok)
-    (kept-claim kernel c.make_reserved_room.new.journal.items c.make_reserved_room.new.tables c.cover.new.tables c.args.aim c.args.range
-    c.args.owner c.cover.ensures.within c.in_ok-make_reserved_room.ensures.room c.cover.ensures.table c.cover.ensures.other
-    (c.make_reserved_room.ensures.kept kernel kept))
+    rw c.in_ok-push.ensures.ok (kept-claim (c.make_reserved_room.ensures.kept kernel kept) c.cover.new.tables c.args.range c.args.owner
+    c.cover.ensures.within c.in_ok-make_reserved_room.ensures.room c.cover.ensures.table c.cover.ensures.other)
 
 pub returns-clause-bytes : goal.returns-clause-bytes
-returns-clause-bytes c = λ kernel kept spelled.
-    change-bytes kernel c.args.journal.now.items c.make_reserved_room.new.journal.items c.push.new.self.items
-    (item.Claim c.args.range c.args.owner)
-    c.args.tables.now c.make_reserved_room.new.tables c.cover.new.tables c.args.aim c.in_ok-push.ensures.ok (λ x. refl)
-    (returns-clause-kept c kernel kept) c.cover.ensures.bytes (c.make_reserved_room.ensures.bytes kernel kept spelled)
+returns-clause-bytes c =
+    change-bytes (item.Claim c.args.range c.args.owner) c.make_reserved_room.new.tables c.in_ok-push.ensures.ok (λ kernel x. refl)
+    (returns-clause-kept c) c.cover.ensures.bytes c.make_reserved_room.ensures.bytes
 
 pub returns-clause-prepared : goal.returns-clause-prepared
 returns-clause-prepared c =
-    let room = c.make_reserved_room in
-    prepares-item c.args.journal.now.items room.new.journal.items c.push.new.self.items (item.Claim c.args.range c.args.owner)
-    c.args.tables.now.store room.new.tables.store c.cover.new.tables.store room.ensures.prepared c.in_ok-push.ensures.ok (λ x. refl)
+    prepares-item (item.Claim c.args.range c.args.owner) c.make_reserved_room.ensures.prepared c.in_ok-push.ensures.ok (λ x. refl)
     c.cover.ensures.ready

@@ -1,27 +1,21 @@
-use Rattle.std.proofs.Common.{◌≡◌, ◌≢◌, ◌+◌, ◌*◌, ◌^◌, ◌<◌, List, refl, sym, ◌∙◌, ap, subst}
+use Rattle.std.proofs.Common.{◌≡◌, ◌*◌, ◌^◌, ◌<◌, Some, None, refl, sym, ◌∙◌, ap, subst, arith}
+use Rattle.std.proofs.lemmas.List.{append-nil}
 use Rattle.bm_base.specs.Extent.{Extent, end_of}
 use Rattle.memblock_model.specs.declared.which.Which.TheVariants as which
-use Rattle.memblock_model.specs.declared.item.Item.{Item}
 use Rattle.memblock_model.specs.declared.item.Item.TheVariants as item
 use Rattle.memblock_model.specs.Tables.{room_of}
 use Rattle.boot_journal.specs.Contents.{Contents as Journal}
-use Rattle.memblock_ranges.specs.declared.region.Head.{Head}
-use Rattle.growth_model.specs.Growth.{in_whole_frames}
-use Rattle.memblock_grow.specs.Kept.{AreKept}
 use Rattle.memblock_grow.specs.Prepared.{Prepares}
 use Rattle.memblock_grow.proofs.reserved.grow_reserved.Goals as goal
 use Rattle.memblock_grow.proofs.reserved.grow_reserved.Goals.{In-Some, After-cover, After-uncover}
 use Rattle.memblock_grow.proofs.KeptLaws.{kept-same}
 use Rattle.memblock_grow.proofs.PlaceLaws.{knows-mirrors, left-far}
 use Rattle.memblock_grow.proofs.PreparedLaws.{prepares-item}
-use Rattle.memblock_grow.proofs.ReservedLaws.{room-some, frames-some, IsBeside, beside-found, beside-free, beside-apart, growth-none, growth-wants, moved_items, written-two, written-three, journal-two, journal-three, left-size, left-found, twice-is, claim-room, Claimed, claimed, claimed-room, Left, left-freed, prepares-moved, still-bytes}
+use Rattle.memblock_grow.proofs.ReservedLaws.{room-some, frames-some, IsBeside, beside-found, beside-free, beside-apart, growth-none, growth-wants, moved_items, written, left-size, left-found, twice-is, claim-room, Claimed, claimed, Left, left-freed, prepares-moved, still-bytes}
 
 -- the place was found beside the range
 known : (c : In-Some) → IsBeside c.args.journal.now.items c.args.avoid c.in-Some.place
-known c =
-    beside-found c.requires.kept.0 c.args.journal.now.items c.args.tables.now c.args.aim c.head-head.result.room c.args.avoid
-    c.place_beside.result c.in-Some.place c.requires.kept.1.kept (ap (λ (h : Head). h.room) c.head-head.ensures.head)
-    c.place_beside.ensures c.in-Some.is
+known c = beside-found c.requires.kept.1.kept c.head-head.ensures.head c.place_beside.ensures c.in-Some.is
 
 -- what stands once it is claimed
 record Stands (c : After-cover) : Type 0 where
@@ -30,156 +24,123 @@ record Stands (c : After-cover) : Type 0 where
   two : c.push_ready-2.new.self.items
       ≡ moved_items c.args.journal.now.items c.place.inside.base (2 * c.head-head.result.room) c.in-Some.place
   claimed : Claimed c.args.journal.now.items c.push_ready-2.new.self.items c.args.tables.now c.cover.new.tables c.args.aim
+  prepared : Prepares c.args.journal.now.items c.push_ready-2.new.self.items c.args.tables.now.store c.cover.new.tables.store
 
 stands : (c : After-cover) → IsBeside c.args.journal.now.items c.args.avoid c.in-Some.place → Stands c
 stands c at =
     let here : c.place.inside.base ≡ c.in-Some.place.base = ap (λ (e : Extent). e.base) c.place.view_is in
-    let two = journal-two c.args.journal.now c.ready.new.self c.push_ready.new.self c.push_ready-2.new.self c.place.inside.base
-    (2 * c.head-head.result.room) c.in-Some.place c.in_ok-ready.ensures.items c.push_ready.ensures c.push_ready-2.ensures in
+    let twice = twice-is c.requires.kept.1.kept which.Reserved c.head-head.ensures.head in
+    let two : c.push_ready-2.new.self.items
+    ≡ moved_items c.args.journal.now.items c.place.inside.base (2 * c.head-head.result.room) c.in-Some.place =
+    rw (c.push_ready-2.ensures, c.push_ready.ensures, c.in_ok-ready.ensures.items) refl in
     record {
       here = here;
-      twice = twice-is which.Reserved c.requires.kept.0 c.args.journal.now.items c.args.tables.now c.args.aim c.head-head.result.room
-          c.requires.kept.1.kept (ap (λ (h : Head). h.room) c.head-head.ensures.head);
+      twice = twice;
       two = two;
-      claimed = claimed c.args.journal.now.items c.push_ready-2.new.self.items c.args.tables.now c.prepare.new.self c.relocate.new.tables
-          c.cover.new.tables c.args.aim c.place.inside.base (2 * c.head-head.result.room) c.in-Some.place two (record {
-            first = c.in_ok-prepare.ensures.memory;
-            second = c.in_ok-prepare.ensures.reserved;
-            bytes = c.in_ok-prepare.ensures.bytes;
-            table = c.relocate.ensures.table;
-            other = c.relocate.ensures.other;
-            told = c.relocate.ensures.bytes;
-            claimed = c.cover.ensures.table;
-            still = c.cover.ensures.other;
-            after = c.cover.ensures.bytes;
-            here = here;
-            is = at.is;
-            ends = c.cover.ensures.within;
-          }) (beside-free c.args.journal.now.items c.args.avoid c.in-Some.place at);
+      claimed = claimed (2 * c.head-head.result.room) {p = c.prepare.new.self} {r = c.relocate.new.tables} two (record {
+        first = c.in_ok-prepare.ensures.memory;
+        second = c.in_ok-prepare.ensures.reserved;
+        bytes = c.in_ok-prepare.ensures.bytes;
+        table = c.relocate.ensures.table;
+        other = c.relocate.ensures.other;
+        told = c.relocate.ensures.bytes;
+        claimed = c.cover.ensures.table;
+        still = c.cover.ensures.other;
+        after = c.cover.ensures.bytes;
+        here = here;
+        is = at.is;
+        ends = c.cover.ensures.within;
+      }) (beside-free at);
+      prepared = prepares-moved c.place.inside.base (2 * c.head-head.result.room) two here twice at.is
+          (λ x. c.cover.ensures.ready x ∙ c.relocate.ensures.ready x ∙ c.in_ok-prepare.ensures.ready x);
     }
-
-prepared : (c : After-cover) → IsBeside c.args.journal.now.items c.args.avoid c.in-Some.place
-    → Prepares c.args.journal.now.items c.push_ready-2.new.self.items c.args.tables.now.store c.cover.new.tables.store
-prepared c at =
-    let s = stands c at in
-    prepares-moved c.args.journal.now.items c.push_ready-2.new.self.items c.place.inside.base (2 * c.head-head.result.room)
-    c.in-Some.place c.args.tables.now.store c.cover.new.tables.store s.two s.here s.twice at.is
-    (λ x. c.cover.ensures.ready x ∙ c.relocate.ensures.ready x ∙ c.in_ok-prepare.ensures.ready x)
 
 -- and once the old place is freed
 left : (c : After-uncover) → Claimed c.args.journal.now.items c.push_ready-2.new.self.items c.args.tables.now c.cover.new.tables c.args.aim
     → Left c.args.journal.now.items c.push_ready-in-Some-left.new.self.items c.args.tables.now c.uncover.new.tables c.args.aim
-left c there =
-    left-freed c.args.journal.now.items c.push_ready-2.new.self.items c.push_ready-in-Some-left.new.self.items c.args.tables.now
-    c.cover.new.tables c.uncover.new.tables c.args.aim c.in-Some-left.range
-    (ap (λ (j : Journal). j.items) c.push_ready-in-Some-left.ensures)
-    there (record {
-      table = c.uncover.ensures.reserved;
-      other = c.uncover.ensures.memory;
-      told = c.uncover.ensures.bytes;
-      ends = c.uncover.ensures.within;
-    })
+left c there = left-freed (ap (λ (j : Journal). j.items) c.push_ready-in-Some-left.ensures) there (record {
+  table = c.uncover.ensures.reserved;
+  other = c.uncover.ensures.memory;
+  told = c.uncover.ensures.bytes;
+  ends = c.uncover.ensures.within;
+})
 
 pub place_beside-requires-clause-some : goal.place_beside-requires-clause-some
-place_beside-requires-clause-some c =
-    room-some which.Reserved c.requires.kept.0 c.args.journal.now.items c.args.tables.now c.args.aim c.head-head.result
-    c.requires.kept.1.kept c.head-head.ensures.head
+place_beside-requires-clause-some c = room-some c.requires.kept.1.kept which.Reserved c.head-head.ensures.head
 
 pub place_beside-requires-clause-mirrors : goal.place_beside-requires-clause-mirrors
-place_beside-requires-clause-mirrors c =
-    knows-mirrors c.requires.kept.0 c.args.journal.now.items c.args.tables.now c.args.aim c.requires.kept.1.kept
+place_beside-requires-clause-mirrors c = knows-mirrors c.requires.kept.1.kept
 
 pub returns-in_default-clause-ends : goal.returns-in_default-clause-ends
 returns-in_default-clause-ends c =
-    growth-none c.requires.kept.0 c.args.journal.now.items c.args.tables.now c.args.aim c.head-head.result.room c.args.avoid
-    c.place_beside.result c.requires.kept.1.kept (ap (λ (h : Head). h.room) c.head-head.ensures.head) c.place_beside.ensures c.in_default.is
+    growth-none c.requires.kept.1.kept c.args.avoid c.head-head.ensures.head c.place_beside.ensures c.in_default.is
 
 pub returns-in_default-clause-bytes : goal.returns-in_default-clause-bytes
-returns-in_default-clause-bytes c = λ kernel kept spelled.
-    still-bytes kernel c.args.journal.now.items c.args.journal.now.items c.args.tables.now c.args.tables.now c.args.aim refl (λ x. refl)
-    kept spelled
+returns-in_default-clause-bytes c = still-bytes c.args.tables.now refl (λ x. refl)
 
 pub left_place-left-requires : goal.left_place-left-requires
-left_place-left-requires c =
-    let head = c.head-head.ensures.head in
-    record {
-      far = subst (λ (h : Head). h.room ≢ 128 → h.place + in_whole_frames (24 * h.room) < 2 ^ 64) (sym head)
-          (left-far which.Reserved c.requires.kept.0 c.args.journal.now.items c.args.tables.now c.args.aim c.requires.kept.1.kept);
-    }
+left_place-left-requires c = record { far = rw c.head-head.ensures.head (left-far c.requires.kept.1.kept which.Reserved) }
 
 pub returns-in_err-ready-clause-ends : goal.returns-in_err-ready-clause-ends
 returns-in_err-ready-clause-ends c =
-    growth-wants c.args.journal.now.items c.ready.new.self.items c.args.avoid c.in-Some.place c.from_residual.result
-    (known (goal.at.returns-in_err-ready-clause-ends c).In-Some) c.from_residual.ensures.1 c.in_err-ready.ensures.items
+    growth-wants (known (goal.at.returns-in_err-ready-clause-ends c).In-Some) c.ready.new.self.items c.from_residual.result
+    c.from_residual.ensures.1 c.in_err-ready.ensures.items
 
 pub returns-in_err-ready-clause-bytes : goal.returns-in_err-ready-clause-bytes
-returns-in_err-ready-clause-bytes c = λ kernel kept spelled.
-    still-bytes kernel c.args.journal.now.items c.ready.new.self.items c.args.tables.now c.args.tables.now c.args.aim
-    c.in_err-ready.ensures.items (λ x. refl) kept spelled
+returns-in_err-ready-clause-bytes c = still-bytes c.args.tables.now c.in_err-ready.ensures.items (λ x. refl)
 
 pub returns-in_err-prepare-clause-ends : goal.returns-in_err-prepare-clause-ends
 returns-in_err-prepare-clause-ends c =
-    growth-wants c.args.journal.now.items c.ready.new.self.items c.args.avoid c.in-Some.place c.from_residual-in_err-prepare.result
-    (known (goal.at.returns-in_err-prepare-clause-ends c).In-Some) c.from_residual-in_err-prepare.ensures.1 c.in_ok-ready.ensures.items
+    growth-wants (known (goal.at.returns-in_err-prepare-clause-ends c).In-Some) c.ready.new.self.items c.from_residual-in_err-prepare.result
+    c.from_residual-in_err-prepare.ensures.1 c.in_ok-ready.ensures.items
 
 pub returns-in_err-prepare-clause-kept : goal.returns-in_err-prepare-clause-kept
 returns-in_err-prepare-clause-kept c = λ kernel kept.
-    subst (λ (l : List Item). AreKept kernel l c.prepare.new.self c.args.aim) (sym c.in_ok-ready.ensures.items)
-    (kept-same kernel c.args.journal.now.items c.args.tables.now c.prepare.new.self c.args.aim c.in_err-prepare.ensures.memory
-    c.in_err-prepare.ensures.reserved kept)
+    rw c.in_ok-ready.ensures.items (kept-same kept c.prepare.new.self c.in_err-prepare.ensures.memory c.in_err-prepare.ensures.reserved)
 
 pub returns-in_err-prepare-clause-bytes : goal.returns-in_err-prepare-clause-bytes
-returns-in_err-prepare-clause-bytes c = λ kernel kept spelled.
-    still-bytes kernel c.args.journal.now.items c.ready.new.self.items c.args.tables.now c.prepare.new.self c.args.aim
-    c.in_ok-ready.ensures.items c.in_err-prepare.ensures.bytes kept spelled
+returns-in_err-prepare-clause-bytes c = still-bytes c.prepare.new.self c.in_ok-ready.ensures.items c.in_err-prepare.ensures.bytes
 
 pub relocate-requires-clause-apart : goal.relocate-requires-clause-apart
 relocate-requires-clause-apart c =
-    beside-apart c.requires.kept.0 c.args.journal.now.items c.args.tables.now c.prepare.new.self c.args.aim c.place.inside.base
-    c.args.avoid c.in-Some.place c.requires.kept.1.kept (c.requires.kept.1.placed c.requires.begun)
-    (known (goal.at.relocate-requires-clause-apart c).In-Some) (ap (λ (e : Extent). e.base) c.place.view_is)
-    c.in_ok-prepare.ensures.memory c.in_ok-prepare.ensures.reserved
+    beside-apart (known (goal.at.relocate-requires-clause-apart c).In-Some) c.prepare.new.self c.requires.kept.1.kept
+    (c.requires.kept.1.placed c.requires.begun) (ap (λ (e : Extent). e.base) c.place.view_is) c.in_ok-prepare.ensures.memory
+    c.in_ok-prepare.ensures.reserved
 
 pub push_ready-requires-2-clause-item : goal.push_ready-requires-2-clause-item
 push_ready-requires-2-clause-item c =
-    frames-some which.Reserved c.args.journal.now.items c.in-Some.place (known (goal.at.push_ready-requires-2-clause-item c).In-Some).is
+    frames-some which.Reserved c.args.journal.now.items (known (goal.at.push_ready-requires-2-clause-item c).In-Some).is
 
 pub cover-requires-clause-some : goal.cover-requires-clause-some
 cover-requires-clause-some c =
-    frames-some which.Reserved c.args.journal.now.items c.in-Some.place (known (goal.at.cover-requires-clause-some c).In-Some).is
+    frames-some which.Reserved c.args.journal.now.items (known (goal.at.cover-requires-clause-some c).In-Some).is
 
 pub cover-requires-clause-room : goal.cover-requires-clause-room
 cover-requires-clause-room c =
     let at = known (goal.at.cover-requires-clause-room c).In-Some in
-    claim-room c.requires.kept.0 c.args.journal.now.items c.args.tables.now c.prepare.new.self c.relocate.new.tables c.args.aim
-    c.place.inside.base c.in-Some.place c.requires.kept.1.kept c.in_ok-prepare.ensures.reserved c.relocate.ensures.table
-    (beside-free c.args.journal.now.items c.args.avoid c.in-Some.place at)
-    (frames-some which.Reserved c.args.journal.now.items c.in-Some.place at.is)
-    (subst (λ (e : Extent). end_of e < 2 ^ 64) c.place.view_is c.place.invariant)
+    let room = claim-room c.requires.kept.1.kept c.prepare.new.self c.relocate.new.tables c.in-Some.place
+    c.in_ok-prepare.ensures.reserved c.relocate.ensures.table (beside-free at)
+    (frames-some which.Reserved c.args.journal.now.items at.is)
+    (subst (λ (e : Extent). end_of e < 2 ^ 64) c.place.view_is c.place.invariant) in
+    omega (arith, room)
 
 pub push_ready-requires-in-Some-left-clause-item : goal.push_ready-requires-in-Some-left-clause-item
 push_ready-requires-in-Some-left-clause-item c =
-    let left = left-found which.Reserved c.requires.kept.0 c.args.journal.now.items c.args.tables.now c.args.aim c.head-head.result
-    c.left_place-left.result c.requires.kept.1.kept c.head-head.ensures.head c.left_place-left.ensures in
+    let left = left-found c.requires.kept.1.kept which.Reserved c.head-head.ensures.head c.left_place-left.ensures in
     left-size which.Reserved c.args.journal.now.items c.in-Some-left.range (sym left ∙ c.in-Some-left.is)
 
 pub uncover-requires : goal.uncover-requires
 uncover-requires c =
     let at = goal.at.uncover-requires c in
-    claimed-room c.requires.kept.0 c.args.journal.now.items c.push_ready-2.new.self.items c.args.tables.now c.cover.new.tables c.args.aim
-    c.requires.kept.1.kept (stands at.After-cover (known at.In-Some)).claimed
+    (stands at.After-cover (known at.In-Some)).claimed.room c.requires.kept.0 c.requires.kept.1.kept
 
 pub returns-in-Some-left-clause-ends : goal.returns-in-Some-left-clause-ends
 returns-in-Some-left-clause-ends c =
     let at = goal.at.returns-in-Some-left-clause-ends c in
     let s = stands at.After-cover (known at.In-Some) in
-    let old = left-found which.Reserved c.requires.kept.0 c.args.journal.now.items c.args.tables.now c.args.aim c.head-head.result
-    c.left_place-left.result c.requires.kept.1.kept c.head-head.ensures.head c.left_place-left.ensures in
-    written-three c.args.journal.now.items c.push_ready-in-Some-left.new.self.items c.place.inside.base (2 * c.head-head.result.room)
-    c.args.avoid c.in-Some.place c.in-Some-left.range (known at.In-Some) s.here s.twice (sym old ∙ c.in-Some-left.is)
-    (journal-three c.push_ready-2.new.self c.push_ready-in-Some-left.new.self c.in-Some-left.range
-    (moved_items c.args.journal.now.items c.place.inside.base (2 * c.head-head.result.room) c.in-Some.place) s.two
-    c.push_ready-in-Some-left.ensures)
+    let old = left-found c.requires.kept.1.kept which.Reserved c.head-head.ensures.head c.left_place-left.ensures in
+    written (known at.In-Some) c.push_ready-in-Some-left.new.self.items c.place.inside.base (2 * c.head-head.result.room)
+    (Some c.in-Some-left.range) s.here s.twice (sym c.in-Some-left.is ∙ old) (rw (c.push_ready-in-Some-left.ensures, s.two) refl)
 
 pub returns-in-Some-left-clause-kept : goal.returns-in-Some-left-clause-kept
 returns-in-Some-left-clause-kept c =
@@ -194,19 +155,16 @@ returns-in-Some-left-clause-bytes c = λ kernel kept spelled.
 pub returns-in-Some-left-clause-prepared : goal.returns-in-Some-left-clause-prepared
 returns-in-Some-left-clause-prepared c =
     let at = goal.at.returns-in-Some-left-clause-prepared c in
-    prepares-item c.args.journal.now.items c.push_ready-2.new.self.items c.push_ready-in-Some-left.new.self.items
-    (item.Free c.in-Some-left.range) c.args.tables.now.store c.cover.new.tables.store c.uncover.new.tables.store
-    (prepared at.After-cover (known at.In-Some)) (ap (λ (j : Journal). j.items) c.push_ready-in-Some-left.ensures) (λ x. refl)
-    c.uncover.ensures.ready
+    prepares-item (item.Free c.in-Some-left.range) (stands at.After-cover (known at.In-Some)).prepared
+    (ap (λ (j : Journal). j.items) c.push_ready-in-Some-left.ensures) (λ x. refl) c.uncover.ensures.ready
 
 pub returns-in-None-clause-ends : goal.returns-in-None-clause-ends
 returns-in-None-clause-ends c =
     let at = goal.at.returns-in-None-clause-ends c in
     let s = stands at.After-cover (known at.In-Some) in
-    let old = left-found which.Reserved c.requires.kept.0 c.args.journal.now.items c.args.tables.now c.args.aim c.head-head.result
-    c.left_place-left.result c.requires.kept.1.kept c.head-head.ensures.head c.left_place-left.ensures in
-    written-two c.args.journal.now.items c.push_ready-2.new.self.items c.place.inside.base (2 * c.head-head.result.room) c.args.avoid
-    c.in-Some.place (known at.In-Some) s.here s.twice (sym old ∙ c.in-None.is) s.two
+    let old = left-found c.requires.kept.1.kept which.Reserved c.head-head.ensures.head c.left_place-left.ensures in
+    written (known at.In-Some) c.push_ready-2.new.self.items c.place.inside.base (2 * c.head-head.result.room) None s.here s.twice
+    (sym c.in-None.is ∙ old) (s.two ∙ sym (append-nil _))
 
 pub returns-in-None-clause-kept : goal.returns-in-None-clause-kept
 returns-in-None-clause-kept c =
@@ -218,4 +176,4 @@ returns-in-None-clause-bytes c = λ kernel kept spelled.
 
 pub returns-in-None-clause-prepared : goal.returns-in-None-clause-prepared
 returns-in-None-clause-prepared c =
-    let at = goal.at.returns-in-None-clause-prepared c in prepared at.After-cover (known at.In-Some)
+    let at = goal.at.returns-in-None-clause-prepared c in (stands at.After-cover (known at.In-Some)).prepared

@@ -10,24 +10,20 @@ use Rattle.memblock_grow.proofs.reserved.grow_reserved_once.Goals as goal
 pub grow_reserved-requires-clause-begun : goal.grow_reserved-requires-clause-begun
 grow_reserved-requires-clause-begun c =
     full-begun c.args.more.now c.args.journal.now.items c.is_full.ensures.within
-    (sym (full-is which.Reserved c.args.more.now c.requires.0 c.args.journal.now.items c.args.tables.now c.args.aim c.requires.1.kept)
-    ∙ sym c.is_full.ensures.full ∙ c.if-is_full.true)
+    (sym (full-is c.requires.1.kept which.Reserved c.args.more.now) ∙ sym c.is_full.ensures.full ∙ c.if-is_full.true)
 
 pub returns-then-is_full-clause-ends : goal.returns-then-is_full-clause-ends
 returns-then-is_full-clause-ends c =
     Ends-due c.grow_reserved.result c.args.journal.now.items c.grow_reserved.new.journal.items
     (is_full which.Reserved (more_by which.Reserved c.args.more.now)) (reserved_growth c.args.avoid)
-    (sym (full-is which.Reserved c.args.more.now c.requires.0 c.args.journal.now.items c.args.tables.now c.args.aim c.requires.1.kept)
-    ∙ sym c.is_full.ensures.full ∙ c.if-is_full.true) c.grow_reserved.ensures.ends
+    (sym (full-is c.requires.1.kept which.Reserved c.args.more.now) ∙ sym c.is_full.ensures.full ∙ c.if-is_full.true)
+    c.grow_reserved.ensures.ends
 
 pub returns-else-is_full-clause-ends : goal.returns-else-is_full-clause-ends
 returns-else-is_full-clause-ends c =
     Ends-idle {T = Unit {0}} tt c.args.journal.now.items
     (is_full which.Reserved (more_by which.Reserved c.args.more.now)) (reserved_growth c.args.avoid)
-    (sym (full-is which.Reserved c.args.more.now c.requires.0 c.args.journal.now.items c.args.tables.now c.args.aim c.requires.1.kept)
-    ∙ sym c.is_full.ensures.full ∙ c.if-is_full.false)
+    (sym (full-is c.requires.1.kept which.Reserved c.args.more.now) ∙ sym c.is_full.ensures.full ∙ c.if-is_full.false)
 
 pub returns-else-is_full-clause-bytes : goal.returns-else-is_full-clause-bytes
-returns-else-is_full-clause-bytes c = λ kernel kept spelled.
-    still-bytes kernel c.args.journal.now.items c.args.journal.now.items c.args.tables.now c.args.tables.now c.args.aim refl (λ x. refl)
-    kept spelled
+returns-else-is_full-clause-bytes c = still-bytes c.args.tables.now refl (λ x. refl)

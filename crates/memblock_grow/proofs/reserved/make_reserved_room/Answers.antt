@@ -14,8 +14,7 @@ pub grow_reserved_once-requires-2 : goal.grow_reserved_once-requires-2
 grow_reserved_once-requires-2 c =
     let first = c.grow_reserved_once in (
       c.requires.0,
-      whole-on c.requires.0 c.args.journal.now.items first.new.journal.items c.args.tables.now first.new.tables c.args.aim c.requires.1
-          first.ensures.kept first.ensures.bytes
+      whole-on c.requires.1 first.ensures.kept first.ensures.bytes
           (once-stands c.requires.0 c.args.avoid first.result c.args.journal.now.items first.new.journal.items
           (more_by which.Reserved c.args.more.now) (full-begun c.args.more.now c.args.journal.now.items first.ensures.within)
           c.requires.1.placed first.ensures.ends),
@@ -29,31 +28,19 @@ returns-clause-ends c =
     c.grow_reserved_once-2.new.journal.items once once c.in_ok-grow_reserved_once.ensures.ends c.grow_reserved_once-2.ensures.ends
 
 pub returns-clause-kept : goal.returns-clause-kept
-returns-clause-kept c =
-    keeps-then c.args.journal.now.items c.grow_reserved_once.new.journal.items c.grow_reserved_once-2.new.journal.items c.args.tables.now
-    c.grow_reserved_once.new.tables c.grow_reserved_once-2.new.tables c.args.aim c.grow_reserved_once.ensures.kept
-    c.grow_reserved_once-2.ensures.kept
+returns-clause-kept c = keeps-then c.grow_reserved_once.ensures.kept c.grow_reserved_once-2.ensures.kept
 
 pub returns-clause-bytes : goal.returns-clause-bytes
 returns-clause-bytes c =
-    bytes-then c.args.journal.now.items c.grow_reserved_once.new.journal.items c.grow_reserved_once-2.new.journal.items c.args.tables.now
-    c.grow_reserved_once.new.tables c.grow_reserved_once-2.new.tables c.args.aim c.grow_reserved_once.ensures.kept
-    c.grow_reserved_once.ensures.bytes c.grow_reserved_once-2.ensures.bytes
+    bytes-then c.grow_reserved_once-2.new.tables c.grow_reserved_once.ensures.kept c.grow_reserved_once.ensures.bytes
+    c.grow_reserved_once-2.ensures.bytes
 
 pub returns-clause-prepared : goal.returns-clause-prepared
-returns-clause-prepared c =
-    let first = c.grow_reserved_once in
-    let second = c.grow_reserved_once-2 in
-    prepares-then c.args.journal.now.items first.new.journal.items second.new.journal.items c.args.tables.now.store
-    first.new.tables.store second.new.tables.store first.ensures.prepared second.ensures.prepared
+returns-clause-prepared c = prepares-then c.grow_reserved_once.ensures.prepared c.grow_reserved_once-2.ensures.prepared
 
 pub returns-clause-room : goal.returns-clause-room
 returns-clause-room c =
-    let second = c.grow_reserved_once-2 in
-    let kernel = c.requires.0 in
     let kept = c.requires.1.kept in
-    room-behind which.Reserved c.args.more.now (reserved_growth c.args.avoid) kernel c.args.journal.now.items second.new.journal.items
-    second.new.tables c.args.aim second.result
-    (reserved-enough c.args.more.now c.args.avoid kernel c.args.journal.now.items c.args.tables.now c.args.aim kept (omega arith)
-    c.grow_reserved_once.ensures.within)
-    (returns-clause-ends c) (returns-clause-kept c kernel kept)
+    room-behind which.Reserved c.args.more.now (reserved_growth c.args.avoid) c.args.journal.now.items c.grow_reserved_once-2.result
+    (reserved-enough kept (omega arith) c.args.more.now c.args.avoid c.grow_reserved_once.ensures.within) (returns-clause-ends c)
+    (returns-clause-kept c c.requires.0 kept)

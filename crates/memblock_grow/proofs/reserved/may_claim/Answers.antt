@@ -3,7 +3,6 @@ use Rattle.std.specs.Option.{is_some}
 use Rattle.memblock_model.specs.declared.which.Which.TheVariants as which
 use Rattle.memblock_model.specs.declared.owner.Owner.{Owner}
 use Rattle.memblock_model.specs.Tables.{room_of}
-use Rattle.memblock_ranges.specs.declared.region.Head.{Head}
 use Rattle.growth_model.specs.declared.refusal.Refusal.TheVariants as refusal
 use Rattle.growth_model.specs.Growth.{is_full, new_in, place_beside, claimed}
 use Rattle.growth_model.proofs.RoomLaws.{free-claimed}
@@ -16,13 +15,10 @@ use Rattle.memblock_grow.proofs.reserved.may_claim.Goals as goal
 use Rattle.memblock_grow.proofs.reserved.may_claim.Goals.{After-is_full}
 
 pub place_beside-requires-clause-some : goal.place_beside-requires-clause-some
-place_beside-requires-clause-some c =
-    room-some which.Reserved c.requires.kept.0 c.args.journal.now.items c.args.tables.now c.args.aim c.head-head.result
-    c.requires.kept.1.kept c.head-head.ensures.head
+place_beside-requires-clause-some c = room-some c.requires.kept.1.kept which.Reserved c.head-head.ensures.head
 
 pub place_beside-requires-clause-mirrors : goal.place_beside-requires-clause-mirrors
-place_beside-requires-clause-mirrors c =
-    knows-mirrors c.requires.kept.0 c.args.journal.now.items c.args.tables.now c.args.aim c.requires.kept.1.kept
+place_beside-requires-clause-mirrors c = knows-mirrors c.requires.kept.1.kept
 
 -- such a claim isn't refused, where the table isn't full for it or finds a place
 unrefused : (c : After-is_full) (who : Owner)
@@ -30,31 +26,24 @@ unrefused : (c : After-is_full) (who : Owner)
     ⊎ IsSome (place_beside c.args.range (room_of which.Reserved c.args.journal.now.items) c.args.journal.now.items)
     → (claimed c.args.range who c.args.journal.now.items).refused ≡ None
 unrefused c who h =
-    let kernel = c.requires.kept.0 in
     let kept = c.requires.kept.1.kept in
     let within = c.is_full.ensures.within in
-    free-claimed kernel c.args.range who c.args.journal.now.items
-    (space-of kernel c.args.journal.now.items c.args.tables.now c.args.aim kept (omega arith)) kept.fits
+    free-claimed c.requires.kept.0 c.args.range who c.args.journal.now.items (space-of kept (omega arith)) kept.fits
     (c.requires.kept.1.placed c.requires.begun) c.requires.some (omega (arith, within)) c.requires.free h
 
 pub returns-then-not-is_full-clause-ok : goal.returns-then-not-is_full-clause-ok
 returns-then-not-is_full-clause-ok c = λ who.
-    unrefused (goal.at.returns-then-not-is_full-clause-ok c).After-is_full who (inl (sym (full-is which.Reserved
-    (more.PiecesOf c.args.range) c.requires.kept.0 c.args.journal.now.items c.args.tables.now c.args.aim c.requires.kept.1.kept)
-    ∙ sym c.if-not-is_full.ensures.full))
+    unrefused (goal.at.returns-then-not-is_full-clause-ok c).After-is_full who
+    (inl (sym (full-is c.requires.kept.1.kept which.Reserved (more.PiecesOf c.args.range)) ∙ sym c.if-not-is_full.ensures.full))
 
 pub returns-in-Some-clause-ok : goal.returns-in-Some-clause-ok
 returns-in-Some-clause-ok c = λ who.
-    unrefused (goal.at.returns-in-Some-clause-ok c).After-is_full who (inr (beside-some c.requires.kept.0 c.args.journal.now.items
-    c.args.tables.now c.args.aim c.head-head.result.room c.args.range c.place_beside.result c.requires.kept.1.kept
-    (ap (λ (h : Head). h.room) c.head-head.ensures.head) c.place_beside.ensures (ap is_some c.in-Some.is)))
+    unrefused (goal.at.returns-in-Some-clause-ok c).After-is_full who
+    (inr (beside-some c.requires.kept.1.kept c.args.range c.head-head.ensures.head c.place_beside.ensures (ap is_some c.in-Some.is)))
 
 pub returns-in-None-clause-refused : goal.returns-in-None-clause-refused
 returns-in-None-clause-refused c = λ who.
-    let kernel = c.requires.kept.0 in
     let kept = c.requires.kept.1.kept in
     claim-refused (refusal.NoGapForTable which.Reserved c.head-head.result.room) c.args.range who c.args.journal.now.items
-    (sym (full-is which.Reserved (more.PiecesOf c.args.range) kernel c.args.journal.now.items c.args.tables.now c.args.aim kept)
-    ∙ sym c.if-not-is_full.ensures.full)
-    (growth-none kernel c.args.journal.now.items c.args.tables.now c.args.aim c.head-head.result.room c.args.range
-    c.place_beside.result kept (ap (λ (h : Head). h.room) c.head-head.ensures.head) c.place_beside.ensures c.in-None.is)
+    (sym (full-is kept which.Reserved (more.PiecesOf c.args.range)) ∙ sym c.if-not-is_full.ensures.full)
+    (growth-none kept c.args.range c.head-head.ensures.head c.place_beside.ensures c.in-None.is)

@@ -1,18 +1,14 @@
 -- Wherever the allocation ends, the parts still belong together.
-use Rattle.std.proofs.Common.{refl, sym, subst}
-use Rattle.growth_model.specs.Sound.{HasBegun}
+use Rattle.std.proofs.Common.{refl, sym}
 use Rattle.growth_model.specs.Request.{place_for}
 use Rattle.growth_model.proofs.SoundLaws.{alloc-stands}
-use Rattle.memblock_grow.specs.Contents.{Contents}
-use Rattle.memblock_grow.specs.Kept.{aimed}
 use Rattle.memblock_grow.proofs.WholeLaws.{whole-on}
 use Rattle.memblock_grow.proofs.memblock.Memblock.alloc.Goals as goal
 
 pub invariant_of-self : goal.invariant_of-self
 invariant_of-self c =
     let m = c.self.inside in
-    whole-on m.kernel m.journal.items c.allocate.new.journal.items m.tables c.allocate.new.tables (aimed m.limit m.upward) c.self.invariant
-    c.allocate.ensures.kept c.allocate.ensures.bytes
+    whole-on c.self.invariant c.allocate.ensures.kept c.allocate.ensures.bytes
     (alloc-stands m.kernel c.allocate.result m.journal.items c.allocate.new.journal.items c.args.request.now c.args.owner
-    c.self.invariant.placed (subst (λ (v : Contents). HasBegun v.journal.items) (sym c.self.view_is) c.requires.begun)
-    (place_for c.args.request.now m.journal.items) refl c.allocate.ensures.ends)
+    c.self.invariant.placed (rw (sym c.self.view_is) at c.requires.begun) (place_for c.args.request.now m.journal.items) refl
+    c.allocate.ensures.ends)

@@ -1,19 +1,12 @@
 -- Wherever the claim ends, the parts still belong together.
-use Rattle.std.proofs.Common.{sym, subst, arith}
-use Rattle.growth_model.specs.Sound.{MayClaim}
+use Rattle.std.proofs.Common.{sym, arith}
 use Rattle.growth_model.proofs.SoundLaws.{claim-stands}
-use Rattle.memblock_grow.specs.Contents.{Contents}
-use Rattle.memblock_grow.specs.Kept.{aimed}
 use Rattle.memblock_grow.proofs.WholeLaws.{whole-on}
 use Rattle.memblock_grow.proofs.memblock.Memblock.claim.Goals as goal
 
 pub invariant_of-self : goal.invariant_of-self
 invariant_of-self c =
     let m = c.self.inside in
-    whole-on m.kernel m.journal.items c.claim.new.journal.items m.tables c.claim.new.tables (aimed m.limit m.upward)
-    c.self.invariant
-    c.claim.ensures.kept c.claim.ensures.bytes
+    whole-on c.self.invariant c.claim.ensures.kept c.claim.ensures.bytes
     (claim-stands m.kernel c.claim.result m.journal.items c.claim.new.journal.items c.args.range c.args.owner c.self.invariant.image
-    (omega arith) c.self.invariant.placed
-    (subst (λ (v : Contents). MayClaim v.kernel v.journal.items c.args.range c.args.owner) (sym c.self.view_is) c.requires.may)
-    c.claim.ensures.ends)
+    (omega arith) c.self.invariant.placed (rw (sym c.self.view_is) at c.requires.may) c.claim.ensures.ends)

@@ -1,10 +1,8 @@
 -- The fill meets no table, so the tables lie in the bytes as before.
-use Rattle.std.proofs.Common.{ℕ, length, sym, ◌∙◌, ap, subst}
+use Rattle.std.proofs.Common.{ℕ, length, sym, ◌∙◌, ap}
 use Rattle.phys_store.specs.Bytes.{byte_of}
-use Rattle.growth_model.specs.Sound.{IsAway}
 use Rattle.growth_model.specs.Bytes.{Filled, put}
 use Rattle.memblock_grow.specs.Contents.{Contents}
-use Rattle.memblock_grow.specs.Kept.{aimed}
 use Rattle.memblock_grow.proofs.MemblockLaws.{wrote-put, whole-fill}
 use Rattle.memblock_grow.proofs.memblock.Memblock.fill.Goals as goal
 
@@ -12,11 +10,10 @@ pub invariant_of-self-2 : goal.invariant_of-self-2
 invariant_of-self-2 c =
     let m = c.self.inside in
     let fill : Filled = record { range = c.args.range; byte = c.args.byte; at = length m.journal.items } in
-    whole-fill m.kernel m.journal.items m.tables c.fill.new.self (aimed m.limit m.upward) fill
-    (c.fill.ensures.memory ∙ c.in_ok-prepare.ensures.memory) (c.fill.ensures.reserved ∙ c.in_ok-prepare.ensures.reserved)
+    whole-fill c.fill.new.self fill (c.fill.ensures.memory ∙ c.in_ok-prepare.ensures.memory)
+    (c.fill.ensures.reserved ∙ c.in_ok-prepare.ensures.reserved)
     (λ x. wrote-put c.prepare.new.self.store c.fill.new.self.store fill c.fill.ensures.bytes x
-    ∙ ap (λ (b : ℕ). put fill x b) (c.in_ok-prepare.ensures.bytes x))
-    (subst (λ (v : Contents). IsAway v.kernel c.args.range v.journal.items) (sym c.self.view_is) c.requires) c.self.invariant
+    ∙ ap (λ (b : ℕ). put fill x b) (c.in_ok-prepare.ensures.bytes x)) (rw (sym c.self.view_is) at c.requires) c.self.invariant
 
 pub returns-clause-ok : goal.returns-clause-ok
 returns-clause-ok c = λ x.

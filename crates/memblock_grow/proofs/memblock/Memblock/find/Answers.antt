@@ -2,16 +2,13 @@
 use Rattle.std.proofs.Common.{◌∙◌, ap}
 use Rattle.memblock_model.specs.Search.{best}
 use Rattle.memblock_grow.specs.Contents.{Contents}
-use Rattle.memblock_grow.specs.Kept.{aimed}
 use Rattle.memblock_grow.proofs.PlaceLaws.{best-is, knows-mirrors}
 use Rattle.memblock_grow.proofs.memblock.Memblock.find.Goals as goal
 
 pub best-requires-clause-mirrors : goal.best-requires-clause-mirrors
-best-requires-clause-mirrors c =
-    let m = c.self.inside in knows-mirrors m.kernel m.journal.items m.tables (aimed m.limit m.upward) c.self.invariant.kept
+best-requires-clause-mirrors c = knows-mirrors c.self.invariant.kept
 
 pub returns : goal.returns
 returns c =
-    let m = c.self.inside in
-    c.best.ensures ∙ best-is m.kernel m.journal.items m.tables (aimed m.limit m.upward) c.args.query.now c.self.invariant.kept
+    c.best.ensures ∙ best-is c.self.invariant.kept c.args.query.now
     ∙ ap (λ (v : Contents). best v.journal.items c.args.query.now) c.self.view_is

@@ -1,16 +1,12 @@
 -- Wherever the call ends, the parts still belong together.
-use Rattle.std.proofs.Common.{sym, subst}
-use Rattle.growth_model.specs.Sound.{HasBegun}
+use Rattle.std.proofs.Common.{sym}
 use Rattle.growth_model.proofs.SoundLaws.{node-stands}
-use Rattle.memblock_grow.specs.Contents.{Contents}
-use Rattle.memblock_grow.specs.Kept.{aimed}
 use Rattle.memblock_grow.proofs.WholeLaws.{whole-on}
 use Rattle.memblock_grow.proofs.memblock.Memblock.set_node.Goals as goal
 
 pub invariant_of-self : goal.invariant_of-self
 invariant_of-self c =
     let m = c.self.inside in
-    whole-on m.kernel m.journal.items c.set_node.new.journal.items m.tables c.set_node.new.tables (aimed m.limit m.upward) c.self.invariant
-    c.set_node.ensures.kept c.set_node.ensures.bytes
+    whole-on c.self.invariant c.set_node.ensures.kept c.set_node.ensures.bytes
     (node-stands m.kernel c.set_node.result m.journal.items c.set_node.new.journal.items c.args.range c.args.node c.self.invariant.placed
-    (subst (λ (v : Contents). HasBegun v.journal.items) (sym c.self.view_is) c.requires.begun) c.set_node.ensures.ends)
+    (rw (sym c.self.view_is) at c.requires.begun) c.set_node.ensures.ends)

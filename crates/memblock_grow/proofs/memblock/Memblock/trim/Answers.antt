@@ -1,33 +1,26 @@
 -- The tables are those of the items behind the trim.
-use Rattle.std.proofs.Common.{sym, ap, subst}
-use Rattle.phys_store.specs.Bytes.{byte_of}
+use Rattle.std.proofs.Common.{refl, sym, ap}
+use Rattle.memblock_model.specs.declared.item.Item.TheVariants as item
 use Rattle.boot_journal.specs.Contents.{Contents as Journal}
-use Rattle.growth_model.specs.Sound.{HasBegun}
-use Rattle.growth_model.specs.Bytes.{Follows}
-use Rattle.memblock_grow.specs.Contents.{Contents}
-use Rattle.memblock_grow.specs.Kept.{aimed}
-use Rattle.memblock_grow.proofs.MemblockLaws.{follows-same, follows-trim, whole-trim}
+use Rattle.growth_model.proofs.SoundLaws.{trim-stands}
+use Rattle.memblock_grow.proofs.KeptLaws.{kept-trim}
+use Rattle.memblock_grow.proofs.ReservedLaws.{still-bytes}
+use Rattle.memblock_grow.proofs.MemblockLaws.{follows-one, whole-one}
 use Rattle.memblock_grow.proofs.memblock.Memblock.trim.Goals as goal
 
 pub returns-in_err-push-clause-bytes : goal.returns-in_err-push-clause-bytes
 returns-in_err-push-clause-bytes c =
-    let m = c.self.inside in
-    subst (λ (v : Contents). Follows v.kernel v.journal.items c.push.new.self.items (byte_of v.tables.store) (byte_of m.tables.store))
-    c.self.view_is
-    (follows-same m.kernel m.journal.items c.push.new.self.items m.tables (aimed m.limit m.upward) c.self.invariant
-    (ap (λ (j : Journal). j.items) c.in_err-push.ensures.err))
+    rw (sym c.self.view_is) (still-bytes c.self.inside.tables (ap (λ (j : Journal). j.items) c.in_err-push.ensures.err) (λ x. refl)
+    c.self.inside.kernel c.self.invariant.kept c.self.invariant.spelled)
 
 pub invariant_of-self-2 : goal.invariant_of-self-2
 invariant_of-self-2 c =
-    let m = c.self.inside in
-    whole-trim m.kernel m.journal.items c.push.new.self.items m.tables c.trim.new.tables (aimed m.limit m.upward) c.in_ok-push.ensures.ok
-    c.trim.ensures.memory c.trim.ensures.reserved c.trim.ensures.bytes
-    (subst (λ (v : Contents). HasBegun v.journal.items) (sym c.self.view_is) c.requires) c.self.invariant
+    whole-one item.Trim c.self.invariant c.in_ok-push.ensures.ok
+    (kept-trim c.self.invariant.kept c.trim.new.tables c.trim.ensures.memory c.trim.ensures.reserved) (λ x. refl) c.trim.ensures.bytes
+    (trim-stands c.self.inside.kernel c.self.inside.journal.items c.push.new.self.items c.self.invariant.placed
+    (rw (sym c.self.view_is) at c.requires) c.in_ok-push.ensures.ok)
 
 pub returns-clause-bytes : goal.returns-clause-bytes
 returns-clause-bytes c =
-    let m = c.self.inside in
-    subst (λ (v : Contents). Follows v.kernel v.journal.items c.push.new.self.items (byte_of v.tables.store)
-    (byte_of c.trim.new.tables.store)) c.self.view_is
-    (follows-trim m.kernel m.journal.items c.push.new.self.items m.tables c.trim.new.tables (aimed m.limit m.upward) c.in_ok-push.ensures.ok
-    c.trim.ensures.memory c.trim.ensures.reserved c.trim.ensures.bytes c.self.invariant)
+    rw (sym c.self.view_is) (follows-one item.Trim c.self.invariant c.in_ok-push.ensures.ok
+    (kept-trim c.self.invariant.kept c.trim.new.tables c.trim.ensures.memory c.trim.ensures.reserved) (λ x. refl) c.trim.ensures.bytes)
