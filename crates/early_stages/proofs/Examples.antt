@@ -1,10 +1,10 @@
 -- Small maps: what is wanted of them, and the memory that they come to.
-use Rattle.std.proofs.Common.{◌≡◌, ℕ, ◌^◌, ◌≤◌, Bool, true, false, ◌&&◌, nat_le, nat_lt, Option, Some, None, List, [], ◌∷◌, take, refl, sym, ◌∙◌, ap, inl, inr, arith}
+use Rattle.std.proofs.Common.{◌≡◌, ℕ, ◌^◌, Bool, true, false, ◌&&◌, nat_le, nat_lt, Option, Some, None, List, [], ◌∷◌, take, refl, sym, ◌∙◌, ap, arith}
 use Rattle.std.proofs.lemmas.Bool.Decides.{nat_tests}
-use Rattle.std.proofs.lemmas.Bool.{cases_Bool}
+use Rattle.std.proofs.Math.Nat.{le_antisymm}
 use Rattle.bm_base.specs.Each.{each_from, each_in}
 use Rattle.bm_base.specs.Extent.{Extent}
-use Rattle.address_runs.specs.Runs.{RunOf, lies_in, value_at}
+use Rattle.address_runs.specs.Runs.{RunOf, value_at}
 use Rattle.e820_model.specs.Map.{TypeAt}
 use Rattle.e820_model.specs.Usable.{is_memory, is_usable, reachable}
 use Rattle.e820_model.proofs.UsableLaws.{all_bytes, interval_frame, memory_reached, usable_whole}
@@ -35,18 +35,13 @@ owned initrd x = owner_of (early_claims (bytes 0x1000000 0x2000000) initrd) x
 abbrev initrd_range : Option Extent
 initrd_range = Some (bytes 0x7000000 0x3000)
 
-initrd_has_its_bytes : (owned initrd_range 0x6FFFFFF ≡ None) × (owned initrd_range 0x7000000 ≡ Some owner.Initrd)
+-- with the initrd, without it, and with one that begins within the first 64 KiB, which has its bytes there, too
+owned_examples : (owned initrd_range 0x6FFFFFF ≡ None) × (owned initrd_range 0x7000000 ≡ Some owner.Initrd)
     × (owned initrd_range 0x7002FFF ≡ Some owner.Initrd) × (owned initrd_range 0x7003000 ≡ None)
-initrd_has_its_bytes = (refl, refl, refl, refl)
-
-image_and_first_frames : (owned None 0xFFFF ≡ Some owner.Low64K) × (owned None 0x10000 ≡ None) × (owned None 0xFFFFFF ≡ None)
+    × (owned None 0xFFFF ≡ Some owner.Low64K) × (owned None 0x10000 ≡ None) × (owned None 0xFFFFFF ≡ None)
     × (owned None 0x1000000 ≡ Some owner.Kernel) × (owned None 0x2FFFFFF ≡ Some owner.Kernel) × (owned None 0x7000000 ≡ None)
-image_and_first_frames = (refl, refl, refl, refl, refl, refl)
-
--- an initrd that begins within the first 64 KiB has its bytes there, too
-low_initrd_keeps_its_bytes : (owned (Some (bytes 0xF000 0x3000)) 0xEFFF ≡ Some owner.Low64K)
-    × (owned (Some (bytes 0xF000 0x3000)) 0xF000 ≡ Some owner.Initrd)
-low_initrd_keeps_its_bytes = (refl, refl)
+    × (owned (Some (bytes 0xF000 0x3000)) 0xEFFF ≡ Some owner.Low64K) × (owned (Some (bytes 0xF000 0x3000)) 0xF000 ≡ Some owner.Initrd)
+owned_examples = (refl, refl, refl, refl, refl, refl, refl, refl, refl, refl, refl, refl)
 
 none_without_an_initrd : (initrd_claims None ≡ []) × (up_to 0x10000 ≡ bytes 0 0x10000)
 none_without_an_initrd = (refl, refl)
@@ -56,11 +51,9 @@ runs_of_types : (items_of_run limit (run 0x1000 0x9F000 1) ≡ item.Mem (bytes 0
     × (items_of_run limit (run 0x1000 0x9F000 128) ≡ item.Mem (bytes 0x1000 0x9F000) ∷ [])
     × (items_of_run limit (run 0x1000 0x9F000 2) ≡ [])
     × (items_of_run limit (run 0x1000 0x9F000 0xEFFFFFFF) ≡ item.Claim (bytes 0x1000 0x9F000) owner.Soft ∷ [])
-runs_of_types = (refl, refl, refl, refl)
-
-runs_at_the_limit : (items_of_run limit (run 0x3FFFFFFFF000 0x2000 1) ≡ item.Mem (bytes 0x3FFFFFFFF000 0x1000) ∷ [])
+    × (items_of_run limit (run 0x3FFFFFFFF000 0x2000 1) ≡ item.Mem (bytes 0x3FFFFFFFF000 0x1000) ∷ [])
     × (items_of_run limit (run 0x400000000000 0x1000 1) ≡ []) × (part_below 0x2000 (run 0x1000 0x3000 1) ≡ bytes 0x1000 0x1000)
-runs_at_the_limit = (refl, refl, refl)
+runs_of_types = (refl, refl, refl, refl, refl, refl, refl)
 
 two_runs : items_of_map limit (run 0x1000 0x9F000 1 ∷ run 0xF0000 0x10000 2 ∷ run 0x100000 0x100000 0xEFFFFFFF ∷ [])
     ≡ item.Mem (bytes 0x1000 0x9F000) ∷ item.Claim (bytes 0x100000 0x100000) owner.Soft ∷ []
@@ -139,23 +132,8 @@ meeting = run 0x1000 0x1C00 1 ∷ run 0x2C00 0x1500 128 ∷ []
 abbrev types : TypeAt
 types = reachable limit (value_at meeting)
 
-memory_lies : (x : ℕ) → is_memory (value_at meeting x) ≡ (nat_le 0x1000 x && nat_lt x 0x4100)
-memory_lies x = elim (cases_Bool (lies_in (run 0x1000 0x1C00 1) x)) as (λ _. is_memory (value_at meeting x) ≡ (nat_le 0x1000 x
-    && nat_lt x 0x4100)) [
-      | inl first ↦ (let test : (nat_le 0x1000 x && nat_lt x 0x4100) ≡ true = grind (arith, nat_tests) in rw (first, test) refl)
-      | inr other ↦ (elim (cases_Bool (lies_in (run 0x2C00 0x1500 128) x)) as (λ _. is_memory (value_at meeting x) ≡ (nat_le 0x1000 x
-          && nat_lt x 0x4100)) [
-            | inl second ↦
-                (let test : (nat_le 0x1000 x && nat_lt x 0x4100) ≡ true = grind (arith, nat_tests) in rw (other, second, test) refl)
-            | inr neither ↦
-                (let test : (nat_le 0x1000 x && nat_lt x 0x4100) ≡ false = grind (arith, nat_tests) in rw (other, neither, test) refl)
-          ])
-    ]
-
 memory_within : (x : ℕ) → is_memory (types x) ≡ (nat_le 0x1000 x && nat_lt x 0x4100)
-memory_within x =
-    let lies : is_memory (value_at meeting x) ≡ (nat_le 0x1000 x && nat_lt x 0x4100) = memory_lies x in
-    memory_reached limit (value_at meeting) x ∙ rw lies (grind (arith, nat_tests))
+memory_within x = memory_reached limit (value_at meeting) x ∙ grind (arith, nat_tests)
 
 usable_are : (frame : ℕ) → is_usable types frame ≡ (nat_le 1 frame && nat_lt frame 4)
 usable_are frame =
@@ -175,7 +153,5 @@ ends_with_frame_3 = record {
 
 memory_ends : memory_end limit (value_at meeting) ≡ 0x4000
 memory_ends =
-    let known : IsEnd limit (value_at meeting) (memory_end limit (value_at meeting)) = memory_end-is limit (value_at meeting) in
-    let le : memory_end limit (value_at meeting) ≤ 0x4000 = one_end limit (value_at meeting) _ 0x4000 known ends_with_frame_3 in
-    let ge : 0x4000 ≤ memory_end limit (value_at meeting) = one_end limit (value_at meeting) 0x4000 _ ends_with_frame_3 known in
-    omega arith
+    let known = memory_end-is limit (value_at meeting) in
+    le_antisymm (one_end limit _ _ _ known ends_with_frame_3) (one_end limit _ _ _ ends_with_frame_3 known)

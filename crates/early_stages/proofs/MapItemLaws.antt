@@ -2,6 +2,7 @@
 use Rattle.std.proofs.Common.{◌≡◌, ℕ, ◌+◌, ◌*◌, ◌/◌, ◌<◌, ◌≤◌, ◌==◌, Bool, true, false, ◌&&◌, nat_lt, if◌then◌else◌, Option, Some, None, List, [], ◌∷◌, refl, sym, ◌∙◌, ap, inl, inr, arith}
 use Rattle.std.proofs.lemmas.Bool.Decides.{nat_tests}
 use Rattle.std.proofs.lemmas.Bool.{cases_Bool, true≢false}
+use Rattle.std.proofs.lemmas.Option.{cond_some}
 use Rattle.std.proofs.lemmas.List.Sums.{fold-append}
 use Rattle.std.specs.List.{fold}
 use Rattle.std.specs.Prelude.{unwrap_or}
@@ -27,20 +28,16 @@ pub one_run : (limit : ℕ) (r : RunOf ℕ) (f : Labels) (x : ℕ)
 one_run limit r f x =
     let goal : Type 0 = fold memory_after f (items_of_run limit r) x
     ≡ becomes (lies_in r x && (is_memory (Some r.value) && nat_lt x limit)) (f x) in
-    elim (cases_Bool (r.value == 0xEFFFFFFF)) as (λ _. goal) [
-      | inl soft ↦
+    elim (cases_Bool (is_memory (Some r.value) && nat_lt r.base limit)) as (λ _. goal) [
+      | inl held ↦
+          (let plain : (r.value == 0xEFFFFFFF) ≡ false = grind (arith, nat_tests) in
+          let same : (lies_in r x && (is_memory (Some r.value) && nat_lt x limit)) ≡ covers (part_below limit r) x =
+          grind (arith, nat_tests) in
+          rw (plain, held, same) refl)
+      | inr out ↦
           (let other : (lies_in r x && (is_memory (Some r.value) && nat_lt x limit)) ≡ false = grind (arith, nat_tests) in
-          rw (soft, other) refl)
-      | inr plain ↦ (elim (cases_Bool (is_memory (Some r.value) && nat_lt r.base limit)) as (λ _. goal) [
-        | inl held ↦
-            (let low : r.base < limit = grind (arith, nat_tests) in
-            let same : (lies_in r x && (is_memory (Some r.value) && nat_lt x limit)) ≡ covers (part_below limit r) x =
-            grind (arith, nat_tests) in
-            rw (plain, held, same) refl)
-        | inr out ↦
-            (let other : (lies_in r x && (is_memory (Some r.value) && nat_lt x limit)) ≡ false = grind (arith, nat_tests) in
-            rw (plain, out, other) refl)
-      ])
+          elim (cases_Bool (r.value == 0xEFFFFFFF)) as (λ _. goal)
+          [ inl soft ↦ rw (soft, other) refl | inr plain ↦ rw (plain, out, other) refl ])
     ]
 
 -- the bytes that are memory within reach become memory, and no others
@@ -73,10 +70,6 @@ added_memory limit rs x runs =
     all_runs limit rs no_memory x runs
     ∙ ap (λ (b : Bool). becomes b None) (sym (memory_reached limit (value_at rs) x))
 
-held_by : (b : Bool) → (if b then Some plain_label else None) ≡ Some plain_label → b ≡ true
-held_by true same = refl
-held_by false same = absurd (cc)
-
 -- trimmed, it is the usable frames
 pub trimmed_memory : (t : TypeAt) (g : Labels) → ((x : ℕ) → g x ≡ (if is_memory (t x) then Some plain_label else None))
     → (x : ℕ) → trimmed g x ≡ (if is_usable t (x / 4096) then Some plain_label else None)
@@ -86,19 +79,16 @@ trimmed_memory t g each x =
           (let held : (y : ℕ) → IsInFrame x y → g y ≡ Some plain_label = λ y within. (
           let above = within.above in
           let below = within.below in
-          let is : is_memory (t y) ≡ true = usable_each t (x / 4096) usable y (omega arith) (omega arith) in
-          each y ∙ rw is refl) in
-          let here : g x ≡ Some plain_label = held x (in_own_frame x) in
-          rw usable (trimmed-whole g x (λ y within. held y within ∙ sym here) ∙ here))
+          each y ∙ rw (usable_each t (x / 4096) usable y (omega (arith, above)) (omega (arith, below))) refl) in
+          rw usable (trimmed-whole g x (λ y within. held y within ∙ sym (held x (in_own_frame x))) ∙ held x (in_own_frame x)))
       | inr other ↦ (rw other (elim (trimmed-cases g x) as (λ _. trimmed g x ≡ None) [
         | inl one ↦ (elim (cases_Bool (is_memory (t x))) as (λ _. trimmed g x ≡ None) [
           | inl memory ↦
               (let here : g x ≡ Some plain_label = each x ∙ rw memory refl in
-              let all : (y : ℕ) → 4096 * (x / 4096) ≤ y → y < 4096 * (x / 4096) + 4096 → is_memory (t y) ≡ true = λ y above below. (
-              let within : IsInFrame x y = record { above = omega arith; below = omega arith } in
-              held_by (is_memory (t y)) (sym (each y) ∙ one y within ∙ here)) in
-              let whole : is_usable t (x / 4096) ≡ true =
-              usable_whole t (x / 4096) ∙ each_in-all (bytes_of_frame (x / 4096)) (λ y. is_memory (t y)) all in
+              let all : (y : ℕ) → 4096 * (x / 4096) ≤ y → y < 4096 * (x / 4096) + 4096 → is_memory (t y) ≡ true = λ y above below.
+              (cond_some (is_memory (t y)) plain_label plain_label
+              (sym (each y) ∙ one y (record { above = omega (arith, above); below = omega (arith, below) }) ∙ here)).0 in
+              let whole = usable_whole t (x / 4096) ∙ each_in-all (bytes_of_frame (x / 4096)) (λ y. is_memory (t y)) all in
               absurd (true≢false (sym whole ∙ other)))
           | inr none ↦ (trimmed-whole g x one ∙ each x ∙ rw none refl)
         ])

@@ -1,5 +1,6 @@
 -- Memory and the limit behind all that is wanted first, whatever growth stands between.
-use Rattle.std.proofs.Common.{◌≡◌, ℕ, Bool, true, false, Option, Some, None, List, [], ◌∷◌, ◌++◌, Ok, refl, sym, ◌∙◌, ap}
+use Rattle.std.proofs.Common.{◌≡◌, ℕ, Bool, true, false, Option, Some, None, List, [], ◌∷◌, ◌++◌, Ok, refl, ◌∙◌, ap}
+use Rattle.std.proofs.lemmas.List.{append-nil}
 use Rattle.std.proofs.lemmas.List.Sums.{fold-append}
 use Rattle.std.specs.List.{fold}
 use Rattle.bm_base.specs.Extent.{Extent}
@@ -20,79 +21,42 @@ use Rattle.early_stages.specs.Wanted.{closing_items, direction_items, early_clai
 use Rattle.early_stages.proofs.MapItemLaws.{added_memory, trimmed_memory}
 use Rattle.early_stages.proofs.MirrorLaws.{mirrors-memory}
 
--- early claims say nothing of memory and of the limit
-early-memory : (kernel : Extent) (initrd : Option Extent) (is : List Item)
-    → memory_of (early_claims kernel initrd ++ is) ≡ memory_of is
-early-memory kernel None is = refl
-early-memory kernel (Some range) is = refl
-
-early-limit : (kernel : Extent) (initrd : Option Extent) (is : List Item)
-    → limit_of (early_claims kernel initrd ++ is) ≡ limit_of is
-early-limit kernel None is = refl
-early-limit kernel (Some range) is = refl
-
--- and neither does the direction
-direction-memory : (upward : Bool) (is : List Item) → fold memory_after no_memory (direction_items upward ++ is) ≡ memory_of is
-direction-memory true is = refl
-direction-memory false is = refl
-
-direction-limit : (upward : Bool) (at : ℕ) (is : List Item) → fold limit_after at (direction_items upward ++ is) ≡ fold limit_after at is
-direction-limit true at is = refl
-direction-limit false at is = refl
+-- what is wanted before the map says nothing of memory, and leaves the limit of the first MiB
+begins : (kernel : Extent) (initrd : Option Extent) (upward : Bool) (is : List Item)
+    → (memory_of (early_claims kernel initrd ++ (item.Limit ISA_END_ADDRESS ∷ (direction_items upward ++ is))) ≡ memory_of is)
+    × (limit_of (early_claims kernel initrd ++ (item.Limit ISA_END_ADDRESS ∷ (direction_items upward ++ is)))
+    ≡ fold limit_after ISA_END_ADDRESS is)
+begins kernel None true is = (refl, refl)
+begins kernel None false is = (refl, refl)
+begins kernel (Some range) true is = (refl, refl)
+begins kernel (Some range) false is = (refl, refl)
 
 mirrors-limit : (mirrors : List FrameRange) (at : ℕ) (is : List Item)
     → fold limit_after at (mirror_items mirrors ++ is) ≡ fold limit_after at is
 mirrors-limit [] at is = refl
 mirrors-limit (r ∷ rs) at is = mirrors-limit rs at is
 
--- the map becomes memory, is trimmed, and some of it is mirrored
-mapped : (e : Early) (map : List (RunOf ℕ)) → AreRuns map → (x : ℕ)
-    → fold memory_after no_memory (items_of_map e.limit map ++ (item.Trim ∷ mirror_items e.mirrors)) x
+-- without growth the map becomes memory, is trimmed, and some of it is mirrored; what comes behind leaves that
+mapped : (e : Early) (map : List (RunOf ℕ)) (last : List Item) → AreRuns map → ((f : Labels) → fold memory_after f last ≡ f) → (x : ℕ)
+    → memory_of (early_claims e.kernel e.initrd ++ (item.Limit ISA_END_ADDRESS ∷ (direction_items e.upward
+    ++ (items_of_map e.limit map ++ (item.Trim ∷ (mirror_items e.mirrors ++ last)))))) x
     ≡ mirrored_memory e.mirrors (usable_memory e.limit (value_at map)) x
-mapped e map runs x =
+mapped e map last runs quiet x =
     let added : Labels = fold memory_after no_memory (items_of_map e.limit map) in
+    let closing : List Item = item.Trim ∷ (mirror_items e.mirrors ++ last) in
     let trimmed_is : trimmed added ≡ usable_memory e.limit (value_at map) = λ i y.
     trimmed_memory (reachable e.limit (value_at map)) added (λ z. added_memory e.limit map z runs) y i in
-    ap (λ (h : Labels). h x) (fold-append memory_after no_memory (items_of_map e.limit map) (item.Trim ∷ mirror_items e.mirrors))
-    ∙ mirrors-memory e.mirrors (trimmed added) x
-    ∙ ap (λ (h : Labels). mirrored_memory e.mirrors h x) trimmed_is
+    ap (λ (h : Labels). h x) ((begins e.kernel e.initrd e.upward (items_of_map e.limit map ++ closing)).0
+    ∙ fold-append memory_after no_memory (items_of_map e.limit map) closing
+    ∙ fold-append memory_after (trimmed added) (mirror_items e.mirrors) last ∙ quiet _)
+    ∙ mirrors-memory e.mirrors (trimmed added) x ∙ ap (λ (h : Labels). mirrored_memory e.mirrors h x) trimmed_is
 
--- what is wanted, without growth, up to the mirrored frames
+-- so it is up to the mirrored frames
 pub mirrored-first : (e : Early) (map : List (RunOf ℕ)) → AreRuns map → (x : ℕ)
     → memory_of (early_claims e.kernel e.initrd ++ (item.Limit ISA_END_ADDRESS ∷ (direction_items e.upward
     ++ (items_of_map e.limit map ++ (item.Trim ∷ mirror_items e.mirrors))))) x
     ≡ mirrored_memory e.mirrors (usable_memory e.limit (value_at map)) x
-mirrored-first e map runs x =
-    let rest : List Item = items_of_map e.limit map ++ (item.Trim ∷ mirror_items e.mirrors) in
-    ap (λ (h : Labels). h x) (early-memory e.kernel e.initrd (item.Limit ISA_END_ADDRESS ∷ (direction_items e.upward ++ rest)))
-    ∙ ap (λ (h : Labels). h x) (direction-memory e.upward rest) ∙ mapped e map runs x
-
--- and behind them
-ends-quiet : (e : Early) (map : List (RunOf ℕ)) → memory_of (first_items e map)
-    ≡ fold memory_after no_memory (items_of_map e.limit map ++ (item.Trim ∷ mirror_items e.mirrors))
-ends-quiet e map =
-    let end : ℕ = memory_end e.limit (value_at map) in
-    let closing : List Item = closing_items e.mirrors end in
-    let last : List Item = item.Limit end ∷ item.Claim (up_to ISA_END_ADDRESS) owner.Low1M ∷ [] in
-    early-memory e.kernel e.initrd (item.Limit ISA_END_ADDRESS ∷ (direction_items e.upward ++ (items_of_map e.limit map ++ closing)))
-    ∙ direction-memory e.upward (items_of_map e.limit map ++ closing)
-    ∙ fold-append memory_after no_memory (items_of_map e.limit map) closing
-    ∙ fold-append memory_after (fold memory_after no_memory (items_of_map e.limit map)) (item.Trim ∷ mirror_items e.mirrors) last
-    ∙ sym (fold-append memory_after no_memory (items_of_map e.limit map) (item.Trim ∷ mirror_items e.mirrors))
-
-pub wanted-memory : (e : Early) (map : List (RunOf ℕ)) → AreRuns map → (x : ℕ)
-    → memory_of (first_items e map) x ≡ mirrored_memory e.mirrors (usable_memory e.limit (value_at map)) x
-wanted-memory e map runs x = ap (λ (h : Labels). h x) (ends-quiet e map) ∙ mapped e map runs x
-
-pub wanted-limit : (e : Early) (map : List (RunOf ℕ)) → limit_of (first_items e map) ≡ memory_end e.limit (value_at map)
-wanted-limit e map =
-    let end : ℕ = memory_end e.limit (value_at map) in
-    let last : List Item = item.Limit end ∷ item.Claim (up_to ISA_END_ADDRESS) owner.Low1M ∷ [] in
-    let closing : List Item = closing_items e.mirrors end in
-    early-limit e.kernel e.initrd (item.Limit ISA_END_ADDRESS ∷ (direction_items e.upward ++ (items_of_map e.limit map ++ closing)))
-    ∙ direction-limit e.upward ISA_END_ADDRESS (items_of_map e.limit map ++ closing)
-    ∙ fold-append limit_after ISA_END_ADDRESS (items_of_map e.limit map) closing
-    ∙ mirrors-limit e.mirrors (fold limit_after ISA_END_ADDRESS (items_of_map e.limit map)) last
+mirrored-first e map runs x = let all = mapped e map [] runs (λ f. refl) x in rw append-nil at all
 
 -- and carried out from the beginning
 pub first_memory : (e : Early) (map : List (RunOf ℕ)) (items : List Item) → AreRuns map
@@ -100,9 +64,13 @@ pub first_memory : (e : Early) (map : List (RunOf ℕ)) (items : List Item) → 
     → (x : ℕ) → memory_of items x ≡ mirrored_memory e.mirrors (usable_memory e.limit (value_at map)) x
 first_memory e map items runs ends x =
     ap (λ (h : Labels). h x) (memory_of-same items (first_items e map) (carried-memory (first_items e map) [] items ends))
-    ∙ wanted-memory e map runs x
+    ∙ mapped e map (item.Limit (memory_end e.limit (value_at map)) ∷ item.Claim (up_to ISA_END_ADDRESS) owner.Low1M ∷ []) runs (λ f. refl) x
 
 pub first_limit : (e : Early) (map : List (RunOf ℕ)) (items : List Item) → carried_out (first_items e map) [] ≡ Ok items
     → limit_of items ≡ memory_end e.limit (value_at map)
 first_limit e map items ends =
-    limit_of-same items (first_items e map) (carried-memory (first_items e map) [] items ends) ∙ wanted-limit e map
+    let closing : List Item = closing_items e.mirrors (memory_end e.limit (value_at map)) in
+    limit_of-same items (first_items e map) (carried-memory (first_items e map) [] items ends)
+    ∙ (begins e.kernel e.initrd e.upward (items_of_map e.limit map ++ closing)).1
+    ∙ fold-append limit_after ISA_END_ADDRESS (items_of_map e.limit map) closing
+    ∙ mirrors-limit e.mirrors (fold limit_after ISA_END_ADDRESS (items_of_map e.limit map)) _

@@ -1,61 +1,46 @@
 -- Mirrored memory: what ranges of mirrored frames make of what each byte carries.
-use Rattle.std.proofs.Common.{◌≡◌, ℕ, ◌/◌, Bool, true, false, if◌then◌else◌, Option, Some, None, List, [], ◌∷◌, refl, ◌∙◌, inl, inr, arith}
+use Rattle.std.proofs.Common.{◌≡◌, ℕ, ◌/◌, Bool, true, false, ◌||◌, is_some, if◌then◌else◌, Option, Some, None, List, [], ◌∷◌, refl, ◌∙◌, arith}
 use Rattle.std.proofs.lemmas.Bool.Decides.{nat_tests}
-use Rattle.std.proofs.lemmas.Bool.{cases_Bool}
 use Rattle.std.specs.List.{fold}
 use Rattle.std.specs.Option.{option_map}
 use Rattle.bm_base.specs.Extent.{covers}
-use Rattle.memblock_model.specs.Labels.{Label, Labels, with_mirror}
+use Rattle.e820_model.specs.Map.{TypeAt}
+use Rattle.e820_model.specs.Usable.{is_usable, reachable}
+use Rattle.memblock_model.specs.Labels.{Label, Labels, plain_label, with_mirror}
 use Rattle.memblock_model.specs.Items.{memory_after}
 use Rattle.address_runs.specs.Edits.{relabelled}
 use Rattle.early_stages.specs.Early.{FrameRange, bytes_of_frames}
-use Rattle.early_stages.specs.Memory.{is_mirrored, mirrored_memory}
+use Rattle.early_stages.specs.Memory.{is_mirrored, mirrored_memory, usable_memory}
 use Rattle.early_stages.specs.Wanted.{mirror_items}
 
--- mirrored twice is mirrored
-twice : (o : Option Label) → option_map with_mirror (option_map with_mirror o) ≡ option_map with_mirror o
-twice None = refl
-twice (Some label) = refl
+-- one range more: what is mirrored twice is mirrored
+abbrev mirrored_if : Bool → Option Label → Option Label
+mirrored_if b o = if b then option_map with_mirror o else o
 
--- one range more
-one_more : (r : FrameRange) (rs : List FrameRange) (f : Labels) (x : ℕ)
-    → mirrored_memory rs (relabelled (bytes_of_frames r) with_mirror f) x ≡ mirrored_memory (r ∷ rs) f x
-one_more r rs f x =
-    elim (cases_Bool (covers (bytes_of_frames r) x)) as (λ _. mirrored_memory rs (relabelled (bytes_of_frames r) with_mirror f) x
-    ≡ mirrored_memory (r ∷ rs) f x) [
-      | inl inside ↦ (elim (cases_Bool (is_mirrored rs x)) as (λ _. mirrored_memory rs (relabelled (bytes_of_frames r) with_mirror f) x
-          ≡ mirrored_memory (r ∷ rs) f x) [
-            | inl again ↦ (rw (inside, again) (twice (f x)))
-            | inr other ↦ (rw (inside, other) refl)
-          ])
-      | inr outside ↦ (rw outside refl)
-    ]
+one_more : (here others : Bool) (o : Option Label) → mirrored_if others (mirrored_if here o) ≡ mirrored_if (here || others) o
+one_more true true None = refl
+one_more true true (Some label) = refl
+one_more true false o = refl
+one_more false others o = refl
 
 -- the items of all ranges mirror the bytes of each
 pub mirrors-memory : (mirrors : List FrameRange) (f : Labels) (x : ℕ)
     → fold memory_after f (mirror_items mirrors) x ≡ mirrored_memory mirrors f x
 mirrors-memory [] f x = refl
-mirrors-memory (r ∷ rs) f x = mirrors-memory rs (relabelled (bytes_of_frames r) with_mirror f) x ∙ one_more r rs f x
+mirrors-memory (r ∷ rs) f x =
+    mirrors-memory rs (relabelled (bytes_of_frames r) with_mirror f) x
+    ∙ one_more (covers (bytes_of_frames r) x) (is_mirrored rs x) (f x)
 
--- memory stays memory, and nothing becomes memory
-held_by : (b : Bool) (o : Option Label) (label : Label) → (if b then option_map with_mirror o else o) ≡ Some label
-    → (was : Label) × (o ≡ Some was)
-held_by b (Some was) label held = (was, refl)
-held_by true None label held = absurd (cc)
-held_by false None label held = absurd (cc)
+-- what is usable is memory, and nothing else, whatever of it is mirrored
+some_by : (mirrored usable : Bool) → is_some (mirrored_if mirrored (if usable then Some plain_label else None)) ≡ usable
+some_by true true = refl
+some_by true false = refl
+some_by false true = refl
+some_by false false = refl
 
-some_by : (b : Bool) (o : Option Label) (label : Label) → o ≡ Some label
-    → (now : Label) × ((if b then option_map with_mirror o else o) ≡ Some now)
-some_by true o label held = (with_mirror label, rw held refl)
-some_by false o label held = (label, held)
-
-pub mirrored-held : (mirrors : List FrameRange) (f : Labels) (x : ℕ) (label : Label) → mirrored_memory mirrors f x ≡ Some label
-    → (was : Label) × (f x ≡ Some was)
-mirrored-held mirrors f x label held = held_by (is_mirrored mirrors x) (f x) label held
-
-pub mirrored-some : (mirrors : List FrameRange) (f : Labels) (x : ℕ) (label : Label) → f x ≡ Some label
-    → (now : Label) × (mirrored_memory mirrors f x ≡ Some now)
-mirrored-some mirrors f x label held = some_by (is_mirrored mirrors x) (f x) label held
+pub mirrored-usable : (limit : ℕ) (f : TypeAt) (mirrors : List FrameRange) (x : ℕ)
+    → is_some (mirrored_memory mirrors (usable_memory limit f) x) ≡ is_usable (reachable limit f) (x / 4096)
+mirrored-usable limit f mirrors x = some_by (is_mirrored mirrors x) (is_usable (reachable limit f) (x / 4096))
 
 -- the bytes of a frame are mirrored together
 same_frames : (mirrors : List FrameRange) (x y : ℕ) → x / 4096 ≡ y / 4096 → is_mirrored mirrors x ≡ is_mirrored mirrors y
