@@ -1,5 +1,5 @@
 -- How one step after another ends: by the ends of both.
-use Rattle.std.proofs.Common.{◌≡◌, ◌⊎◌, inl, inr, List, [], ◌∷◌, ◌++◌, take, Result, Ok, Err, refl, sym, ◌∙◌, subst, append_assoc, arith}
+use Rattle.std.proofs.Common.{◌≡◌, inl, inr, ⊎_elim, List, [], ◌∷◌, ◌++◌, take, Result, Ok, Err, refl, sym, ◌∙◌, append_assoc, arith}
 use Rattle.std.proofs.lemmas.List.{append-nil}
 use Rattle.memblock_model.specs.declared.item.Item.{Item}
 use Rattle.growth_model.specs.Outcome.{joined}
@@ -19,50 +19,34 @@ appended-joined items (s ∷ ss) = appended-joined (items ++ s) ss ∙ append_as
 
 -- all groups of the first stand, and some of the second
 cut-behind : (old new : List Item) (a b : List (List Item)) → IsCutShort (appended old a) new b → IsCutShort old new (a ++ b)
-cut-behind old new a b cut = cut-second old new a b (subst (λ (mid : List Item). IsCutShort mid new b) (appended-joined old a) cut)
+cut-behind old new a b cut = cut-second old new a b (rw (appended-joined old a) at cut)
 
 module _ {E A B : Type 0} where
-  both : Done E A → Done E B → Done E B
-  both d p = record { steps = d.steps ++ p.steps; answer = p.answer }
-
-  failed_second : (e wanting : E) (old new : List Item) (d : Done E A) (p : Done E B)
-      → ((p.answer ≡ Err e) × (new ≡ after (after old d) p)) ⊎ ((e ≡ wanting) × IsCutShort (after old d) new p.steps)
-      → EndsAs wanting (Err e) old new (record { steps = d.steps ++ p.steps; answer = p.answer })
-  failed_second e wanting old new d p (inl told) = inl (told.0, told.1 ∙ sym (appended-append old d.steps p.steps))
-  failed_second e wanting old new d p (inr cut) = inr (cut.0, cut-behind old new d.steps p.steps cut.1)
-
   second_by : (r : Result B E) (wanting : E) (old new : List Item) (d : Done E A) (p : Done E B)
       → EndsAs wanting r (after old d) new p
       → EndsAs wanting r old new (record { steps = d.steps ++ p.steps; answer = p.answer })
   second_by (Ok b) wanting old new d p h = (h.0, h.1 ∙ sym (appended-append old d.steps p.steps))
-  second_by (Err e) wanting old new d p h = failed_second e wanting old new d p h
+  second_by (Err e) wanting old new d p h = ⊎_elim
+      (λ told. inl (told.0, told.1 ∙ sym (appended-append old d.steps p.steps)))
+      (λ cut. inr (cut.0, cut-behind old new d.steps p.steps cut.1)) h
 
   -- the first step answered, and the rest ends so
   pub ends-second : (a : A) (r : Result B E) (wanting : E) (old mid new : List Item) (f : Doing E A) (next : A → Doing E B)
       → EndsAs wanting (Ok a) old mid (f old) → EndsAs wanting r mid new (next a mid) → EndsAs wanting r old new ((f >>= next) old)
   ends-second a r wanting old mid new f next was h =
-      let there : EndsAs wanting r (after old (f old)) new (next a (after old (f old))) =
-      subst (λ (m : List Item). EndsAs wanting r m new (next a m)) was.1 h in
-      subst (λ (answer : Result A E). EndsAs wanting r old new (going_on (f old).steps answer (λ b. next b (after old (f old)))))
-      (sym was.0) (second_by r wanting old new (f old) (next a (after old (f old))) there)
+      rw was.0 (second_by r wanting old new (f old) (next a (after old (f old))) (rw was.1 at h))
 
   cut_by : (answer : Result A E) (old new : List Item) (steps : List (List Item)) (next : A → Done E B) → IsCutShort old new steps
       → IsCutShort old new (going_on steps answer next).steps
   cut_by (Ok a) old new steps next cut = cut-first old new steps (next a).steps cut
   cut_by (Err e) old new steps next cut = cut
 
-  first_by : (e wanting : E) (old new : List Item) (d : Done E A) (next : A → Done E B)
-      → ((d.answer ≡ Err e) × (new ≡ after old d)) ⊎ ((e ≡ wanting) × IsCutShort old new d.steps)
-      → EndsAs wanting (Err e) old new (going_on d.steps d.answer next)
-  first_by e wanting old new d next (inl told) =
-      subst (λ (answer : Result A E). EndsAs {A = B} wanting (Err e) old new (going_on d.steps answer next)) (sym told.0)
-      (inl (refl, told.1))
-  first_by e wanting old new d next (inr cut) = inr (cut.0, cut_by d.answer old new d.steps next cut.1)
-
   -- the first step stopped, or memory ran out in it
   pub ends-first : (e wanting : E) (old new : List Item) (f : Doing E A) (next : A → Doing E B)
       → EndsAs {A = A} wanting (Err e) old new (f old) → EndsAs {A = B} wanting (Err e) old new ((f >>= next) old)
-  ends-first e wanting old new f next h = first_by e wanting old new (f old) (λ a. next a (after old (f old))) h
+  ends-first e wanting old new f next h = ⊎_elim
+      (λ told. rw told.0 (inl (refl, told.1)))
+      (λ cut. inr (cut.0, cut_by (f old).answer old new (f old).steps (λ a. next a (after old (f old))) cut.1)) h
 
 module _ {E A : Type 0} where
   -- memory was taken for a list, or ran out
@@ -75,7 +59,7 @@ module _ {E A : Type 0} where
   -- an answer that is known
   pub ends-along : (r s : Result A E) (wanting : E) (old new : List Item) (d : Done E A) → r ≡ s → EndsAs wanting r old new d
       → EndsAs wanting s old new d
-  ends-along r s wanting old new d is h = subst (λ (t : Result A E). EndsAs wanting t old new d) is h
+  ends-along r s wanting old new d is h = rw is at h
 
   pub ends-returns : (a : A) (wanting : E) (items : List Item) → EndsAs wanting (Ok a) items items (returns {E = E} a items)
   ends-returns a wanting items = (refl, refl)
@@ -84,13 +68,9 @@ pub begun-appended : (items : List Item) (ss : List (List Item)) → HasBegun it
 begun-appended items [] begun = begun
 begun-appended items (s ∷ ss) begun = begun-appended (items ++ s) ss (more-begun items s begun)
 
-begun_by : {E A : Type 0} (e wanting : E) (old new : List Item) (d : Done E A) → HasBegun old
-    → ((d.answer ≡ Err e) × (new ≡ after old d)) ⊎ ((e ≡ wanting) × IsCutShort old new d.steps) → HasBegun new
-begun_by e wanting old new d begun (inl told) = subst HasBegun (sym told.1) (begun-appended old d.steps begun)
-begun_by e wanting old new d begun (inr cut) =
-    subst HasBegun (sym cut.1.stands) (more-begun old (joined (take cut.1.count d.steps)) begun)
-
 pub ends-begun : {E A : Type 0} (r : Result A E) (wanting : E) (old new : List Item) (d : Done E A) → HasBegun old
     → EndsAs wanting r old new d → HasBegun new
-ends-begun (Ok a) wanting old new d begun h = subst HasBegun (sym h.1) (begun-appended old d.steps begun)
-ends-begun (Err e) wanting old new d begun h = begun_by e wanting old new d begun h
+ends-begun (Ok a) wanting old new d begun h = rw h.1 (begun-appended old d.steps begun)
+ends-begun (Err e) wanting old new d begun h = ⊎_elim
+    (λ told. rw told.1 (begun-appended old d.steps begun))
+    (λ cut. rw cut.1.stands (more-begun old (joined (take cut.1.count d.steps)) begun)) h

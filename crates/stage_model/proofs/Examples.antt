@@ -18,57 +18,39 @@ use Rattle.stage_model.specs.Requests.{changes, claimed_at, or_stop, or_else}
 abbrev limited : ℕ → ℕ → Doing StageStop ℕ
 limited before at items = record { steps = (item.Limit at ∷ []) ∷ []; answer = Ok (before + at) }
 
--- the groups of two steps stand behind each other, and the second sees what the first wrote
-two_steps : (limited 0 5 >>= λ a. limited a 7) [] ≡ record { steps = (item.Limit 5 ∷ []) ∷ ((item.Limit 7 ∷ []) ∷ []); answer = Ok 12 }
-two_steps = refl
+-- the groups of two steps stand behind each other, none behind a stop, and the second sees what the first wrote
+seen_then : ((limited 0 5 >>= λ a. limited a 7) []
+    ≡ record { steps = (item.Limit 5 ∷ []) ∷ ((item.Limit 7 ∷ []) ∷ []); answer = Ok 12 })
+    × ((stops {A = ℕ} stop.Memory >>= λ a. limited a 7) [] ≡ record { steps = []; answer = Err stop.Memory })
+    × ((limited 0 5 >>= λ a. seen (λ items. items)) (item.Trim ∷ [])
+    ≡ record { steps = (item.Limit 5 ∷ []) ∷ []; answer = Ok (item.Trim ∷ (item.Limit 5 ∷ [])) })
+seen_then = (refl, refl, refl)
 
-stopped_first : (stops {A = ℕ} stop.Memory >>= λ a. limited a 7) [] ≡ record { steps = []; answer = Err stop.Memory }
-stopped_first = refl
-
-seen_then : (limited 0 5 >>= λ a. seen (λ items. items)) (item.Trim ∷ [])
-    ≡ record { steps = (item.Limit 5 ∷ []) ∷ []; answer = Ok (item.Trim ∷ (item.Limit 5 ∷ [])) }
-seen_then = refl
-
--- one step for each of three
-three_in_turn : (in_turn limited 0 (1 ∷ (2 ∷ (3 ∷ []))) []).answer ≡ Ok 6
-three_in_turn = refl
-
-none_in_turn : in_turn limited 4 [] [] ≡ returns 4 []
-none_in_turn = refl
-
-groups_in_turn : (in_turn limited 0 (1 ∷ (2 ∷ [])) []).steps ≡ (item.Limit 1 ∷ []) ∷ ((item.Limit 2 ∷ []) ∷ [])
-groups_in_turn = refl
+-- one step for each of three, of two and of none
+turn_examples : ((in_turn limited 0 (1 ∷ (2 ∷ (3 ∷ []))) []).answer ≡ Ok 6) × (in_turn limited 4 [] [] ≡ returns 4 [])
+    × ((in_turn limited 0 (1 ∷ (2 ∷ [])) []).steps ≡ (item.Limit 1 ∷ []) ∷ ((item.Limit 2 ∷ []) ∷ []))
+turn_examples = (refl, refl, refl)
 
 -- a change that is written, and one that is refused
-changed : changes (write item.Trim) [] ≡ record { steps = (item.Trim ∷ []) ∷ []; answer = Ok tt }
-changed = refl
-
-not_changed : changes (refuse which.Memory 128) [] ≡ record { steps = []; answer = Err (refusal.NoGapForTable which.Memory 128) }
-not_changed = refl
+change_examples : (changes (write item.Trim) [] ≡ record { steps = (item.Trim ∷ []) ∷ []; answer = Ok tt })
+    × (changes (refuse which.Memory 128) [] ≡ record { steps = []; answer = Err (refusal.NoGapForTable which.Memory 128) })
+change_examples = (refl, refl)
 
 -- without a place nothing is claimed; what the boot can't do without stops it then
 no_place : claimed_at None 4096 owner.Roots [] ≡ record { steps = []; answer = Err refusal.NoGap }
 no_place = refl
 
-no_roots : or_stop {A = ℕ} what.Roots (Err refusal.NoGap) ≡ Err (stop.NoPlace what.Roots)
-no_roots = refl
-
-no_map : or_stop {A = ℕ} (what.Map 3) (Err refusal.NoGap) ≡ Err (stop.NoPlace (what.Map 3))
-no_map = refl
-
-no_table : or_stop {A = ℕ} what.Roots (Err (refusal.NoGapForTable which.Reserved 256)) ≡ Err (stop.NoTablePlace which.Reserved 256)
-no_table = refl
+no_table : (or_stop {A = ℕ} what.Roots (Err refusal.NoGap) ≡ Err (stop.NoPlace what.Roots))
+    × (or_stop {A = ℕ} (what.Map 3) (Err refusal.NoGap) ≡ Err (stop.NoPlace (what.Map 3)))
+    × (or_stop {A = ℕ} what.Roots (Err (refusal.NoGapForTable which.Reserved 256)) ≡ Err (stop.NoTablePlace which.Reserved 256))
+no_table = (refl, refl, refl)
 
 -- the other one is tried where the first had no gap, and only there
-tried : (or_else (what.Map 3) (stops refusal.NoGap) (limited 0 9) []).answer ≡ Ok 9
-tried = refl
-
-not_tried : (or_else (what.Map 3) (stops (refusal.NoGapForTable which.Memory 128)) (limited 0 9) []).answer
-    ≡ Err (stop.NoTablePlace which.Memory 128)
-not_tried = refl
-
-wants_memory : (or_else (what.Map 3) (stops refusal.Memory) (limited 0 9) []).answer ≡ Err stop.Memory
-wants_memory = refl
+not_tried : ((or_else (what.Map 3) (stops refusal.NoGap) (limited 0 9) []).answer ≡ Ok 9)
+    × ((or_else (what.Map 3) (stops (refusal.NoGapForTable which.Memory 128)) (limited 0 9) []).answer
+    ≡ Err (stop.NoTablePlace which.Memory 128))
+    × ((or_else (what.Map 3) (stops refusal.Memory) (limited 0 9) []).answer ≡ Err stop.Memory)
+not_tried = (refl, refl, refl)
 
 -- memory ran out behind the first of two groups
 ends_cut : EndsAs {A = ℕ} stop.Memory (Err stop.Memory) [] (item.Limit 5 ∷ []) ((limited 0 5 >>= λ a. limited a 7) [])

@@ -1,6 +1,5 @@
 -- Changes and allocations as steps: how a call that carries one out ends.
-use Rattle.std.proofs.Common.{◌≡◌, ◌⊎◌, inl, inr, ℕ, Option, Some, None, List, Result, Ok, Err, IfOk, refl, sym, ◌∙◌, ap, subst}
-use Rattle.bm_base.specs.Extent.{Extent}
+use Rattle.std.proofs.Common.{◌≡◌, inl, inr, ⊎_elim, ℕ, Option, Some, None, List, Result, Ok, Err, IfOk, refl, sym, ◌∙◌, ap}
 use Rattle.memblock_model.specs.declared.which.Which.{Which}
 use Rattle.memblock_model.specs.declared.owner.Owner.{Owner}
 use Rattle.memblock_model.specs.declared.item.Item.{Item}
@@ -17,7 +16,7 @@ use Rattle.memblock_grow.specs.declared.stop.StageStop.{StageStop}
 use Rattle.memblock_grow.specs.declared.stop.StageStop.TheVariants as stop
 use Rattle.stage_model.specs.Doing.{Done, Doing, after, returns, EndsAs}
 use Rattle.stage_model.specs.Requests.{refusal_of, changes, refused_growth, carried, claimed_at, allocated, stop_for, or_stop, placed, unless_gap, or_else}
-use Rattle.stage_model.proofs.DoingLaws.{appended-joined, ends-second, ends-first, ends-along}
+use Rattle.stage_model.proofs.DoingLaws.{appended-joined, ends-second, ends-first}
 
 -- a change
 pub ends-change : (r : Result (Unit {0}) Refusal) (old new : List Item) (change : Change) → Ends r old new change
@@ -47,18 +46,17 @@ found_by : (r : Result ℕ Refusal) (old new : List Item) (place size : ℕ) (wh
     → Ends r old new (claimed (record { base = place; size = size }) who)
     → EndsAs refusal.Memory r old new (claimed_at (Some place) size who old)
 found_by (Ok base) old new place size who at h =
-    ends-second tt (Ok base) refusal.Memory old new new (changes (claimed (record { base = place; size = size }) who)) (λ done. returns
-    place)
-    (ends-change (Ok tt) old new (claimed (record { base = place; size = size }) who) h) (ap (λ (p : ℕ). Ok p) (sym at), refl)
+    let claim : Change = claimed (record { base = place; size = size }) who in
+    ends-second tt (Ok base) refusal.Memory old new new (changes claim) (λ done. returns place) (ends-change (Ok tt) old new claim h)
+    (rw at refl, refl)
 found_by (Err e) old new place size who at h =
-    let range : Extent = record { base = place; size = size } in
-    ends-first e refusal.Memory old new (changes (claimed range who)) (λ done. returns place)
-    (ends-change (Err e) old new (claimed range who) (Ends-error ℕ (Unit {0}) e old new (claimed range who) h))
+    let claim : Change = claimed (record { base = place; size = size }) who in
+    ends-first e refusal.Memory old new (changes claim) (λ done. returns place)
+    (ends-change (Err e) old new claim (Ends-error ℕ (Unit {0}) e old new claim h))
 
 allocation_by : (r : Result ℕ Refusal) (old new : List Item) (place : Option ℕ) (size : ℕ) (who : Owner)
     → Allocates r old new place size who → EndsAs refusal.Memory r old new (claimed_at place size who old)
-allocation_by r old new None size who h =
-    ends-along (Err refusal.NoGap) r refusal.Memory old new (claimed_at None size who old) (sym h.0) (inl (refl, h.1))
+allocation_by r old new None size who h = rw h.0 (inl (refl, h.1))
 allocation_by r old new (Some place) size who h = found_by r old new place size who h.0 h.1
 
 pub ends-allocation : (r : Result ℕ Refusal) (old new : List Item) (q : Request) (who : Owner)
@@ -67,39 +65,25 @@ unfolding allocated
 ends-allocation r old new q who h = allocation_by r old new (place_for q old) q.size who h
 
 -- an allocation that the boot can't do without
-stopped_by : (e : Refusal) (thing : What) (old new : List Item) (d : Done Refusal ℕ)
-    → ((d.answer ≡ Err e) × (new ≡ after old d)) ⊎ ((e ≡ refusal.Memory) × IsCutShort old new d.steps)
-    → EndsAs stop.Memory (or_stop thing (Err e)) old new (record { steps = d.steps; answer = or_stop thing d.answer })
-stopped_by e thing old new d (inl told) = inl (ap (or_stop thing) told.0, told.1)
-stopped_by e thing old new d (inr cut) = inr (ap (stop_for thing) cut.0, cut.1)
-
 pub ends-placed : (r : Result ℕ Refusal) (thing : What) (old new : List Item) (q : Request) (who : Owner)
     → EndsAs refusal.Memory r old new (allocated q who old) → EndsAs stop.Memory (or_stop thing r) old new (placed thing q who old)
 unfolding placed
 ends-placed (Ok place) thing old new q who h = (ap (or_stop thing) h.0, h.1)
-ends-placed (Err e) thing old new q who h = stopped_by e thing old new (allocated q who old) h
+ends-placed (Err e) thing old new q who h =
+    ⊎_elim (λ told. inl (ap (or_stop thing) told.0, told.1)) (λ cut. inr (ap (stop_for thing) cut.0, cut.1)) h
 
 -- one in place of another that had no gap
 module _ {A : Type 0} where
   pub else-first : (a : A) (thing : What) (old new : List Item) (first : Doing Refusal A) (other : Doing StageStop A)
       → EndsAs refusal.Memory (Ok a) old new (first old) → EndsAs stop.Memory (Ok a) old new (or_else thing first other old)
-  else-first a thing old new first other h =
-      subst (λ (answer : Result A Refusal). EndsAs stop.Memory (Ok a) old new
-      (unless_gap thing (first old).steps answer (other (after old (first old))))) (sym h.0) (refl, h.1)
-
-  table_by : (w : Which) (room : ℕ) (thing : What) (old new : List Item) (d : Done Refusal A) (other : Done StageStop A)
-      → ((d.answer ≡ Err (refusal.NoGapForTable w room)) × (new ≡ after old d))
-      ⊎ ((refusal.NoGapForTable w room ≡ refusal.Memory) × IsCutShort old new d.steps)
-      → EndsAs stop.Memory (Err (stop.NoTablePlace w room)) old new (unless_gap thing d.steps d.answer other)
-  table_by w room thing old new d other (inl told) =
-      subst (λ (answer : Result A Refusal). EndsAs {A = A} stop.Memory (Err (stop.NoTablePlace w room)) old new
-      (unless_gap thing d.steps answer other)) (sym told.0) (inl (refl, told.1))
-  table_by w room thing old new d other (inr cut) = let clash : refusal.NoGapForTable w room ≡ refusal.Memory = cut.0 in cc
+  else-first a thing old new first other h = rw h.0 (refl, h.1)
 
   pub else-table : (w : Which) (room : ℕ) (thing : What) (old new : List Item) (first : Doing Refusal A) (other : Doing StageStop A)
       → EndsAs {A = A} refusal.Memory (Err (refusal.NoGapForTable w room)) old new (first old)
       → EndsAs stop.Memory (Err (stop.NoTablePlace w room)) old new (or_else thing first other old)
-  else-table w room thing old new first other h = table_by w room thing old new (first old) (other (after old (first old))) h
+  else-table w room thing old new first other h = ⊎_elim
+      (λ told. rw told.0 (inl (refl, told.1)))
+      (λ cut. let clash : refusal.NoGapForTable w room ≡ refusal.Memory = cut.0 in cc) h
 
   cut_by : (answer : Result A Refusal) (thing : What) (old new : List Item) (steps : List (List Item)) (other : Done StageStop A)
       → IsCutShort old new steps → IsCutShort old new (unless_gap thing steps answer other).steps
@@ -108,32 +92,18 @@ module _ {A : Type 0} where
   cut_by (Err (refusal.NoGapForTable w room)) thing old new steps other cut = cut
   cut_by (Err refusal.Memory) thing old new steps other cut = cut
 
-  wanting_by : (thing : What) (old new : List Item) (d : Done Refusal A) (other : Done StageStop A)
-      → ((d.answer ≡ Err refusal.Memory) × (new ≡ after old d)) ⊎ ((refusal.Memory ≡ refusal.Memory) × IsCutShort old new d.steps)
-      → EndsAs stop.Memory (Err stop.Memory) old new (unless_gap thing d.steps d.answer other)
-  wanting_by thing old new d other (inl told) =
-      subst (λ (answer : Result A Refusal). EndsAs {A = A} stop.Memory (Err stop.Memory) old new
-      (unless_gap thing d.steps answer other)) (sym told.0) (inl (refl, told.1))
-  wanting_by thing old new d other (inr cut) = inr (refl, cut_by d.answer thing old new d.steps other cut.1)
-
   pub else-wanting : (thing : What) (old new : List Item) (first : Doing Refusal A) (other : Doing StageStop A)
       → EndsAs {A = A} refusal.Memory (Err refusal.Memory) old new (first old)
       → EndsAs stop.Memory (Err stop.Memory) old new (or_else thing first other old)
-  else-wanting thing old new first other h = wanting_by thing old new (first old) (other (after old (first old))) h
-
-  gap_at : (old mid : List Item) (d : Done Refusal A)
-      → ((d.answer ≡ Err refusal.NoGap) × (mid ≡ after old d)) ⊎ ((refusal.NoGap ≡ refusal.Memory) × IsCutShort old mid d.steps)
-      → (d.answer ≡ Err refusal.NoGap) × (mid ≡ after old d)
-  gap_at old mid d (inl told) = told
-  gap_at old mid d (inr cut) = let clash : refusal.NoGap ≡ refusal.Memory = cut.0 in cc
+  else-wanting thing old new first other h = ⊎_elim
+      (λ told. rw told.0 (inl (refl, told.1)))
+      (λ cut. inr (refl, cut_by (first old).answer thing old new (first old).steps (other (after old (first old))) cut.1)) h
 
   -- the first had no gap: as the other ends, so do both
   pub else-second : (r : Result A StageStop) (thing : What) (old mid new : List Item) (first : Doing Refusal A) (other : Doing StageStop A)
       → EndsAs {A = A} refusal.Memory (Err refusal.NoGap) old mid (first old) → EndsAs stop.Memory r mid new (other mid)
       → EndsAs stop.Memory r old new (or_else thing first other old)
-  else-second r thing old mid new first other h rest =
-      let was = gap_at old mid (first old) h in
-      let sent : Doing StageStop (Unit {0}) = λ items. record { steps = (first items).steps; answer = Ok tt } in
-      subst (λ (answer : Result A Refusal). EndsAs stop.Memory r old new
-      (unless_gap thing (first old).steps answer (other (after old (first old))))) (sym was.0)
-      (ends-second tt r stop.Memory old mid new sent (λ done. other) (refl, was.1) rest)
+  else-second r thing old mid new first other h rest = ⊎_elim
+      (λ told. let sent : Doing StageStop (Unit {0}) = λ items. record { steps = (first items).steps; answer = Ok tt } in
+      rw told.0 (ends-second tt r stop.Memory old mid new sent (λ done. other) (refl, told.1) rest))
+      (λ cut. let clash : refusal.NoGap ≡ refusal.Memory = cut.0 in cc) h

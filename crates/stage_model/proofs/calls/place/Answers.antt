@@ -1,8 +1,4 @@
-use Rattle.std.proofs.Common.{Ok, Err, ℕ, sym, subst}
-use Rattle.memblock_grow.specs.declared.stop.StageStop.{StageStop}
-use Rattle.memblock_grow.specs.declared.stop.StageStop.TheVariants as stops
-use Rattle.stage_model.specs.Doing.{EndsAs}
-use Rattle.stage_model.specs.Requests.{placed}
+use Rattle.std.proofs.Common.{Ok, Err}
 use Rattle.stage_model.proofs.RequestLaws.{ends-allocation, ends-placed}
 use Rattle.stage_model.proofs.calls.place.Goals as goal
 
@@ -17,7 +13,5 @@ pub returns-in-Err-clause-ends : goal.returns-in-Err-clause-ends
 returns-in-Err-clause-ends c =
     let items = c.args.memblock.now.journal.items in
     let new = c.alloc.new.self.journal.items in
-    subst (λ (stop : StageStop). EndsAs {A = ℕ} stops.Memory (Err stop) items new
-    (placed c.args.what c.args.request.now c.args.owner items)) (sym c.stop_for.ensures)
-    (ends-placed (Err c.in-Err.refusal) c.args.what items new c.args.request.now c.args.owner
+    rw c.stop_for.ensures (ends-placed (Err c.in-Err.refusal) c.args.what items new c.args.request.now c.args.owner
     (ends-allocation (Err c.in-Err.refusal) items new c.args.request.now c.args.owner c.in-Err.ensures.ends))

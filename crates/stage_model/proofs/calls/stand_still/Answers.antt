@@ -1,8 +1,6 @@
 -- The tables that are looked at are those of the items.
-use Rattle.std.proofs.Common.{sym, ◌∙◌, ap, subst}
-use Rattle.phys_store.specs.Bytes.{byte_of}
+use Rattle.std.proofs.Common.{sym, ◌∙◌, ap}
 use Rattle.memblock_ranges.specs.Tables.{Contents}
-use Rattle.growth_model.specs.Bytes.{AreSpelled}
 use Rattle.stage_model.proofs.LentLaws.{goes-none}
 use Rattle.stage_model.proofs.calls.stand_still.Goals as goal
 
@@ -11,4 +9,4 @@ returns c =
     let same = c.tables-fact.ensures.tables in
     goes-none c.args.memblock.now (ap (λ (t : Contents). t.memory) (sym same) ∙ c.tables-fact.ensures.memory)
     (ap (λ (t : Contents). t.reserved) (sym same) ∙ c.tables-fact.ensures.reserved)
-    (subst (λ (t : Contents). AreSpelled t.memory t.reserved (byte_of t.store)) same c.tables-fact.ensures.bytes)
+    (rw same at c.tables-fact.ensures.bytes)
