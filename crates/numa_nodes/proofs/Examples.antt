@@ -29,14 +29,11 @@ last = record { base = 0x8000; size = 0x1000; value = 0 }
 abbrev two_nodes : Judgement
 two_nodes = record { why = why.Used; domains = 9 ∷ (4 ∷ []); joined = low ∷ (high ∷ []); rest = last ∷ []; uncovered = 1 }
 
-joined_before_rest : ranges_given 0x9000 two_nodes ≡ low ∷ (high ∷ (last ∷ []))
-joined_before_rest = refl
-
-all_below_the_limit : ranges_given 0x9000 (unused why.NoBlocks) ≡ record { base = 0; size = 0x9000; value = 0 } ∷ []
-all_below_the_limit = refl
-
-not_covered_too : ranges_given 0x9000 (unused (why.NotCovered 300)) ≡ record { base = 0; size = 0x9000; value = 0 } ∷ []
-not_covered_too = refl
+-- the joined ranges before the rest, where the table is used; else all below the limit
+range_examples : (ranges_given 0x9000 two_nodes ≡ low ∷ (high ∷ (last ∷ [])))
+    × (ranges_given 0x9000 (unused why.NoBlocks) ≡ record { base = 0; size = 0x9000; value = 0 } ∷ [])
+    × (ranges_given 0x9000 (unused (why.NotCovered 300)) ≡ record { base = 0; size = 0x9000; value = 0 } ∷ [])
+range_examples = (refl, refl, refl)
 
 -- memory gets the nodes, and what isn't memory gets none
 abbrev memory_below : ℕ → Labels
@@ -48,23 +45,18 @@ of_node node = with_node (Some node) plain_label
 byte_of_each : (noded_all (low ∷ (high ∷ (last ∷ []))) (memory_below 0x9000) 0x3FFF ≡ Some (of_node 1))
     × (noded_all (low ∷ (high ∷ (last ∷ []))) (memory_below 0x9000) 0x4000 ≡ Some (of_node 0))
     × (noded_all (low ∷ (high ∷ (last ∷ []))) (memory_below 0x9000) 0x8FFF ≡ Some (of_node 0))
+    × (noded_all (low ∷ (high ∷ (last ∷ []))) (memory_below 0x8000) 0x8000 ≡ None)
 unfolding noded_all
-byte_of_each = (refl, refl, refl)
-
-no_memory_no_node : noded_all (low ∷ (high ∷ (last ∷ []))) (memory_below 0x8000) 0x8000 ≡ None
-unfolding noded_all
-no_memory_no_node = refl
+byte_of_each = (refl, refl, refl, refl)
 
 memory_is : (is_memory (item.Mem (record { base = 0x1000; size = 0x1000 }) ∷ []) 0x1FFF ≡ true)
     × (is_memory (item.Mem (record { base = 0x1000; size = 0x1000 }) ∷ []) 0x2000 ≡ false)
 memory_is = (refl, refl)
 
 -- a table that finds no place to grow to stops the boot, and then no further range gets its node
-stopped : carried (refuse which.Memory 128) [] ≡ record { steps = []; answer = Err (stop.NoTablePlace which.Memory 128) }
-stopped = refl
-
-nothing_given : in_turn given tt [] (item.Trim ∷ []) ≡ record { steps = []; answer = Ok tt }
-nothing_given = refl
+given_examples : (carried (refuse which.Memory 128) [] ≡ record { steps = []; answer = Err (stop.NoTablePlace which.Memory 128) })
+    × (in_turn given tt [] (item.Trim ∷ []) ≡ record { steps = []; answer = Ok tt })
+given_examples = (refl, refl)
 
 -- memory of node 5, memory of no node yet, and no memory
 of_node_5 : (is_of_node 5 (Some (of_node 5)) ≡ true) × (is_of_node 4 (Some (of_node 5)) ≡ false)
@@ -84,12 +76,9 @@ third_and_fifth : (f : Labels) → has_node f 3 ≡ true → has_node f 4 ≡ fa
 third_and_fifth f third fourth fifth = rw (third, fourth, fifth) refl
 
 -- what is asked for the data of node 3, and that without nodes nothing is asked
-data_of_node_3 : node_data_request 3
-    ≡ record { size = 176128; align = 64; min = 0; max = None; node = Some 3; exact = false }
-data_of_node_3 = refl
-
-no_data : with_data two_nodes [] [] ≡ record { steps = []; answer = Ok (noded_by two_nodes []) }
-no_data = refl
+data_examples : (node_data_request 3 ≡ record { size = 176128; align = 64; min = 0; max = None; node = Some 3; exact = false })
+    × (with_data two_nodes [] [] ≡ record { steps = []; answer = Ok (noded_by two_nodes []) })
+data_examples = (refl, refl)
 
 told : noded_by two_nodes (0 ∷ (1 ∷ [])) ≡ record { why = why.Used; domains = 9 ∷ (4 ∷ []); uncovered = 1; with_memory = 0 ∷ (1 ∷ []) }
 told = refl

@@ -1,5 +1,5 @@
 -- What the steps make of memory and of the limit: the ranges get their nodes, and that is all.
-use Rattle.std.proofs.Common.{◌≡◌, ℕ, Bool, is_some, Option, Some, None, List, [], ◌∷◌, ◌++◌, Result, Ok, Err, refl, sym, ◌∙◌, ap, subst, inl, inr}
+use Rattle.std.proofs.Common.{◌≡◌, ◌≢◌, ℕ, Bool, is_some, Option, Some, None, List, [], ◌∷◌, ◌++◌, Result, Ok, Err, refl, sym, ◌∙◌, ap, subst, inl, inr}
 use Rattle.std.proofs.lemmas.Bool.{cases_Bool}
 use Rattle.std.specs.Option.{option_map}
 use Rattle.std.proofs.lemmas.List.{append-nil}
@@ -31,25 +31,6 @@ use Rattle.node_hulls.specs.Judgement.{Judgement, judged}
 use Rattle.numa_nodes.specs.Assigned.{Noded, assigned, assigned_by, data_placed, given, is_memory, node_data_request, noded_by, nodes_with_memory, ranges_given, with_data}
 use Rattle.numa_nodes.proofs.AssignLaws.{behind}
 
--- a range that gets its node: the growth before it is quiet
-given-memory_by : (first : Outcome) (r : Option Refused) (items : List Item) (range : Extent) (node : ℕ) → AreQuiet first.steps
-    → refused_growth r ≡ Ok tt
-    → memory_of (appended items (followed_by first r (write (item.Node range node) (after_change items first))).steps)
-    ≡ relabelled range (with_node (Some node)) (memory_of items)
-given-memory_by first None items range node quiet answered =
-    ap memory_of (appended-append items first.steps ((item.Node range node ∷ []) ∷ []))
-    ∙ fold-append memory_after no_memory (appended items first.steps) (item.Node range node ∷ [])
-    ∙ ap (λ (f : Labels). relabelled range (with_node (Some node)) f) (quiet-appended_memory items first.steps quiet)
-given-memory_by first (Some r) items range node quiet answered = absurd (cc)
-
-limit_by : (first : Outcome) (r : Option Refused) (items : List Item) (range : Extent) (node : ℕ) → AreQuiet first.steps
-    → limit_of (appended items (followed_by first r (write (item.Node range node) (after_change items first))).steps) ≡ limit_of items
-limit_by first None items range node quiet =
-    ap limit_of (appended-append items first.steps ((item.Node range node ∷ []) ∷ []))
-    ∙ fold-append limit_after 0 (appended items first.steps) (item.Node range node ∷ [])
-    ∙ quiet-appended_limit items first.steps quiet
-limit_by first (Some r) items range node quiet = quiet-appended_limit items first.steps quiet
-
 -- the growth that may go before
 abbrev growth : List Item → Outcome
 growth items = grown which.Memory two memory_growth items
@@ -57,34 +38,45 @@ growth items = grown which.Memory two memory_growth items
 growth-quiet : (items : List Item) → AreQuiet (growth items).steps
 growth-quiet items = (quiet-grown which.Memory two memory_growth memory_growth-quiet).each items
 
-noded_is : (items : List Item) (range : Extent) (node : ℕ)
-    → noded range node items ≡ followed_by (growth items) (growth items).refused (write (item.Node range node) (after_change items (growth
-    items)))
-unfolding noded
-noded_is items range node = refl
+-- a range that gets its node is an item behind the growth, or, where that was refused, the growth alone
+given-cases : (P : List Item → Type 0) (first : Outcome) (r : Option Refused) (items others : List Item) (node : Item)
+    → P (appended items first.steps ++ node ∷ []) → (r ≢ None → P (appended items first.steps))
+    → P (appended items (followed_by first r (write node others)).steps)
+given-cases P first None items others node whole refused = rw (appended-append items first.steps ((node ∷ []) ∷ [])) whole
+given-cases P first (Some r) items others node whole refused = refused (λ is. cc)
 
-refused-is : (first second : Outcome) → second.refused ≡ None → (followed_by first first.refused second).refused ≡ first.refused
-refused-is first second none = by first.refused refl where
-  by : (r : Option Refused) → first.refused ≡ r → (followed_by first r second).refused ≡ r
-  by None is = none
-  by (Some r) is = is
+given-by : (P : List Item → Type 0) (b : NumaBlock) (items : List Item)
+    → P (appended items (growth items).steps ++ item.Node (extent_of b) b.value ∷ [])
+    → ((growth items).refused ≢ None → P (appended items (growth items).steps)) → P (after items (given tt b items))
+unfolding noded
+given-by P b items =
+    given-cases P (growth items) (growth items).refused items (after_change items (growth items)) (item.Node (extent_of b) b.value)
+
+none-refused : (first second : Outcome) (r : Option Refused) → first.refused ≡ r
+    → refused_growth (followed_by first r second).refused ≡ Ok tt → r ≡ None
+none-refused first second None is answered = refl
+none-refused first second (Some r) is answered = let clash = rw is at answered in absurd (cc clash)
 
 -- what a range with its node makes of memory
 unfoldable pub noded_all : List NumaBlock → Labels → Labels
 noded_all [] f = f
 noded_all (r ∷ rs) f = noded_all rs (relabelled (extent_of r) (with_node (Some r.value)) f)
 
+node-item : (b : NumaBlock) (items : List Item)
+    → memory_of (appended items (growth items).steps ++ item.Node (extent_of b) b.value ∷ [])
+    ≡ relabelled (extent_of b) (with_node (Some b.value)) (memory_of items)
+node-item b items =
+    fold-append memory_after no_memory (appended items (growth items).steps) (item.Node (extent_of b) b.value ∷ [])
+    ∙ ap (relabelled (extent_of b) (with_node (Some b.value))) (quiet-appended_memory items (growth items).steps (growth-quiet items))
+
 given-memory : (b : NumaBlock) (items : List Item) → (given tt b items).answer ≡ Ok tt
     → memory_of (after items (given tt b items)) ≡ relabelled (extent_of b) (with_node (Some b.value)) (memory_of items)
+unfolding noded
 given-memory b items answered =
-    let range : Extent = extent_of b in
-    let first : Outcome = growth items in
-    let second : Outcome = write (item.Node range b.value) (after_change items first) in
-    let is : noded range b.value items ≡ followed_by first first.refused second = noded_is items range b.value in
-    let stopped : refused_growth first.refused ≡ Ok tt =
-    ap refused_growth (sym (refused-is first second refl)) ∙ ap (λ (o : Outcome). refused_growth o.refused) (sym is) ∙ answered in
-    ap (λ (o : Outcome). memory_of (appended items o.steps)) is
-    ∙ given-memory_by first first.refused items range b.value (growth-quiet items) stopped
+    given-by (λ (is : List Item). memory_of is ≡ relabelled (extent_of b) (with_node (Some b.value)) (memory_of items)) b items
+    (node-item b items)
+    (λ refused. absurd (refused (none-refused (growth items)
+    (write (item.Node (extent_of b) b.value) (after_change items (growth items))) (growth items).refused refl answered)))
 
 map-some : (change : Label → Label) (o : Option Label) → is_some (option_map change o) ≡ is_some o
 map-some change None = refl
@@ -96,25 +88,18 @@ relabelled-some range change f x = elim (cases_Bool (covers range x)) as (λ _. 
   | inr not_here ↦ rw not_here refl
 ]
 
-given-some_by : (first : Outcome) (r : Option Refused) (items : List Item) (range : Extent) (node x : ℕ) → AreQuiet first.steps
-    → is_some (memory_of (appended items (followed_by first r (write (item.Node range node) (after_change items first))).steps) x)
-    ≡ is_some (memory_of items x)
-given-some_by first None items range node x quiet =
-    ap (λ (f : Labels). is_some (f x)) (given-memory_by first None items range node quiet refl)
-    ∙ relabelled-some range (with_node (Some node)) (memory_of items) x
-given-some_by first (Some r) items range node x quiet =
-    ap (λ (f : Labels). is_some (f x)) (quiet-appended_memory items first.steps quiet)
-
-given-some : (b : NumaBlock) (items : List Item) (x : ℕ) → is_some (memory_of (after items (given tt b items)) x)
-    ≡ is_some (memory_of items x)
-given-some b items x =
-    ap (λ (o : Outcome). is_some (memory_of (appended items o.steps) x)) (noded_is items (extent_of b) b.value)
-    ∙ given-some_by (growth items) (growth items).refused items (extent_of b) b.value x (growth-quiet items)
+given-some : (x : ℕ) (b : NumaBlock) (items : List Item)
+    → is_some (memory_of (after items (given tt b items)) x) ≡ is_some (memory_of items x)
+given-some x b items =
+    given-by (λ (is : List Item). is_some (memory_of is x) ≡ is_some (memory_of items x)) b items
+    (rw (node-item b items) (relabelled-some (extent_of b) (with_node (Some b.value)) (memory_of items) x))
+    (λ refused. rw (quiet-appended_memory items (growth items).steps (growth-quiet items)) refl)
 
 given-limit : (b : NumaBlock) (items : List Item) → limit_of (after items (given tt b items)) ≡ limit_of items
 given-limit b items =
-    ap (λ (o : Outcome). limit_of (appended items o.steps)) (noded_is items (extent_of b) b.value)
-    ∙ limit_by (growth items) (growth items).refused items (extent_of b) b.value (growth-quiet items)
+    let same = quiet-appended_limit items (growth items).steps (growth-quiet items) in
+    given-by (λ (is : List Item). limit_of is ≡ limit_of items) b items
+    (fold-append limit_after 0 (appended items (growth items).steps) (item.Node (extent_of b) b.value ∷ []) ∙ same) (λ refused. same)
 
 -- node data leaves memory alone
 quiet-data : (done : Unit {0}) (n : ℕ) → IsQuietStep (data_placed done n)
@@ -163,10 +148,8 @@ module _ {V : Type 0} (seen_of : List Item → V)
 pub keeps-memory : (table : Option Affinity) (off : Bool) (items : List Item) (x : ℕ)
     → is_some (memory_of (after items (assigned table off items)) x) ≡ is_some (memory_of items x)
 keeps-memory table off items x =
-    let quiet_too : (is : List Item) (steps : List (List Item)) → AreQuiet steps
-    → is_some (memory_of (appended is steps) x) ≡ is_some (memory_of is x) =
-    λ is steps quiet. ap (λ (f : Labels). is_some (f x)) (quiet-appended_memory is steps quiet) in
-    keeps-all (λ is. is_some (memory_of is x)) quiet_too (λ b is. given-some b is x) table off items
+    keeps-all (λ is. is_some (memory_of is x))
+    (λ is steps quiet. ap (λ (f : Labels). is_some (f x)) (quiet-appended_memory is steps quiet)) (given-some x) table off items
 
 pub keeps-limit : (table : Option Affinity) (off : Bool) (items : List Item)
     → limit_of (after items (assigned table off items)) ≡ limit_of items
@@ -237,6 +220,5 @@ behind-answer table off items noded answered =
     let from : List Item → Done StageStop Noded = λ start. (in_turn given tt ranges >>= behind found) start in
     subst (λ (start : List Item). (from start).answer ≡ Ok noded → IsBehind items found (after start (from start)) noded)
     (sym (append-nil items))
-    (λ told. ended-by items found noded (in_turn given tt ranges items) (in_turn given tt ranges items).answer
-    (turn-memory ranges items) told)
+    (ended-by items found noded (in_turn given tt ranges items) (in_turn given tt ranges items).answer (turn-memory ranges items))
     answered

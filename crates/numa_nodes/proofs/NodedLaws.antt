@@ -1,7 +1,9 @@
 -- Behind the stage each byte of memory has a node below 1,024, and the bytes of a frame have the same.
-use Rattle.std.proofs.Common.{◌≡◌, ℕ, zero, suc, ◌-◌, ◌%◌, ◌*◌, ◌/◌, ◌^◌, ◌<◌, ◌≤◌, Bool, true, false, ◌||◌, is_some, Option, Some, None, List, [], ◌∷◌, ◌++◌, Ok, refl, sym, ◌∙◌, ap, subst, inl, inr, arith}
+use Rattle.std.proofs.Common.{◌≡◌, ℕ, ◌-◌, ◌%◌, ◌*◌, ◌/◌, ◌^◌, ◌<◌, ◌≤◌, Bool, true, false, ◌||◌, is_some, Option, Some, None, List, [], ◌∷◌, ◌++◌, length, Ok, refl, sym, ◌∙◌, ap, inl, inr, arith}
 use Rattle.std.proofs.lemmas.Bool.{cases_lt, cases_Bool, true≢false}
 use Rattle.std.proofs.lemmas.Bool.Decides.{nat_tests}
+use Rattle.std.proofs.Math.Seq.{drop-append_seam, take-append_seam}
+use Rattle.std.proofs.lemmas.List.Elements.{All-drop, All-tail, All-take}
 use Rattle.std.proofs.lemmas.Option.{none-some, same_Some}
 use Rattle.std.specs.Option.{option_map, option_or}
 use Rattle.bm_base.specs.Extent.{covers}
@@ -12,7 +14,6 @@ use Rattle.srat_reader.specs.Table.{Affinity}
 use Rattle.memblock_model.specs.declared.item.Item.{Item}
 use Rattle.memblock_model.specs.Items.{limit_of, memory_of}
 use Rattle.memblock_model.specs.Labels.{Label, Labels, with_node}
-use Rattle.node_hulls.specs.declared.reasons.Why.{Why}
 use Rattle.node_hulls.specs.declared.reasons.Why.TheVariants as why
 use Rattle.node_hulls.specs.Hulls.{NumaBlock}
 use Rattle.node_hulls.specs.Judgement.{Judgement, judged}
@@ -20,8 +21,9 @@ use Rattle.node_hulls.specs.Kept.{frame_base}
 use Rattle.node_hulls.proofs.GivenLaws.{given-covers, given-frames, given-runs, given-small}
 use Rattle.stage_model.specs.Doing.{after}
 use Rattle.stage_model.specs.Noded.{AreOfFrames, IsNoded}
-use Rattle.numa_nodes.specs.Assigned.{Noded, assigned, is_memory, ranges_by}
+use Rattle.numa_nodes.specs.Assigned.{Noded, assigned, ranges_given}
 use Rattle.numa_nodes.specs.Steps.{CanGetNodes}
+use Rattle.numa_nodes.proofs.AssignLaws.{ranges-cases}
 use Rattle.numa_nodes.proofs.MemoryLaws.{behind-answer, noded_all, relabelled-some}
 
 -- a label with a node, where there is one to give
@@ -39,11 +41,8 @@ noded-runs (r ∷ rs) f x runs =
       | inl here ↦
           let before : x < run_end r = grind (arith, nat_tests) in
           let none : value_at rs x ≡ None = none_below (run_end r) x rs runs.2 (rest_from r rs runs) before in
-          let given : g x ≡ option_map (with_node (Some r.value)) (f x) = rw here refl in
-          noded-runs rs g x runs.2 ∙ ap (λ (o : Option ℕ). relabel o (g x)) none ∙ given ∙ sym (rw here refl)
-      | inr not_here ↦
-          let given : g x ≡ f x = rw not_here refl in
-          noded-runs rs g x runs.2 ∙ ap (relabel (value_at rs x)) given ∙ sym (rw not_here refl)
+          rw here (rw (none, here) at (noded-runs rs g x runs.2))
+      | inr not_here ↦ rw not_here (rw not_here at (noded-runs rs g x runs.2))
     ]
 
 noded-append : (rs ss : List NumaBlock) (f : Labels) → noded_all (rs ++ ss) f ≡ noded_all ss (noded_all rs f)
@@ -79,8 +78,8 @@ value-small [] x n can at = absurd (none-some n at)
 value-small (r ∷ rs) x n can at = elim (cases_Bool (lies_in r x)) as (λ _. n < 1024) [
   | inl here ↦
       let small : r.value < 1024 = (can 0 r (omega arith)).1 in
-      subst (λ (m : ℕ). m < 1024) (same_Some r.value n (rw here at at)) small
-  | inr not_here ↦ value-small rs x n (λ k d less. can (suc k) d (omega (arith, less))) (rw not_here at at)
+      rw (← same_Some r.value n (rw here at at)) small
+  | inr not_here ↦ value-small rs x n (All-tail (λ (b : NumaBlock). (0 < b.size) × (b.value < 1024)) r rs can) (rw not_here at at)
 ]
 
 -- what is known of the labels g that memory f got: by these nodes
@@ -141,50 +140,43 @@ two-some a (Some m) some = refl
 two-some (Some n) None some = refl
 two-some None None some = absurd (true≢false (sym some))
 
-first-part : (rs ss : List NumaBlock) → CanGetNodes (rs ++ ss) → CanGetNodes rs
-first-part [] ss can k d less = absurd (omega (arith, less))
-first-part (r ∷ rs) ss can zero d less = can zero d (omega arith)
-first-part (r ∷ rs) ss can (suc k) d less = first-part rs ss (λ j e more. can (suc j) e (omega (arith, more))) k d (omega (arith, less))
+module _ (f : Labels) (off : Bool) (table : Option Affinity) where
+  abbrev found : Judgement
+  found = judged (λ x. is_some (f x)) off table
 
-second-part : (rs ss : List NumaBlock) → CanGetNodes (rs ++ ss) → CanGetNodes ss
-second-part [] ss can = can
-second-part (r ∷ rs) ss can = second-part rs ss (λ j e more. can (suc j) e (omega (arith, more)))
+  abbrev nodes_found : ℕ → Option ℕ
+  nodes_found x = option_or (value_at found.rest x) (value_at found.joined x)
 
-used-given : (limit : ℕ) (f : Labels) (off : Bool) (table : Option Affinity) (j : Judgement) → limit ≤ 2 ^ 64
-    → AreOfFrames (λ x. is_some (f x)) → j ≡ judged (λ x. is_some (f x)) off table → j.why ≡ why.Used
-    → IsGiven limit f (noded_all (j.joined ++ j.rest) f) (λ x. option_or (value_at j.rest x) (value_at j.joined x))
-used-given limit f off table j reach frames is used =
-    let memory : ℕ → Bool = λ x. is_some (f x) in
-    let runs : AreRuns j.joined × AreRuns j.rest =
-    subst (λ (k : Judgement). AreRuns k.joined × AreRuns k.rest) (sym is) (given-runs memory off table) in
-    let can : CanGetNodes (j.joined ++ j.rest) =
-    subst (λ (k : Judgement). CanGetNodes (k.joined ++ k.rest)) (sym is) (given-small memory off table) in
-    let in_frames : (x : ℕ) → memory x ≡ memory (frame_base x) = λ x.
-    let base : 4096 * (x / 4096) ≡ x - x % 4096 = omega arith in frames x ∙ ap memory base in
-    let covers : (x : ℕ) → x < limit → is_some (f x) ≡ true → (is_some (value_at j.joined x) || is_some (value_at j.rest x)) ≡ true =
-    λ x near some.
-    subst (λ (k : Judgement). k.why ≡ why.Used → (is_some (value_at k.joined x) || is_some (value_at k.rest x)) ≡ true) (sym is)
-    (λ same. given-covers memory off table x same some (omega (arith, near, reach))) used in
-    let Same : Judgement → ℕ → Type 0 = λ k x. (value_at k.joined x ≡ value_at k.joined (frame_base x))
-    × (value_at k.rest x ≡ value_at k.rest (frame_base x)) in
-    let same : (x : ℕ) → x < limit → Same j x = λ x near.
-    subst (λ (k : Judgement). Same k x) (sym is) (given-frames memory off table in_frames x (omega (arith, near, reach))) in
-    record {
-      given = λ x near.
-          ap (λ (g : Labels). g x) (noded-append j.joined j.rest f) ∙ noded-runs j.rest (noded_all j.joined f) x runs.1
-          ∙ ap (relabel (value_at j.rest x)) (noded-runs j.joined f x runs.0)
-          ∙ both-relabel (value_at j.joined x) (value_at j.rest x) (f x) (covers x near);
-      small = λ x n at. two-small (value_at j.joined x) (value_at j.rest x) n
-          (λ m has. value-small j.joined x m (first-part j.joined j.rest can) has)
-          (λ m has. value-small j.rest x m (second-part j.joined j.rest can) has) at;
-      whole = λ x near some. two-some (value_at j.joined x) (value_at j.rest x) (covers x near some);
-      frames = λ x near.
-          let base : x - x % 4096 ≡ 4096 * (x / 4096) = omega arith in
-          ap (λ (a : Option ℕ). option_or (value_at j.rest x) a) (same x near).0
-          ∙ ap (λ (b : Option ℕ). option_or b (value_at j.joined (frame_base x))) (same x near).1
-          ∙ ap (λ (y : ℕ). option_or (value_at j.rest y) (value_at j.joined y)) base;
-      kept = λ x. all-some (j.joined ++ j.rest) f x;
-    }
+  used-given : (limit : ℕ) → limit ≤ 2 ^ 64 → AreOfFrames (λ x. is_some (f x)) → found.why ≡ why.Used
+      → IsGiven limit f (noded_all (found.joined ++ found.rest) f) nodes_found
+  used-given limit reach frames used =
+      let memory : ℕ → Bool = λ x. is_some (f x) in
+      let runs = given-runs memory off table in
+      let can = given-small memory off table in
+      let Small : NumaBlock → Type 0 = λ r. (0 < r.size) × (r.value < 1024) in
+      let first : CanGetNodes found.joined =
+      rw (take-append_seam found.joined found.rest) at (All-take Small (length found.joined) (found.joined ++ found.rest) can) in
+      let second : CanGetNodes found.rest =
+      rw (drop-append_seam found.joined found.rest) at (All-drop Small (length found.joined) (found.joined ++ found.rest) can) in
+      let in_frames : (x : ℕ) → memory x ≡ memory (frame_base x) = λ x.
+      let base : 4096 * (x / 4096) ≡ x - x % 4096 = omega arith in frames x ∙ ap memory base in
+      let covers : (x : ℕ) → x < limit → is_some (f x) ≡ true
+      → (is_some (value_at found.joined x) || is_some (value_at found.rest x)) ≡ true =
+      λ x near some. given-covers memory off table x used some (omega (arith, near, reach)) in
+      record {
+        given = λ x near.
+            rw noded-append (noded-runs found.rest (noded_all found.joined f) x runs.1)
+            ∙ ap (relabel (value_at found.rest x)) (noded-runs found.joined f x runs.0)
+            ∙ both-relabel (value_at found.joined x) (value_at found.rest x) (f x) (covers x near);
+        small = λ x n at. two-small (value_at found.joined x) (value_at found.rest x) n
+            (λ m has. value-small found.joined x m first has) (λ m has. value-small found.rest x m second has) at;
+        whole = λ x near some. two-some (value_at found.joined x) (value_at found.rest x) (covers x near some);
+        frames = λ x near.
+            let base : x - x % 4096 ≡ 4096 * (x / 4096) = omega arith in
+            let same = rw base at (given-frames memory off table in_frames x (omega (arith, near, reach))) in
+            rw (same.0, same.1) refl;
+        kept = λ x. all-some (found.joined ++ found.rest) f x;
+      }
 
 -- and without one: all memory lies below the limit
 below-given : (reach limit : ℕ) (f : Labels) → NothingFrom limit f
@@ -207,31 +199,20 @@ below-given reach limit f within = record {
 }
 
 -- by any judgement
-given-noded : (reach limit : ℕ) (f : Labels) (off : Bool) (table : Option Affinity) (j : Judgement) → reach ≤ 2 ^ 64
-    → AreOfFrames f → NothingFrom reach f → NothingFrom limit f → j ≡ judged (λ x. is_some (f x)) off table
-    → (w : Why) → j.why ≡ w → IsNoded reach (noded_all (ranges_by w limit j) f)
-given-noded reach limit f off table j near frames within low is = by where
-  below : IsNoded reach (noded_all (record { base = 0; size = limit; value = 0 } ∷ []) f)
-  below = is-noded reach f (noded_all (record { base = 0; size = limit; value = 0 } ∷ []) f) (λ x. Some 0) (below-given reach limit f low)
-      frames within
-
-  by : (w : Why) → j.why ≡ w → IsNoded reach (noded_all (ranges_by w limit j) f)
-  by why.Used used =
-      is-noded reach f (noded_all (j.joined ++ j.rest) f) (λ x. option_or (value_at j.rest x) (value_at j.joined x))
-      (used-given reach f off table j near (λ x. ap is_some (frames x)) is used) frames within
-  by why.Off other = below
-  by why.Absent other = below
-  by why.NoBlocks other = below
-  by why.TooManyDomains other = below
-  by why.TooManyBlocks other = below
-  by (why.Overlap m n) other = below
-  by (why.NotCovered count) other = below
+given-noded : (reach limit : ℕ) (f : Labels) (off : Bool) (table : Option Affinity) → reach ≤ 2 ^ 64 → AreOfFrames f
+    → NothingFrom reach f → NothingFrom limit f → IsNoded reach (noded_all (ranges_given limit (judged (λ x. is_some (f x)) off table)) f)
+given-noded reach limit f off table near frames within low =
+    let j : Judgement = judged (λ x. is_some (f x)) off table in
+    let below : List NumaBlock = record { base = 0; size = limit; value = 0 } ∷ [] in
+    ranges-cases (λ rs. IsNoded reach (noded_all rs f)) j.why limit j
+    (λ used. is-noded reach f (noded_all (j.joined ++ j.rest) f) (nodes_found f off table)
+    (used-given f off table reach near (λ x. ap is_some (frames x)) used) frames within)
+    (is-noded reach f (noded_all below f) (λ x. Some 0) (below-given reach limit f low) frames within)
 
 pub answer-noded : (reach : ℕ) (table : Option Affinity) (off : Bool) (items : List Item) (noded : Noded)
     → (assigned table off items).answer ≡ Ok noded → reach ≤ 2 ^ 64 → AreOfFrames (memory_of items)
     → NothingFrom reach (memory_of items) → NothingFrom (limit_of items) (memory_of items)
     → IsNoded reach (memory_of (after items (assigned table off items)))
 answer-noded reach table off items noded answered near frames within low =
-    let j : Judgement = judged (is_memory items) off table in
-    subst (λ (f : Labels). IsNoded reach f) (sym (behind-answer table off items noded answered).memory)
-    (given-noded reach (limit_of items) (memory_of items) off table j near frames within low refl j.why refl)
+    rw (behind-answer table off items noded answered).memory
+    (given-noded reach (limit_of items) (memory_of items) off table near frames within low)

@@ -1,14 +1,12 @@
 -- Each node's data is one allocation.
-use Rattle.std.proofs.Common.{Ok, Err, get_or, refl, ◌∙◌, ap}
+use Rattle.std.proofs.Common.{Ok, Err, get_or, refl, ap}
 use Rattle.std.proofs.lemmas.Result.{err_from_is_err_and}
 use Rattle.memblock_model.specs.declared.request.Request.{Request}
-use Rattle.memblock_grow.specs.declared.stop.StageStop.{StageStop}
 use Rattle.memblock_grow.specs.declared.stop.StageStop.TheVariants as stop
-use Rattle.stage_model.specs.Doing.{EndsAs}
 use Rattle.stage_model.proofs.DoingLaws.{ends-begun}
 use Rattle.stage_model.proofs.LentLaws.{goes-then}
 use Rattle.numa_nodes.specs.Assigned.{data_placed}
-use Rattle.numa_nodes.proofs.TurnLaws.{turn-next, turn-stops, turn-done, data-placed, data-stops}
+use Rattle.numa_nodes.proofs.TurnLaws.{turn-next, turn-stops, turn-done, data-placed}
 use Rattle.numa_nodes.proofs.stage.place_data.Goals as goal
 
 pub place-requires-clause-aligned : goal.place-requires-clause-aligned
@@ -16,16 +14,14 @@ place-requires-clause-aligned c = (6, ap (λ (q : Request). q.align) c.node_data
 
 pub returns-in_err-place-clause-ends : goal.returns-in_err-place-clause-ends
 returns-in_err-place-clause-ends c =
-    let nodes = c.args.nodes.now in
-    let i = c.loop-node.node-index in
+    let node = get_or c.args.nodes.now c.loop-node.node-index 0 in
     let here = c.loop-node.memblock.journal.items in
     let new = c.place.new.memblock.journal.items in
+    let e = c.in_err-place.field-0.0 in
     let p = err_from_is_err_and c.from_residual.result c.from_residual.ensures.1 in
-    c.loop-node.invariant.ends c.from_residual.result new
-    (turn-stops data_placed nodes i (get_or nodes i 0) 0 here new c.in_err-place.field-0.0 c.loop-node-test.true refl
-    (data-stops (get_or nodes i 0) here new c.in_err-place.field-0.0 c.node_data_request-request.result
-    c.node_data_request-request.ensures c.in_err-place.ensures.ends)
-    c.from_residual.result (p.1 ∙ ap (λ (s : StageStop). Err s) p.2))
+    rw (p.1, p.2) (turn-stops data_placed c.args.nodes.now c.loop-node.node-index c.args.memblock.now.journal.items here
+    c.loop-node.invariant.ends node 0 new e c.loop-node-test.true refl
+    (data-placed (Err e) node here new c.node_data_request-request.result c.node_data_request-request.ensures c.in_err-place.ensures.ends))
 
 pub returns-in_err-place-clause-lent : goal.returns-in_err-place-clause-lent
 returns-in_err-place-clause-lent c = λ start goes.
@@ -38,18 +34,17 @@ loop-node-preserved c =
     let node = get_or nodes i 0 in
     let here = c.loop-node.memblock.journal.items in
     let mid = c.place.new.memblock.journal.items in
-    let was : EndsAs stop.Memory (Ok tt) here mid (data_placed tt node here) =
-    data-placed node c.in_ok-place.field-0 here mid c.node_data_request-request.result c.node_data_request-request.ensures
+    let was = data-placed (Ok c.in_ok-place.field-0) node here mid c.node_data_request-request.result c.node_data_request-request.ensures
     c.in_ok-place.ensures.ends in
     record {
       begun = ends-begun (Ok tt) stop.Memory here mid (data_placed tt node here) c.loop-node.invariant.begun was;
-      ends = λ r new rest.
-          c.loop-node.invariant.ends r new (turn-next data_placed nodes i node 0 here mid c.loop-node-test.true refl was r new rest);
+      ends = turn-next data_placed nodes i c.args.memblock.now.journal.items here c.loop-node.invariant.ends node 0 mid
+          c.loop-node-test.true refl was;
       lent = λ start goes.
           goes-then start c.loop-node.memblock c.place.new.memblock (c.loop-node.invariant.lent start goes) c.in_ok-place.ensures.lent;
     }
 
 pub returns-clause-ends : goal.returns-clause-ends
 returns-clause-ends c =
-    let here = c.loop-node.memblock.journal.items in
-    c.loop-node.invariant.ends (Ok tt) here (turn-done data_placed c.args.nodes.now c.loop-node.node-index here c.loop-node-test.false)
+    turn-done data_placed c.args.nodes.now c.loop-node.node-index c.args.memblock.now.journal.items c.loop-node.memblock.journal.items
+    c.loop-node.invariant.ends c.loop-node-test.false
