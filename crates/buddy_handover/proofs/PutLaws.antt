@@ -1,9 +1,9 @@
 -- Runs of free frames after some more became free.
-use Rattle.std.proofs.Common.{◌≡◌, ℕ, ◌+◌, ◌^◌, ◌≤◌, None, List, refl, inl, inr, ◌∙◌, arith}
+use Rattle.std.proofs.Common.{◌≡◌, ℕ, ◌+◌, ◌^◌, ◌≤◌, None, List, refl, ◌∙◌, arith}
 use Rattle.bm_base.specs.Extent.{Extent, covers}
 use Rattle.address_runs.specs.Runs.{RunOf, IsRunsOf, value_at}
 use Rattle.address_runs.specs.Edits.{replaced, uncovered, NothingFrom}
-use Rattle.std.proofs.lemmas.Bool.{cases_Bool}
+use Rattle.std.proofs.lemmas.Bool.{cond_both}
 use Rattle.address_runs.proofs.EditLaws.{nothing-replaced}
 use Rattle.frame_blocks.specs.declared.run.TheConstants.{MAX_FRAMES}
 
@@ -16,7 +16,4 @@ in_space rs none x high = none x (omega arith)
 
 pub low_cut : (r : Extent) (rs new : List (RunOf ℕ)) → NothingFrom MAX_FRAMES (value_at rs) → IsRunsOf (uncovered r (value_at rs)) new
     → NothingFrom MAX_FRAMES (value_at new)
-low_cut r rs new none known x high = known.each x ∙ elim (cases_Bool (covers r x)) as (λ _. uncovered r (value_at rs) x ≡ None) [
-  | inl on ↦ rw on refl
-  | inr off ↦ rw off (none x high)
-]
+low_cut r rs new none known x high = known.each x ∙ cond_both (covers r x) None _ (λ o. o ≡ None) (λ on. refl) (λ off. none x high)

@@ -1,23 +1,21 @@
 -- Frames that leave the free ones, and frames that come back: what the index of blocks is told of them.
-use Rattle.std.proofs.Common.{◌≡◌, ℕ, suc, ◌+◌, ◌-◌, ◌^◌, ◌<◌, ◌≤◌, Bool, is_some, Option, Some, None, IsSome, IfSome, List, [], ◌∷◌, length, refl, sym, ◌∙◌, ap, subst, inl, inr, arith}
-use Rattle.std.proofs.lemmas.Bool.{cases_Bool}
+use Rattle.std.proofs.Common.{◌≡◌, ℕ, suc, ◌+◌, ◌-◌, ◌<◌, ◌≤◌, Bool, is_some, Option, Some, None, IsSome, IfSome, List, [], ◌∷◌, length, refl, sym, ◌∙◌, ap, arith}
 use Rattle.std.proofs.lemmas.List.Sums.{length-filter}
 use Rattle.std.specs.List.{find, filter}
-use Rattle.std.specs.Option.{option_or, option_map}
+use Rattle.std.specs.Option.{option_map}
 use Rattle.bm_base.specs.declared.zone.Zone.{Zone}
 use Rattle.address_runs.specs.Runs.{RunOf, value_at, IsRunsOf}
 use Rattle.address_runs.specs.Edits.{NothingFrom}
 use Rattle.frame_blocks.specs.declared.block.Block.{Block}
 use Rattle.frame_blocks.specs.declared.run.TheConstants.{MAX_FRAMES}
 use Rattle.frame_blocks.specs.Frames.{Frames, IsInSet, AreFree, IsBlock, IsInBlock}
-use Rattle.frame_blocks.specs.Listed.{order_up_to, block_around, block_for, block_of, blocks_of, is_of, count_of}
+use Rattle.frame_blocks.specs.Listed.{block_of, blocks_of, is_of, count_of}
 use Rattle.frame_blocks.specs.Picked.{IsPicked, NoneServes, picked_up, picked, first_picked}
 use Rattle.frame_blocks.specs.Buddies.{without_set, with_set, IsWithout}
 use Rattle.frame_blocks.proofs.GoodLaws.{up_most}
 use Rattle.frame_blocks.proofs.BlockLaws.{block_found}
 use Rattle.frame_blocks.proofs.BuddyLaws.{set_covers, without_is, with_is}
 use Rattle.frame_blocks.proofs.PickLaws.{picked_is, picked_none}
-use Rattle.free_areas.specs.Areas.{AreAreas}
 
 -- what the index answers is what is picked
 pub first_is : (f : Frames) (n : ℕ) (z : Zone) (o : ℕ) (b : Block) → NothingFrom MAX_FRAMES f → IsPicked f n z o b
@@ -30,35 +28,24 @@ first_none f n z o low none = ap (option_map (λ (c : Block). c.first)) (picked_
 -- by how many blocks there are of each order: one that has none is passed over, and one that has some serves
 none_left : (p : Block → Bool) (bs : List Block) → length (filter p bs) ≡ 0 → find p bs ≡ None
 none_left p [] is = refl
-none_left p (b ∷ bs) is = elim (cases_Bool (p b)) as (λ _. find p (b ∷ bs) ≡ None) [
-  | inl on ↦ let many : length (b ∷ filter p bs) ≡ 0 = rw on at is in absurd (omega (arith, many))
-  | inr off ↦ rw off (none_left p bs (rw off at is))
-]
+none_left p (b ∷ bs) is = grind (arith, none_left p bs)
 
 some_left : (p : Block → Bool) (bs : List Block) → 0 < length (filter p bs) → IsSome (find p bs)
 some_left p [] some = absurd (omega (arith, some))
-some_left p (b ∷ bs) some = elim (cases_Bool (p b)) as (λ _. IsSome (find p (b ∷ bs))) [
-  | inl on ↦ rw on refl
-  | inr off ↦ rw off (some_left p bs (rw off at some))
-]
-
-some_or : (o other : Option Block) → IsSome o → IsSome (option_or o other)
-some_or None other some = cc some
-some_or (Some b) other some = refl
+some_left p (b ∷ bs) some = grind (arith, some_left p bs)
 
 pub passed_by : (f : Frames) (n : ℕ) (z : Zone) (o k : ℕ) → count_of f n z o ≡ 0 → picked_up f n z o (suc k) ≡ picked_up f n z (o + 1) k
 unfolding count_of
-passed_by f n z o k none = rw (none_left (is_of n z o) (blocks_of f) (length-filter (is_of n z o) (blocks_of f) ∙ none)) refl
+passed_by f n z o k none = grind (arith, none_left (is_of n z o) (blocks_of f), length-filter (is_of n z o) (blocks_of f), none)
 
 pub serves_at : (f : Frames) (n : ℕ) (z : Zone) (o k : ℕ) → 0 < count_of f n z o → IsSome (picked_up f n z o (suc k))
 unfolding count_of
 serves_at f n z o k some =
-    some_or (find (is_of n z o) (blocks_of f)) (picked_up f n z (o + 1) k) (some_left (is_of n z o) (blocks_of f)
-    (subst (λ (m : ℕ). 0 < m) (sym (length-filter (is_of n z o) (blocks_of f))) some))
+    let there = some_left (is_of n z o) (blocks_of f) (rw length-filter some) in
+    grind (arith, there)
 
 first_there : (o : Option Block) → is_some (option_map (λ (c : Block). c.first) o) ≡ is_some o
-first_there None = refl
-first_there (Some b) = refl
+first_there o = grind arith
 
 pub serves_is : (f : Frames) (n : ℕ) (z : Zone) (o : ℕ) → is_some (first_picked f n z o) ≡ is_some (picked_up f n z o (11 - o))
 unfolding picked
@@ -84,11 +71,7 @@ runs_with g rs o x n held runs =
 set_fits : (f : Frames) (x n o : ℕ) (b : Block) → f x ≡ Some n → o ≤ 10 → AreFree f o x n → block_of f x ≡ Some b → o ≤ b.order
 set_fits f x n o b is small free found =
     let most = up_most f x n 10 o small free in
-    let there : block_of f x ≡ Some (block_around (order_up_to f x n 10) x n) = ap (block_for f x) is in
-    let same : block_around (order_up_to f x n 10) x n ≡ b = let both : Some (block_around (order_up_to f x n 10) x n) ≡ Some b =
-    sym there ∙ found in cc in
-    let order = ap (λ (c : Block). c.order) same in
-    omega (arith, most, order)
+    grind (arith, most, is, found)
 
 -- the block in which a set is that has come back
 pub joined_block : (g : Frames) (rs : List (RunOf ℕ)) (o x n : ℕ) (b : Option Block) → o ≤ 10 → IsRunsOf (with_set o x n g) rs
@@ -99,24 +82,6 @@ joined_block g rs o x n (Some b) small runs is =
     let found = block_found (value_at rs) x b (sym is) in
     let free : AreFree (value_at rs) o x n = λ y same. runs.each y ∙ rw (set_covers o x y same) refl in
     (found.0, found.1, set_fits (value_at rs) x n o b (free x refl) small free (sym is))
-
--- the index that is left, where there is one
-pub rest_areas : (f g : Frames) (b : Block) (behind : Option Block) (o : ℕ) (before : List Block) (rest : Option (List Block))
-    → AreAreas f before
-    → IsWithout f g o b.first → IsBlock f b → o ≤ b.order → behind ≡ block_of f (b.first + 2 ^ b.order)
-    → IfSome rest (λ left. (f g : Frames) → AreAreas f before → IsWithout f g o b.first → IsBlock f b → o ≤ b.order
-    → behind ≡ block_of f (b.first + 2 ^ b.order) → AreAreas g left)
-    → IfSome rest (λ left. AreAreas g left)
-rest_areas f g b behind o before None areas without block order next told = tt
-rest_areas f g b behind o before (Some left) areas without block order next told = told f g areas without block order next
-
-pub all_areas : (f g : Frames) (b : Option Block) (o x : ℕ) (before all : Option (List Block)) → IfSome before (λ areas. AreAreas g areas)
-    → IsWithout f g o x → IfSome b (λ c. IsBlock f c × IsInBlock c x × (o ≤ c.order))
-    → IfSome all (λ left. (f g : Frames) → IfSome before (λ areas. AreAreas g areas) → IsWithout f g o x
-    → IfSome b (λ c. IsBlock f c × IsInBlock c x × (o ≤ c.order)) → AreAreas f left)
-    → IfSome all (λ left. AreAreas f left)
-all_areas f g b o x before None areas without block told = tt
-all_areas f g b o x before (Some left) areas without block told = told f g areas without block
 
 pub block_small : (f : Frames) (x : ℕ) (b : Option Block) → b ≡ block_of f x → IfSome b (λ c. c.order ≤ 10)
 block_small f x None is = tt

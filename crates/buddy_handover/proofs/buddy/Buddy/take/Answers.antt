@@ -1,12 +1,13 @@
-use Rattle.std.proofs.Common.{◌≡◌, ℕ, ◌+◌, ◌^◌, is_some, List, Result, Ok, Err, IfErr, ◌∙◌, ap, subst, arith}
+use Rattle.std.proofs.Common.{◌≡◌, ◌+◌, ◌^◌, is_some, Result, Ok, Err, IfErr, ◌∙◌, ap, subst, arith}
 use Rattle.bm_base.specs.Extent.{Extent}
-use Rattle.address_runs.specs.Runs.{RunOf, value_at, IsRunsOf}
-use Rattle.address_runs.specs.Edits.{uncovered, NothingFrom}
+use Rattle.address_runs.specs.Runs.{value_at, IsRunsOf}
+use Rattle.address_runs.specs.Edits.{NothingFrom}
 use Rattle.frame_blocks.specs.declared.run.TheConstants.{MAX_FRAMES}
 use Rattle.frame_blocks.specs.Listed.{block_of}
 use Rattle.frame_blocks.specs.Buddies.{without_set}
 use Rattle.buddy_handover.specs.Contents.{Contents, free}
-use Rattle.buddy_handover.proofs.TakeLaws.{first_is, first_none, runs_without, rest_areas}
+use Rattle.std.proofs.lemmas.Option.{IfSome_then}
+use Rattle.buddy_handover.proofs.TakeLaws.{first_is, first_none, runs_without}
 use Rattle.buddy_handover.proofs.buddy.Buddy.take.Goals as goal
 
 pub returns-in_default-least-clause-none : goal.returns-in_default-least-clause-none
@@ -19,34 +20,26 @@ pub invariant_of-self-2 : goal.invariant_of-self-2
 invariant_of-self-2 c =
     let o = c.args.order in
     let b = c.in-Some.block in
-    let rs = c.self-2.inside.runs.items in
-    let new = c.cut.new.runs.items in
     let f = free c.args.self.now in
+    let new = c.cut.new.runs.items in
     let view = ap (λ (d : Contents). d.runs) c.self-2.view_is in
     let ready = c.in_ok-ready.ensures.runs in
     let stays = ap (λ (d : Contents). d.runs) c.in-Ok.ensures.stays in
-    let same : rs ≡ c.args.self.now.runs = view ∙ ready ∙ stays in
     let spare = ap (λ (d : Contents). d.spare) c.self-2.view_is in
-    let enough = c.in_ok-ready.ensures.enough in
     let room = c.self-2.invariant.0 in
-    let len = c.cut.ensures.len in
-    let capacity = c.cut.ensures.capacity in
     let runs : IsRunsOf (without_set o b.first f) new =
-    subst (λ (qs : List (RunOf ℕ)). IsRunsOf (without_set o b.first (value_at qs)) new) same
-    (subst (λ (r : Extent). IsRunsOf (uncovered r (value_at rs)) new) c.set_around-2.ensures.frames c.cut.ensures.runs) in
+    rw (view ∙ ready ∙ stays) at (rw c.set_around-2.ensures.frames at c.cut.ensures.runs) in
     let is = c.in-Some.ensures f c.in-Ok.ensures.areas in
     let aligned = is.block.aligned in
     let base = ap (λ (r : Extent). r.base) c.set_around.ensures.frames in
     let size = ap (λ (r : Extent). r.size) c.set_around.ensures.frames in
-    let value = c.end.ensures.value in
-    let end : c.end.result ≡ b.first + 2 ^ b.order = omega (arith, value, base, size, aligned) in
-    let behind : c.block_of-behind.result ≡ block_of f (b.first + 2 ^ b.order) =
-    c.block_of-behind.ensures ∙ ap (λ (qs : List (RunOf ℕ)). block_of (value_at qs) c.end.result) (ready ∙ stays) ∙ ap (block_of f) end in (
-      omega (arith, spare, enough, room, len, capacity),
+    let end : c.end.result ≡ b.first + 2 ^ b.order = omega (arith, base, size, aligned) in
+    let behind : c.block_of-behind.result ≡ block_of f (b.first + 2 ^ b.order) = rw (← end, ← ready ∙ stays) c.block_of-behind.ensures in (
+      omega (arith, spare, room),
       runs.runs,
       c.cut.ensures.within,
-      rest_areas f (value_at new) b c.block_of-behind.result o c.in-Ok.areas c.split-rest.result c.in-Ok.ensures.areas
-          (runs_without f new o b.first runs) is.block is.serves.enough behind c.split-rest.ensures,
+      IfSome_then c.split-rest.result c.split-rest.ensures (λ left told.
+          told f (value_at new) c.in-Ok.ensures.areas (runs_without f new o b.first runs) is.block is.serves.enough behind),
     )
 
 pub returns-clause-first : goal.returns-clause-first
