@@ -22,21 +22,13 @@ use Rattle.report_texts.specs.OwnersText.{owner_line, owner_text, owners_text, w
 use Rattle.report_texts.specs.RecordsText.{IsTableAt, extent_line, record_line, records_text, region_line}
 use Rattle.report_texts.specs.TablesText.{table_line, tables_text}
 
--- elements are numbered one by one
-numbered_lines : lines_from (λ n x. decimal n ++ x) 8 (codes "a" ∷ codes "b" ∷ codes "c" ∷ []) ≡ codes "8a9b10c"
-unfolding digits
-numbered_lines = refl
-
--- one byte, and none at all
-range_examples : (range_text (record { base = 0x1000; size = 1 }) ≡ codes "0x0000000000001000..0x0000000000001000")
+-- elements are numbered one by one; a range of one byte, and of none at all; an index has four places, and as many as it takes
+line_examples : (lines_from (λ n x. decimal n ++ x) 8 (codes "a" ∷ codes "b" ∷ codes "c" ∷ []) ≡ codes "8a9b10c")
+    × (range_text (record { base = 0x1000; size = 1 }) ≡ codes "0x0000000000001000..0x0000000000001000")
     × (range_text (record { base = 0; size = 0 }) ≡ codes "0x0000000000000000..0x0000000000000000")
+    × (index_text 7 ≡ codes "   7: ") × (index_text 9999 ≡ codes "9999: ") × (index_text 12345 ≡ codes "12345: ")
 unfolding digits
-range_examples = (refl, refl)
-
--- four places, and as many as it takes
-index_examples : (index_text 7 ≡ codes "   7: ") × (index_text 9999 ≡ codes "9999: ") × (index_text 12345 ≡ codes "12345: ")
-unfolding digits
-index_examples = (refl, refl, refl)
+line_examples = (refl, refl, refl, refl, refl, refl)
 
 -- the map
 ram_at_1M : RunOf ℕ
@@ -45,26 +37,16 @@ ram_at_1M = record { base = 0x100000; size = 0x7EE0000; value = 1 }
 reserved_behind : RunOf ℕ
 reserved_behind = record { base = 0x7FE0000; size = 0x20000; value = 2 }
 
-line_of_ram : map_line 0 ram_at_1M ≡ codes "0x0000000000100000..0x0000000007fdffff 1 usable\n"
-unfolding ram_at_1M digits
-line_of_ram = refl
-
-line_of_reserved : map_line 1 reserved_behind ≡ codes "0x0000000007fe0000..0x0000000007ffffff 2 reserved\n"
-unfolding reserved_behind digits
-line_of_reserved = refl
-
-two_runs : map_text (ram_at_1M ∷ reserved_behind ∷ [])
-    ≡ codes "0x0000000000100000..0x0000000007fdffff 1 usable\n0x0000000007fe0000..0x0000000007ffffff 2 reserved\n"
+map_examples : (map_line 0 ram_at_1M ≡ codes "0x0000000000100000..0x0000000007fdffff 1 usable\n")
+    × (map_line 1 reserved_behind ≡ codes "0x0000000007fe0000..0x0000000007ffffff 2 reserved\n")
+    × (map_text (ram_at_1M ∷ reserved_behind ∷ [])
+    ≡ codes "0x0000000000100000..0x0000000007fdffff 1 usable\n0x0000000007fe0000..0x0000000007ffffff 2 reserved\n")
+    × (map_text [] ≡ []) × (kind_name 0xEFFFFFFF ≡ codes "soft reserved") × (kind_name 6 ≡ codes "other")
+    × (kind_name 128 ≡ codes "usable kernel")
 unfolding ram_at_1M reserved_behind digits
-two_runs = refl
+map_examples = (refl, refl, refl, refl, refl, refl, refl)
 
-no_runs : map_text [] ≡ []
-no_runs = refl
-
-kind_examples : (kind_name 0xEFFFFFFF ≡ codes "soft reserved") × (kind_name 6 ≡ codes "other") × (kind_name 128 ≡ codes "usable kernel")
-kind_examples = (refl, refl, refl)
-
--- the options
+-- the options; those of the crash area are `crashkernel=1G-2G:64M,2G-:128M@16M`
 first_MiB : Extent
 first_MiB = record { base = 0; size = 0x100000 }
 
@@ -72,99 +54,63 @@ edit_examples : (edit_text (edits.Add first_MiB 12) ≡ codes "add 12 0x00000000
     × (edit_text (edits.Remove first_MiB 1) ≡ codes "remove 1 0x0000000000000000..0x00000000000fffff")
     × (edit_text (edits.RemoveAll first_MiB) ≡ codes "remove-all 0x0000000000000000..0x00000000000fffff")
     × (edit_text (edits.Change first_MiB 2 1) ≡ codes "change 2 1 0x0000000000000000..0x00000000000fffff")
-    × (edit_text edits.Clear ≡ codes "clear")
+    × (edit_text edits.Clear ≡ codes "clear") × (kind_text 1 ≡ codes "1 ") × (kind_text 4026531839 ≡ codes "4026531839 ")
+    × (edit_line 0 edits.Clear ≡ codes "clear\n") × (edit_line 5 edits.Clear ≡ codes "clear\n")
+    × (numa_line true ≡ codes "numa off\n") × (numa_line false ≡ [])
 unfolding first_MiB digits
-edit_examples = (refl, refl, refl, refl, refl)
+edit_examples = (refl, refl, refl, refl, refl, refl, refl, refl, refl, refl, refl)
 
-kind_texts : (kind_text 1 ≡ codes "1 ") × (kind_text 4026531839 ≡ codes "4026531839 ")
-unfolding digits
-kind_texts = (refl, refl)
-
-edit_lines : (edit_line 0 edits.Clear ≡ codes "clear\n") × (edit_line 5 edits.Clear ≡ codes "clear\n")
-edit_lines = (refl, refl)
-
-numa_examples : (numa_line true ≡ codes "numa off\n") × (numa_line false ≡ [])
-numa_examples = (refl, refl)
-
--- `crashkernel=1G-2G:64M,2G-:128M@16M`
 up_to_2G : CrashRange
 up_to_2G = record { start = 0x40000000; end = Some 0x80000000; size = 0x4000000 }
 
 from_2G : CrashRange
 from_2G = record { start = 0x80000000; end = None; size = 0x8000000 }
 
-end_examples : (end_text (Some 0x80000000) ≡ codes "0x0000000080000000") × (end_text None ≡ codes "-")
-unfolding digits
-end_examples = (refl, refl)
-
-range_texts : (crash_range_text up_to_2G ≡ codes "0x0000000040000000 0x0000000080000000 0x0000000004000000")
+crash_examples : (end_text (Some 0x80000000) ≡ codes "0x0000000080000000") × (end_text None ≡ codes "-")
+    × (crash_range_text up_to_2G ≡ codes "0x0000000040000000 0x0000000080000000 0x0000000004000000")
     × (crash_range_text from_2G ≡ codes "0x0000000080000000 - 0x0000000008000000")
-unfolding up_to_2G from_2G crash_range_text digits
-range_texts = (refl, refl)
-
-crash_ranges : (crash_range_line 0 0 up_to_2G
+    × (crash_range_line 0 0 up_to_2G
     ≡ codes "crash range 0x0000000040000000 0x0000000080000000 0x0000000004000000 base 0x0000000000000000\n")
     × (crash_range_line 0x1000000 1 from_2G ≡ codes "crash range 0x0000000080000000 - 0x0000000008000000 base 0x0000000001000000\n")
-unfolding up_to_2G from_2G crash_range_text digits
-crash_ranges = (refl, refl)
-
-plain_examples : (plain_lines (Some (record { ranges = from_2G ∷ []; base = 0 }))
+    × (plain_lines (Some (record { ranges = from_2G ∷ []; base = 0 }))
     ≡ codes "crash range 0x0000000080000000 - 0x0000000008000000 base 0x0000000000000000\n")
     × (plain_lines None ≡ [])
-unfolding from_2G crash_range_text digits
-plain_examples = (refl, refl)
-
-size_lines : (size_line (codes "crash low ") (Some 0) ≡ codes "crash low 0x0000000000000000\n") × (size_line (codes "crash low ") None ≡ [])
-unfolding digits
-size_lines = (refl, refl)
-
-crash_examples : (crash_lines (record { plain = None; high = Some 0x20000000; low = Some 0x4000000 })
+    × (size_line (codes "crash low ") (Some 0) ≡ codes "crash low 0x0000000000000000\n") × (size_line (codes "crash low ") None ≡ [])
+    × (crash_lines (record { plain = None; high = Some 0x20000000; low = Some 0x4000000 })
     ≡ codes "crash high 0x0000000020000000\ncrash low 0x0000000004000000\n")
     × (crash_lines no_crash ≡ [])
-unfolding digits
-crash_examples = (refl, refl)
+unfolding up_to_2G from_2G crash_range_text digits
+crash_examples = (refl, refl, refl, refl, refl, refl, refl, refl, refl, refl, refl, refl)
 
-some_options : options_text (record {
+option_examples : (options_text (record {
   edits = edits.Clear ∷ edits.Add first_MiB 1 ∷ [];
   crash = record { plain = None; high = None; low = Some 0x4000000 };
   numa_off = true;
   add_efi = true;
 })
-    ≡ codes "clear\nadd 1 0x0000000000000000..0x00000000000fffff\ncrash low 0x0000000004000000\nnuma off\nefi add\n"
+    ≡ codes "clear\nadd 1 0x0000000000000000..0x00000000000fffff\ncrash low 0x0000000004000000\nnuma off\nefi add\n")
+    × (options_text (record { edits = []; crash = no_crash; numa_off = false; add_efi = false }) ≡ [])
 unfolding first_MiB digits
-some_options = refl
-
-no_options : options_text (record { edits = []; crash = no_crash; numa_off = false; add_efi = false }) ≡ []
-no_options = refl
+option_examples = (refl, refl)
 
 -- owners
-which_examples : (which_name which.Memory ≡ codes "memory") × (which_name which.Reserved ≡ codes "reserved")
-which_examples = (refl, refl)
-
-owner_examples : (owner_text owner.Low64K ≡ codes "low-64k") × (owner_text owner.Soft ≡ codes "soft-reserved")
-    × (owner_text (owner.Table which.Reserved) ≡ codes "table-reserved") × (owner_text (owner.NodeData 1) ≡ codes "node-data 1")
-    × (owner_text (owner.Script 4294967295) ≡ codes "script 4294967295") × (owner_text owner.CrashLow ≡ codes "crash-low")
-unfolding digits
-owner_examples = (refl, refl, refl, refl, refl, refl)
-
 low : RunOf Owner
 low = record { base = 0; size = 0x100000; value = owner.Low1M }
 
 of_kernel : RunOf Owner
 of_kernel = record { base = 0x1000000; size = 0x2000000; value = owner.Kernel }
 
-owner_lines : (owner_line 0 low ≡ codes "   0: 0x0000000000000000..0x00000000000fffff low-1m\n")
+owner_examples : (which_name which.Memory ≡ codes "memory") × (which_name which.Reserved ≡ codes "reserved")
+    × (owner_text owner.Low64K ≡ codes "low-64k") × (owner_text owner.Soft ≡ codes "soft-reserved")
+    × (owner_text (owner.Table which.Reserved) ≡ codes "table-reserved") × (owner_text (owner.NodeData 1) ≡ codes "node-data 1")
+    × (owner_text (owner.Script 4294967295) ≡ codes "script 4294967295") × (owner_text owner.CrashLow ≡ codes "crash-low")
+    × (owner_line 0 low ≡ codes "   0: 0x0000000000000000..0x00000000000fffff low-1m\n")
     × (owner_line 12 of_kernel ≡ codes "  12: 0x0000000001000000..0x0000000002ffffff kernel\n")
+    × (owners_text (low ∷ of_kernel ∷ [])
+    ≡ codes "   0: 0x0000000000000000..0x00000000000fffff low-1m\n   1: 0x0000000001000000..0x0000000002ffffff kernel\n")
+    × (owners_text [] ≡ [])
 unfolding low of_kernel digits
-owner_lines = (refl, refl)
-
-two_owners : owners_text (low ∷ of_kernel ∷ [])
-    ≡ codes "   0: 0x0000000000000000..0x00000000000fffff low-1m\n   1: 0x0000000001000000..0x0000000002ffffff kernel\n"
-unfolding low of_kernel digits
-two_owners = refl
-
-no_owner : owners_text [] ≡ []
-no_owner = refl
+owner_examples = (refl, refl, refl, refl, refl, refl, refl, refl, refl, refl, refl, refl)
 
 -- the journal
 item_examples : (item_text (item.Mem first_MiB) ≡ codes "mem 0x0000000000000000..0x00000000000fffff") × (item_text item.Trim ≡ codes "trim")
@@ -176,55 +122,32 @@ item_examples : (item_text (item.Mem first_MiB) ≡ codes "mem 0x000000000000000
     × (item_text (item.Upward true) ≡ codes "upward on")
     × (item_text (item.Upward false) ≡ codes "upward off")
     × (item_text (item.Grown which.Memory 0x9D000 256) ≡ codes "grown memory 0x000000000009d000 room 256")
+    × (switch_text true ≡ codes "on") × (switch_text false ≡ codes "off")
+    × (item_line 0 item.Trim ≡ codes "1: trim\n") × (item_line 9 (item.Limit 0) ≡ codes "10: limit 0x0000000000000000\n")
+    × (journal_text (item.Limit 0x100000 ∷ item.Trim ∷ []) ≡ codes "1: limit 0x0000000000100000\n2: trim\n") × (journal_text [] ≡ [])
 unfolding first_MiB digits
-item_examples = (refl, refl, refl, refl, refl, refl, refl, refl, refl, refl)
+item_examples = (refl, refl, refl, refl, refl, refl, refl, refl, refl, refl, refl, refl, refl, refl, refl, refl)
 
-switch_examples : (switch_text true ≡ codes "on") × (switch_text false ≡ codes "off")
-switch_examples = (refl, refl)
-
-item_lines : (item_line 0 item.Trim ≡ codes "1: trim\n") × (item_line 9 (item.Limit 0) ≡ codes "10: limit 0x0000000000000000\n")
-unfolding digits
-item_lines = (refl, refl)
-
-two_items : journal_text (item.Limit 0x100000 ∷ item.Trim ∷ []) ≡ codes "1: limit 0x0000000000100000\n2: trim\n"
-unfolding digits
-two_items = refl
-
-no_items : journal_text [] ≡ []
-no_items = refl
-
--- records, of which the node isn't told
+-- records, of which the node isn't told; a record ends where addresses end
 of_node_1 : RunOf Label
 of_node_1 = record { base = 0x1000; size = 0x9E000; value = with_node (Some 1) plain_label }
 
 of_no_node : RunOf Label
 of_no_node = record { base = 0x100000; size = 0x7EE0000; value = plain_label }
 
-extent_lines : (extent_line 0 first_MiB ≡ codes "   0: 0x0000000000000000..0x00000000000fffff\n")
+record_examples : (extent_line 0 first_MiB ≡ codes "   0: 0x0000000000000000..0x00000000000fffff\n")
     × (extent_line 1023 first_MiB ≡ codes "1023: 0x0000000000000000..0x00000000000fffff\n")
-unfolding first_MiB digits
-extent_lines = (refl, refl)
-
-record_lines : (record_line 0 of_node_1 ≡ codes "   0: 0x0000000000001000..0x000000000009efff\n")
+    × (record_line 0 of_node_1 ≡ codes "   0: 0x0000000000001000..0x000000000009efff\n")
     × (record_line 12345 of_no_node ≡ codes "12345: 0x0000000000100000..0x0000000007fdffff\n")
-unfolding of_node_1 of_no_node digits
-record_lines = (refl, refl)
-
--- a record ends where addresses end
-region_lines : (region_line 0 (record { base = 0x1000; size = 0x9E000; flags = 0; node = 1 })
+    × (region_line 0 (record { base = 0x1000; size = 0x9E000; flags = 0; node = 1 })
     ≡ codes "   0: 0x0000000000001000..0x000000000009efff\n")
     × (region_line 1 (record { base = 0x1000; size = 0xFFFFFFFFFFFFF000; flags = 0; node = 1024 })
     ≡ codes "   1: 0x0000000000001000..0xffffffffffffffff\n")
-unfolding digits
-region_lines = (refl, refl)
-
-two_records : records_text (of_node_1 ∷ of_no_node ∷ [])
-    ≡ codes "   0: 0x0000000000001000..0x000000000009efff\n   1: 0x0000000000100000..0x0000000007fdffff\n"
-unfolding of_node_1 of_no_node digits
-two_records = refl
-
-no_records : records_text [] ≡ []
-no_records = refl
+    × (records_text (of_node_1 ∷ of_no_node ∷ [])
+    ≡ codes "   0: 0x0000000000001000..0x000000000009efff\n   1: 0x0000000000100000..0x0000000007fdffff\n")
+    × (records_text [] ≡ [])
+unfolding first_MiB of_node_1 of_no_node digits
+record_examples = (refl, refl, refl, refl, refl, refl, refl, refl)
 
 -- the head is the table's
 head_is_told : (table : Table) (store : List Stored) → StandsIn table store → IsTableAt table store (head_of table)
@@ -233,21 +156,17 @@ head_is_told table store stands = record { stands = stands; told = refl }
 other_place : (table : Table) (store : List Stored) → table.place ≡ 7
     → IsTableAt table store (record { place = 8; room = 128; count = 0 }) → ⊥
 other_place table store at_7 at =
-    let places : 8 ≡ table.place = ap (λ (h : Head). h.place) at.told in
-    omega (arith, at_7, places)
+    omega (arith, at_7, ap (λ (h : Head). h.place) at.told)
 
 -- the heads
 table_lines : (table_line which.Memory (record { place = 0x9D000; room = 256; count = 129 })
     ≡ codes "memory place 0x000000000009d000 room 256 records 129\n")
     × (table_line which.Reserved (record { place = 0x2FFF000; room = 128; count = 0 })
     ≡ codes "reserved place 0x0000000002fff000 room 128 records 0\n")
+    × (tables_text (record {
+      memory = record { place = 0x9D000; room = 256; count = 129 };
+      reserved = record { place = 0x2FFF000; room = 128; count = 2 };
+    })
+    ≡ codes "memory place 0x000000000009d000 room 256 records 129\nreserved place 0x0000000002fff000 room 128 records 2\n")
 unfolding digits
-table_lines = (refl, refl)
-
-both_tables : tables_text (record {
-  memory = record { place = 0x9D000; room = 256; count = 129 };
-  reserved = record { place = 0x2FFF000; room = 128; count = 2 };
-})
-    ≡ codes "memory place 0x000000000009d000 room 256 records 129\nreserved place 0x0000000002fff000 room 128 records 2\n"
-unfolding digits
-both_tables = refl
+table_lines = (refl, refl, refl)

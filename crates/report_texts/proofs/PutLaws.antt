@@ -10,9 +10,8 @@ pub goes_on : (old mid new : Vec ℕ Global) (answer : Result (Unit {0}) Memory)
 goes_on old mid new (Ok done) xs ys last put room =
     (last.0 ∙ ap (λ t. t ++ ys) put ∙ append_assoc old.items xs ys, let more = last.1 in omega (arith, room, more))
 goes_on old mid new (Err error) xs ys last put room =
-    let long : length mid.items ≡ length old.items + length xs = ap (λ (t : List ℕ). length t) put ∙ length-append old.items xs in
-    let both = length-append xs ys in
-    omega (arith, last, long, both, room)
+    let long = simp length-append at (ap (λ (t : List ℕ). length t) put) in
+    omega (arith, last, long, length-append xs ys, room)
 
 -- after Ok the bytes stand behind those of the text
 pub puts_ok : (old new : Vec ℕ Global) (answer : Result (Unit {0}) Memory) (xs : List ℕ)
@@ -22,16 +21,13 @@ puts_ok old new (Err error) xs puts = tt
 
 -- amid a text, where what stands and what is left are the whole: one call more, of what is left
 pub text_more : (mid new xs left rest whole : List ℕ) → left ≡ xs ++ rest → mid ++ left ≡ whole → new ≡ mid ++ xs → new ++ rest ≡ whole
-text_more mid new xs left rest whole is so_far put =
-    ap (λ t. t ++ rest) put ∙ append_assoc mid xs rest ∙ ap (λ t. mid ++ t) (sym is) ∙ so_far
+text_more mid new xs left rest whole is so_far put = rw (put, append_assoc mid xs rest, ← is) so_far
 
 -- one that wants memory: the room was too small for the whole
 pub too_small : (old mid xs left rest whole : List ℕ) (before room : ℕ) → left ≡ xs ++ rest → mid ++ left ≡ old ++ whole
     → before ≤ room → room < length mid + length xs → before < length old + length whole
 too_small old mid xs left rest whole before room is so_far less wants =
-    let parts : length mid + (length xs + length rest) ≡ length old + length whole =
-    sym (length-append mid (xs ++ rest) ∙ ap (λ n. length mid + n) (length-append xs rest))
-    ∙ ap (λ (t : List ℕ). length (mid ++ t)) (sym is) ∙ ap (λ (t : List ℕ). length t) so_far ∙ length-append old whole in
+    let parts = simp length-append at (ap (λ (t : List ℕ). length t) (rw is at so_far)) in
     omega (arith, parts, wants, less)
 
 -- nothing is left

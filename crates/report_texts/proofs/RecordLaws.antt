@@ -1,9 +1,8 @@
 -- The records of a table, one by one: each has an address, none from 2^64 on, and a line.
-use Rattle.std.proofs.Common.{◌≡◌, ℕ, zero, suc, ◌+◌, ◌-◌, ◌*◌, ◌^◌, ◌<◌, ◌≤◌, true, List, [], ◌∷◌, ◌++◌, length, drop, get_or, is_some, None, refl, ap, ◌∙◌, arith, inl, inr}
-use Rattle.std.proofs.lemmas.Bool.{cases_Bool, cases_lt}
+use Rattle.std.proofs.Common.{◌≡◌, ℕ, zero, suc, ◌+◌, ◌-◌, ◌*◌, ◌^◌, ◌<◌, ◌≤◌, true, List, [], ◌∷◌, ◌++◌, length, drop, get_or, is_some, refl, ◌∙◌, arith}
 use Rattle.std.proofs.lemmas.Bool.Decides.{nat_tests}
 use Rattle.phys_store.specs.Bytes.{Stored, byte_of, bytes_at}
-use Rattle.address_runs.specs.Runs.{RunOf, run_end, lies_in, value_at, AreRuns}
+use Rattle.address_runs.specs.Runs.{RunOf, run_end, value_at, AreRuns}
 use Rattle.memblock_model.specs.Labels.{Label, plain_label}
 use Rattle.memblock_ranges.specs.declared.region.Head.{Head}
 use Rattle.memblock_ranges.specs.declared.region.Region.{Region}
@@ -26,16 +25,8 @@ run_has (r ∷ rs) (suc i) d runs within = run_has rs i d runs.2 (omega arith)
 last_given : {X : Type 0} (rs : List (RunOf X)) (i : ℕ) (d : RunOf X) → AreRuns rs → i < length rs
     → is_some (value_at rs (run_end (get_or rs i d) - 1)) ≡ true
 last_given [] i d runs within = absurd (omega arith)
-last_given (r ∷ rs) zero d runs within =
-    let some : 0 < r.size = runs.0 in
-    let inside : lies_in r (run_end r - 1) ≡ true = grind (arith, nat_tests) in
-    rw inside refl
-last_given (r ∷ rs) (suc i) d runs within =
-    elim (cases_Bool (lies_in r (run_end (get_or rs i d) - 1)))
-    as (λ _. is_some (value_at (r ∷ rs) (run_end (get_or rs i d) - 1)) ≡ true) [
-      | inl inside ↦ rw inside refl
-      | inr outside ↦ rw outside (last_given rs i d runs.2 (omega arith))
-    ]
+last_given (r ∷ rs) zero d runs within = let some = runs.0 in grind (arith, nat_tests, some)
+last_given (r ∷ rs) (suc i) d runs within = grind (arith, last_given rs i d runs.2 (omega arith))
 
 -- so a record has an address, and none from 2^64 on
 pub record InSpace (region : Region) : Type 0 where
@@ -46,28 +37,19 @@ record_in_space : (rs : List (RunOf Label)) (i : ℕ) → AreRecords rs → i < 
 record_in_space rs i known within = record {
   some = run_has rs i no_run known.runs within;
   within =
-      elim (cases_lt (2 ^ 64) (run_end (get_or rs i no_run))) as (λ _. run_end (get_or rs i no_run) ≤ 2 ^ 64) [
-        | inl far ↦
-            (let nothing : value_at rs (run_end (get_or rs i no_run) - 1) ≡ None = known.within _ (omega arith) in
-            let given = rw nothing at (last_given rs i no_run known.runs within) in
-            absurd (cc))
-        | inr near ↦ near
-      ];
+      let given = last_given rs i no_run known.runs within in
+      grind (arith, known.within (run_end (get_or rs i no_run) - 1), given);
 }
 
 -- the record that the bytes of a table have at an index
 pub region_is : (table : Table) (store : List Stored) (head : Head) (i : ℕ) → IsTableAt table store head → i < head.count
     → region_in (bytes_at (byte_of store) (head.place + 24 * i) 24) ≡ region_of (get_or table.records i no_run)
-region_is table store head i at within =
-    let count : head.count ≡ length table.records = ap (λ (h : Head). h.count) at.told in
-    let place : head.place ≡ table.place = ap (λ (h : Head). h.place) at.told in
-    rw place (at.stands.regions i no_run (omega arith))
+region_is table store head i at within = rw at.told (at.stands.regions i no_run (rw at.told at within))
 
 pub region_in_space : (table : Table) (store : List Stored) (head : Head) (i : ℕ) (region : Region) → IsTableAt table store head
     → i < head.count → region ≡ region_in (bytes_at (byte_of store) (head.place + 24 * i) 24) → InSpace region
 region_in_space table store head i region at within is =
-    let count : head.count ≡ length table.records = ap (λ (h : Head). h.count) at.told in
-    rw (is ∙ region_is table store head i at within) (record_in_space table.records i at.stands.records (omega arith))
+    rw (is ∙ region_is table store head i at within) (record_in_space table.records i at.stands.records (rw at.told at within))
 
 -- the line of one more record is the next one
 pub next_line : (table : Table) (store : List Stored) (head : Head) (i : ℕ) (region : Region) → IsTableAt table store head
@@ -75,7 +57,5 @@ pub next_line : (table : Table) (store : List Stored) (head : Head) (i : ℕ) (r
     → lines_from record_line i (drop i table.records)
     ≡ region_line i region ++ lines_from record_line (i + 1) (drop (i + 1) table.records)
 next_line table store head i region at within is =
-    let count : head.count ≡ length table.records = ap (λ (h : Head). h.count) at.told in
-    let line : region_line i region ≡ record_line i (get_or table.records i no_run) =
-    ap (region_line i) (is ∙ region_is table store head i at within) in
-    rw line (lines_at record_line table.records i (get_or table.records i no_run) no_run refl (omega arith))
+    rw (is ∙ region_is table store head i at within)
+    (lines_at record_line table.records i (get_or table.records i no_run) no_run refl (rw at.told at within))
