@@ -17,21 +17,13 @@ in_words text = words_in separators.Script text
 of_words_or_not : IsOfWords wrong.Number × (IsOfWords wrong.Align → ⊥)
 of_words_or_not = (inr refl, λ is. elim is [ inl form ↦ cc form | inr number ↦ cc number ])
 
-none_and_some : (no_words [] ≡ Ok tt) × (no_words (in_words (codes "a")) ≡ Err wrong.Form)
-none_and_some = (refl, refl)
-
-first_of_two : (first_word (in_words (codes " a\tb")) ≡ Ok (codes "a", codes "b" ∷ [])) × (first_word [] ≡ Err wrong.Form)
-first_of_two = (refl, refl)
-
-exactly_one : (one_word (in_words (codes "a")) ≡ Ok (codes "a")) × (one_word (in_words (codes "a b")) ≡ Err wrong.Form)
-exactly_one = (refl, refl)
-
-exactly_two : (two_words (in_words (codes "a b")) ≡ Ok (codes "a", codes "b")) × (two_words (in_words (codes "a")) ≡ Err wrong.Form)
-exactly_two = (refl, refl)
-
-exactly_three : (three_words (in_words (codes "a b c")) ≡ Ok (codes "a", codes "b", codes "c"))
+words_taken : (no_words [] ≡ Ok tt) × (no_words (in_words (codes "a")) ≡ Err wrong.Form)
+    × (first_word (in_words (codes " a\tb")) ≡ Ok (codes "a", codes "b" ∷ [])) × (first_word [] ≡ Err wrong.Form)
+    × (one_word (in_words (codes "a")) ≡ Ok (codes "a")) × (one_word (in_words (codes "a b")) ≡ Err wrong.Form)
+    × (two_words (in_words (codes "a b")) ≡ Ok (codes "a", codes "b")) × (two_words (in_words (codes "a")) ≡ Err wrong.Form)
+    × (three_words (in_words (codes "a b c")) ≡ Ok (codes "a", codes "b", codes "c"))
     × (three_words (in_words (codes "a b")) ≡ Err wrong.Form)
-exactly_three = (refl, refl)
+words_taken = (refl, refl, refl, refl, refl, refl, refl, refl, refl, refl)
 
 -- a key stands before its word; without a word behind it, it is none
 key_and_word : (optional (codes "min") (in_words (codes "min 1 max 2")) ≡ (Some (codes "1"), in_words (codes "max 2")))
@@ -41,84 +33,50 @@ key_and_word = (refl, refl, refl)
 
 -- a size must take its whole word
 whole_words : (number (codes "64K") ≡ Ok 65536) × (number (codes "64KB") ≡ Err wrong.Number) × (number (codes "x") ≡ Err wrong.Number)
-whole_words = (refl, refl, refl)
+    × (whole (codes "12") (Ok (12, 2)) ≡ Ok 12) × (whole (codes "12x") (Ok (12, 2)) ≡ Err wrong.Number)
+whole_words = (refl, refl, refl, refl, refl)
 
-whole_or_not : (whole (codes "12") (Ok (12, 2)) ≡ Ok 12) × (whole (codes "12x") (Ok (12, 2)) ≡ Err wrong.Number)
-whole_or_not = (refl, refl)
+bounded_numbers : (within 9 9 ≡ Ok 9) × (within 9 10 ≡ Err wrong.Number) × (bounded greatest_byte (codes "0xff") ≡ Ok 255)
+    × (bounded greatest_byte (codes "256") ≡ Err wrong.Number) × (optional_number greatest_node None ≡ Ok None)
+    × (optional_number greatest_node (Some (codes "1023")) ≡ Ok (Some 1023))
+    × (optional_number greatest_node (Some (codes "1024")) ≡ Err wrong.Number) × (greatest ≡ 2 ^ 64 - 1) × (greatest_id ≡ 2 ^ 32 - 1)
+    × (greatest_len ≡ 64)
+bounded_numbers = (refl, refl, refl, refl, refl, refl, refl, refl, refl, refl)
 
-within_a_bound : (within 9 9 ≡ Ok 9) × (within 9 10 ≡ Err wrong.Number)
-within_a_bound = (refl, refl)
-
-bounded_words : (bounded greatest_byte (codes "0xff") ≡ Ok 255) × (bounded greatest_byte (codes "256") ≡ Err wrong.Number)
-bounded_words = (refl, refl)
-
-left_out : (optional_number greatest_node None ≡ Ok None) × (optional_number greatest_node (Some (codes "1023")) ≡ Ok (Some 1023))
-    × (optional_number greatest_node (Some (codes "1024")) ≡ Err wrong.Number)
-left_out = (refl, refl, refl)
-
-bounds_of_numbers : (greatest ≡ 2 ^ 64 - 1) × (greatest_id ≡ 2 ^ 32 - 1) × (greatest_len ≡ 64)
-bounds_of_numbers = (refl, refl, refl)
-
-powers : (power 4096 ≡ Ok 4096) × (power 3 ≡ Err wrong.Align) × (power 0 ≡ Err wrong.Align)
+powers_sizes_and_ranges : (power 4096 ≡ Ok 4096) × (power 3 ≡ Err wrong.Align) × (power 0 ≡ Err wrong.Align) × (some 1 ≡ Ok 1)
+    × (some 0 ≡ Err wrong.ZeroSize) × (range_at 1 (2 ^ 64 - 2) ≡ Ok (record { base = 1; size = 2 ^ 64 - 2 }))
+    × (range_at 1 (2 ^ 64 - 1) ≡ Err wrong.TooFar)
 unfolding lib.Count.ones
-powers = (refl, refl, refl)
-
-sizes : (some 1 ≡ Ok 1) × (some 0 ≡ Err wrong.ZeroSize)
-sizes = (refl, refl)
-
-ranges : (range_at 1 (2 ^ 64 - 2) ≡ Ok (record { base = 1; size = 2 ^ 64 - 2 })) × (range_at 1 (2 ^ 64 - 1) ≡ Err wrong.TooFar)
-ranges = (refl, refl)
+powers_sizes_and_ranges = (refl, refl, refl, refl, refl, refl, refl)
 
 -- `exact` behind a node alone
 exact_or_not : (optional_exact (Some (codes "3")) (in_words (codes "exact")) ≡ (true, []))
     × (optional_exact None (in_words (codes "exact")) ≡ (false, in_words (codes "exact")))
 exact_or_not = (refl, refl)
 
-allocation_words : alloc_words (in_words (codes "1 2 4 max 5")) ≡ Ok (record {
-  id = codes "1";
-  size = codes "2";
-  align = codes "4";
-  min = None;
-  max = Some (codes "5");
-  node = None;
-  exact = false;
-})
-allocation_words = refl
-
-keys_out_of_order : alloc_words (in_words (codes "1 2 4 max 5 min 3")) ≡ Err wrong.Form
-keys_out_of_order = refl
+allocation_words : (alloc_words (in_words (codes "1 2 4 max 5"))
+    ≡ Ok (record { id = codes "1"; size = codes "2"; align = codes "4"; min = None; max = Some (codes "5"); node = None; exact = false }))
+    × (alloc_words (in_words (codes "1 2 4 max 5 min 3")) ≡ Err wrong.Form)
+allocation_words = (refl, refl)
 
 -- an allocation, and one with a fault of each kind: the form goes before a number, a number before the alignment, the
 -- alignment before the size
-allocation : alloc_line (in_words (codes "1 8K 4 node 3 exact"))
-    ≡ Ok (acts.Alloc 1 (record { size = 8192; align = 4; min = 0; max = None; node = Some 3; exact = true }))
-unfolding lib.Count.ones
-allocation = refl
-
-faults_of_allocations : (alloc_line (in_words (codes "x 0 3 exact")) ≡ Err wrong.Form)
-    × (alloc_line (in_words (codes "1 0 3 node 1024")) ≡ Err wrong.Number)
+allocations : (alloc_line (in_words (codes "1 8K 4 node 3 exact"))
+    ≡ Ok (acts.Alloc 1 (record { size = 8192; align = 4; min = 0; max = None; node = Some 3; exact = true })))
+    × (alloc_line (in_words (codes "x 0 3 exact")) ≡ Err wrong.Form) × (alloc_line (in_words (codes "1 0 3 node 1024")) ≡ Err wrong.Number)
     × (alloc_line (in_words (codes "1 0 3")) ≡ Err wrong.Align) × (alloc_line (in_words (codes "1 0 4")) ≡ Err wrong.ZeroSize)
 unfolding lib.Count.ones
-faults_of_allocations = (refl, refl, refl, refl)
+allocations = (refl, refl, refl, refl, refl)
 
-reservations : (reserve_line (in_words (codes "1 0x1000 1")) ≡ Ok (acts.Reserve 1 (record { base = 4096; size = 1 })))
+forms_of_lines : (reserve_line (in_words (codes "1 0x1000 1")) ≡ Ok (acts.Reserve 1 (record { base = 4096; size = 1 })))
     × (reserve_line (in_words (codes "1 0xffffffffffffffff 1")) ≡ Err wrong.TooFar)
     × (reserve_line (in_words (codes "1 0xffffffffffffffff 0")) ≡ Err wrong.ZeroSize)
-reservations = (refl, refl, refl)
-
-frees : (free_line (in_words (codes "4294967295")) ≡ Ok (acts.Free 4294967295))
-    × (free_line (in_words (codes "4294967296")) ≡ Err wrong.Number)
-frees = (refl, refl)
-
-trims : (trim_line (in_words (codes "1 1")) ≡ Ok (acts.Trim 1 1)) × (trim_line (in_words (codes "1 0")) ≡ Err wrong.ZeroSize)
-trims = (refl, refl)
-
-fills : (fill_line (in_words (codes "1 0")) ≡ Ok (acts.Fill 1 0)) × (fill_line (in_words (codes "1 256")) ≡ Err wrong.Number)
-fills = (refl, refl)
-
-peeks : (peek_line (in_words (codes "0 64")) ≡ Ok (acts.Peek 0 64)) × (peek_line (in_words (codes "0 65")) ≡ Err wrong.Number)
-    × (peek_line (in_words (codes "0xffffffffffffffc0 64")) ≡ Err wrong.TooFar)
-peeks = (refl, refl, refl)
+    × (free_line (in_words (codes "4294967295")) ≡ Ok (acts.Free 4294967295))
+    × (free_line (in_words (codes "4294967296")) ≡ Err wrong.Number) × (trim_line (in_words (codes "1 1")) ≡ Ok (acts.Trim 1 1))
+    × (trim_line (in_words (codes "1 0")) ≡ Err wrong.ZeroSize) × (fill_line (in_words (codes "1 0")) ≡ Ok (acts.Fill 1 0))
+    × (fill_line (in_words (codes "1 256")) ≡ Err wrong.Number) × (peek_line (in_words (codes "0 64")) ≡ Ok (acts.Peek 0 64))
+    × (peek_line (in_words (codes "0 65")) ≡ Err wrong.Number) × (peek_line (in_words (codes "0xffffffffffffffc0 64")) ≡ Err wrong.TooFar)
+forms_of_lines = (refl, refl, refl, refl, refl, refl, refl, refl, refl, refl, refl, refl)
 
 -- sections are placed once; a line that has another word besides has no form
 places_of_sections : (sections_line false [] ≡ Ok acts.Sections) × (sections_line true [] ≡ Err wrong.SecondSections)
@@ -132,13 +90,10 @@ names = (refl, refl)
 comments : (is_comment (codes "#free") ≡ true) × (is_comment (codes "free#") ≡ false)
 comments = (refl, refl)
 
-asks_for_nothing : (asked_by (by_name false) [] ≡ Ok None) × (asked_by (by_name false) (in_words (codes "# free")) ≡ Ok None)
-    × (asked false (codes "\t\r") ≡ Ok None)
-asks_for_nothing = (refl, refl, refl)
-
-asks_for_something : (asked_by (by_name false) (in_words (codes "free 1")) ≡ Ok (Some (acts.Free 1)))
+asked_examples : (asked_by (by_name false) [] ≡ Ok None) × (asked_by (by_name false) (in_words (codes "# free")) ≡ Ok None)
+    × (asked false (codes "\t\r") ≡ Ok None) × (asked_by (by_name false) (in_words (codes "free 1")) ≡ Ok (Some (acts.Free 1)))
     × (asked false (codes " free\t1\r") ≡ Ok (Some (acts.Free 1)))
-asks_for_something = (refl, refl)
+asked_examples = (refl, refl, refl, refl, refl)
 
 -- the bounds of an act
 has_bounds : HasBounds (acts.Peek 0 64) × HasBounds (acts.Trim 1 1)
@@ -148,34 +103,19 @@ has_none : HasBounds (acts.Peek 0 65) → ⊥
 has_none bounds = let few = bounds.1 in omega (arith, few)
 
 -- a fault with its line; `sections` is seen from its line on
-faults_of_lines : (fault_at 3 wrong.Form ≡ faults.BadLine 3) × (fault_at 7 wrong.TooFar ≡ faults.TooFar 7)
-faults_of_lines = (refl, refl)
-
-sections_or_not : (is_sections acts.Sections ≡ true) × (is_sections (acts.Free 1) ≡ false)
-sections_or_not = (refl, refl)
-
-seen_or_not : (seen_behind false (Some acts.Sections) ≡ true) × (seen_behind true None ≡ true) × (seen_behind false None ≡ false)
-seen_or_not = (refl, refl, refl)
-
-one_more_line : (line_at 4 None ≡ None) × (line_at 4 (Some (acts.Free 1)) ≡ Some (record { number = 4; act = acts.Free 1 }))
-one_more_line = (refl, refl)
-
-numbered_lines : lines_from false 5 (codes "" ∷ codes "free 1" ∷ []) ≡ Ok (record { number = 6; act = acts.Free 1 } ∷ [])
-numbered_lines = refl
+lines_one_by_one : (fault_at 3 wrong.Form ≡ faults.BadLine 3) × (fault_at 7 wrong.TooFar ≡ faults.TooFar 7)
+    × (is_sections acts.Sections ≡ true) × (is_sections (acts.Free 1) ≡ false) × (seen_behind false (Some acts.Sections) ≡ true)
+    × (seen_behind true None ≡ true) × (seen_behind false None ≡ false) × (line_at 4 None ≡ None)
+    × (line_at 4 (Some (acts.Free 1)) ≡ Some (record { number = 4; act = acts.Free 1 }))
+    × (lines_from false 5 (codes "" ∷ codes "free 1" ∷ []) ≡ Ok (record { number = 6; act = acts.Free 1 } ∷ []))
+lines_one_by_one = (refl, refl, refl, refl, refl, refl, refl, refl, refl, refl)
 
 -- whole scripts: the last line may lack its newline; the lowest line's fault is told, whatever comes behind it
-two_lines : script_of (codes "free 1\n\nfree 2")
-    ≡ Ok (record { number = 1; act = acts.Free 1 } ∷ record { number = 3; act = acts.Free 2 } ∷ [])
-two_lines = refl
-
-no_lines : (script_of [] ≡ Ok []) × (script_of (codes "\n") ≡ Ok [])
-no_lines = (refl, refl)
-
-lowest_fault : script_of (codes "free 1\nfree x\nfree\n") ≡ Err (faults.BadNumber 2)
-lowest_fault = refl
-
-sections_twice : script_of (codes "sections\n#\nsections\n") ≡ Err (faults.SecondSections 3)
-sections_twice = refl
+whole_scripts : (script_of (codes "free 1\n\nfree 2")
+    ≡ Ok (record { number = 1; act = acts.Free 1 } ∷ record { number = 3; act = acts.Free 2 } ∷ [])) × (script_of [] ≡ Ok [])
+    × (script_of (codes "\n") ≡ Ok []) × (script_of (codes "free 1\nfree x\nfree\n") ≡ Err (faults.BadNumber 2))
+    × (script_of (codes "sections\n#\nsections\n") ≡ Err (faults.SecondSections 3))
+whole_scripts = (refl, refl, refl, refl, refl)
 
 -- a line with blanks around its words, and one that begins with a word
 spelled_words : HasWords (codes " free\t7 ") (codes "free" ∷ codes "7" ∷ []) × HasWords (codes "free 7") (codes "free" ∷ codes "7" ∷ [])

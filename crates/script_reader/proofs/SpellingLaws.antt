@@ -1,10 +1,9 @@
 -- What is spelled as an act is read as it.
-use Rattle.std.proofs.Common.{◌≡◌, ℕ, ◌+◌, ◌^◌, ◌<◌, ◌≤◌, ◌==◌, Bool, true, false, IsTrue, nat_le, nat_lt, List, [], ◌∷◌, ◌++◌, length, drop, ◌*◌, inl, inr, Option, Some, None, Ok, refl, ◌∙◌, ap, arith}
+use Rattle.std.proofs.Common.{◌≡◌, ℕ, ◌+◌, ◌^◌, ◌<◌, ◌==◌, Bool, true, false, IsTrue, nat_le, nat_lt, List, [], ◌∷◌, ◌++◌, length, Option, Some, None, Ok, refl, ◌∙◌, ap, arith}
 use Rattle.std.specs.Prelude.{unwrap_or}
-use Rattle.std.proofs.lemmas.Bool.{cases_Bool}
 use Rattle.std.proofs.lemmas.Bool.Decides.{nat_tests}
 use Rattle.std.specs.Int.{is_power_of_two}
-use Rattle.bm_base.specs.Size.{number_value, number_end, suffix_of, begins_with_digit, fitting, IsSize}
+use Rattle.bm_base.specs.Size.{IsSize}
 use Rattle.text_words.specs.Words.{words_in}
 use Rattle.text_words.specs.declared.separators.Separators.TheVariants as separators
 use Rattle.text_words.proofs.WordsLaws.{words-spelled, words-one}
@@ -12,7 +11,6 @@ use Rattle.script_reader.specs.declared.act.Act.{Act}
 use Rattle.script_reader.specs.declared.act.Act.TheVariants as acts
 use Rattle.script_reader.specs.Forms.{greatest, greatest_id, greatest_node, greatest_byte, greatest_len, alloc_words, by_name, asked_by}
 use Rattle.script_reader.specs.Numbers.{Words, number, bounded, optional_number, power, some, range_at}
-use Rattle.script_reader.specs.Script.{asked}
 use Rattle.script_reader.specs.Spelling.{HasWords, no_byte, blank_first, word_alone, word_first, SpellsMin, no_min, a_min, SpellsMax, no_max, a_max, SpellsNode, no_node, a_node, exact_node, SpellsAct, alloc, reserve, free, trim, fill, peek, sections}
 
 -- the words of a text are those
@@ -27,7 +25,7 @@ has_words text words (word_first word b behind ws is blank rest) =
 number_read : (w : List ℕ) (n : ℕ) → IsSize w n → number w ≡ Ok n
 number_read w n is = let same : (length w == length w) ≡ true = grind (arith, nat_tests) in rw (is, same) refl
 
-bounded_read : (most : ℕ) (w : List ℕ) (n : ℕ) → IsSize w n → n ≤ most → bounded most w ≡ Ok n
+bounded_read : (most : ℕ) (w : List ℕ) (n : ℕ) → IsSize w n → n < most + 1 → bounded most w ≡ Ok n
 bounded_read most w n is small =
     let fits : nat_le n most ≡ true = grind (arith, nat_tests, small) in
     rw (number_read w n is, fits) refl
@@ -42,25 +40,8 @@ power_read : (n : ℕ) → IsTrue (is_power_of_two n) → power n ≡ Ok n
 power_read n is = rw is refl
 
 -- a size is below 2^64
-fit_below : (value taken n k : ℕ) → fitting value taken ≡ Ok (n, k) → n < 2 ^ 64
-fit_below value taken n k is = elim (cases_Bool (nat_lt value (2 ^ 64))) as (λ _. n < 2 ^ 64) [
-  | inl fits ↦
-      let found : ℕ × ℕ = (value, taken) in
-      let told : ℕ × ℕ = (n, k) in
-      let both : Ok found ≡ Ok told = rw fits at is in
-      let pair : found ≡ told = cc in
-      let same : value ≡ n = ap (λ (p : ℕ × ℕ). p.0) pair in
-      grind (arith, nat_tests)
-  | inr large ↦ cc (rw large at is)
-]
-
 size_below : (w : List ℕ) (n : ℕ) → IsSize w n → n < 2 ^ 64
-size_below w n is = elim (cases_Bool (begins_with_digit w)) as (λ _. n < 2 ^ 64) [
-  | inl begins ↦
-      let suffix : ℕ × ℕ = suffix_of (drop (number_end w) w) in
-      fit_below (number_value w * suffix.0) (number_end w + suffix.1) n (length w) (rw begins at is)
-  | inr other ↦ cc (rw other at is)
-]
+size_below w n is = grind (arith, nat_tests)
 
 -- the words behind an alignment
 abbrev value_behind : Words → Option (List ℕ)
@@ -80,36 +61,24 @@ alloc_said : (i s a : List ℕ) (lower upper on : Words) (min : ℕ) (max node :
       exact = exact;
     })
 alloc_said i s a lower upper on min max on_node exact no_min no_max no_node = refl
-alloc_said i s a lower upper on min max on_node exact no_min no_max (a_node w d is small) = refl
-alloc_said i s a lower upper on min max on_node exact no_min no_max (exact_node w d is small) = refl
-alloc_said i s a lower upper on min max on_node exact no_min (a_max v c is_max) no_node = refl
-alloc_said i s a lower upper on min max on_node exact no_min (a_max v c is_max) (a_node w d is small) = refl
-alloc_said i s a lower upper on min max on_node exact no_min (a_max v c is_max) (exact_node w d is small) = refl
-alloc_said i s a lower upper on min max on_node exact (a_min u b is_min) no_max no_node = refl
-alloc_said i s a lower upper on min max on_node exact (a_min u b is_min) no_max (a_node w d is small) = refl
-alloc_said i s a lower upper on min max on_node exact (a_min u b is_min) no_max (exact_node w d is small) = refl
-alloc_said i s a lower upper on min max on_node exact (a_min u b is_min) (a_max v c is_max) no_node = refl
-alloc_said i s a lower upper on min max on_node exact (a_min u b is_min) (a_max v c is_max) (a_node w d is small) = refl
-alloc_said i s a lower upper on min max on_node exact (a_min u b is_min) (a_max v c is_max) (exact_node w d is small) = refl
+alloc_said i s a lower upper on min max on_node exact lower_is no_max no_node = refl
+alloc_said i s a lower upper on min max on_node exact lower_is upper_is no_node = refl
+alloc_said i s a lower upper on min max on_node exact lower_is upper_is on_is = refl
 
 min_read : (lower : Words) (min : ℕ) → SpellsMin lower min
     → (o : Option ℕ) × (optional_number greatest (value_behind lower) ≡ Ok o) × (unwrap_or o 0 ≡ min)
 min_read lower min no_min = (None, refl, refl)
-min_read lower min (a_min w n is) =
-    let small = size_below w n is in
-    (Some n, rw (bounded_read greatest w n is (omega (arith, small))) refl, refl)
+min_read lower min (a_min w n is) = (Some n, rw (bounded_read greatest w n is (size_below w n is)) refl, refl)
 
 max_read : (upper : Words) (max : Option ℕ) → SpellsMax upper max → optional_number greatest (value_behind upper) ≡ Ok max
 max_read upper max no_max = refl
-max_read upper max (a_max w n is) =
-    let small = size_below w n is in
-    rw (bounded_read greatest w n is (omega (arith, small))) refl
+max_read upper max (a_max w n is) = rw (bounded_read greatest w n is (size_below w n is)) refl
 
 node_read : (on : Words) (node : Option ℕ) (exact : Bool) → SpellsNode on node exact
     → optional_number greatest_node (value_behind on) ≡ Ok node
 node_read on on_node exact no_node = refl
-node_read on on_node exact (a_node w n is small) = rw (bounded_read greatest_node w n is (omega arith)) refl
-node_read on on_node exact (exact_node w n is small) = rw (bounded_read greatest_node w n is (omega arith)) refl
+node_read on on_node exact (a_node w n is small) = rw (bounded_read greatest_node w n is small) refl
+node_read on on_node exact (exact_node w n is small) = rw (bounded_read greatest_node w n is small) refl
 
 -- the words of an act ask for it
 pub act_read : (seen : Bool) (words : Words) (act : Act) → SpellsAct words act → (act ≡ acts.Sections → seen ≡ false)
@@ -119,7 +88,7 @@ act_read seen words act (alloc i s a lower upper on id size align min max node e
     let lowest = min_read lower min of_min in
     rw (
       alloc_said i s a lower upper on min max node exact of_min of_max of_node,
-      bounded_read greatest_id i id is_id (omega arith),
+      bounded_read greatest_id i id is_id small,
       number_read s size is_size,
       number_read a align is_align,
       lowest.1,
@@ -130,34 +99,13 @@ act_read seen words act (alloc i s a lower upper on id size align min max node e
       lowest.2,
     ) refl
 act_read seen words act (reserve i b s id base size is_id small is_base is_size some_bytes ends) once =
-    rw (
-      bounded_read greatest_id i id is_id (omega arith),
-      number_read b base is_base,
-      number_read s size is_size,
-      some_read size some_bytes,
-      range_read base size ends,
-    ) refl
-act_read seen words act (free i id is_id small) once = rw (bounded_read greatest_id i id is_id (omega arith)) refl
+    rw (bounded_read greatest_id i id is_id small, number_read b base is_base, number_read s size is_size, some_read size some_bytes)
+    (rw (range_read base size ends) refl)
+act_read seen words act (free i id is_id small) once = rw (bounded_read greatest_id i id is_id small) refl
 act_read seen words act (trim i k id keep is_id small is_keep some_bytes) once =
-    rw (bounded_read greatest_id i id is_id (omega arith), number_read k keep is_keep, some_read keep some_bytes) refl
+    rw (bounded_read greatest_id i id is_id small, number_read k keep is_keep, some_read keep some_bytes) refl
 act_read seen words act (fill i b id byte is_id small is_byte low) once =
-    rw (bounded_read greatest_id i id is_id (omega arith), bounded_read greatest_byte b byte is_byte (omega arith)) refl
+    rw (bounded_read greatest_id i id is_id small, bounded_read greatest_byte b byte is_byte low) refl
 act_read seen words act (peek a l at len is_at is_len some_bytes few ends) once =
-    rw (
-      number_read a at is_at,
-      bounded_read greatest_len l len is_len (omega arith),
-      some_read len some_bytes,
-      range_read at len ends,
-    ) refl
+    rw (number_read a at is_at, bounded_read greatest_len l len is_len (omega arith), some_read len some_bytes, range_read at len ends) refl
 act_read seen words act sections once = rw (once refl) refl
-
--- so does a text with these words, and one without words, or with a comment, asks for nothing
-pub asked_act : (seen : Bool) (text : List ℕ) (words : Words) (act : Act) → HasWords text words → SpellsAct words act
-    → (act ≡ acts.Sections → seen ≡ false) → asked seen text ≡ Ok (Some act)
-asked_act seen text words act has spells once = rw (has_words text words has) (act_read seen words act spells once)
-
-pub asked_nothing : (seen : Bool) (text : List ℕ) → HasWords text [] → asked seen text ≡ Ok None
-asked_nothing seen text has = rw (has_words text [] has) refl
-
-pub asked_comment : (seen : Bool) (text word : List ℕ) (words : Words) → HasWords text ((35 ∷ word) ∷ words) → asked seen text ≡ Ok None
-asked_comment seen text word words has = rw (has_words text ((35 ∷ word) ∷ words) has) refl
