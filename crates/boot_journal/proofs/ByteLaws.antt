@@ -1,10 +1,11 @@
 -- What a byte carries by the body's way: from trim to trim, with a look at a frame's edges.
-use Rattle.std.proofs.Common.{◌≡◌, ℕ, zero, suc, ◌+◌, ◌-◌, ◌%◌, ◌<◌, ◌≤◌, ◌==◌, Bool, true, false, ◌||◌, nat_lt, Option, Some, None, List, [], ◌∷◌, ◌++◌, length, take, drop, get_or, refl, sym, ◌∙◌, ap, subst, inl, inr, arith}
+use Rattle.std.proofs.Common.{◌≡◌, ℕ, zero, suc, ◌+◌, ◌-◌, ◌%◌, ◌<◌, ◌≤◌, ◌==◌, Bool, true, false, ◌||◌, nat_lt, Option, Some, None, List, [], ◌∷◌, ◌++◌, length, take, drop, get_or, add-one, refl, sym, ◌∙◌, ap, subst, inl, inr, arith}
 use Rattle.std.proofs.lemmas.Bool.Decides.{nat_tests}
 use Rattle.std.proofs.lemmas.Bool.{cases_Bool, or_cases, or_parts, true≢false}
 use Rattle.std.proofs.lemmas.List.Quantifiers.{position-Some}
 use Rattle.std.proofs.lemmas.List.Sums.{fold-append, split_at_first, fails_before_first, passes_at_first, position_or_len_is}
 use Rattle.std.proofs.lemmas.List.{get_or-take, length-take}
+use Rattle.std.proofs.Math.Seq.{split_at}
 use Rattle.std.specs.List.{fold, position, position_or_len, before_first, after_first}
 use Rattle.bm_base.specs.Extent.{Extent, covers, end_of}
 use Rattle.memblock_model.specs.declared.item.Item.{Item}
@@ -49,8 +50,8 @@ range_agrees-at : (whole : Option Label) (items : List Item) (first : ℕ) (r : 
     → ((r.base == e) || (end_of r == e)) ≡ true → Agrees whole items first e
 range_agrees-at whole items first r e base_agrees end_agrees h =
     elim (or_cases (r.base == e) (end_of r == e) h) as (λ _. Agrees whole items first e) [
-      | inl at_base ↦ let is : r.base ≡ e = grind (arith, nat_tests) in subst (λ (k : ℕ). Agrees whole items first k) is base_agrees
-      | inr at_end ↦ let is : end_of r ≡ e = grind (arith, nat_tests) in subst (λ (k : ℕ). Agrees whole items first k) is end_agrees
+      | inl at_base ↦ let is : r.base ≡ e = grind (arith, nat_tests) in rw is at base_agrees
+      | inr at_end ↦ let is : end_of r ≡ e = grind (arith, nat_tests) in rw is at end_agrees
     ]
 
 edges_agree-at : (whole : Option Label) (items : List Item) (first : ℕ) (i : Item) (e : ℕ) → EdgesAgree whole items first i → edge_at i e
@@ -73,17 +74,14 @@ all_agree-at whole items first (i ∷ is) e agree h =
 frame-agrees : (whole : Option Label) (items : List Item) (first : ℕ) → AllAgree whole items first items → (k y : ℕ) → y ≡ first + k
     → k < 4096
     → label_from whole items y ≡ label_from whole items first
-frame-agrees whole items first agree zero y is lt = let same : y ≡ first = omega arith in ap (λ (z : ℕ). label_from whole items z) same
+frame-agrees whole items first agree zero y is lt = let same : y ≡ first = omega arith in rw same refl
 frame-agrees whole items first agree (suc k) y is lt =
     let z : ℕ = first + k in
     let next : y ≡ z + 1 = omega arith in
-    let before : label_from whole items z ≡ label_from whole items first = frame-agrees whole items first agree k z refl (omega arith) in
-    let there : label_from whole items (z + 1) ≡ label_from whole items first =
-    elim (cases_Bool (edge_in items (z + 1))) as (λ _. label_from whole items (z + 1) ≡ label_from whole items first) [
+    rw next (elim (cases_Bool (edge_in items (z + 1))) as (λ _. label_from whole items (z + 1) ≡ label_from whole items first) [
       | inl edge ↦ all_agree-at whole items first items (z + 1) agree edge (omega arith) (omega arith)
-      | inr quiet ↦ label_from-step items whole z quiet ∙ before
-    ] in
-    ap (λ (u : ℕ). label_from whole items u) next ∙ there
+      | inr quiet ↦ label_from-step items whole z quiet ∙ frame-agrees whole items first agree k z refl (omega arith)
+    ])
 
 -- a trim keeps a frame whose ends agree
 pub kept-whole : (whole : Option Label) (items : List Item) (x : ℕ) → AllAgree whole items (x - x % 4096) items → label_kept whole items x
@@ -92,9 +90,8 @@ unfolding label_kept
 kept-whole whole items x agree =
     let first : ℕ = x - x % 4096 in
     let one : (y : ℕ) → IsInFrame x y → label_from whole items y ≡ label_from whole items first =
-    λ y in_frame. let a = in_frame.above in let b = in_frame.below in frame-agrees whole items first agree (y - first) y (omega arith)
-    (omega arith) in
-    let here : label_from whole items x ≡ label_from whole items first = one x (in_own_frame x) in
+    λ y in_frame. frame-agrees whole items first agree (y - first) y (omega arith) (omega arith) in
+    let here = one x (in_own_frame x) in
     trimmed-whole (label_from whole items) x (λ y in_frame. one y in_frame ∙ sym here) ∙ here
 
 -- and leaves nothing of one where an end differs
@@ -102,12 +99,9 @@ pub kept-parts : (whole : Option Label) (items : List Item) (x e : ℕ) → Diff
     ≡ None
 unfolding label_kept
 kept-parts whole items x e differs =
-    let first : ℕ = x - x % 4096 in
-    let behind = differs.behind in
-    let inside = differs.inside in
     let at_edge : IsInFrame x e = record { above = omega arith; below = omega arith } in
-    let at_first : IsInFrame x first = record { above = omega arith; below = omega arith } in
-    trimmed-unlike (label_from whole items) x e first at_edge at_first differs.other
+    let at_first : IsInFrame x (x - x % 4096) = record { above = omega arith; below = omega arith } in
+    trimmed-unlike (label_from whole items) x e (x - x % 4096) at_edge at_first differs.other
 
 -- an item that doesn't trim looks at what the byte carries alone
 label_after-is : (f : Labels) (i : Item) (y : ℕ) → is_trim i ≡ false → memory_after f i y ≡ label_after y (f y) i
@@ -132,34 +126,23 @@ all_with carried x = carried
 abbrev pub label_after_all : Option Label → List Item → ℕ → Option Label
 label_after_all whole items x = fold memory_after (all_with whole) items x
 
-plain_end : (whole : Option Label) (items : List Item) (x : ℕ) → Plain items → label_after_all whole items x ≡ label_from whole items x
-plain_end whole items x plain = labels_after (all_with whole) items x plain
-
 -- behind a trim all bytes of the frame carry the same, so only that is remembered
 trim_step : (whole : Option Label) (items rest : List Item) (x : ℕ) → Plain items
     → label_after_all whole (items ++ item.Trim ∷ rest) x ≡ label_after_all (label_kept whole items x) rest x
 unfolding label_kept
 trim_step whole items rest x plain =
-    let before : Labels = fold memory_after (all_with whole) items in
-    let same : before ≡ label_from whole items = λ k y. labels_after (all_with whole) items y plain k in
-    let frame : Labels = trimmed (label_from whole items) in
-    let after_trim : trimmed before ≡ frame = ap (λ (f : Labels). trimmed f) same in
-    let alike : (y : ℕ) → IsInFrame x y → frame y ≡ all_with (label_kept whole items x) y =
-    λ y in_frame. trimmed-frame (label_from whole items) x y in_frame in
+    let same : fold memory_after (all_with whole) items ≡ label_from whole items =
+    λ k y. labels_after (all_with whole) items y plain k in
     ap (λ (f : Labels). f x) (fold-append memory_after (all_with whole) items (item.Trim ∷ rest))
-    ∙ ap (λ (f : Labels). fold memory_after f rest x) after_trim
-    ∙ memory_fold-local frame (all_with (label_kept whole items x)) rest x alike x (in_own_frame x)
-
-take_less : (i k : ℕ) (items : List Item) → k < length (take i items) → k < i
-take_less i k items lt = omega (arith, length-take i items)
+    ∙ ap (λ (f : Labels). fold memory_after (trimmed f) rest x) same
+    ∙ memory_fold-local (trimmed (label_from whole items)) (all_with (label_kept whole items x)) rest x
+    (trimmed-frame (label_from whole items) x) x (in_own_frame x)
 
 position_none : (items : List Item) → position is_trim items ≡ None → Plain items
 position_none items h k lt =
     elim (cases_Bool (nat_lt (position_or_len is_trim items) (length items))) as (λ _. is_trim (get_or items k item.Trim) ≡ false) [
-      | inl found ↦ let clash : Some (position_or_len is_trim items) ≡ None = rw found at h in cc
-      | inr none ↦
-          let past : length items ≤ position_or_len is_trim items = grind (arith, nat_tests, none) in
-          fails_before_first is_trim items k item.Trim (omega arith)
+      | inl found ↦ cc (rw found at h)
+      | inr none ↦ fails_before_first is_trim items k item.Trim (grind (arith, nat_tests, none))
     ]
 
 is_trim-is : (i : Item) → is_trim i ≡ true → i ≡ item.Trim
@@ -171,20 +154,13 @@ pub turn : (whole : Option Label) (items : List Item) (i x : ℕ) → position i
     → label_after_all whole items x ≡ label_after_all (label_kept whole (take i items) x) (drop (i + 1) items) x
 turn whole items i x found =
     let at = position-Some is_trim items i item.Trim found in
-    let within : i < length items = at.0 in
-    let count : position_or_len is_trim items ≡ i = position_or_len_is is_trim items i item.Trim (omega arith) at.2 (λ _. at.1) in
-    let lt : position_or_len is_trim items < length items = omega arith in
-    let trim : get_or items (position_or_len is_trim items) item.Trim ≡ item.Trim =
-    is_trim-is (get_or items (position_or_len is_trim items) item.Trim) (passes_at_first is_trim items item.Trim lt) in
-    let parts : items ≡ before_first is_trim items ++ (get_or items (position_or_len is_trim items) item.Trim ∷ after_first is_trim items) =
-    split_at_first is_trim items item.Trim lt in
-    let apart : items ≡ take i items ++ (item.Trim ∷ drop (i + 1) items) = parts ∙ rw (trim, count) refl in
+    let trim : get_or items i item.Trim ≡ item.Trim = is_trim-is (get_or items i item.Trim) at.1 in
+    let apart : items ≡ take i items ++ (item.Trim ∷ drop (suc i) items) = rw trim at (split_at items i item.Trim at.0) in
     let plain : Plain (take i items) = λ k less.
-    let under : k < i = take_less i k items less in
-    rw (get_or-take i items k item.Trim under) (fails_before_first is_trim items k item.Trim (omega arith)) in
-    ap (λ (is : List Item). label_after_all whole is x) apart ∙ trim_step whole (take i items) (drop (i + 1) items) x plain
+    rw (get_or-take i items k item.Trim (omega (arith, length-take i items))) (at.2 k (omega (arith, length-take i items))) in
+    ap (λ (is : List Item). label_after_all whole is x) apart ∙ rw add-one (trim_step whole (take i items) (drop (suc i) items) x plain)
 
 -- and the end
 pub last_turn : (whole : Option Label) (items : List Item) (x : ℕ) → position is_trim items ≡ None → label_after_all whole items x
     ≡ label_from whole items x
-last_turn whole items x none = plain_end whole items x (position_none items none)
+last_turn whole items x none = labels_after (all_with whole) items x (position_none items none)

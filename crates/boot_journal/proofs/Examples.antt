@@ -15,22 +15,20 @@ use Rattle.boot_journal.specs.Bytes.{is_trim, label_after, label_from, label_kep
 abbrev bytes : ℕ → ℕ → Extent
 bytes base size = record { base = base; size = size }
 
--- one item, and one byte
-trim_examples : (is_trim item.Trim ≡ true) × (is_trim (item.Free (bytes 4 2)) ≡ false)
-trim_examples = (refl, refl)
-
 abbrev of_node : ℕ → Label
 of_node node = with_node (Some node) plain_label
 
+-- one item, and one byte
 -- memory keeps its node, and what isn't memory gets none
-after_examples : (label_after 5 None (item.Mem (bytes 4 2)) ≡ Some plain_label)
+after_examples : (is_trim item.Trim ≡ true) × (is_trim (item.Free (bytes 4 2)) ≡ false)
+    × (label_after 5 None (item.Mem (bytes 4 2)) ≡ Some plain_label)
     × (label_after 5 (Some (of_node 1)) (item.Mem (bytes 4 2)) ≡ Some (of_node 1)) × (label_after 6 None (item.Mem (bytes 4 2)) ≡ None)
     × (label_after 5 (Some plain_label) (item.Node (bytes 4 2) 3) ≡ Some (of_node 3))
     × (label_after 5 None (item.Node (bytes 4 2) 3) ≡ None) × (label_after 5 (Some plain_label) item.Trim ≡ Some plain_label)
     × (label_after 5 (Some (of_node 1)) (item.Mirror (bytes 4 2)) ≡ Some (with_mirror (of_node 1)))
     × (label_after 5 None (item.Mirror (bytes 4 2)) ≡ None)
     × (label_after 5 (Some (with_mirror plain_label)) (item.Node (bytes 4 2) 3) ≡ Some (with_mirror (of_node 3)))
-after_examples = (refl, refl, refl, refl, refl, refl, refl, refl, refl)
+after_examples = (refl, refl, refl, refl, refl, refl, refl, refl, refl, refl, refl)
 
 -- frame 1 becomes memory, and half of it gets node 3
 abbrev half : List Item
@@ -41,19 +39,12 @@ from_examples : (label_from None half 4096 ≡ Some (of_node 3)) × (label_from 
 from_examples = (refl, refl, refl)
 
 -- a trim leaves nothing of such a frame, and all of one that is memory without a node
-nothing_is_kept : label_kept None half 4096 ≡ None
+kept_examples : (label_kept None half 4096 ≡ None) × (label_kept None (item.Mem (bytes 4096 4096) ∷ []) 5000 ≡ Some plain_label)
 unfolding label_kept trimmed each_in each_from
-nothing_is_kept = refl
-
-whole_frame_is_kept : label_kept None (item.Mem (bytes 4096 4096) ∷ []) 5000 ≡ Some plain_label
-unfolding label_kept trimmed each_in each_from
-whole_frame_is_kept = refl
-
-no_node_is_another : (n : ℕ) → None ≡ Some n → ⊥
-no_node_is_another n same = cc
+kept_examples = (refl, refl)
 
 plain_is_another : Some plain_label ≡ Some (of_node 3) → ⊥
-plain_is_another same = no_node_is_another 3 (ap (λ (l : Option Label). option_map_or (λ (m : Label). m.node) l None) same)
+plain_is_another same = cc (ap (λ (l : Option Label). option_map_or (λ (m : Label). m.node) l None) same)
 
 -- the byte in the middle of the frame differs from its first one, and that is an end of a range
 middle_differs : Differs None half 4096 6144
@@ -64,10 +55,7 @@ agrees_examples = ((λ behind inside. refl), λ behind inside. absurd (omega (ar
 
 edges_examples : EdgesAgree None (item.Mem (bytes 4096 4096) ∷ []) 4096 (item.Mem (bytes 4096 4096))
     × AllAgree None (item.Mem (bytes 4096 4096) ∷ []) 4096 (item.Mem (bytes 4096 4096) ∷ [])
-edges_examples = (
-  ((λ behind inside. absurd (omega (arith, behind))), (λ behind inside. absurd (omega (arith, inside)))),
-  (((λ behind inside. absurd (omega (arith, behind))), (λ behind inside. absurd (omega (arith, inside)))), tt),
-)
+edges_examples = ((grind arith, grind arith), ((grind arith, grind arith), tt))
 
 middle_is_an_edge : EdgesAgree None half 4096 (item.Node (bytes 4096 2048) 3) → ⊥
 middle_is_an_edge agree = plain_is_another (agree.1 (omega arith) (omega arith))

@@ -1,5 +1,5 @@
 -- No memory is mirrored where no item says so.
-use Rattle.std.proofs.Common.{◌≡◌, ℕ, Bool, true, false, if◌then◌else◌, Option, Some, None, List, [], ◌∷◌, ◌++◌, refl, sym, ◌∙◌, inl, inr}
+use Rattle.std.proofs.Common.{◌≡◌, ℕ, Bool, true, false, if◌then◌else◌, Option, Some, None, List, [], ◌∷◌, ◌++◌, refl, sym, ◌∙◌, inl, inr, arith}
 use Rattle.std.proofs.lemmas.Bool.{true≢false}
 use Rattle.std.proofs.lemmas.List.Sums.{fold-append}
 use Rattle.std.specs.List.{fold}
@@ -20,15 +20,11 @@ mirrors_in-push items i = fold-append mirrors_after false items (i ∷ [])
 
 covered_suits : (b : Bool) (old : Option Label) → suits true old ≡ false
     → suits true (if b then Some (unwrap_or old plain_label) else old) ≡ false
-covered_suits true None plain = refl
-covered_suits true (Some label) plain = plain
-covered_suits false old plain = plain
+covered_suits b old plain = grind arith
 
 noded_suits : (b : Bool) (node : ℕ) (old : Option Label) → suits true old ≡ false
     → suits true (if b then option_map (with_node (Some node)) old else old) ≡ false
-noded_suits true node None plain = refl
-noded_suits true node (Some label) plain = plain
-noded_suits false node old plain = plain
+noded_suits b node old plain = grind arith
 
 trimmed_suits : (f : Labels) (x : ℕ) → suits true (f x) ≡ false → suits true (trimmed f x) ≡ false
 trimmed_suits f x plain =

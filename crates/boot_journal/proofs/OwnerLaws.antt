@@ -11,17 +11,13 @@ use Rattle.memblock_model.specs.Items.{Owners, owners_after, owner_of, owner_run
 use Rattle.memblock_model.proofs.SameLaws.{owner_tells}
 use Rattle.memblock_model.proofs.ItemLaws.{owner_of-push}
 
-owners_told : (items : List Item) (rs : List (RunOf Owner)) → IsRunsOf (owner_of items) rs → value_at rs ≡ owner_of items
-owners_told items rs known = λ k x. known.each x k
-
 -- what one more item makes of the runs is what it makes of the owners
 pub owners_pushed : (items : List Item) (i : Item) (rs now : List (RunOf Owner)) → IsRunsOf (owner_of items) rs
     → IsRunsOf (owners_after (value_at rs) i) now
     → IsRunsOf (owner_of (items ++ i ∷ [])) now
 owners_pushed items i rs now known new =
-    let same : owners_after (value_at rs) i ≡ owner_of (items ++ i ∷ []) = ap (λ (f : Owners). owners_after f i)
-    (owners_told items rs known) ∙ sym (owner_of-push items i) in
-    subst (λ (f : Owners). IsRunsOf f now) same new
+    let told : value_at rs ≡ owner_of items = λ k x. known.each x k in
+    rw (owner_of-push items i) (rw told at new)
 
 -- and they end where the runs do
 pub owners_within : (items : List Item) (rs : List (RunOf Owner)) → IsRunsOf (owner_of items) rs → NothingFrom (2 ^ 64) (value_at rs)

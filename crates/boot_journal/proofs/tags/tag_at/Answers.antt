@@ -1,5 +1,5 @@
 use Rattle.std.proofs.Common.{◌≡◌, ℕ, ◌+◌, ◌-◌, List, length, take, drop, sym, ◌∙◌, ap, arith}
-use Rattle.std.proofs.lemmas.List.{take_all, length-drop}
+use Rattle.std.proofs.lemmas.List.{take_rest, length-drop}
 use Rattle.memblock_model.specs.declared.item.Item.{Item}
 use Rattle.memblock_model.specs.Labels.{tag_for}
 use Rattle.boot_journal.proofs.ByteLaws.{turn, last_turn}
@@ -9,8 +9,7 @@ pub loop-i-preserved : goal.loop-i-preserved
 loop-i-preserved c =
     let rest : List Item = c.loop-i.rest.now in
     let i : ℕ = c.in-Some.i in
-    let all : take (length rest - (i + 1)) (drop (i + 1) rest) ≡ drop (i + 1) rest = take_all (length rest - (i + 1)) (drop (i + 1) rest)
-    (omega (arith, length-drop (i + 1) rest)) in
+    let all = take_rest rest (i + 1) in
     record {
       few = rw all (omega (arith, length-drop (i + 1) rest));
       label = rw (all, c.kept-whole.ensures) (sym (turn c.loop-i.whole rest i c.args.x (sym c.in-Some.ensures.first))
