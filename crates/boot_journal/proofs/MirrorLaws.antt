@@ -1,14 +1,11 @@
 -- No memory is mirrored where no item says so.
-use Rattle.std.proofs.Common.{◌≡◌, ℕ, Bool, true, false, if◌then◌else◌, Option, Some, None, List, [], ◌∷◌, ◌++◌, refl, sym, ◌∙◌, inl, inr, arith}
+use Rattle.std.proofs.Common.{◌≡◌, ℕ, true, false, List, [], ◌∷◌, ◌++◌, refl, sym, ◌∙◌, inl, inr, arith}
 use Rattle.std.proofs.lemmas.Bool.{true≢false}
 use Rattle.std.proofs.lemmas.List.Sums.{fold-append}
 use Rattle.std.specs.List.{fold}
-use Rattle.std.specs.Option.{option_map}
-use Rattle.std.specs.Prelude.{unwrap_or}
-use Rattle.bm_base.specs.Extent.{covers}
 use Rattle.memblock_model.specs.declared.item.Item.{Item}
 use Rattle.memblock_model.specs.declared.item.Item.TheVariants as item
-use Rattle.memblock_model.specs.Labels.{Label, Labels, plain_label, with_node}
+use Rattle.memblock_model.specs.Labels.{Labels}
 use Rattle.memblock_model.specs.Items.{trimmed, memory_after, no_memory, memory_of}
 use Rattle.memblock_model.specs.Search.{suits}
 use Rattle.memblock_model.proofs.LabelLaws.{trimmed-cases, trimmed-whole}
@@ -17,14 +14,6 @@ use Rattle.boot_journal.specs.Mirrors.{mirrors_after, mirrors_in}
 -- one more item
 pub mirrors_in-push : (items : List Item) (i : Item) → mirrors_in (items ++ i ∷ []) ≡ mirrors_after (mirrors_in items) i
 mirrors_in-push items i = fold-append mirrors_after false items (i ∷ [])
-
-covered_suits : (b : Bool) (old : Option Label) → suits true old ≡ false
-    → suits true (if b then Some (unwrap_or old plain_label) else old) ≡ false
-covered_suits b old plain = grind arith
-
-noded_suits : (b : Bool) (node : ℕ) (old : Option Label) → suits true old ≡ false
-    → suits true (if b then option_map (with_node (Some node)) old else old) ≡ false
-noded_suits b node old plain = grind arith
 
 trimmed_suits : (f : Labels) (x : ℕ) → suits true (f x) ≡ false → suits true (trimmed f x) ≡ false
 trimmed_suits f x plain =
@@ -44,9 +33,9 @@ unmirrored_from : (f : Labels) (items : List Item) → mirrors_in items ≡ fals
 unmirrored_from f [] none plain x = plain x
 unmirrored_from f (item.Mirror range ∷ is) none plain x = absurd (true≢false (sym (marked is) ∙ none))
 unmirrored_from f (item.Mem range ∷ is) none plain x =
-    unmirrored_from (memory_after f (item.Mem range)) is none (λ y. covered_suits (covers range y) (f y) (plain y)) x
+    unmirrored_from (memory_after f (item.Mem range)) is none (λ y. grind (arith, plain y)) x
 unmirrored_from f (item.Node range node ∷ is) none plain x =
-    unmirrored_from (memory_after f (item.Node range node)) is none (λ y. noded_suits (covers range y) node (f y) (plain y)) x
+    unmirrored_from (memory_after f (item.Node range node)) is none (λ y. grind (arith, plain y)) x
 unmirrored_from f (item.Trim ∷ is) none plain x = unmirrored_from (trimmed f) is none (λ y. trimmed_suits f y (plain y)) x
 unmirrored_from f (i ∷ is) none plain x = unmirrored_from f is none plain x
 

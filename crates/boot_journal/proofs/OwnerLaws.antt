@@ -1,5 +1,5 @@
 -- The runs of bytes of one owner that a journal keeps beside its items.
-use Rattle.std.proofs.Common.{◌≡◌, ℕ, ◌^◌, List, [], ◌∷◌, ◌++◌, map, sym, ◌∙◌, ap, subst}
+use Rattle.std.proofs.Common.{◌≡◌, ℕ, ◌^◌, List, [], ◌∷◌, ◌++◌, map, sym, ◌∙◌}
 use Rattle.std.proofs.lemmas.List.{map-id}
 use Rattle.address_runs.specs.Runs.{RunOf, value_at, IsRunsOf}
 use Rattle.address_runs.specs.Edits.{NothingFrom}
@@ -7,7 +7,7 @@ use Rattle.address_runs.proofs.RunsLaws.{the_list}
 use Rattle.memblock_model.specs.declared.owner.Owner.{Owner}
 use Rattle.memblock_model.specs.declared.item.Item.{Item}
 use Rattle.memblock_model.specs.Same.{same_owner}
-use Rattle.memblock_model.specs.Items.{Owners, owners_after, owner_of, owner_runs_of}
+use Rattle.memblock_model.specs.Items.{owners_after, owner_of, owner_runs_of}
 use Rattle.memblock_model.proofs.SameLaws.{owner_tells}
 use Rattle.memblock_model.proofs.ItemLaws.{owner_of-push}
 
