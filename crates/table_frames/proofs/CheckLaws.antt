@@ -1,6 +1,6 @@
 -- Reading a list of records in order, what it is so far.
-use Rattle.std.proofs.Common.{◌≡◌, ◌↔◌, ℕ, suc, ◌+◌, ◌*◌, ◌%◌, ◌<◌, ◌≤◌, List, [], ◌∷◌, length, drop, sym, ◌∙◌, ap, subst, arith, drop-cons}
-use Rattle.std.proofs.lemmas.List.{at_drop_all}
+use Rattle.std.proofs.Common.{◌≡◌, ◌↔◌, ℕ, ◌+◌, ◌*◌, ◌%◌, ◌<◌, ◌≤◌, List, ◌∷◌, length, drop, arith, drop-cons, add-one, refl}
+use Rattle.std.proofs.lemmas.List.{drop_all}
 use Rattle.phys_store.specs.Bytes.{Stored, byte_of, bytes_at}
 use Rattle.address_runs.specs.Runs.{RunOf, run_end}
 use Rattle.address_runs.specs.Sweep.{StartFrom}
@@ -20,12 +20,7 @@ pub left_from : (s : List Stored) (h : Head) (i : ℕ) (g : Region) → i < h.co
 left_from s h i g few is =
     let r : RunOf Label = run_in (bytes_at (byte_of s) (h.place + 24 * i) 24) in
     let long = count_is s h in
-    let inner : i < length (list_in s h) = omega (arith, long, few) in
-    let next : suc i ≡ i + 1 = omega arith in
-    let left : drop i (list_in s h) ≡ r ∷ drop (i + 1) (list_in s h) =
-    drop-cons (list_in s h) i r inner ∙ ap (λ (q : RunOf Label). q ∷ drop (suc i) (list_in s h)) (record_by_bytes s h i r few)
-    ∙ ap (λ k. r ∷ drop k (list_in s h)) next in
-    (r, left, sym (ap (λ (q : Region). q.base) is), sym (ap (λ (q : Region). q.size) is))
+    (r, rw (add-one, drop-cons (list_in s h) i r (omega arith), record_by_bytes s h i r few) refl, rw is refl, rw is refl)
 
 abbrev pub Ascends : ℕ → ℕ → List (RunOf Label) → Type 0
 Ascends from b rs = StartFrom from rs × AscendBelow b rs
@@ -34,43 +29,33 @@ Ascends from b rs = StartFrom from rs × AscendBelow b rs
 pub one_in_place : (b from i next : ℕ) (rs ss : List (RunOf Label)) (r : RunOf Label) → Ascends from b (drop i rs) ↔ AscendBelow b rs
     → drop i rs ≡ r ∷ ss → from ≤ r.base → 0 < r.size → run_end r ≤ b → next ≡ run_end r → Ascends next b ss ↔ AscendBelow b rs
 one_in_place b from i next rs ss r known left above some low is = (
-  (λ both.
-      let whole : Ascends from b (r ∷ ss) = (above, (some, low, subst (λ e. StartFrom e ss) is both.0, both.1)) in
-      known.0 (subst (λ (ts : List (RunOf Label)). Ascends from b ts) (sym left) whole)),
-  λ ascend.
-      let whole : Ascends from b (r ∷ ss) = subst (λ (ts : List (RunOf Label)). Ascends from b ts) left (known.1 ascend) in
-      (subst (λ e. StartFrom e ss) (sym is) whole.1.2, whole.1.3),
+  (λ both. known.0 (rw left (above, (some, low, rw (← is) both.0, both.1)))),
+  λ ascend. let whole = rw left at (known.1 ascend) in (rw is whole.1.2, whole.1.3),
 )
 
 -- one that isn't: the list doesn't ascend
 pub out_of_place : (b from i : ℕ) (rs ss : List (RunOf Label)) (r : RunOf Label) → Ascends from b (drop i rs) ↔ AscendBelow b rs
     → drop i rs ≡ r ∷ ss → (from ≤ r.base → 0 < r.size → run_end r ≤ b → ⊥) → AscendBelow b rs → ⊥
 out_of_place b from i rs ss r known left fails ascend =
-    let whole : Ascends from b (r ∷ ss) = subst (λ (ts : List (RunOf Label)). Ascends from b ts) left (known.1 ascend) in
-    fails whole.0 whole.1.0 whole.1.1
+    let whole = rw left at (known.1 ascend) in fails whole.0 whole.1.0 whole.1.1
 
 -- nothing is left
 pub all_in_place : (b from i : ℕ) (rs : List (RunOf Label)) → Ascends from b (drop i rs) ↔ AscendBelow b rs → length rs ≤ i
     → AscendBelow b rs
-all_in_place b from i rs known all =
-    let none : drop i rs ≡ [] = at_drop_all (λ (ts : List (RunOf Label)). ts) rs i all in
-    known.0 (subst (λ (ts : List (RunOf Label)). Ascends from b ts) (sym none) (tt, tt))
+all_in_place b from i rs known all = known.0 (rw (drop_all i rs all) (tt, tt))
 
 -- the same of whole frames
 pub one_whole : (i : ℕ) (rs ss : List (RunOf Label)) (r : RunOf Label) → AreWholeFrames (drop i rs) ↔ AreWholeFrames rs → drop i rs ≡ r ∷ ss
     → r.base % 4096 ≡ 0 → r.size % 4096 ≡ 0 → AreWholeFrames ss ↔ AreWholeFrames rs
 one_whole i rs ss r known left base size = (
-  (λ rest. known.0 (subst (λ (ts : List (RunOf Label)). AreWholeFrames ts) (sym left) (base, size, rest))),
-  λ whole. (subst (λ (ts : List (RunOf Label)). AreWholeFrames ts) left (known.1 whole)).2,
+  (λ rest. known.0 (rw left (base, size, rest))),
+  λ whole. (rw left at (known.1 whole)).2,
 )
 
 pub not_whole : (i : ℕ) (rs ss : List (RunOf Label)) (r : RunOf Label) → AreWholeFrames (drop i rs) ↔ AreWholeFrames rs → drop i rs ≡ r ∷ ss
     → (r.base % 4096 ≡ 0 → r.size % 4096 ≡ 0 → ⊥) → AreWholeFrames rs → ⊥
 not_whole i rs ss r known left fails whole =
-    let parts : AreWholeFrames (r ∷ ss) = subst (λ (ts : List (RunOf Label)). AreWholeFrames ts) left (known.1 whole) in
-    fails parts.0 parts.1
+    let parts = rw left at (known.1 whole) in fails parts.0 parts.1
 
 pub all_whole : (i : ℕ) (rs : List (RunOf Label)) → AreWholeFrames (drop i rs) ↔ AreWholeFrames rs → length rs ≤ i → AreWholeFrames rs
-all_whole i rs known all =
-    let none : drop i rs ≡ [] = at_drop_all (λ (ts : List (RunOf Label)). ts) rs i all in
-    known.0 (subst (λ (ts : List (RunOf Label)). AreWholeFrames ts) (sym none) tt)
+all_whole i rs known all = known.0 (rw (drop_all i rs all) tt)

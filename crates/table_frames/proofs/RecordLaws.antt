@@ -1,5 +1,5 @@
 -- The records of an ascending list: each by its index, and what the list gives below and behind.
-use Rattle.std.proofs.Common.{◌≡◌, ℕ, zero, suc, ◌+◌, ◌-◌, ◌*◌, ◌/◌, ◌^◌, ◌<◌, ◌≤◌, ◌==◌, nat_lt, true, false, Option, Some, None, List, [], ◌∷◌, length, get_or, take, drop, if◌then◌else◌, refl, sym, ◌∙◌, ap, subst, inl, inr, arith}
+use Rattle.std.proofs.Common.{◌≡◌, ℕ, zero, suc, ◌+◌, ◌-◌, ◌*◌, ◌/◌, ◌^◌, ◌<◌, ◌≤◌, ◌==◌, nat_lt, true, false, Option, Some, None, List, [], ◌∷◌, length, get_or, take, drop, if◌then◌else◌, refl, ap, inl, inr, arith}
 use Rattle.std.proofs.lemmas.Bool.Decides.{nat_tests}
 use Rattle.std.proofs.lemmas.Bool.{cases_Bool, eqb-true}
 use Rattle.phys_store.specs.Bytes.{Stored, byte_of, bytes_at}
@@ -9,7 +9,7 @@ use Rattle.address_runs.proofs.RunsLaws.{below, behind}
 use Rattle.memblock_model.specs.Labels.{Label}
 use Rattle.memblock_ranges.specs.declared.region.Head.{Head}
 use Rattle.memblock_ranges.specs.declared.region.Region.{Region}
-use Rattle.memblock_ranges.specs.Spelling.{base_in, size_in, node_in, node_of_field, region_in, run_in}
+use Rattle.memblock_ranges.specs.Spelling.{node_in, node_of_field, region_in, run_in}
 use Rattle.memblock_ranges.specs.Tables.{list_in}
 use Rattle.memblock_ranges.proofs.SpellLaws.{get-records_at}
 use Rattle.memblock_ranges.proofs.LentLaws.{count_is}
@@ -25,7 +25,7 @@ record_by_bytes s h i d few = get-records_at (byte_of s) h.place h.count i d few
 -- the node of a field, where it is below 1,024
 pub field_below : (n : ℕ) → node_below (node_of_field n) ≡ (if nat_lt n 1024 then Some n else None)
 field_below n = elim (cases_Bool (n == 1024)) as (λ _. node_below (node_of_field n) ≡ (if nat_lt n 1024 then Some n else None)) [
-  | inl none ↦ let is : n ≡ 1024 = eqb-true n 1024 none in rw none (rw is refl)
+  | inl none ↦ rw (none, eqb-true n 1024 none) refl
   | inr some ↦ rw some refl
 ]
 
@@ -52,17 +52,13 @@ pub start_at : (b at : ℕ) (rs : List (RunOf Label)) (i : ℕ) (d : RunOf Label
     → at ≤ (get_or rs i d).base
 start_at b at [] i d ascend start few = absurd (omega arith)
 start_at b at (r ∷ rs) zero d ascend start few = start
-start_at b at (r ∷ rs) (suc i) d ascend start few =
-    let rest = start_at b (run_end r) rs i d ascend.3 ascend.2 (omega arith) in
-    omega (arith, rest, start)
+start_at b at (r ∷ rs) (suc i) d ascend start few = omega (arith, start_at b (run_end r) rs i d ascend.3 ascend.2 (omega arith))
 
 pub in_order : (b : ℕ) (rs : List (RunOf Label)) (i k : ℕ) (d : RunOf Label) → AscendBelow b rs → i < k → k < length rs
     → run_end (get_or rs i d) ≤ (get_or rs k d).base
-in_order b [] i k d ascend order few = absurd (omega arith)
-in_order b (r ∷ rs) zero zero d ascend order few = absurd (omega arith)
 in_order b (r ∷ rs) zero (suc k) d ascend order few = start_at b (run_end r) rs k d ascend.3 ascend.2 (omega arith)
-in_order b (r ∷ rs) (suc i) zero d ascend order few = absurd (omega arith)
 in_order b (r ∷ rs) (suc i) (suc k) d ascend order few = in_order b rs i k d ascend.3 (omega arith) (omega arith)
+in_order b rs i k d ascend order few = absurd (omega arith)
 
 -- the records before one give nothing from its first byte on
 pub taken_none : (b : ℕ) (rs : List (RunOf Label)) (i x : ℕ) (d : RunOf Label) → AscendBelow b rs → i < length rs → (get_or rs i d).base ≤ x
@@ -77,27 +73,14 @@ taken_none b (r ∷ rs) (suc i) x d ascend few above =
 pub region_fits : (s : List Stored) (h : Head) (i : ℕ) (g : Region) → HasRecords s h (2 ^ 64) → i < h.count
     → g ≡ region_in (bytes_at (byte_of s) (h.place + 24 * i) 24) → (0 < g.size) × (g.base + g.size ≤ 2 ^ 64)
 region_fits s h i g known few is =
-    let bs = bytes_at (byte_of s) (h.place + 24 * i) 24 in
-    let long = count_is s h in
-    let at : get_or (list_in s h) i (run_in bs) ≡ run_in bs = record_by_bytes s h i (run_in bs) few in
-    let fits = ascend_at (2 ^ 64) (list_in s h) i (run_in bs) known.ascend (omega (arith, long)) in
-    let Fit : RunOf Label → Type 0 = λ r. (0 < r.size) × (r.base + r.size ≤ 2 ^ 64) in
-    let there : Fit (run_in bs) = subst Fit at fits in
-    subst (λ (q : Region). (0 < q.size) × (q.base + q.size ≤ 2 ^ 64)) (sym is) there
+    let r = run_in (bytes_at (byte_of s) (h.place + 24 * i) 24) in
+    rw is (rw (record_by_bytes s h i r few) at (ascend_at (2 ^ 64) (list_in s h) i r known.ascend (omega (arith, count_is s h))))
 
 pub region_frames : (s : List Stored) (h : Head) (i : ℕ) (g : Region) (node : Option ℕ) (d : RunOf Label) → i < h.count
     → g ≡ region_in (bytes_at (byte_of s) (h.place + 24 * i) 24) → node ≡ (if nat_lt g.node 1024 then Some g.node else None)
     → record { first = g.base / 4096; end = (g.base + (g.size - 1)) / 4096 + 1; node = node } ≡ frames_of (get_or (list_in s h) i d)
 region_frames s h i g node d few is told =
-    let bs = bytes_at (byte_of s) (h.place + 24 * i) 24 in
-    let Frames : ℕ → ℕ → Option ℕ → RecordFrames = λ b n v. record { first = b / 4096; end = (b + (n - 1)) / 4096 + 1; node = v } in
-    let base : g.base ≡ base_in bs = ap (λ (q : Region). q.base) is in
-    let size : g.size ≡ size_in bs = ap (λ (q : Region). q.size) is in
-    let field : g.node ≡ node_in bs = ap (λ (q : Region). q.node) is in
-    let nodes : node ≡ node_below (node_of_field (node_in bs)) =
-    told ∙ ap (λ n. if nat_lt n 1024 then Some n else None) field ∙ sym (field_below (node_in bs)) in
-    ap (λ b. Frames b g.size node) base ∙ ap (λ n. Frames (base_in bs) n node) size ∙ ap (λ v. Frames (base_in bs) (size_in bs) v) nodes
-    ∙ sym (ap frames_of (record_by_bytes s h i d few))
+    rw (told, is, record_by_bytes s h i d few, field_below (node_in (bytes_at (byte_of s) (h.place + 24 * i) 24))) refl
 
 pub some_node : (n : ℕ) → n < 1024 → Some n ≡ (if nat_lt n 1024 then Some n else None)
 some_node n low = let h : nat_lt n 1024 ≡ true = grind (arith, nat_tests) in rw h refl
@@ -107,14 +90,15 @@ no_node n high = let h : nat_lt n 1024 ≡ false = grind (arith, nat_tests) in r
 
 pub ascend_higher : (b c : ℕ) (rs : List (RunOf Label)) → b ≤ c → AscendBelow b rs → AscendBelow c rs
 ascend_higher b c [] order ascend = tt
-ascend_higher b c (r ∷ rs) order ascend = let low = ascend.1 in
-    (ascend.0, omega (arith, low, order), ascend.2, ascend_higher b c rs order ascend.3)
+ascend_higher b c (r ∷ rs) order ascend = (ascend.0, omega arith, ascend.2, ascend_higher b c rs order ascend.3)
 
 pub records_higher : (s : List Stored) (h : Head) (b c : ℕ) → b ≤ c → HasRecords s h b → HasRecords s h c
 records_higher s h b c order known =
     record { few = known.few; fits = known.fits; ascend = ascend_higher b c (list_in s h) order known.ascend }
 
 -- a record has a first frame, and ends behind it
-pub frames_order : (r : RunOf Label) → (frames_of r).first < (frames_of r).end
-frames_order r =
-    let h : r.base / 4096 < (r.base + (r.size - 1)) / 4096 + 1 = omega arith in h
+pub frames_order : (r : RunOf Label) (fs : RecordFrames) → fs ≡ frames_of r → fs.first < fs.end
+frames_order r fs is =
+    let first : fs.first ≡ r.base / 4096 = ap (λ (g : RecordFrames). g.first) is in
+    let end : fs.end ≡ (r.base + (r.size - 1)) / 4096 + 1 = ap (λ (g : RecordFrames). g.end) is in
+    omega arith

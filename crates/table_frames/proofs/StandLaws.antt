@@ -1,8 +1,7 @@
 -- The bytes of a table that stands in them say what the table says.
-use Rattle.std.proofs.Common.{◌≡◌, ℕ, suc, ◌+◌, ◌-◌, ◌*◌, ◌/◌, ◌%◌, ◌^◌, ◌<◌, ◌≤◌, ◌&&◌, Option, Some, None, List, [], ◌∷◌, length, get_or, refl, sym, ◌∙◌, ap, subst, inl, inr, arith}
+use Rattle.std.proofs.Common.{◌≡◌, ℕ, suc, ◌+◌, ◌-◌, ◌*◌, ◌/◌, ◌^◌, ◌<◌, ◌≤◌, ◌&&◌, Option, Some, None, List, [], ◌∷◌, length, get_or, refl, ◌∙◌, ap, inl, inr, arith, add-zero}
 use Rattle.std.specs.Option.{is_some, is_none, unwrap_or}
 use Rattle.std.proofs.lemmas.Bool.{cases_lt, cases_Bool}
-use Rattle.bm_base.specs.Each.{each_in}
 use Rattle.bm_base.specs.Frames.{bytes_of_frame}
 use Rattle.bm_base.proofs.EachLaws.{each_in-same}
 use Rattle.phys_store.specs.Bytes.{Stored, byte_of, bytes_at}
@@ -36,8 +35,7 @@ alike_from : (f : ℕ → ℕ) (a : ℕ) (rs : List (RunOf Label))
 unfolding records_at
 alike_from f a [] regions = tt
 alike_from f a (r ∷ rs) regions =
-    let here : a ≡ a + 24 * 0 = omega arith in
-    let first : region_in (bytes_at f a 24) ≡ region_of r = ap (λ x. region_in (bytes_at f x 24)) here ∙ regions 0 r (omega arith) in
+    let first : region_in (bytes_at f a 24) ≡ region_of r = rw add-zero at (regions 0 r (omega arith)) in
     let node : node_in (bytes_at f a 24) ≡ node_field r.value = ap (λ (g : Region). g.node) first in (
       ap (λ (g : Region). g.base) first,
       ap (λ (g : Region). g.size) first,
@@ -49,25 +47,18 @@ alike_from f a (r ∷ rs) regions =
 -- they begin, end and give alike
 alike_starts : (at : ℕ) (rs ss : List (RunOf Label)) → Alike rs ss → StartFrom at ss → StartFrom at rs
 alike_starts at [] [] alike start = tt
-alike_starts at [] (s ∷ ss) alike start = absurd alike
-alike_starts at (r ∷ rs) [] alike start = absurd alike
-alike_starts at (r ∷ rs) (s ∷ ss) alike start = let base = alike.0 in omega (arith, base, start)
+alike_starts at (r ∷ rs) (s ∷ ss) alike start = omega arith
+alike_starts at rs ss alike start = absurd alike
 
 alike_ascends : (b : ℕ) (rs ss : List (RunOf Label)) → Alike rs ss → AscendBelow b ss → AscendBelow b rs
 alike_ascends b [] [] alike ascend = tt
-alike_ascends b [] (s ∷ ss) alike ascend = absurd alike
-alike_ascends b (r ∷ rs) [] alike ascend = absurd alike
-alike_ascends b (r ∷ rs) (s ∷ ss) alike ascend =
-    let base = alike.0 in
-    let size = alike.1 in
-    let some = ascend.0 in
-    let low = ascend.1 in
-    let ends : run_end s ≡ run_end r = omega (arith, base, size) in (
-      omega (arith, size, some),
-      omega (arith, base, size, low),
-      alike_starts (run_end r) rs ss alike.3 (subst (λ e. StartFrom e ss) ends ascend.2),
-      alike_ascends b rs ss alike.3 ascend.3,
-    )
+alike_ascends b (r ∷ rs) (s ∷ ss) alike ascend = (
+  omega arith,
+  omega arith,
+  alike_starts (run_end r) rs ss alike.3 (rw (alike.0, alike.1) ascend.2),
+  alike_ascends b rs ss alike.3 ascend.3,
+)
+alike_ascends b rs ss alike ascend = absurd alike
 
 -- what a byte tells: whether it is there, and its node
 pub record TellsAlike (u v : Option Label) : Type 0 where
@@ -77,22 +68,13 @@ pub record TellsAlike (u v : Option Label) : Type 0 where
 
 alike_tells : (x : ℕ) (rs ss : List (RunOf Label)) → Alike rs ss → TellsAlike (value_at rs x) (value_at ss x)
 alike_tells x [] [] alike = record { there = refl; bare = refl; node = refl }
-alike_tells x [] (s ∷ ss) alike = absurd alike
-alike_tells x (r ∷ rs) [] alike = absurd alike
 alike_tells x (r ∷ rs) (s ∷ ss) alike =
-    let same : lies_in r x ≡ lies_in s x =
-    ap (λ b. lies_in (let q : RunOf Label = record { base = b; size = r.size; value = r.value } in q) x) alike.0
-    ∙ ap (λ n. lies_in (let q : RunOf Label = record { base = s.base; size = n; value = r.value } in q) x) alike.1 in
-    elim (cases_Bool (lies_in s x)) as (λ _. TellsAlike (value_at (r ∷ rs) x) (value_at (s ∷ ss) x)) [
-      | inl lies ↦
-          let one : value_at (r ∷ rs) x ≡ Some r.value = rw (same ∙ lies) refl in
-          let two : value_at (s ∷ ss) x ≡ Some s.value = rw lies refl in
-          rw (one, two) (record { there = refl; bare = refl; node = alike.2 })
-      | inr away ↦
-          let one : value_at (r ∷ rs) x ≡ value_at rs x = rw (same ∙ away) refl in
-          let two : value_at (s ∷ ss) x ≡ value_at ss x = rw away refl in
-          rw (one, two) (alike_tells x rs ss alike.3)
+    let same : lies_in r x ≡ lies_in s x = rw (alike.0, alike.1) refl in
+    elim (cases_Bool (lies_in s x)) [
+      | inl lies ↦ rw (same, lies) (record { there = refl; bare = refl; node = alike.2 })
+      | inr away ↦ rw (same, away) (alike_tells x rs ss alike.3)
     ]
+alike_tells x rs ss alike = absurd alike
 
 alike_stands : (t : Table) (s : List Stored) → StandsIn t s → Alike (list_in s (head_of t)) t.records
 alike_stands t s stands = alike_from (byte_of s) t.place t.records stands.regions
@@ -101,27 +83,15 @@ alike_stands t s stands = alike_from (byte_of s) t.place t.records stands.region
 runs_ascend : (b : ℕ) (rs : List (RunOf Label)) → AreRuns rs → NothingFrom b (value_at rs) → AscendBelow b rs
 runs_ascend b [] runs none = tt
 runs_ascend b (r ∷ rs) runs none =
-    let some : 0 < r.size = runs.0 in
-    let low : run_end r ≤ b = elim (cases_lt b (run_end r)) as (λ _. run_end r ≤ b) [
-      | inl lt ↦
-          let last : value_at (r ∷ rs) (run_end r - 1) ≡ Some r.value = rw (inside r (run_end r - 1) (omega arith) (omega arith)) refl in
-          absurd (cc (sym last ∙ none (run_end r - 1) (omega arith)))
+    let low : run_end r ≤ b = elim (cases_lt b (run_end r)) [
+      | inl lt ↦ absurd (cc (rw (inside r (run_end r - 1) (omega arith) (omega arith)) at (none (run_end r - 1) (omega arith))))
       | inr ge ↦ ge
     ] in (
-      some,
+      runs.0,
       low,
       rest_from r rs runs,
-      runs_ascend b rs runs.2
-          (λ x high. let next : value_at (r ∷ rs) x ≡ value_at rs x = rw (behind r x (omega arith)) refl in sym next ∙ none x high),
+      runs_ascend b rs runs.2 (λ x high. rw (behind r x (omega arith)) at (none x high)),
     )
-
-pub stands_ascending : (t : Table) (s : List Stored) → StandsIn t s → HasRecords s (head_of t) (2 ^ 64)
-stands_ascending t s stands = record {
-  few = stands.few;
-  fits = stands.fits;
-  ascend = alike_ascends (2 ^ 64) (list_in s (head_of t)) t.records (alike_stands t s stands)
-      (runs_ascend (2 ^ 64) t.records stands.records.runs stands.records.within);
-}
 
 pub stands_below : (t : Table) (s : List Stored) (b : ℕ) → StandsIn t s → NothingFrom b (value_at t.records) → HasRecords s (head_of t) b
 stands_below t s b stands none = record {
@@ -130,12 +100,13 @@ stands_below t s b stands none = record {
   ascend = alike_ascends b (list_in s (head_of t)) t.records (alike_stands t s stands) (runs_ascend b t.records stands.records.runs none);
 }
 
+pub stands_ascending : (t : Table) (s : List Stored) → StandsIn t s → HasRecords s (head_of t) (2 ^ 64)
+stands_ascending t s stands = stands_below t s (2 ^ 64) stands stands.records.within
+
 alike_whole : (rs ss : List (RunOf Label)) → Alike rs ss → AreWholeFrames ss → AreWholeFrames rs
 alike_whole [] [] alike whole = tt
-alike_whole [] (s ∷ ss) alike whole = absurd alike
-alike_whole (r ∷ rs) [] alike whole = absurd alike
-alike_whole (r ∷ rs) (s ∷ ss) alike whole =
-    (ap (λ n. n % 4096) alike.0 ∙ whole.0, ap (λ n. n % 4096) alike.1 ∙ whole.1, alike_whole rs ss alike.3 whole.2)
+alike_whole (r ∷ rs) (s ∷ ss) alike whole = (omega arith, omega arith, alike_whole rs ss alike.3 whole.2)
+alike_whole rs ss alike whole = absurd alike
 
 -- where all addresses of a frame say the same, the records that are read are whole frames
 pub stands_whole : (t : Table) (s : List Stored) → StandsIn t s
@@ -154,11 +125,10 @@ unfolding free_node_in
 stands_free memory reserved s frame first second =
     let ms = list_in s (head_of memory) in
     let rs = list_in s (head_of reserved) in
-    let each : each_in (bytes_of_frame frame) (λ x. is_some (value_at ms x) && is_none (value_at rs x))
-    ≡ each_in (bytes_of_frame frame) (λ x. is_some (value_at memory.records x) && is_none (value_at reserved.records x)) =
-    each_in-same (bytes_of_frame frame) (λ x. is_some (value_at ms x) && is_none (value_at rs x))
+    let each = each_in-same (bytes_of_frame frame) (λ x. is_some (value_at ms x) && is_none (value_at rs x))
     (λ x. is_some (value_at memory.records x) && is_none (value_at reserved.records x))
-    (λ y above below.
-    ap (λ b. b && is_none (value_at rs y)) (alike_tells y ms memory.records (alike_stands memory s first)).there
-    ∙ ap (λ b. is_some (value_at memory.records y) && b) (alike_tells y rs reserved.records (alike_stands reserved s second)).bare) in
+    (λ y above below. rw (
+      (alike_tells y ms memory.records (alike_stands memory s first)).there,
+      (alike_tells y rs reserved.records (alike_stands reserved s second)).bare,
+    ) refl) in
     rw (each, stands_node memory s frame first) refl

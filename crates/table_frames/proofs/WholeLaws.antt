@@ -1,11 +1,11 @@
 -- Records of whole frames.
-use Rattle.std.proofs.Common.{◌≡◌, ℕ, zero, suc, ◌+◌, ◌-◌, ◌*◌, ◌/◌, ◌%◌, ◌<◌, ◌≤◌, Bool, false, ◌&&◌, Option, Some, None, List, [], ◌∷◌, length, get_or, if◌then◌else◌, refl, sym, ◌∙◌, ap, inl, inr, arith}
+use Rattle.std.proofs.Common.{◌≡◌, ℕ, zero, suc, ◌+◌, ◌-◌, ◌*◌, ◌/◌, ◌%◌, ◌<◌, ◌≤◌, Bool, ◌&&◌, Option, Some, None, List, [], ◌∷◌, length, get_or, if◌then◌else◌, refl, sym, ◌∙◌, ap, inl, inr, arith}
 use Rattle.std.specs.Option.{is_some, is_none}
 use Rattle.std.proofs.lemmas.Bool.Decides.{nat_tests}
-use Rattle.std.proofs.lemmas.Bool.{cases_lt, cases_Bool}
+use Rattle.std.proofs.lemmas.Bool.{cases_lt}
 use Rattle.bm_base.specs.Each.{each_in}
 use Rattle.bm_base.specs.Frames.{bytes_of_frame}
-use Rattle.bm_base.proofs.EachLaws.{each_in-same, each_in-fails}
+use Rattle.bm_base.proofs.EachLaws.{each_in-same}
 use Rattle.address_runs.specs.Runs.{RunOf, run_end, lies_in, value_at, AreRuns}
 use Rattle.address_runs.specs.Sweep.{StartFrom}
 use Rattle.address_runs.proofs.RunsLaws.{inside, behind, none_below, rest_from, other_behind}
@@ -20,8 +20,7 @@ lies_whole r y base size = grind (arith, nat_tests)
 pub whole_value : (rs : List (RunOf Label)) (y : ℕ) → AreWholeFrames rs → value_at rs y ≡ value_at rs (4096 * (y / 4096))
 whole_value [] y whole = refl
 whole_value (r ∷ rs) y whole =
-    let lies = lies_whole r y whole.0 whole.1 in
-    rw (lies, whole_value rs y whole.2) refl
+    rw (lies_whole r y whole.0 whole.1, whole_value rs y whole.2) refl
 
 pub whole_at : (rs : List (RunOf Label)) (i : ℕ) (d : RunOf Label) → AreWholeFrames rs → i < length rs
     → ((get_or rs i d).base % 4096 ≡ 0) × ((get_or rs i d).size % 4096 ≡ 0)
@@ -32,17 +31,11 @@ whole_at (r ∷ rs) (suc i) d whole few = whole_at rs i d whole.2 (omega arith)
 -- the frames of such a record are those whose first byte lies in it
 pub first_byte : (r : RunOf Label) (x : ℕ) → 0 < r.size → r.base % 4096 ≡ 0 → r.size % 4096 ≡ 0
     → (frames_of r).first ≤ x → x < (frames_of r).end → (r.base ≤ 4096 * x) × (4096 * x < run_end r)
-first_byte r x some base size from until =
-    let low : r.base / 4096 ≤ x = from in
-    let high : x < (r.base + (r.size - 1)) / 4096 + 1 = until in
-    (omega (arith, low, base), omega (arith, high, base, size, some))
+first_byte r x some base size from until = (omega arith, omega arith)
 
 pub other_byte : (r : RunOf Label) (x : ℕ) → 0 < r.size → r.base % 4096 ≡ 0 → r.size % 4096 ≡ 0
     → r.base ≤ 4096 * x → 4096 * x < run_end r → ((frames_of r).first ≤ x) × (x < (frames_of r).end)
-other_byte r x some base size from until =
-    let low : r.base / 4096 ≤ x = omega (arith, from) in
-    let high : x < (r.base + (r.size - 1)) / 4096 + 1 = omega (arith, until, some) in
-    (low, high)
+other_byte r x some base size from until = (omega arith, omega arith)
 
 -- in memory of whole frames a frame is free where its first byte is memory and no byte is reserved
 pub free_by_first : (ms : List (RunOf Label)) (reserved : Labels) (x : ℕ) → AreWholeFrames ms
@@ -52,26 +45,14 @@ free_by_first ms reserved x whole =
     let both : ℕ → Bool = λ y. is_some (value_at ms y) && is_none (reserved y) in
     let bare : ℕ → Bool = λ y. is_none (reserved y) in
     let first : Option Label = value_at ms (4096 * x) in
-    let nothing : Option ℕ = None in
     let same : (y : ℕ) → 4096 * x ≤ y → y < 4096 * x + 4096 → value_at ms y ≡ first = λ y above below.
     whole_value ms y whole ∙ ap (value_at ms) (omega arith) in
     let Free : Option Label → Type 0 = λ v. value_at ms (4096 * x) ≡ v →
     (if each_in (bytes_of_frame x) bare then node_told v else None) ≡ (if each_in (bytes_of_frame x) both then node_told v else None) in
     let at : (v : Option Label) → Free v = λ v. elim v as Free [
-      | None ↦ λ is.
-          let fails : each_in (bytes_of_frame x) both ≡ false =
-          each_in-fails (bytes_of_frame x) both (4096 * x) (omega arith) (omega arith)
-          (ap (λ (o : Option Label). is_some o && is_none (reserved (4096 * x))) is) in
-          elim (cases_Bool (each_in (bytes_of_frame x) bare)) as (λ _. (if each_in (bytes_of_frame x) bare then nothing else None)
-          ≡ (if each_in (bytes_of_frame x) both then nothing else None)) [
-            | inl yes_bare ↦ rw (yes_bare, fails) refl
-            | inr no_bare ↦ rw (no_bare, fails) refl
-          ]
+      | None ↦ λ is. grind arith
       | Some label ↦ λ is.
-          let equal : each_in (bytes_of_frame x) bare ≡ each_in (bytes_of_frame x) both =
-          each_in-same (bytes_of_frame x) bare both
-          (λ y above below. sym (ap (λ (o : Option Label). is_some o && is_none (reserved y)) (same y above below ∙ is))) in
-          rw equal refl
+          rw (each_in-same (bytes_of_frame x) bare both (λ y above below. rw (same y above below, is) refl)) refl
     ] in at first refl
 
 -- a canonical list whose addresses say the same frame by frame has records of whole frames
@@ -79,18 +60,16 @@ pub whole_by_value : (rs : List (RunOf Label)) → AreRuns rs → ((x : ℕ) →
     → AreWholeFrames rs
 whole_by_value [] runs same = tt
 whole_by_value (r ∷ rs) runs same =
-    let some : 0 < r.size = runs.0 in
     let all : List (RunOf Label) = r ∷ rs in
     let start : StartFrom r.base all = omega arith in
-    let base : r.base % 4096 ≡ 0 = elim (cases_lt (4096 * (r.base / 4096)) r.base) as (λ _. r.base % 4096 ≡ 0) [
+    let base : r.base % 4096 ≡ 0 = elim (cases_lt (4096 * (r.base / 4096)) r.base) [
       | inl lt ↦
           let here : value_at all r.base ≡ Some r.value = rw (inside r r.base (omega arith) (omega arith)) refl in
-          let none : value_at all (4096 * (r.base / 4096)) ≡ None = none_below r.base (4096 * (r.base / 4096)) all runs start lt in
-          absurd (cc (sym here ∙ same r.base ∙ none))
-      | inr ge ↦ omega (arith, ge)
+          absurd (cc (here, same r.base, none_below r.base (4096 * (r.base / 4096)) all runs start lt))
+      | inr ge ↦ omega arith
     ] in
     let e : ℕ = run_end r in
-    let end : e % 4096 ≡ 0 = elim (cases_lt (4096 * (e / 4096)) e) as (λ _. e % 4096 ≡ 0) [
+    let end : e % 4096 ≡ 0 = elim (cases_lt (4096 * (e / 4096)) e) [
       | inl lt ↦
           let frame : 4096 * ((e - 1) / 4096) ≡ 4096 * (e / 4096) = omega (arith, lt) in
           let last : value_at all (e - 1) ≡ Some r.value = rw (inside r (e - 1) (omega arith) (omega arith)) refl in
@@ -99,16 +78,10 @@ whole_by_value (r ∷ rs) runs same =
           (sym next ∙ same e ∙ sym (ap (value_at all) frame) ∙ sym (same (e - 1)) ∙ last))
       | inr ge ↦ omega (arith, ge)
     ] in
-    let size : r.size % 4096 ≡ 0 = omega (arith, base, end) in
-    let rest : (x : ℕ) → value_at rs x ≡ value_at rs (4096 * (x / 4096)) = λ x.
-    elim (cases_lt x e) as (λ _. value_at rs x ≡ value_at rs (4096 * (x / 4096))) [
+    let rest : (x : ℕ) → value_at rs x ≡ value_at rs (4096 * (x / 4096)) = λ x. elim (cases_lt x e) [
       | inl lt ↦
           none_below e x rs runs.2 (rest_from r rs runs) lt
           ∙ sym (none_below e (4096 * (x / 4096)) rs runs.2 (rest_from r rs runs) (omega arith))
-      | inr ge ↦
-          let one : value_at all x ≡ value_at rs x = rw (behind r x ge) refl in
-          let two : value_at all (4096 * (x / 4096)) ≡ value_at rs (4096 * (x / 4096)) = rw (behind r (4096 * (x / 4096)) (omega
-          (arith, end, ge))) refl in
-          sym one ∙ same x ∙ two
+      | inr ge ↦ rw (behind r x ge, behind r (4096 * (x / 4096)) (omega arith)) at (same x)
     ] in
-    (base, size, whole_by_value rs runs.2 rest)
+    (base, omega arith, whole_by_value rs runs.2 rest)
