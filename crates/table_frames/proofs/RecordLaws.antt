@@ -1,6 +1,5 @@
 -- The records of an ascending list: each by its index, and what the list gives below and behind.
-use Rattle.std.proofs.Common.{◌≡◌, ℕ, zero, suc, ◌+◌, ◌-◌, ◌*◌, ◌/◌, ◌^◌, ◌<◌, ◌≤◌, ◌==◌, nat_lt, true, false, Option, Some, None, List, [], ◌∷◌, length, get_or, take, drop, if◌then◌else◌, refl, ap, inl, inr, arith}
-use Rattle.std.proofs.lemmas.Bool.Decides.{nat_tests}
+use Rattle.std.proofs.Common.{◌≡◌, ℕ, zero, suc, ◌+◌, ◌-◌, ◌*◌, ◌/◌, ◌^◌, ◌<◌, ◌≤◌, ◌==◌, nat_lt, Option, Some, None, List, [], ◌∷◌, length, get_or, take, drop, if◌then◌else◌, refl, ap, inl, inr, arith}
 use Rattle.std.proofs.lemmas.Bool.{cases_Bool, eqb-true}
 use Rattle.phys_store.specs.Bytes.{Stored, byte_of, bytes_at}
 use Rattle.address_runs.specs.Runs.{RunOf, run_end, value_at}
@@ -81,12 +80,6 @@ pub region_frames : (s : List Stored) (h : Head) (i : ℕ) (g : Region) (node : 
     → record { first = g.base / 4096; end = (g.base + (g.size - 1)) / 4096 + 1; node = node } ≡ frames_of (get_or (list_in s h) i d)
 region_frames s h i g node d few is told =
     rw (told, is, record_by_bytes s h i d few, field_below (node_in (bytes_at (byte_of s) (h.place + 24 * i) 24))) refl
-
-pub some_node : (n : ℕ) → n < 1024 → Some n ≡ (if nat_lt n 1024 then Some n else None)
-some_node n low = let h : nat_lt n 1024 ≡ true = grind (arith, nat_tests) in rw h refl
-
-pub no_node : (n : ℕ) → 1024 ≤ n → None ≡ (if nat_lt n 1024 then Some n else None)
-no_node n high = let h : nat_lt n 1024 ≡ false = grind (arith, nat_tests) in rw h refl
 
 pub ascend_higher : (b c : ℕ) (rs : List (RunOf Label)) → b ≤ c → AscendBelow b rs → AscendBelow c rs
 ascend_higher b c [] order ascend = tt

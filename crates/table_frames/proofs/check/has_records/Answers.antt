@@ -1,4 +1,4 @@
-use Rattle.std.proofs.Common.{◌≤◌, ◌+◌, length, drop, arith, refl}
+use Rattle.std.proofs.Common.{◌+◌, drop, arith, refl}
 use Rattle.std.proofs.lemmas.Bool.{false≢true}
 use Rattle.memblock_ranges.specs.Tables.{list_in}
 use Rattle.memblock_ranges.proofs.LentLaws.{count_is}
@@ -11,14 +11,11 @@ pub returns-then-not-is_in_place-clause-list : goal.returns-then-not-is_in_place
 returns-then-not-is_in_place-clause-list c =
     let rs = list_in c.args.store.now c.args.head.now in
     let i = c.loop-i.i in
-    let left = left_from c.args.store.now c.args.head.now i c.region_at-region.result c.loop-i-test.true c.region_at-region.ensures in
-    let base = left.2 in
-    let size = left.3 in (
+    let left = left_from c.args.store.now c.args.head.now i c.region_at-region.result c.loop-i-test.true c.region_at-region.ensures in (
       (λ never. absurd (false≢true never)),
       (λ known.
           absurd (out_of_place c.args.bound c.loop-i.from i rs (drop (i + 1) rs) left.0 c.loop-i.invariant left.1
-          (λ above some low. false≢true (c.if-not-is_in_place.ensures.1
-          (omega (arith, above, base), omega (arith, some, size), omega (arith, low, base, size))))
+          (λ above some low. false≢true (c.if-not-is_in_place.ensures.1 (omega arith, omega arith, omega arith)))
           known.ascend)),
     )
 
@@ -27,31 +24,21 @@ loop-i-preserved c =
     let rs = list_in c.args.store.now c.args.head.now in
     let i = c.loop-i.i in
     let left = left_from c.args.store.now c.args.head.now i c.region_at-region.result c.loop-i-test.true c.region_at-region.ensures in
-    let base = left.2 in
-    let size = left.3 in
     let facts = c.if-not-is_in_place.ensures.0 refl in
-    let above = facts.0 in
-    let some = facts.1 in
-    let low = facts.2 in
     one_in_place c.args.bound c.loop-i.from i _ rs (drop (i + 1) rs) left.0 c.loop-i.invariant left.1
-    (omega (arith, above, base)) (omega (arith, some, size)) (omega (arith, low, base, size)) (omega (arith, base, size))
+    (omega arith) (omega arith) (omega arith) (omega arith)
 
-pub returns-clause-list : goal.returns-clause-list
-returns-clause-list c =
+pub returns : goal.returns
+returns c =
     let rs = list_in c.args.store.now c.args.head.now in
     let long = count_is c.args.store.now c.args.head.now in
-    let all : length rs ≤ c.loop-i.i = let test = c.loop-i-test.false in omega (arith, long, test) in
     let room = c.if-not-has_room.ensures.0 refl in
-    let known : HasRecords c.args.store.now c.args.head.now c.args.bound =
-    record { few = room.0; fits = room.1; ascend = all_in_place c.args.bound c.loop-i.from c.loop-i.i rs c.loop-i.invariant all } in
-    ((λ is. known), (λ given. refl))
-
-pub returns-clause-space : goal.returns-clause-space
-returns-clause-space c = λ is.
-    let rs = list_in c.args.store.now c.args.head.now in
-    let long = count_is c.args.store.now c.args.head.now in
-    let all : length rs ≤ c.loop-i.i = let test = c.loop-i-test.false in omega (arith, long, test) in
-    let room = c.if-not-has_room.ensures.0 refl in
-    let known : HasRecords c.args.store.now c.args.head.now c.args.bound =
-    record { few = room.0; fits = room.1; ascend = all_in_place c.args.bound c.loop-i.from c.loop-i.i rs c.loop-i.invariant all } in
-    records_higher c.args.store.now c.args.head.now c.args.bound _ (omega arith) known
+    let known : HasRecords c.args.store.now c.args.head.now c.args.bound = record {
+      few = room.0;
+      fits = room.1;
+      ascend = all_in_place c.args.bound c.loop-i.from c.loop-i.i rs c.loop-i.invariant (omega arith);
+    } in
+    record {
+      list = ((λ is. known), (λ given. refl));
+      space = λ is. records_higher c.args.store.now c.args.head.now c.args.bound _ (omega arith) known;
+    }

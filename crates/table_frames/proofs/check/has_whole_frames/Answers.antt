@@ -1,4 +1,4 @@
-use Rattle.std.proofs.Common.{◌≤◌, ◌+◌, ◌%◌, length, drop, sym, ◌∙◌, ap, arith, refl}
+use Rattle.std.proofs.Common.{◌+◌, drop, arith, refl}
 use Rattle.std.proofs.lemmas.Bool.{false≢true}
 use Rattle.memblock_ranges.specs.Tables.{list_in}
 use Rattle.memblock_ranges.proofs.LentLaws.{count_is}
@@ -13,12 +13,7 @@ returns-then-not-is_whole c =
       (λ never. absurd (false≢true never)),
       (λ whole.
           absurd (not_whole i rs (drop (i + 1) rs) left.0 c.loop-i.invariant left.1
-          (λ base size. false≢true (c.if-not-is_whole.ensures.1 (
-            sym (ap (λ n. n % 4096) left.2) ∙ base,
-            sym (ap (λ n. n % 4096) left.3)
-                ∙ size,
-          )))
-          whole)),
+          (λ base size. false≢true (c.if-not-is_whole.ensures.1 (omega arith, omega arith))) whole)),
     )
 
 pub loop-i-preserved : goal.loop-i-preserved
@@ -27,12 +22,9 @@ loop-i-preserved c =
     let i = c.loop-i.i in
     let left = left_from c.args.store.now c.args.head.now i c.region_at-region.result c.loop-i-test.true c.region_at-region.ensures in
     let facts = c.if-not-is_whole.ensures.0 refl in
-    one_whole i rs (drop (i + 1) rs) left.0 c.loop-i.invariant left.1
-    (ap (λ n. n % 4096) left.2 ∙ facts.0) (ap (λ n. n % 4096) left.3 ∙ facts.1)
+    one_whole i rs (drop (i + 1) rs) left.0 c.loop-i.invariant left.1 (omega arith) (omega arith)
 
 pub returns : goal.returns
 returns c =
-    let rs = list_in c.args.store.now c.args.head.now in
     let long = count_is c.args.store.now c.args.head.now in
-    let all : length rs ≤ c.loop-i.i = let test = c.loop-i-test.false in omega (arith, long, test) in
-    ((λ is. all_whole c.loop-i.i rs c.loop-i.invariant all), (λ whole. refl))
+    ((λ is. all_whole c.loop-i.i (list_in c.args.store.now c.args.head.now) c.loop-i.invariant (omega arith)), (λ whole. refl))
