@@ -1,8 +1,7 @@
 -- What a line leaves, by the act that it asks for.
-use Rattle.std.proofs.Common.{◌≡◌, ℕ, None, List, [], ◌++◌, Result, IsOk, sym, ap, subst}
+use Rattle.std.proofs.Common.{◌≡◌, ℕ, None, List, [], ◌++◌, Result, IsOk, refl}
 use Rattle.std.proofs.lemmas.List.{append-nil}
 use Rattle.bm_base.specs.declared.memory.Memory.{Memory}
-use Rattle.memblock_model.specs.declared.item.Item.{Item}
 use Rattle.script_reader.specs.declared.act.Act.{Act}
 use Rattle.growth_model.specs.Bytes.{Filled, Follows, Holds}
 use Rattle.memblock_grow.specs.Contents.{Contents}
@@ -15,8 +14,7 @@ use Rattle.early_script.proofs.HoldLaws.{holds-quiet}
 
 -- a line that only answers leaves the state as it was
 pub nothing-done : (s : State) → record { kernel = s.kernel; items = s.items ++ []; ids = s.ids } ≡ s
-nothing-done s = ap (λ (is : List Item). let t : State = record { kernel = s.kernel; items = is; ids = s.ids } in
-    t) (append-nil s.items)
+nothing-done s = rw append-nil refl
 
 -- a call ended as the deed says: in its answer, and in each byte
 pub record Ran (r : Result Outcome Memory) (old new : State) (f g : ℕ → ℕ) (d : Deed) : Type 0 where
@@ -38,7 +36,7 @@ module _ (r : Result Outcome Memory) (ids : Ids) (m : Contents) (next : Ids) (n 
       → ((x : ℕ) → bytes_in n x ≡ byte_by r (state_of ids m) (state_of next n) d x (bytes_in m x))
       → ((fills : List Filled) → Holds m.kernel m.journal.items fills (bytes_in m)
       → Holds n.kernel n.journal.items (fills_by r d fills) (bytes_in n)) → RanAct r ids m next n a
-  ran-as acts bytes holds = subst (RanAct r ids m next n) (sym is) (record {
+  ran-as acts bytes holds = rw is (record {
     acts = acts;
     answered = λ only. only-answers r (state_of ids m) (state_of next n) d only acts;
     bytes = bytes;

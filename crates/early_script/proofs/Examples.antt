@@ -1,7 +1,6 @@
 -- Two live IDs in a small machine, and what each act makes of them.
-use Rattle.std.proofs.Common.{◌≡◌, ℕ, suc, zero, ◌+◌, ◌<◌, ◌++◌, true, false, Some, None, List, [], ◌∷◌, length, take, get_or, refl, sym, ◌∙◌, ap, subst, arith, lit<, inl, inr}
+use Rattle.std.proofs.Common.{◌≡◌, ℕ, suc, zero, ◌+◌, ◌<◌, ◌++◌, true, false, Some, None, List, [], ◌∷◌, length, take, refl, sym, ap, subst, arith, lit<, inl, inr, length-take, length-append}
 use Rattle.std.proofs.lemmas.Bool.{true≢false}
-use Rattle.std.proofs.lemmas.List.{take_all}
 use Rattle.bm_base.specs.Extent.{Extent}
 use Rattle.bm_base.specs.Each.{each_from, each_in}
 use Rattle.memblock_model.specs.declared.which.Which.TheVariants as which
@@ -174,18 +173,14 @@ free_out : (later : State) (count : ℕ) (line : Line) → take (count + 1) (fre
     (deed_at (after_lines begun (take count (frees_none ∷ []))) line) → ⊥
 unfolding deed
 free_out later zero line next amid =
-    let same : line ≡ frees_none = sym (ap (λ (ls : List Line). get_or ls 0 line) next) in
-    let here : IsAmid found later (answers found outcomes.Unknown) =
-    subst (λ (l : Line). IsAmid found later (deed_at begun l)) same amid in
-    elim here.0 as (λ _. ⊥) [
-      | inl cut ↦ let short : cut.count < 0 = cut.short in absurd (omega (arith, short))
+    let same : line ≡ frees_none = cc next in
+    let here = subst (λ (l : Line). IsAmid found later (deed_at begun l)) same amid in
+    elim here.0 [
+      | inl cut ↦ absurd (omega (arith, cut.short))
       | inr behind ↦ true≢false (sym behind.0)
     ]
 free_out later (suc k) line next amid =
-    let all : take (suc k + 1) (frees_none ∷ []) ≡ frees_none ∷ [] = take_all (suc k + 1) (frees_none ∷ []) (omega arith) in
-    let before : take (suc k) (frees_none ∷ []) ≡ frees_none ∷ [] = take_all (suc k) (frees_none ∷ []) (omega arith) in
-    let two : 1 ≡ 2 = ap length (sym all ∙ next ∙ ap (λ (ls : List Line). ls ++ line ∷ []) before) in
-    absurd (omega (arith, two))
+    absurd (omega (arith, simp (length-take, length-append) at (ap (λ (ls : List Line). length ls) next)))
 
 free_wants_none : (m : Contents) (later : Ids) (answers : List Answer) → ¬ EndsAmid begun (frees_none ∷ []) later m answers
 unfolding deed

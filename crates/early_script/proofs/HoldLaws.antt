@@ -1,26 +1,25 @@
 -- Bytes that are those of items and fills stay so behind a line.
-use Rattle.std.proofs.Common.{◌≡◌, ℕ, None, Option, List, Result, Ok, Err, sym, ◌∙◌, ap, subst, refl}
+use Rattle.std.proofs.Common.{◌≡◌, ℕ, None, List, Result, Ok, Err, ◌∙◌, ap, refl}
 use Rattle.bm_base.specs.declared.memory.Memory.{Memory}
 use Rattle.bm_base.specs.Extent.{Extent}
 use Rattle.memblock_model.specs.declared.item.Item.{Item}
 use Rattle.growth_model.specs.Bytes.{Filled, Follows, Holds}
 use Rattle.growth_model.proofs.FillLaws.{holds-call}
 use Rattle.early_script.specs.declared.outcome.Outcome.{Outcome}
-use Rattle.early_script.specs.Acted.{State, Deed, Acts, with_fill, fills_by}
+use Rattle.early_script.specs.Acted.{State, Deed, Acts, fills_by}
 
 -- the same bytes, items and image by other names
 pub holds-as : (kernel other : Extent) (items same : List Item) (fills : List Filled) (f g : ℕ → ℕ) → other ≡ kernel → same ≡ items →
     ((x : ℕ) → g x ≡ f x) → Holds kernel items fills f → Holds other same fills g
 holds-as kernel other items same fills f g is_kernel is_items each holds =
-    let here : Holds kernel items fills g = record { made = holds.made; each = λ x. each x ∙ holds.each x } in
-    subst (λ (k : Extent). Holds k same fills g) (sym is_kernel) (subst (λ (is : List Item). Holds kernel is fills g) (sym is_items) here)
+    rw (is_kernel, is_items) (record { made = holds.made; each = λ x. each x ∙ holds.each x })
 
 acts-kernel : (r : Result Outcome Memory) (old new : State) (d : Deed) → Acts r old new d → new.kernel ≡ old.kernel
 acts-kernel (Ok answer) old new d acts = ap (λ (s : State). s.kernel) acts.1
 acts-kernel (Err memory) old new d acts = acts.1
 
 fills-quiet : (r : Result Outcome Memory) (d : Deed) (fills : List Filled) → d.fill ≡ None → fills_by r d fills ≡ fills
-fills-quiet (Ok answer) d fills none = ap (λ (o : Option Filled). with_fill fills o) none
+fills-quiet (Ok answer) d fills none = rw none refl
 fills-quiet (Err memory) d fills none = refl
 
 -- behind a line that fills nothing
@@ -28,11 +27,9 @@ pub holds-quiet : (r : Result Outcome Memory) (old new : State) (d : Deed) (f g 
     Acts r old new d → Follows old.kernel old.items new.items f g → Holds old.kernel old.items fills f →
     Holds new.kernel new.items (fills_by r d fills) g
 holds-quiet r old new d f g fills none acts follows holds =
-    let here : Holds old.kernel new.items fills g = holds-call old.kernel old.items new.items fills f g holds follows in
-    subst (λ (fs : List Filled). Holds new.kernel new.items fs g) (sym (fills-quiet r d fills none))
-    (subst (λ (k : Extent). Holds k new.items fills g) (sym (acts-kernel r old new d acts)) here)
+    rw (fills-quiet r d fills none, acts-kernel r old new d acts) (holds-call old.kernel old.items new.items fills f g holds follows)
 
 -- with an equal deed
 pub holds-by : (r : Result Outcome Memory) (new : State) (d e : Deed) (g : ℕ → ℕ) (fills : List Filled) → d ≡ e →
     Holds new.kernel new.items (fills_by r e fills) g → Holds new.kernel new.items (fills_by r d fills) g
-holds-by r new d e g fills same holds = subst (λ (h : Deed). Holds new.kernel new.items (fills_by r h fills) g) (sym same) holds
+holds-by r new d e g fills same holds = rw same holds

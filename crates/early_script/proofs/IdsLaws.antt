@@ -1,5 +1,5 @@
 -- No live ID's range is empty, whatever changes.
-use Rattle.std.proofs.Common.{◌≡◌, ℕ, ◌<◌, Bool, true, false, cond, Option, Some, None, [], ◌∷◌, subst}
+use Rattle.std.proofs.Common.{◌≡◌, ℕ, ◌<◌, Bool, true, false, cond, Option, Some, [], ◌∷◌, subst}
 use Rattle.std.specs.Ordering.{nat_cmp, match_ordering, is_eq}
 use Rattle.std.specs.declared.cmp.Ordering.{Ordering}
 use Rattle.std.specs.declared.cmp.Ordering.TheVariants.{Less, Equal, Greater}
@@ -31,6 +31,6 @@ found_at true first range rest some later found = let same : first ≡ range = c
 found_at false first range rest some later found = later found
 
 pub bytes-found : (ids : Ids) (id : ℕ) (range : Extent) → HaveBytes ids → range_of ids id ≡ Some range → 0 < range.size
-bytes-found [] id range known found = absurd (let clash : None ≡ Some range = found in cc clash)
+bytes-found [] id range known found = absurd (cc found)
 bytes-found (e ∷ es) id range known found =
     found_at (is_eq (nat_cmp id e.0)) e.1 range (range_of es id) known.0 (bytes-found es id range known.1) found

@@ -6,16 +6,16 @@ use Rattle.script_reader.specs.declared.act.Line.{Line}
 use Rattle.growth_model.specs.Outcome as growth
 use Rattle.growth_model.specs.Outcome.{joined, after}
 use Rattle.growth_model.specs.Ends.{IsCut}
-use Rattle.growth_model.specs.Bytes.{Filled, byte, Holds}
+use Rattle.growth_model.specs.Bytes.{Filled, Holds}
 use Rattle.growth_model.proofs.EndLaws.{joined-append}
 use Rattle.memblock_grow.specs.Contents.{Contents}
 use Rattle.early_script.specs.declared.outcome.Answer.{Answer}
 use Rattle.early_script.specs.Ids.{Ids}
-use Rattle.early_script.specs.Acted.{State, Deed, IsAmid, deed}
+use Rattle.early_script.specs.Acted.{State, IsAmid, deed}
 use Rattle.early_script.specs.Found.{state_of, bytes_in}
 use Rattle.early_script.specs.Stage.{LineStage, Reaches, EndsAmid, GoesThrough, deed_at, after_line, after_lines}
 use Rattle.early_script.proofs.RunLaws.{ran-cut}
-use Rattle.early_script.proofs.StageLaws.{after_lines-append}
+use Rattle.early_script.proofs.StageLaws.{after_lines-append, deed-reached}
 
 -- amid the next line
 pub out-amid : (start : LineStage) (lines : List Line) (i : ℕ) (line : Line) (ids later : Ids) (m next : Contents)
@@ -26,19 +26,13 @@ pub out-amid : (start : LineStage) (lines : List Line) (i : ℕ) (line : Line) (
     Holds next.kernel next.journal.items fills (bytes_in next)) → EndsAmid start lines later next answers
 out-amid start lines i line ids later m next answers more reached amid holds =
     let s : LineStage = after_lines start (take i lines) in
-    let found : State = state_of ids m in
-    let bytes : bytes_in m ≡ byte s.state.kernel s.state.items s.fills = λ j x.
-    (reached.holds.each x ∙ ap (λ (t : State). byte t.kernel t.items s.fills x) reached.state) j in
-    let same : deed found (bytes_in m) line.act ≡ deed_at s line =
-    ap (λ (t : State). deed t (bytes_in m) line.act) reached.state ∙ ap (λ (f : ℕ → ℕ). deed s.state f line.act) bytes in
-    let here : IsAmid s.state (state_of later next) (deed found (bytes_in m) line.act) =
-    subst (λ (t : State). IsAmid t (state_of later next) (deed found (bytes_in m) line.act)) reached.state amid in
+    let here = rw (deed-reached s ids m answers line reached) at amid in
     record {
       count = i;
       line = line;
       next = more;
       answers_are = reached.answers_are;
-      amid = subst (λ (d : Deed). IsAmid s.state (state_of later next) d) same here;
+      amid = subst (λ (t : State). IsAmid t (state_of later next) (deed_at s line)) reached.state here;
       holds = holds s.fills reached.holds;
     }
 
@@ -53,7 +47,7 @@ goes-same a b same = record { more = []; on = same ∙ sym (append-nil a) }
 goes-then : (a b c : List Item) → Goes a b → Goes b c → Goes a c
 goes-then a b c first second = record {
   more = first.more ++ second.more;
-  on = second.on ∙ ap (λ (is : List Item). is ++ second.more) first.on ∙ append_assoc a first.more second.more;
+  on = rw (second.on, first.on, append_assoc a first.more second.more) refl;
 }
 
 between : (a b c : List Item) → Goes a b → Goes b c → GoesThrough a b c
@@ -74,10 +68,7 @@ cut-goes-on old new o cut =
     let rest = drop cut.count o.steps in
     record {
       more = joined rest;
-      on = ap (λ (ss : List (List Item)). old ++ joined ss) (sym (take-append-drop cut.count o.steps))
-          ∙ ap (λ (is : List Item). old ++ is) (joined-append done rest)
-          ∙ sym (append_assoc old (joined done) (joined rest))
-          ∙ ap (λ (is : List Item). is ++ joined rest) (sym cut.stands);
+      on = rw (cut.stands, append_assoc old (joined done) (joined rest), ← joined-append done rest, take-append-drop cut.count o.steps) refl;
     }
 
 after_lines-both : (s : LineStage) (a b : List Line) → after_lines s (a ++ b) ≡ after_lines (after_lines s a) b
@@ -89,10 +80,8 @@ all-lines : (start : LineStage) (lines : List Line) (i : ℕ) (line : Line) → 
     after_lines start lines ≡ after_lines (after_line (after_lines start (take i lines)) line) (drop (i + 1) lines)
 all-lines start lines i line more =
     let rest = drop (i + 1) lines in
-    ap (λ (ls : List Line). after_lines start ls) (sym (take-append-drop (i + 1) lines))
-    ∙ after_lines-both start (take (i + 1) lines) rest
-    ∙ ap (λ (ls : List Line). after_lines (after_lines start ls) rest) more
-    ∙ ap (λ (s : LineStage). after_lines s rest) (after_lines-append start (take i lines) line)
+    ap (after_lines start) (sym (take-append-drop (i + 1) lines)) ∙ after_lines-both start (take (i + 1) lines) rest
+    ∙ rw (more, after_lines-append start (take i lines) line) refl
 
 -- lines that were all run
 pub between-all : (start : LineStage) (lines : List Line) (ids : Ids) (m : Contents) (answers : List Answer) →
@@ -113,15 +102,13 @@ between-out start lines ids m answers out =
     let so_far : LineStage = after_lines start (take out.count lines) in
     let next : LineStage = after_line so_far out.line in
     let whole = (after_lines start lines).state.items in
-    let goes : Goes start.state.items so_far.state.items = lines-go start (take out.count lines) in
     let goes_further : Goes next.state.items whole =
-    subst (λ (s : LineStage). Goes next.state.items s.state.items) (sym (all-lines start lines out.count out.line out.next))
-    (lines-go next (drop (out.count + 1) lines)) in
+    rw (all-lines start lines out.count out.line out.next) (lines-go next (drop (out.count + 1) lines)) in
     let d = deed_at so_far out.line in
     let change = d.change so_far.state.items in
     let cut = ran-cut d.takes so_far.state.items m.journal.items change out.amid.0 in
     between start.state.items m.journal.items whole
-    (goes-then start.state.items so_far.state.items m.journal.items goes
+    (goes-then start.state.items so_far.state.items m.journal.items (lines-go start (take out.count lines))
     (record { more = joined (take cut.count change.steps); on = cut.stands }))
     (goes-then m.journal.items next.state.items whole (cut-goes-on so_far.state.items m.journal.items change cut) goes_further)
 

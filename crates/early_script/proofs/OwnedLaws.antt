@@ -1,7 +1,7 @@
 -- The tests on ranges tell what they are named for.
-use Rattle.std.proofs.Common.{◌≡◌, ℕ, ◌<◌, ◌≤◌, ◌↔◌, Bool, true, false, ◌||◌, Option, Some, None, List, refl, sym, ◌∙◌, ap, subst, arith, inl, inr, IsTrue}
+use Rattle.std.proofs.Common.{◌≡◌, ℕ, ◌<◌, ◌≤◌, ◌↔◌, Bool, true, false, Option, Some, None, List, refl, ap, arith, inl, inr, IsTrue}
 use Rattle.std.specs.Prelude.{min, max}
-use Rattle.std.proofs.lemmas.Bool.{cases_Bool, and_from, or_left, or_right}
+use Rattle.std.proofs.lemmas.Bool.{cases_Bool, and_from, or_right, false≢true, false_from_ne_true}
 use Rattle.std.proofs.lemmas.Bool.Decides.{nat_tests}
 use Rattle.bm_base.specs.Extent.{Extent, end_of, covers, Meet}
 use Rattle.bm_base.proofs.EachLaws.{each_in-all, each_in-each}
@@ -18,10 +18,10 @@ use Rattle.memblock_grow.specs.Touch.{TouchesTable}
 use Rattle.early_script.specs.Owned.{is_owned, meets, touches}
 
 agrees : (o : Option Owner) (who : Owner) → o ≡ Some who → agree same_owner o (Some who) ≡ true
-agrees o who is = subst (λ (p : Option Owner). agree same_owner p (Some who) ≡ true) (sym is) (owner_self who)
+agrees o who is = rw is (owner_self who)
 
 agreed : (o : Option Owner) (who : Owner) → agree same_owner o (Some who) ≡ true → o ≡ Some who
-agreed None who h = let clash : false ≡ true = h in cc clash
+agreed None who h = cc h
 agreed (Some a) who h = ap (λ (b : Owner). Some b) (owner_tells.true_is_equal a who h)
 
 pub owned-each : (own : Owners) (who : Owner) (range : Extent) → is_owned own who range ≡ true → (x : ℕ) → range.base ≤ x → x < end_of
@@ -36,14 +36,7 @@ unfolding is_owned
 owned-is own who range true tells =
     each_in-all range (λ y. agree same_owner (own y) (Some who)) (λ y low high. agrees (own y) who (tells.0 refl y low high))
 owned-is own who range false tells =
-    elim (cases_Bool (is_owned own who range)) as (λ _. is_owned own who range ≡ false) [
-      | inl holds ↦ holds ∙ sym (tells.1 (λ x low high. owned-each own who range holds x low high))
-      | inr fails ↦ fails
-    ]
-
-or_other : (a b : Bool) → a ≡ false → (a || b) ≡ true → b ≡ true
-or_other true b none h = cc
-or_other false b none h = h
+    false_from_ne_true _ (λ holds. false≢true (tells.1 (λ x low high. owned-each own who range holds x low high)))
 
 -- ranges that meet have a byte in common, and the other way round
 meets-meet : (r s : Extent) → meets r s ≡ true → Meet s r
@@ -54,45 +47,23 @@ meets-meet r s h =
     let too : covers r x ≡ true = grind (arith, nat_tests) in
     (x, and_from (covers s x) (covers r x) here too)
 
-not-meets : (r s : Extent) (x : ℕ) → meets r s ≡ false → covers r x ≡ true → covers s x ≡ true → ⊥
-not-meets r s x h here there = grind (arith, nat_tests)
-
 meet-meets : (r s : Extent) → Meet s r → meets r s ≡ true
-meet-meets r s both =
-    let x = both.0 in
-    let here : covers s x ≡ true = grind (arith, nat_tests, both.1) in
-    let too : covers r x ≡ true = grind (arith, nat_tests, both.1) in
-    elim (cases_Bool (meets r s)) as (λ _. meets r s ≡ true) [
-      | inl holds ↦ holds
-      | inr fails ↦ absurd (not-meets r s x fails too here)
-    ]
+meet-meets r s both = grind (arith, nat_tests, both.1)
 
 met : (kernel : Extent) (items : List Item) (range : Extent) → (w : Which) × Meet (live w kernel items) range →
     touches kernel items range ≡ true
-met kernel items range (which.Memory, both) =
-    or_left (meets range (live which.Memory kernel items)) (meets range (live which.Reserved kernel items))
-    (meet-meets range (live which.Memory kernel items) both)
-met kernel items range (which.Reserved, both) =
-    or_right (meets range (live which.Memory kernel items)) (meets range (live which.Reserved kernel items))
-    (meet-meets range (live which.Reserved kernel items) both)
+met kernel items range (which.Memory, both) = rw (meet-meets range (live which.Memory kernel items) both) refl
+met kernel items range (which.Reserved, both) = or_right _ _ (meet-meets range (live which.Reserved kernel items) both)
 
 touched : (kernel : Extent) (items : List Item) (range : Extent) → touches kernel items range ≡ true →
     (w : Which) × Meet (live w kernel items) range
-touched kernel items range h =
-    elim (cases_Bool (meets range (live which.Memory kernel items))) as (λ _. (w : Which) × Meet (live w kernel items) range) [
-      | inl first ↦ (which.Memory, meets-meet range (live which.Memory kernel items) first)
-      | inr none ↦ (
-        which.Reserved,
-        meets-meet range (live which.Reserved kernel items)
-            (or_other (meets range (live which.Memory kernel items)) (meets range (live which.Reserved kernel items)) none h),
-      )
-    ]
+touched kernel items range h = elim (cases_Bool (meets range (live which.Memory kernel items))) [
+  | inl first ↦ (which.Memory, meets-meet range (live which.Memory kernel items) first)
+  | inr none ↦ (which.Reserved, meets-meet range (live which.Reserved kernel items) (rw none at h))
+]
 
 pub touches-is : (kernel : Extent) (items : List Item) (range : Extent) (b : Bool) →
     (IsTrue b ↔ TouchesTable kernel range items) → touches kernel items range ≡ b
 touches-is kernel items range true tells = met kernel items range (tells.0 refl)
 touches-is kernel items range false tells =
-    elim (cases_Bool (touches kernel items range)) as (λ _. touches kernel items range ≡ false) [
-      | inl holds ↦ holds ∙ sym (tells.1 (touched kernel items range holds))
-      | inr fails ↦ fails
-    ]
+    false_from_ne_true _ (λ holds. false≢true (tells.1 (touched kernel items range holds)))

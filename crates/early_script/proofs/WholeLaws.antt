@@ -1,5 +1,5 @@
 -- An act on a live ID, by what is found of it.
-use Rattle.std.proofs.Common.{◌≡◌, ℕ, ◌<◌, ◌≤◌, ◌↔◌, Bool, if◌then◌else◌, Some, IsTrue, ◌∙◌, ap, sym}
+use Rattle.std.proofs.Common.{◌≡◌, ℕ, ◌<◌, ◌≤◌, ◌↔◌, Bool, if◌then◌else◌, Some, IsTrue, refl}
 use Rattle.bm_base.specs.Extent.{Extent, end_of}
 use Rattle.memblock_model.specs.declared.owner.Owner.TheVariants as owner
 use Rattle.memblock_model.specs.Items.{owner_of}
@@ -7,7 +7,7 @@ use Rattle.boot_journal.specs.Contents.{Contents}
 use Rattle.early_script.specs.declared.outcome.Outcome.TheVariants as outcomes
 use Rattle.early_script.specs.Ids.{range_of}
 use Rattle.early_script.specs.Owned.{is_owned}
-use Rattle.early_script.specs.Acted.{State, Deed, answers, on_range, on_whole}
+use Rattle.early_script.specs.Acted.{State, Deed, answers, on_whole}
 use Rattle.early_script.proofs.OwnedLaws.{owned-is}
 
 -- what the journal's look-up tells
@@ -15,11 +15,9 @@ pub owned-by : (j k : Contents) (id : ℕ) (range : Extent) (b told : Bool) → 
     (IsTrue b ↔ ((x : ℕ) → range.base ≤ x → x < end_of range → owner_of j.items x ≡ Some (owner.Script id))) →
     is_owned (owner_of k.items) (owner.Script id) range ≡ told
 owned-by j k id range b told same is tells =
-    ap (λ (i : Contents). is_owned (owner_of i.items) (owner.Script id) range) (sym same)
-    ∙ owned-is (owner_of j.items) (owner.Script id) range b tells ∙ is
+    rw (← same, ← is) (owned-is (owner_of j.items) (owner.Script id) range b tells)
 
 pub whole-is : (s : State) (id : ℕ) (range : Extent) (told : Bool) → range_of s.ids id ≡ Some range →
     is_owned (owner_of s.items) (owner.Script id) range ≡ told → (deed : Extent → Deed) →
     on_whole s id deed ≡ (if told then deed range else answers s outcomes.NotWhole)
-whole-is s id range told found owned deed =
-    ap (on_range s id deed) found ∙ ap (λ (t : Bool). if t then deed range else answers s outcomes.NotWhole) owned
+whole-is s id range told found owned deed = rw (found, owned) refl

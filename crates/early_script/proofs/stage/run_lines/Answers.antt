@@ -1,15 +1,13 @@
 -- The next line goes on from the stage that the lines before it reached.
-use Rattle.std.proofs.Common.{◌≡◌, ◌+◌, ◌<◌, List, [], ◌∷◌, ◌++◌, length, take, Result, Ok, Err, OnErr, sym, ◌∙◌, ap, subst, arith, inr}
-use Rattle.std.proofs.lemmas.List.{take_all, take_more}
+use Rattle.std.proofs.Common.{take, Result, Ok, Err, OnErr, ◌∙◌, ap, arith, inr}
+use Rattle.std.proofs.lemmas.List.{take_all}
 use Rattle.bm_base.specs.declared.memory.Memory.{Memory}
-use Rattle.script_reader.specs.declared.act.Line.{Line}
 use Rattle.growth_model.specs.Outcome.{joined}
-use Rattle.early_script.specs.declared.outcome.Answer.{Answer}
 use Rattle.early_script.specs.Acted.{State, deed}
 use Rattle.early_script.specs.Found.{state_of, bytes_in}
-use Rattle.early_script.specs.Stage.{LineStage, Reaches, stage_of, after_lines}
+use Rattle.early_script.specs.Stage.{stage_of, after_lines}
 use Rattle.early_script.proofs.OutLaws.{out-amid, between-all, between-none, between-out}
-use Rattle.early_script.proofs.StageLaws.{after_lines-append, begun-along, reaches-line}
+use Rattle.early_script.proofs.StageLaws.{after_lines-append, begun-along, reaches-line, take_next}
 use Rattle.early_script.proofs.stage.run_lines.Goals as goal
 
 pub loop-line-preserved : goal.loop-line-preserved
@@ -19,9 +17,6 @@ loop-line-preserved c =
     let i = c.loop-line.line-index in
     let d = deed (state_of c.loop-line.live m) (bytes_in m) line.act in
     let acts = c.in_ok-outcome.ensures.acts in
-    let below : i < length c.args.lines.now = omega arith in
-    let more = take_more c.args.lines.now i line below
-    ∙ ap (λ (l : Line). take i c.args.lines.now ++ l ∷ []) (sym c.line-item.is) in
     record {
       begun = begun-along m.journal.items (joined (d.change m.journal.items).steps) c.run_line.new.mb.journal.items
           (ap (λ (s : State). s.items) acts.1) c.loop-line.invariant.begun;
@@ -29,20 +24,11 @@ loop-line-preserved c =
       reached = λ fills holds.
           let start = stage_of c.args.live.now c.args.mb.now fills c.args.answers.now.items in
           let so_far = take i c.args.lines.now in
-          let next = reaches-line (after_lines start so_far) c.loop-line.live c.run_line.new.self m c.run_line.new.mb
-          c.loop-line.answers.items line c.in_ok-outcome.outcome (c.loop-line.invariant.reached fills holds) acts
-          c.in_ok-outcome.ensures.holds in
-          let here = subst (λ (s : LineStage). Reaches s c.run_line.new.self c.run_line.new.mb (c.loop-line.answers.items
-          ++ record { line = line.number; outcome = c.in_ok-outcome.outcome } ∷ []))
-          (sym (after_lines-append start so_far line) ∙ ap (λ (ls : List Line). after_lines start ls) (sym more)) next in
-          subst (λ (told : List Answer). Reaches (after_lines start (take (i + 1) c.args.lines.now)) c.run_line.new.self
-          c.run_line.new.mb told)
-          (sym c.push_within_capacity.ensures.items) here;
-      room =
-          let room = c.loop-line.invariant.room in
-          let len = c.push_within_capacity.ensures.len in
-          let capacity = c.push_within_capacity.ensures.capacity in
-          omega (arith, room, len, capacity);
+          let more = take_next c.args.lines.now i line (omega arith) c.line-item.is in
+          rw (c.push_within_capacity.ensures.items, more, after_lines-append start so_far line) (reaches-line (after_lines start so_far)
+          c.loop-line.live c.run_line.new.self m c.run_line.new.mb c.loop-line.answers.items line c.in_ok-outcome.outcome
+          (c.loop-line.invariant.reached fills holds) acts c.in_ok-outcome.ensures.holds);
+      room = omega (arith, c.loop-line.invariant.room, c.push_within_capacity.ensures.len, c.push_within_capacity.ensures.capacity);
       ready = λ x h. c.run_line.ensures.still_ready x (c.loop-line.invariant.ready x h);
     }
 
@@ -59,9 +45,7 @@ pub returns-in_err-outcome-clause-memory : goal.returns-in_err-outcome-clause-me
 returns-in_err-outcome-clause-memory c =
     let line = c.line-item.result in
     let i = c.loop-line.line-index in
-    let below : i < length c.args.lines.now = omega arith in
-    let more = take_more c.args.lines.now i line below
-    ∙ ap (λ (l : Line). take i c.args.lines.now ++ l ∷ []) (sym c.line-item.is) in
+    let more = take_next c.args.lines.now i line (omega arith) c.line-item.is in
     on_err c.from_residual-in_err-outcome.result _ (inr (λ fills holds. out-amid (stage_of c.args.live.now c.args.mb.now fills
     c.args.answers.now.items) c.args.lines.now i line c.loop-line.live c.run_line.new.self c.loop-line.mb c.run_line.new.mb
     c.loop-line.answers.items more (c.loop-line.invariant.reached fills holds) c.in_err-outcome.ensures.acts
@@ -71,9 +55,7 @@ pub returns-in_err-outcome-clause-journal : goal.returns-in_err-outcome-clause-j
 returns-in_err-outcome-clause-journal c =
     let line = c.line-item.result in
     let i = c.loop-line.line-index in
-    let below : i < length c.args.lines.now = omega arith in
-    let more = take_more c.args.lines.now i line below
-    ∙ ap (λ (l : Line). take i c.args.lines.now ++ l ∷ []) (sym c.line-item.is) in
+    let more = take_next c.args.lines.now i line (omega arith) c.line-item.is in
     λ fills holds. (
     let start = stage_of c.args.live.now c.args.mb.now fills c.args.answers.now.items in
     between-out start c.args.lines.now c.run_line.new.self c.run_line.new.mb c.loop-line.answers.items
@@ -85,8 +67,5 @@ pub returns-clause-journal : goal.returns-clause-journal
 returns-clause-journal c =
     λ fills holds. (
     let start = stage_of c.args.live.now c.args.mb.now fills c.args.answers.now.items in
-    let all : take c.loop-line.line-index c.args.lines.now ≡ c.args.lines.now =
-    take_all c.loop-line.line-index c.args.lines.now (omega arith) in
     between-all start c.args.lines.now c.loop-line.live c.loop-line.mb c.loop-line.answers.items
-    (subst (λ (ls : List Line). Reaches (after_lines start ls) c.loop-line.live c.loop-line.mb c.loop-line.answers.items) all
-    (c.loop-line.invariant.reached fills holds)))
+    (rw (take_all c.loop-line.line-index c.args.lines.now (omega arith)) at (c.loop-line.invariant.reached fills holds)))

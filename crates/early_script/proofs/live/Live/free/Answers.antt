@@ -1,10 +1,7 @@
 -- An ID less.
-use Rattle.std.proofs.Common.{sym, subst}
-use Rattle.early_script.specs.Ids.{Ids, HaveBytes}
 use Rattle.early_script.proofs.IdsLaws.{bytes-without}
 use Rattle.early_script.proofs.live.Live.free.Goals as goal
 
 pub invariant_of-self : goal.invariant_of-self
 invariant_of-self c =
-    subst (λ (ids : Ids). HaveBytes ids) (sym c.remove.ensures.entries)
-    (bytes-without c.self.inside.ids.entries c.args.id c.self.invariant)
+    rw c.remove.ensures.entries (bytes-without c.self.inside.ids.entries c.args.id c.self.invariant)

@@ -1,10 +1,7 @@
 -- An ID more, whose range isn't empty.
-use Rattle.std.proofs.Common.{sym, subst}
-use Rattle.early_script.specs.Ids.{Ids, HaveBytes}
 use Rattle.early_script.proofs.IdsLaws.{bytes-with}
 use Rattle.early_script.proofs.live.Live.keep.Goals as goal
 
 pub invariant_of-self-2 : goal.invariant_of-self-2
 invariant_of-self-2 c =
-    subst (λ (ids : Ids). HaveBytes ids) (sym c.in_ok-insert.ensures.entries)
-    (bytes-with c.self.inside.ids.entries c.args.id c.args.range c.requires c.self.invariant)
+    rw c.in_ok-insert.ensures.entries (bytes-with c.self.inside.ids.entries c.args.id c.args.range c.requires c.self.invariant)
