@@ -46,7 +46,8 @@ parts_test range inner r x k =
 inside_test : (v from k : ℕ) (to : Option ℕ)
     → is_value (if v == from then to else Some v) k ≡ (if v == from then is_value to k else (k == v))
 inside_test v from k to =
-    elim (cases_Bool (v == from)) as (λ _. is_value (if v == from then to else Some v) k ≡ (if v == from then is_value to k else (k == v))) [
+    elim (cases_Bool (v == from)) as (λ _. is_value (if v == from then to else Some v) k
+    ≡ (if v == from then is_value to k else (k == v))) [
       | inl equal ↦ rw equal refl
       | inr other ↦ rw other refl
     ]
@@ -87,7 +88,8 @@ pub change_same : (range : Extent) (from to : ℕ) (rs : List (RunOf ℕ))
     → claims_of (cut_out range (Some from) (Some to) rs) ≡ edited (edit.Change range from to) (claims_of rs)
 change_same range from to [] = alike _ _ (λ x k. grind (arith, nat_tests))
 change_same range from to (r ∷ rs) =
-    alike _ _ (λ x k. claims_append_at (parts range (left_inside (Some from) (Some to) r.value) r) (cut_out range (Some from) (Some to) rs) x k
+    alike _ _ (λ x k. claims_append_at (parts range (left_inside (Some from) (Some to) r.value) r)
+    (cut_out range (Some from) (Some to) rs) x k
     ∙ rw (parts_test range (left_inside (Some from) (Some to) r.value) r x k, change_same range from to rs)
     (change_step (lies_in r x) (covers range x) (claims_of rs x k) (claims_of rs x from) r.value from to k))
 
