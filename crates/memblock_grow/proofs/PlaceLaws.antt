@@ -1,6 +1,6 @@
 -- The places that the tables' own search finds are those of the items, and what a table leaves is what the items say.
-use Rattle.std.proofs.Common.{◌≡◌, ◌≢◌, ℕ, ◌+◌, ◌*◌, ◌^◌, ◌<◌, ◌≤◌, ◌==◌, Bool, true, false, min, if◌then◌else◌, Option, Some, None, List, [], ◌∷◌, refl, sym, ◌∙◌, ap, inl, inr, fold, arith}
-use Rattle.std.proofs.lemmas.Bool.{cases_Bool, eq-eqb}
+use Rattle.std.proofs.Common.{◌≡◌, ◌≢◌, ℕ, ◌+◌, ◌*◌, ◌^◌, ◌<◌, ◌≤◌, ◌==◌, Bool, true, false, min, if◌then◌else◌, Option, Some, None, List, [], ◌∷◌, refl, sym, ◌∙◌, ap, fold, arith}
+use Rattle.std.proofs.lemmas.Bool.{false_from_ne_true, eq-eqb}
 use Rattle.std.proofs.lemmas.Bool.Decides.{nat_tests}
 use Rattle.std.specs.Prelude.{unwrap_or}
 use Rattle.std.specs.Option.{option_map, SomeIff}
@@ -29,11 +29,8 @@ use Rattle.memblock_grow.proofs.KeptLaws.{values-are, room-is, place-is}
 -- a window that is too small has no place
 pub best_in-large : (up : Bool) (memory reserved : Labels) (q : Query) → q.hi < q.size → best_in up memory reserved q ≡ None
 best_in-large up memory reserved q small =
-    best_in-fails up memory reserved q (λ b lt.
-    elim (cases_Bool (fits_in false memory reserved q b)) as (λ _. fits_in false memory reserved q b ≡ false) [
-      | inl fits ↦ let high = (fits_in-parts false memory reserved q b fits).high in absurd (omega arith)
-      | inr fails ↦ fails
-    ])
+    best_in-fails up memory reserved q (λ b lt. false_from_ne_true (fits_in false memory reserved q b) (λ fits.
+    let high = (fits_in-parts false memory reserved q b fits).high in omega (arith, high, small)))
 
 -- what is found ends in the window
 pub best_in-high : (up : Bool) (memory reserved : Labels) (q : Query) (place : ℕ) → best_in up memory reserved q ≡ Some place

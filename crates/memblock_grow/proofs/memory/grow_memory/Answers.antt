@@ -2,7 +2,6 @@ use Rattle.std.proofs.Common.{◌≡◌, ◌*◌, ◌^◌, ◌<◌, refl, ap, su
 use Rattle.bm_base.specs.Extent.{Extent, end_of}
 use Rattle.memblock_model.specs.declared.which.Which.TheVariants as which
 use Rattle.memblock_model.specs.Tables.{room_of, moved_to}
-use Rattle.boot_journal.specs.Contents.{Contents as Journal}
 use Rattle.growth_model.specs.Growth.{old_frames}
 use Rattle.growth_model.proofs.PlacedMemoryLaws.{IsTaken}
 use Rattle.memblock_grow.specs.Kept.{Keeps, KeepsBytes}
@@ -88,14 +87,14 @@ take_place-requires-clause-free c = best-free (found (goal.at.take_place-require
 
 pub returns-in_err-take_place-clause-ends : goal.returns-in_err-take_place-clause-ends
 returns-in_err-take_place-clause-ends c =
-    memory-fails (found (goal.at.returns-in_err-take_place-clause-ends c).In-Some) c.take_place.new.journal.items
-    c.in_err-take_place.field-0.0 c.from_residual.result c.from_residual.ensures.1 c.in_err-take_place.ensures.ends
+    memory-fails (found (goal.at.returns-in_err-take_place-clause-ends c).In-Some) _ _ _ c.from_residual.ensures.1
+    c.in_err-take_place.ensures.ends
 
 pub returns-in_err-push-clause-ends : goal.returns-in_err-push-clause-ends
 returns-in_err-push-clause-ends c =
-    memory-wants (found (goal.at.returns-in_err-push-clause-ends c).In-Some) c.take_place.new.journal.items c.push.new.self.items
-    c.from_residual-in_err-push.result c.from_residual-in_err-push.ensures.1 c.in_ok-take_place.ensures.ends
-    (ap (λ (j : Journal). j.items) c.in_err-push.ensures.err)
+    memory-wants (found (goal.at.returns-in_err-push-clause-ends c).In-Some) _ _ _ c.from_residual-in_err-push.ensures.1
+    c.in_ok-take_place.ensures.ends
+    (λ k. (c.in_err-push.ensures.err k).items)
 
 pub relocate-requires-clause-apart : goal.relocate-requires-clause-apart
 relocate-requires-clause-apart c =
@@ -119,9 +118,8 @@ pub returns-clause-ends : goal.returns-clause-ends
 returns-clause-ends c =
     let at = goal.at.returns-clause-ends c in
     let m = moved at.After-relocate (found at.In-Some) in
-    memory-done (found at.In-Some) c.take_place.new.journal.items c.push.new.self.items c.leave.new.journal.items c.place.inside.base
-    (2 * c.head-head.result.room) c.left_place-old.result c.leave.result m.tables.here m.twice m.left c.in_ok-take_place.ensures.ends
-    c.in_ok-push.ensures.ok c.leave.ensures.ends
+    memory-done (found at.In-Some) _ _ _ c.place.inside.base (2 * c.head-head.result.room) c.left_place-old.result _ m.tables.here m.twice
+    m.left c.in_ok-take_place.ensures.ends c.in_ok-push.ensures.ok c.leave.ensures.ends
 
 pub returns-clause-kept : goal.returns-clause-kept
 returns-clause-kept c =

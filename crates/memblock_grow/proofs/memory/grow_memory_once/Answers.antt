@@ -9,14 +9,13 @@ use Rattle.memblock_grow.proofs.memory.grow_memory_once.Goals as goal
 
 pub returns-then-is_full-clause-ends : goal.returns-then-is_full-clause-ends
 returns-then-is_full-clause-ends c =
-    Ends-due c.grow_memory.result c.args.journal.now.items c.grow_memory.new.journal.items
-    (is_full which.Memory (more_by which.Memory c.args.more.now)) memory_growth
+    Ends-due _ _ _ (is_full which.Memory (more_by which.Memory c.args.more.now)) memory_growth
     (sym (full-is c.requires.kept.1.kept which.Memory c.args.more.now) ∙ sym c.is_full.ensures.full ∙ c.if-is_full.true)
     c.grow_memory.ensures.ends
 
 pub returns-else-is_full-clause-ends : goal.returns-else-is_full-clause-ends
 returns-else-is_full-clause-ends c =
-    Ends-idle {T = Unit {0}} tt c.args.journal.now.items (is_full which.Memory (more_by which.Memory c.args.more.now)) memory_growth
+    Ends-idle {T = Unit {0}} tt _ (is_full which.Memory (more_by which.Memory c.args.more.now)) memory_growth
     (sym (full-is c.requires.kept.1.kept which.Memory c.args.more.now) ∙ sym c.is_full.ensures.full ∙ c.if-is_full.false)
 
 pub returns-else-is_full-clause-bytes : goal.returns-else-is_full-clause-bytes

@@ -15,15 +15,14 @@ grow_memory_once-requires-2-clause-kept c =
     let first = c.grow_memory_once in (
       c.requires.kept.0,
       whole-on c.requires.kept.1 first.ensures.kept first.ensures.bytes
-          (memory_once-stands c.requires.kept.0 first.result c.args.journal.now.items first.new.journal.items
-          (is_full which.Memory (more_by which.Memory c.args.more.now)) c.requires.kept.1.placed c.requires.begun first.ensures.ends),
+          (memory_once-stands _ _ _ _ (is_full which.Memory (more_by which.Memory c.args.more.now)) c.requires.kept.1.placed
+          c.requires.begun first.ensures.ends),
     )
 
 pub returns-clause-ends : goal.returns-clause-ends
 returns-clause-ends c =
     let once = if_due (is_full which.Memory (more_by which.Memory c.args.more.now)) memory_growth in
-    Ends-second {T = Unit {0}} {U = Unit {0}} tt c.grow_memory_once-2.result c.args.journal.now.items c.grow_memory_once.new.journal.items
-    c.grow_memory_once-2.new.journal.items once once c.in_ok-grow_memory_once.ensures.ends c.grow_memory_once-2.ensures.ends
+    Ends-second {T = Unit {0}} tt _ _ _ _ once once c.in_ok-grow_memory_once.ensures.ends c.grow_memory_once-2.ensures.ends
 
 pub returns-clause-kept : goal.returns-clause-kept
 returns-clause-kept c = keeps-then c.grow_memory_once.ensures.kept c.grow_memory_once-2.ensures.kept
@@ -35,9 +34,7 @@ returns-clause-bytes c =
 
 pub returns-clause-prepared : goal.returns-clause-prepared
 returns-clause-prepared c =
-    let second = c.grow_memory_once-2 in
-    by-then second.result second.new.journal.items second.new.tables.store c.in_ok-grow_memory_once.ensures.prepared
-    second.ensures.prepared
+    by-then c.grow_memory_once-2.result _ _ c.in_ok-grow_memory_once.ensures.prepared c.grow_memory_once-2.ensures.prepared
 
 pub returns-clause-room : goal.returns-clause-room
 returns-clause-room c =

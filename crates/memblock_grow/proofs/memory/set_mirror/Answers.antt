@@ -1,7 +1,6 @@
-use Rattle.std.proofs.Common.{ap, refl}
+use Rattle.std.proofs.Common.{refl}
 use Rattle.memblock_model.specs.declared.which.Which.TheVariants as which
 use Rattle.memblock_model.specs.declared.item.Item.TheVariants as item
-use Rattle.boot_journal.specs.Contents.{Contents as Journal}
 use Rattle.growth_model.specs.Growth.{memory_growth, two, grown, mirrored}
 use Rattle.memblock_grow.proofs.KeptLaws.{kept-mirror}
 use Rattle.memblock_grow.proofs.PreparedLaws.{prepares-item, by-item}
@@ -11,29 +10,25 @@ use Rattle.memblock_grow.proofs.memory.set_mirror.Goals as goal
 pub returns-in_err-make_memory_room-clause-ends : goal.returns-in_err-make_memory_room-clause-ends
 unfolding mirrored
 returns-in_err-make_memory_room-clause-ends c =
-    change-fails (grown which.Memory two memory_growth)
-    (item.Mirror c.args.range) c.in_err-make_memory_room.field-0.0 c.from_residual.result c.args.journal.now.items
-    c.make_memory_room.new.journal.items c.from_residual.ensures.1 c.in_err-make_memory_room.ensures.ends
+    change-fails (grown which.Memory two memory_growth) (item.Mirror c.args.range) _ _ _ _ c.from_residual.ensures.1
+    c.in_err-make_memory_room.ensures.ends
 
 pub returns-in_err-push-clause-ends : goal.returns-in_err-push-clause-ends
 unfolding mirrored
 returns-in_err-push-clause-ends c =
-    change-wants (grown which.Memory two memory_growth)
-    (item.Mirror c.args.range) c.from_residual-in_err-push.result c.args.journal.now.items
-    c.make_memory_room.new.journal.items c.push.new.self.items c.from_residual-in_err-push.ensures.1
-    c.in_ok-make_memory_room.ensures.ends (ap (λ (j : Journal). j.items) c.in_err-push.ensures.err)
+    change-wants (grown which.Memory two memory_growth) (item.Mirror c.args.range) _ _ _ _ c.from_residual-in_err-push.ensures.1
+    c.in_ok-make_memory_room.ensures.ends (λ k. (c.in_err-push.ensures.err k).items)
 
 pub returns-in_err-push-clause-prepared : goal.returns-in_err-push-clause-prepared
 returns-in_err-push-clause-prepared c =
-    by-item c.from_residual-in_err-push.result (ap (λ (j : Journal). j.items) c.in_err-push.ensures.err)
+    by-item c.from_residual-in_err-push.result (λ k. (c.in_err-push.ensures.err k).items)
     c.in_ok-make_memory_room.ensures.prepared
 
 pub returns-clause-ends : goal.returns-clause-ends
 unfolding mirrored
 returns-clause-ends c =
-    change-done (grown which.Memory two memory_growth)
-    (item.Mirror c.args.range) c.args.journal.now.items c.make_memory_room.new.journal.items c.push.new.self.items
-    c.in_ok-make_memory_room.ensures.ends c.in_ok-push.ensures.ok
+    change-done (grown which.Memory two memory_growth) (item.Mirror c.args.range) _ _ _ c.in_ok-make_memory_room.ensures.ends
+    c.in_ok-push.ensures.ok
 
 pub returns-clause-kept : goal.returns-clause-kept
 returns-clause-kept c = λ kernel kept.

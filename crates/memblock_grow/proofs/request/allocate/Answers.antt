@@ -19,8 +19,7 @@ place_for-requires-clause-mirrors c = knows-mirrors c.requires.kept.1.kept
 
 pub returns-in_default-clause-ends : goal.returns-in_default-clause-ends
 returns-in_default-clause-ends c =
-    alloc-none c.args.journal.now.items c.args.request.now.size c.args.owner
-    (place-is-for c.requires.kept.1.kept c.args.request.now c.place_for.ensures c.in_default.is)
+    alloc-none _ _ _ (place-is-for c.requires.kept.1.kept c.args.request.now c.place_for.ensures c.in_default.is)
 
 pub returns-in_default-clause-bytes : goal.returns-in_default-clause-bytes
 returns-in_default-clause-bytes c = still-bytes c.args.tables.now refl (λ x. refl)
@@ -36,14 +35,12 @@ claim-requires-clause-may c =
 
 pub returns-in_err-claim-clause-ends : goal.returns-in_err-claim-clause-ends
 returns-in_err-claim-clause-ends c =
-    alloc-fails c.args.journal.now.items c.claim.new.journal.items c.args.request.now.size c.args.owner c.in_err-claim.field-0.0
-    c.from_residual.result (found (goal.at.returns-in_err-claim-clause-ends c).In-Some) c.from_residual.ensures.1
+    alloc-fails _ _ _ _ _ _ (found (goal.at.returns-in_err-claim-clause-ends c).In-Some) c.from_residual.ensures.1
     c.in_err-claim.ensures.ends
 
 pub returns-clause-ends : goal.returns-clause-ends
 returns-clause-ends c =
-    alloc-done c.args.journal.now.items c.claim.new.journal.items c.args.request.now.size c.args.owner
-    (found (goal.at.returns-clause-ends c).In-Some) c.in_ok-claim.ensures.ends
+    alloc-done _ _ _ _ (found (goal.at.returns-clause-ends c).In-Some) c.in_ok-claim.ensures.ends
 
 pub returns-clause-inside : goal.returns-clause-inside
 returns-clause-inside c =

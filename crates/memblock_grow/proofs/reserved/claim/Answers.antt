@@ -1,7 +1,6 @@
-use Rattle.std.proofs.Common.{ap, refl}
+use Rattle.std.proofs.Common.{refl}
 use Rattle.memblock_model.specs.declared.which.Which.TheVariants as which
 use Rattle.memblock_model.specs.declared.item.Item.TheVariants as item
-use Rattle.boot_journal.specs.Contents.{Contents as Journal}
 use Rattle.growth_model.specs.Growth.{reserved_growth, new_in, grown, claimed}
 use Rattle.memblock_grow.proofs.KeptLaws.{kept-claim}
 use Rattle.memblock_grow.proofs.PreparedLaws.{prepares-item}
@@ -12,23 +11,20 @@ pub returns-in_err-make_reserved_room-clause-ends : goal.returns-in_err-make_res
 unfolding claimed
 returns-in_err-make_reserved_room-clause-ends c =
     change-fails (grown which.Reserved (new_in which.Reserved c.args.range) (reserved_growth c.args.range))
-    (item.Claim c.args.range c.args.owner) c.in_err-make_reserved_room.field-0.0 c.from_residual.result c.args.journal.now.items
-    c.make_reserved_room.new.journal.items c.from_residual.ensures.1 c.in_err-make_reserved_room.ensures.ends
+    (item.Claim c.args.range c.args.owner) _ _ _ _ c.from_residual.ensures.1 c.in_err-make_reserved_room.ensures.ends
 
 pub returns-in_err-push-clause-ends : goal.returns-in_err-push-clause-ends
 unfolding claimed
 returns-in_err-push-clause-ends c =
     change-wants (grown which.Reserved (new_in which.Reserved c.args.range) (reserved_growth c.args.range))
-    (item.Claim c.args.range c.args.owner) c.from_residual-in_err-push.result c.args.journal.now.items
-    c.make_reserved_room.new.journal.items c.push.new.self.items c.from_residual-in_err-push.ensures.1
-    c.in_ok-make_reserved_room.ensures.ends (ap (λ (j : Journal). j.items) c.in_err-push.ensures.err)
+    (item.Claim c.args.range c.args.owner) _ _ _ _ c.from_residual-in_err-push.ensures.1
+    c.in_ok-make_reserved_room.ensures.ends (λ k. (c.in_err-push.ensures.err k).items)
 
 pub returns-clause-ends : goal.returns-clause-ends
 unfolding claimed
 returns-clause-ends c =
     change-done (grown which.Reserved (new_in which.Reserved c.args.range) (reserved_growth c.args.range))
-    (item.Claim c.args.range c.args.owner) c.args.journal.now.items c.make_reserved_room.new.journal.items c.push.new.self.items
-    c.in_ok-make_reserved_room.ensures.ends c.in_ok-push.ensures.ok
+    (item.Claim c.args.range c.args.owner) _ _ _ c.in_ok-make_reserved_room.ensures.ends c.in_ok-push.ensures.ok
 
 pub returns-clause-kept : goal.returns-clause-kept
 returns-clause-kept c = λ kernel kept.

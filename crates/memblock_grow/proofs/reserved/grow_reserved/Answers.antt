@@ -4,7 +4,6 @@ use Rattle.bm_base.specs.Extent.{Extent, end_of}
 use Rattle.memblock_model.specs.declared.which.Which.TheVariants as which
 use Rattle.memblock_model.specs.declared.item.Item.TheVariants as item
 use Rattle.memblock_model.specs.Tables.{room_of}
-use Rattle.boot_journal.specs.Contents.{Contents as Journal}
 use Rattle.memblock_grow.specs.Prepared.{Prepares}
 use Rattle.memblock_grow.proofs.reserved.grow_reserved.Goals as goal
 use Rattle.memblock_grow.proofs.reserved.grow_reserved.Goals.{In-Some, After-cover, After-uncover}
@@ -58,7 +57,7 @@ stands c at =
 -- and once the old place is freed
 left : (c : After-uncover) → Claimed c.args.journal.now.items c.push_ready-2.new.self.items c.args.tables.now c.cover.new.tables c.args.aim
     → Left c.args.journal.now.items c.push_ready-in-Some-left.new.self.items c.args.tables.now c.uncover.new.tables c.args.aim
-left c there = left-freed (ap (λ (j : Journal). j.items) c.push_ready-in-Some-left.ensures) there (record {
+left c there = left-freed (λ k. (c.push_ready-in-Some-left.ensures k).items) there (record {
   table = c.uncover.ensures.reserved;
   other = c.uncover.ensures.memory;
   told = c.uncover.ensures.bytes;
@@ -83,16 +82,15 @@ left_place-left-requires c = record { far = rw c.head-head.ensures.head (left-fa
 
 pub returns-in_err-ready-clause-ends : goal.returns-in_err-ready-clause-ends
 returns-in_err-ready-clause-ends c =
-    growth-wants (known (goal.at.returns-in_err-ready-clause-ends c).In-Some) c.ready.new.self.items c.from_residual.result
-    c.from_residual.ensures.1 c.in_err-ready.ensures.items
+    growth-wants (known (goal.at.returns-in_err-ready-clause-ends c).In-Some) _ _ c.from_residual.ensures.1 c.in_err-ready.ensures.items
 
 pub returns-in_err-ready-clause-bytes : goal.returns-in_err-ready-clause-bytes
 returns-in_err-ready-clause-bytes c = still-bytes c.args.tables.now c.in_err-ready.ensures.items (λ x. refl)
 
 pub returns-in_err-prepare-clause-ends : goal.returns-in_err-prepare-clause-ends
 returns-in_err-prepare-clause-ends c =
-    growth-wants (known (goal.at.returns-in_err-prepare-clause-ends c).In-Some) c.ready.new.self.items c.from_residual-in_err-prepare.result
-    c.from_residual-in_err-prepare.ensures.1 c.in_ok-ready.ensures.items
+    growth-wants (known (goal.at.returns-in_err-prepare-clause-ends c).In-Some) _ _ c.from_residual-in_err-prepare.ensures.1
+    c.in_ok-ready.ensures.items
 
 pub returns-in_err-prepare-clause-kept : goal.returns-in_err-prepare-clause-kept
 returns-in_err-prepare-clause-kept c = λ kernel kept.
@@ -156,7 +154,7 @@ pub returns-in-Some-left-clause-prepared : goal.returns-in-Some-left-clause-prep
 returns-in-Some-left-clause-prepared c =
     let at = goal.at.returns-in-Some-left-clause-prepared c in
     prepares-item (item.Free c.in-Some-left.range) (stands at.After-cover (known at.In-Some)).prepared
-    (ap (λ (j : Journal). j.items) c.push_ready-in-Some-left.ensures) (λ x. refl) c.uncover.ensures.ready
+    (λ k. (c.push_ready-in-Some-left.ensures k).items) (λ x. refl) c.uncover.ensures.ready
 
 pub returns-in-None-clause-ends : goal.returns-in-None-clause-ends
 returns-in-None-clause-ends c =

@@ -14,15 +14,13 @@ grow_reserved-requires-clause-begun c =
 
 pub returns-then-is_full-clause-ends : goal.returns-then-is_full-clause-ends
 returns-then-is_full-clause-ends c =
-    Ends-due c.grow_reserved.result c.args.journal.now.items c.grow_reserved.new.journal.items
-    (is_full which.Reserved (more_by which.Reserved c.args.more.now)) (reserved_growth c.args.avoid)
+    Ends-due _ _ _ (is_full which.Reserved (more_by which.Reserved c.args.more.now)) (reserved_growth c.args.avoid)
     (sym (full-is c.requires.1.kept which.Reserved c.args.more.now) ∙ sym c.is_full.ensures.full ∙ c.if-is_full.true)
     c.grow_reserved.ensures.ends
 
 pub returns-else-is_full-clause-ends : goal.returns-else-is_full-clause-ends
 returns-else-is_full-clause-ends c =
-    Ends-idle {T = Unit {0}} tt c.args.journal.now.items
-    (is_full which.Reserved (more_by which.Reserved c.args.more.now)) (reserved_growth c.args.avoid)
+    Ends-idle {T = Unit {0}} tt _ (is_full which.Reserved (more_by which.Reserved c.args.more.now)) (reserved_growth c.args.avoid)
     (sym (full-is c.requires.1.kept which.Reserved c.args.more.now) ∙ sym c.is_full.ensures.full ∙ c.if-is_full.false)
 
 pub returns-else-is_full-clause-bytes : goal.returns-else-is_full-clause-bytes

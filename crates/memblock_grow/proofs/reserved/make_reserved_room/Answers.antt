@@ -15,17 +15,14 @@ grow_reserved_once-requires-2 c =
     let first = c.grow_reserved_once in (
       c.requires.0,
       whole-on c.requires.1 first.ensures.kept first.ensures.bytes
-          (once-stands c.requires.0 c.args.avoid first.result c.args.journal.now.items first.new.journal.items
-          (more_by which.Reserved c.args.more.now) (full-begun c.args.more.now c.args.journal.now.items first.ensures.within)
-          c.requires.1.placed first.ensures.ends),
+          (once-stands _ c.args.avoid _ _ _ (more_by which.Reserved c.args.more.now) (full-begun c.args.more.now c.args.journal.now.items
+          first.ensures.within) c.requires.1.placed first.ensures.ends),
     )
 
 pub returns-clause-ends : goal.returns-clause-ends
 returns-clause-ends c =
     let once = if_due (is_full which.Reserved (more_by which.Reserved c.args.more.now)) (reserved_growth c.args.avoid) in
-    Ends-second {T = Unit {0}} {U = Unit {0}} tt c.grow_reserved_once-2.result c.args.journal.now.items
-    c.grow_reserved_once.new.journal.items
-    c.grow_reserved_once-2.new.journal.items once once c.in_ok-grow_reserved_once.ensures.ends c.grow_reserved_once-2.ensures.ends
+    Ends-second {T = Unit {0}} tt _ _ _ _ once once c.in_ok-grow_reserved_once.ensures.ends c.grow_reserved_once-2.ensures.ends
 
 pub returns-clause-kept : goal.returns-clause-kept
 returns-clause-kept c = keeps-then c.grow_reserved_once.ensures.kept c.grow_reserved_once-2.ensures.kept

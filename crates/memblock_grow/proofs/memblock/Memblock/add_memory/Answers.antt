@@ -6,7 +6,5 @@ use Rattle.memblock_grow.proofs.memblock.Memblock.add_memory.Goals as goal
 
 pub invariant_of-self : goal.invariant_of-self
 invariant_of-self c =
-    let m = c.self.inside in
     whole-on c.self.invariant c.add.ensures.kept c.add.ensures.bytes
-    (add-stands m.kernel c.add.result m.journal.items c.add.new.journal.items c.args.range c.self.invariant.placed
-    (rw (sym c.self.view_is) at c.requires.begun) c.add.ensures.ends)
+    (add-stands _ _ _ _ c.args.range c.self.invariant.placed (rw (sym c.self.view_is) at c.requires.begun) c.add.ensures.ends)

@@ -1,14 +1,11 @@
 -- Wherever the allocation ends, the parts still belong together.
 use Rattle.std.proofs.Common.{refl, sym}
-use Rattle.growth_model.specs.Request.{place_for}
 use Rattle.growth_model.proofs.SoundLaws.{alloc-stands}
 use Rattle.memblock_grow.proofs.WholeLaws.{whole-on}
 use Rattle.memblock_grow.proofs.memblock.Memblock.alloc.Goals as goal
 
 pub invariant_of-self : goal.invariant_of-self
 invariant_of-self c =
-    let m = c.self.inside in
     whole-on c.self.invariant c.allocate.ensures.kept c.allocate.ensures.bytes
-    (alloc-stands m.kernel c.allocate.result m.journal.items c.allocate.new.journal.items c.args.request.now c.args.owner
-    c.self.invariant.placed (rw (sym c.self.view_is) at c.requires.begun) (place_for c.args.request.now m.journal.items) refl
+    (alloc-stands _ _ _ _ c.args.request.now c.args.owner c.self.invariant.placed (rw (sym c.self.view_is) at c.requires.begun) _ refl
     c.allocate.ensures.ends)

@@ -6,7 +6,6 @@ use Rattle.memblock_grow.proofs.memblock.Memblock.claim.Goals as goal
 
 pub invariant_of-self : goal.invariant_of-self
 invariant_of-self c =
-    let m = c.self.inside in
     whole-on c.self.invariant c.claim.ensures.kept c.claim.ensures.bytes
-    (claim-stands m.kernel c.claim.result m.journal.items c.claim.new.journal.items c.args.range c.args.owner c.self.invariant.image
-    (omega arith) c.self.invariant.placed (rw (sym c.self.view_is) at c.requires.may) c.claim.ensures.ends)
+    (claim-stands _ _ _ _ c.args.range c.args.owner c.self.invariant.image (omega arith) c.self.invariant.placed
+    (rw (sym c.self.view_is) at c.requires.may) c.claim.ensures.ends)

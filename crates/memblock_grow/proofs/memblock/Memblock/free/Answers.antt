@@ -6,7 +6,6 @@ use Rattle.memblock_grow.proofs.memblock.Memblock.free.Goals as goal
 
 pub invariant_of-self : goal.invariant_of-self
 invariant_of-self c =
-    let m = c.self.inside in
     whole-on c.self.invariant c.free.ensures.kept c.free.ensures.bytes
-    (free-stands m.kernel c.free.result m.journal.items c.free.new.journal.items c.args.range c.self.invariant.placed
-    (rw (sym c.self.view_is) at c.requires.begun) (rw (sym c.self.view_is) at c.requires.away) c.free.ensures.ends)
+    (free-stands _ _ _ _ c.args.range c.self.invariant.placed (rw (sym c.self.view_is) at c.requires.begun)
+    (rw (sym c.self.view_is) at c.requires.away) c.free.ensures.ends)

@@ -6,7 +6,5 @@ use Rattle.memblock_grow.proofs.memblock.Memblock.set_mirror.Goals as goal
 
 pub invariant_of-self : goal.invariant_of-self
 invariant_of-self c =
-    let m = c.self.inside in
     whole-on c.self.invariant c.set_mirror.ensures.kept c.set_mirror.ensures.bytes
-    (mirror-stands m.kernel c.set_mirror.result m.journal.items c.set_mirror.new.journal.items c.args.range c.self.invariant.placed
-    (rw (sym c.self.view_is) at c.requires.begun) c.set_mirror.ensures.ends)
+    (mirror-stands _ _ _ _ c.args.range c.self.invariant.placed (rw (sym c.self.view_is) at c.requires.begun) c.set_mirror.ensures.ends)

@@ -6,7 +6,6 @@ use Rattle.memblock_grow.proofs.memblock.Memblock.set_node.Goals as goal
 
 pub invariant_of-self : goal.invariant_of-self
 invariant_of-self c =
-    let m = c.self.inside in
     whole-on c.self.invariant c.set_node.ensures.kept c.set_node.ensures.bytes
-    (node-stands m.kernel c.set_node.result m.journal.items c.set_node.new.journal.items c.args.range c.args.node c.self.invariant.placed
-    (rw (sym c.self.view_is) at c.requires.begun) c.set_node.ensures.ends)
+    (node-stands _ _ _ _ c.args.range c.args.node c.self.invariant.placed (rw (sym c.self.view_is) at c.requires.begun)
+    c.set_node.ensures.ends)
