@@ -1,15 +1,13 @@
 -- What holds of a memblock holds at first, and behind each item and each fill.
-use Rattle.std.proofs.Common.{◌≡◌, ℕ, ◌+◌, ◌-◌, ◌*◌, Bool, true, false, ◌||◌, nat_lt, nat_le, if◌then◌else◌, List, [], ◌∷◌, ◌++◌, replicate, get_or, IsTrue, refl, sym, ◌∙◌, ap, subst, inl, inr, arith}
+use Rattle.std.proofs.Common.{◌≡◌, ℕ, ◌+◌, ◌-◌, ◌*◌, Bool, true, false, ◌||◌, nat_lt, nat_le, if◌then◌else◌, List, [], ◌∷◌, ◌++◌, replicate, get_or, IsTrue, refl, sym, ◌∙◌, subst, inl, inr, arith}
 use Rattle.std.proofs.lemmas.Bool.{cases_Bool, cases_lt}
 use Rattle.std.proofs.lemmas.Bool.Decides.{nat_tests}
 use Rattle.std.proofs.lemmas.List.{get_or-replicate, get_or_past, length-replicate}
 use Rattle.bm_base.specs.Extent.{Extent, covers}
 use Rattle.phys_store.specs.Bytes.{Stored, byte_of, Wrote}
-use Rattle.address_runs.specs.Runs.{RunOf}
 use Rattle.memblock_model.specs.declared.which.Which.{Which}
 use Rattle.memblock_model.specs.declared.which.Which.TheVariants as which
 use Rattle.memblock_model.specs.declared.item.Item.{Item}
-use Rattle.memblock_model.specs.Labels.{Label}
 use Rattle.memblock_model.specs.Tables.{records_of, table_of, built_in}
 use Rattle.memblock_model.proofs.TableLaws.{records_for-is}
 use Rattle.memblock_ranges.specs.Spelling.{spelled_table}
@@ -29,7 +27,7 @@ use Rattle.memblock_grow.proofs.KeptLaws.{kept-same}
 zeros_at : (n k : ℕ) → ◌≡◌ {A = ℕ} (get_or (replicate n 0) k 0) 0
 zeros_at n k = elim (cases_lt k n) as (λ _. ◌≡◌ {A = ℕ} (get_or (replicate n 0) k 0) 0) [
   | inl inside ↦ get_or-replicate n k 0 0 inside
-  | inr past ↦ get_or_past (replicate n 0) k 0 (let len = length-replicate {A = ℕ} n 0 in omega (arith, len, past))
+  | inr past ↦ get_or_past (replicate n 0) k 0 (omega (arith, length-replicate {A = ℕ} n 0, past))
 ]
 
 empty_at : (t : Table) (x : ℕ) → t.records ≡ [] → spelled_at t x ≡ 0
@@ -55,29 +53,25 @@ no_records_at_first w = sym (records_for-is (table_of w []) [] (λ x le. nothing
     (record { runs = tt; each = λ x. sym (nothing_said w x) }))
 
 first-is : (w : Which) (kernel : Extent) → first_table w kernel ≡ table_for w kernel []
-first-is w kernel = ap (λ (rs : List (RunOf Label)). let t : Table = record { records = rs; place = built_in w kernel; room = 128 } in t)
-    (sym (no_records_at_first w))
+first-is w kernel = rw (no_records_at_first w) refl
 
 pub whole-new : (kernel : Extent) (items : List Item) (t : Contents) → IsImage kernel → items ≡ []
     → t.memory ≡ first_table which.Memory kernel → t.reserved ≡ first_table which.Reserved kernel
     → ((x : ℕ) → byte_of t.store x ≡ 0) → IsMemblock kernel items t (aimed 0 false)
-whole-new kernel items t image none first second zero =
-    let m : IsMemblock kernel [] t (aimed 0 false) = record {
-      image = image;
-      kept = record {
-        memory = first ∙ first-is which.Memory kernel;
-        reserved = second ∙ first-is which.Reserved kernel;
-        limit = refl;
-        upward = refl;
-        ends = λ w x le. nothing_said w x;
-        fits = λ w. no_table_full w;
-        far = λ w place moved. cc;
-      };
-      placed = λ begun. absurd begun;
-      spelled = λ x. zero x ∙ sym (ap (λ (b : ℕ). shown_by t.memory t.reserved x b) (zero x)
-          ∙ shown-empty t.memory t.reserved x (ap (λ (s : Table). s.records) first) (ap (λ (s : Table). s.records) second));
-    } in
-    subst (λ (is : List Item). IsMemblock kernel is t (aimed 0 false)) (sym none) m
+whole-new kernel items t image none first second zero = rw none (record {
+  image = image;
+  kept = record {
+    memory = first ∙ first-is which.Memory kernel;
+    reserved = second ∙ first-is which.Reserved kernel;
+    limit = refl;
+    upward = refl;
+    ends = λ w x le. nothing_said w x;
+    fits = λ w. no_table_full w;
+    far = λ w place moved. cc;
+  };
+  placed = λ begun. absurd begun;
+  spelled = λ x. rw (zero x) (sym (shown-empty t.memory t.reserved x (λ k. (first k).records) (λ k. (second k).records)));
+})
 
 pub bytes-new : (kernel : Extent) (x : ℕ) → byte kernel [] [] x ≡ 0
 unfolding byte

@@ -97,8 +97,9 @@ module _ {items : List Item} {place : Extent} (known : IsBest items place) where
       → Ends {T = Unit {0}} (Ok tt) items mid (claimed place (owner.Table which.Memory)) → new ≡ mid → Ends r items new memory_growth
   memory-wants mid new r is h same =
       let rest = moving items place >> leaving items in
-      by-growth new r (rw (handed r refusal.Memory is, same) (Ends-second {T = Unit {0}} {U = Unit {0}} tt (Err refusal.Memory) items mid
-      mid (taking place) rest h (Ends-wanting (Unit {0}) mid rest (omega arith))))
+      by-growth new r (rw (handed r refusal.Memory is, same)
+      (Ends-second {T = Unit {0}} {U = Unit {0}} tt (Err refusal.Memory) items mid mid (taking place) rest h
+      (Ends-wanting (Unit {0}) mid rest (omega arith))))
 
   pub memory-done : (mid next new : List Item) (base room : ℕ) (old : Option Extent) (r : Result (Unit {0}) Refusal) → base ≡ place.base
       → room ≡ 2 * room_of which.Memory items → old ≡ old_frames (room_of which.Memory items) (moved_to which.Memory items)
@@ -109,8 +110,8 @@ module _ {items : List Item} {place : Extent} (known : IsBest items place) where
       let same : next ≡ mid ++ i ∷ [] = rw (is, here, twice) refl in
       let last : Ends r (mid ++ i ∷ []) new (leaving items) =
       subst (λ (l : List Item). Ends r l new (leaving items)) same (subst (λ (o : Option Extent). Ends r next new (leave o)) left h) in
-      by-growth new r (Ends-second {T = Unit {0}} {U = Unit {0}} tt r items mid new (taking place) (moving items place >> leaving items) was
-      (Ends-second {T = Unit {0}} {U = Unit {0}} tt r mid (mid ++ i ∷ []) new (moving items place) (leaving items)
+      by-growth new r (Ends-second {T = Unit {0}} tt r items mid new (taking place) (moving items place >> leaving items) was
+      (Ends-second {T = Unit {0}} tt r mid (mid ++ i ∷ []) new (moving items place) (leaving items)
       (Ends-step {T = Unit {0}} tt mid (i ∷ [])) last))
 
   -- behind the claim of the new place
@@ -164,17 +165,11 @@ module _ {kernel : Extent} {items mid : List Item} {t k r : Contents} {at : Aim}
       (keeps kernel kept).memory memory-kept.memory memory-kept.reserved m.told)
 
 -- what a table leaves may be freed, where it is away from both tables
-away-by : (kernel : Extent) (is : List Item) (n : ℕ) (o : Option ℕ) (range : Extent)
-    → ((q : ℕ) → o ≡ Some q → IsAway kernel (frames_at q (24 * n)) is) → old_frames n o ≡ Some range → IsAway kernel range is
-away-by kernel is n None range away h = cc
-away-by kernel is n (Some q) range away h =
-    let same : frames_at q (24 * n) ≡ range = cc in subst (λ (e : Extent). IsAway kernel e is) same (away q refl)
-
-free-by : {kernel : Extent} {is : List Item} {t : Contents} {at : Aim} (n : ℕ) (o : Option ℕ) (left : Option Extent)
+free-by : {kernel : Extent} {is : List Item} {t : Contents} {at : Aim} (n : ℕ) (o : Option ℕ) {left : Option Extent}
     → IsMemblock kernel is t at → ((q : ℕ) → o ≡ Some q → IsAway kernel (frames_at q (24 * n)) is) → left ≡ old_frames n o
     → IfSome left (λ range. AllowsFree is t at range)
-free-by n o None whole away h = tt
-free-by {kernel} {is} n o (Some range) whole away h = (kernel, whole, away-by kernel is n o range away (sym h))
+free-by n None whole away h = rw h tt
+free-by {kernel} n (Some q) whole away h = rw h (kernel, whole, away q refl)
 
 -- the same where the items are told by an equation
 module _ (base room : ℕ) {items mid next : List Item} {t k r : Contents} {at : Aim} {place : Extent}
@@ -203,10 +198,10 @@ module _ (base room : ℕ) {items mid next : List Item} {t k r : Contents} {at :
     pub memory-free : (left : Option Extent) → left ≡ old_frames (room_of which.Memory items) (moved_to which.Memory items)
         → IfSome left (λ range. AllowsFree next r at range)
     memory-free left old =
-        free-by (room_of which.Memory items) (moved_to which.Memory items) left memory-stands
+        free-by (room_of which.Memory items) (moved_to which.Memory items) memory-stands
         (λ q was. rw (is, twice, m.here) (taken.left q was)) old
 
 pub left-some : (items : List Item) (left : Option Extent) → left ≡ old_frames (room_of which.Memory items) (moved_to which.Memory items)
     → IfSome left (λ range. 0 < range.size)
 left-some items None h = tt
-left-some items (Some range) h = left-size which.Memory items range (sym h)
+left-some items (Some range) h = left-size which.Memory items (moved_to which.Memory items) range (sym h)

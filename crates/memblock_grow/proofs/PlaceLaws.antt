@@ -146,8 +146,7 @@ pub between-none : (t : Contents) (up : Bool) (room lo hi : ℕ) → hi < 2 ^ 64
     → None ≡ frames_between t up room lo hi
 between-none t up room lo hi small large =
     let high : hi < in_whole_frames (48 * room) = omega (arith, large) in
-    sym (ap (λ (o : Option ℕ). option_map (λ place. frames_at place (48 * room)) o)
-    (best_in-large up (value_at t.memory.records) (value_at t.reserved.records) (table_query room lo hi) high))
+    rw (best_in-large up (value_at t.memory.records) (value_at t.reserved.records) (table_query room lo hi) high) refl
 
 abbrev sized : ℕ → ℕ → ℕ → Query
 sized lo hi size = record { lo = lo; hi = hi; size = size; align = 4096; node = None }
@@ -162,7 +161,4 @@ pub between-some : (t : Contents) (up : Bool) (room lo hi size base : ℕ) (o : 
     → o ≡ frames_between t up room lo hi
 between-some t up room lo hi size base o is found new small =
     let high : base + size ≤ hi = best_in-high up (value_at t.memory.records) (value_at t.reserved.records) (sized lo hi size) base found in
-    new_some o base size new (omega arith)
-    ∙ ap (λ (n : ℕ). Some (let e : Extent = record { base = base; size = n } in e)) is
-    ∙ sym (ap (λ (o : Option ℕ). option_map (λ place. frames_at place (48 * room)) o)
-    (sym (ap (λ (n : ℕ). best_of t up (sized lo hi n)) is) ∙ found))
+    new_some o base size new (omega arith) ∙ rw (is, rw is at found) refl

@@ -15,9 +15,7 @@ use Rattle.memblock_grow.specs.Prepared.{grows_over, is_grown_over, Prepares, Pr
 
 grown-append : (a b : List Item) (x : ℕ) → is_grown_over (a ++ b) x ≡ (is_grown_over a x || is_grown_over b x)
 grown-append [] b x = refl
-grown-append (i ∷ is) b x =
-    ap (λ (c : Bool). grows_over i x || c) (grown-append is b x)
-    ∙ sym (or_assoc (grows_over i x) (is_grown_over is x) (is_grown_over b x))
+grown-append (i ∷ is) b x = rw (grown-append is b x) (sym (or_assoc (grows_over i x) (is_grown_over is x) (is_grown_over b x)))
 
 -- what further items and a place prepare, in another order
 swap : (g h c s : Bool) → (h || (c || (g || s))) ≡ ((g || h) || (c || s))
@@ -48,7 +46,7 @@ pub prepares-with : {place : Extent} {items longer : List Item} {s p t : List St
 prepares-with first h = record {
   more = h.more;
   goes_on = h.goes_on;
-  each = λ x. h.each x ∙ ap (λ (b : Bool). is_grown_over h.more x || b) (first x);
+  each = λ x. rw (h.each x, first x) refl;
 }
 
 with-then : {place : Extent} {items mid last : List Item} {s t u : List Stored} → Prepares items mid s t
@@ -77,9 +75,8 @@ with-growth w n {base} {room} {place} {s} h is here twice frames same =
     record {
       more = h.more ++ i ∷ [];
       goes_on = is ∙ ap (λ (is : List Item). is ++ i ∷ []) h.goes_on ∙ append_assoc _ h.more (i ∷ []);
-      each = λ x. same x ∙ h.each x ∙ ap (λ (e : Extent). is_grown_over h.more x || (covers e x || is_ready s x)) whole
-          ∙ join (is_grown_over h.more x) (grows_over i x) (is_ready s x)
-          ∙ ap (λ (b : Bool). b || is_ready s x) (sym (grown-append h.more (i ∷ []) x));
+      each = λ x. rw (same x, h.each x, grown-append h.more (i ∷ []) x, whole)
+          (join (is_grown_over h.more x) (grows_over i x) (is_ready s x));
     }
 
 pub prepares-growth : (w : Which) (n : ℕ) {items longer : List Item} {base room : ℕ} {place : Extent} {s t : List Stored}

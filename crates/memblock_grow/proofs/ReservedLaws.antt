@@ -1,6 +1,6 @@
 -- The growth of the reserved table: where it goes, what it writes, and what it makes of the tables and of each byte.
 use Rattle.std.proofs.Common.{◌≡◌, ℕ, ◌+◌, ◌*◌, ◌^◌, ◌<◌, ◌≤◌, ◌||◌, Option, Some, None, List, [], ◌∷◌, ◌++◌, length, Result, Ok, Err, IsErrAnd, refl, sym, ◌∙◌, ap, subst, append_assoc, arith}
-use Rattle.std.specs.Option.{option_map, is_some, IsSome}
+use Rattle.std.specs.Option.{option_map}
 use Rattle.bm_base.specs.Extent.{Extent, end_of, covers}
 use Rattle.phys_store.specs.Bytes.{Stored, byte_of, is_ready}
 use Rattle.address_runs.specs.Runs.{value_at}
@@ -45,25 +45,19 @@ frames-some w items {place} is =
     omega (arith, least, size)
 
 -- what a table leaves, where it leaves anything
-old-size : (n : ℕ) (o : Option ℕ) (range : Extent) → 128 ≤ n → old_frames n o ≡ Some range → 0 < range.size
-old-size n None range least h = cc
-old-size n (Some p) range least h =
-    let is : frames_at p (24 * n) ≡ range = cc in
-    let size : in_whole_frames (24 * n) ≡ range.size = ap (λ (e : Extent). e.size) is in
-    omega (arith, size, least)
-
-pub left-size : (w : Which) (items : List Item) (range : Extent) → old_frames (room_of w items) (moved_to w items) ≡ Some range
+pub left-size : (w : Which) (items : List Item) (o : Option ℕ) (range : Extent) → old_frames (room_of w items) o ≡ Some range
     → 0 < range.size
-left-size w items range h = old-size (room_of w items) (moved_to w items) range (room_of-least w items) h
+left-size w items None range h = cc
+left-size w items (Some p) range h =
+    let is : frames_at p (24 * room_of w items) ≡ range = cc in
+    let size : in_whole_frames (24 * room_of w items) ≡ range.size = ap (λ (e : Extent). e.size) is in
+    let least = room_of-least w items in
+    omega (arith, size, least)
 
 -- the place that the search found beside the range
 pub record IsBeside (items : List Item) (avoid place : Extent) : Type 0 where
   pub found : place_beside avoid (room_of which.Reserved items) items ≡ Some place.base
   pub is : place ≡ frames_at place.base (48 * room_of which.Reserved items)
-
-mapped : (f : ℕ → Extent) (o : Option ℕ) → is_some (option_map f o) ≡ is_some o
-mapped f None = refl
-mapped f (Some x) = refl
 
 module _ {kernel : Extent} {items : List Item} {t : Contents} {at : Aim} (kept : AreKept kernel items t at) where
   room-least : (w : Which) → 128 ≤ room_in w t
@@ -109,12 +103,6 @@ module _ {kernel : Extent} {items : List Item} {t : Contents} {at : Aim} (kept :
       let known : IsPlaceOf (place_beside avoid n items) (48 * n) place =
       mapped-some (place_beside avoid n items) (48 * n) place (sym (beside-along avoid said is) ∙ some) in
       record { found = known.found; is = known.is }
-
-  pub beside-some : (avoid : Extent) {head : Head} {o : Option Extent} → head ≡ head_of t.reserved
-      → o ≡ frames_beside t at head.room avoid → IsSome o → IsSome (place_beside avoid (room_of which.Reserved items) items)
-  beside-some avoid said is some =
-      let m = room_of which.Reserved items in
-      sym (mapped (λ place. frames_at place (48 * m)) (place_beside avoid m items)) ∙ ap is_some (sym (beside-along avoid said is)) ∙ some
 
   -- where no place was found
   pub growth-none : (avoid : Extent) {head : Head} {o : Option Extent} → head ≡ head_of t.reserved
@@ -231,7 +219,7 @@ module _ {kernel : Extent} {items : List Item} {t p r v : Contents} {at : Aim} {
 -- what stands once the new place is claimed
 pub record Claimed (items longer : List Item) (t v : Contents) (at : Aim) : Type 0 where
   pub kept : Keeps items t longer v at
-  pub bytes : (kernel : Extent) → AreKept kernel items t at → Follows kernel items longer (byte_of t.store) (byte_of v.store)
+  pub bytes : KeepsBytes items t longer v at
   pub room : (kernel : Extent) → AreKept kernel items t at → length v.reserved.records + 2 ≤ v.reserved.room
 
 pub claimed : (room : ℕ) {items longer : List Item} {t p r v : Contents} {at : Aim} {base : ℕ} {place : Extent}
@@ -239,38 +227,26 @@ pub claimed : (room : ℕ) {items longer : List Item} {t p r v : Contents} {at :
     → Claimed items longer t v at
 claimed room is m free = record {
   kept = λ kernel kept. rw is (claimed-kept kept m free room);
-  bytes = λ kernel kept. rw is (claimed-bytes kept m free room);
+  bytes = λ kernel kept spelled. rw is (claimed-bytes kept m free room);
   room = λ kernel kept. claimed-room kept m free room;
 }
 
--- and after the old place was freed
-pub record Freed (v u : Contents) (range : Extent) : Type 0 where
-  pub table : u.reserved ≡ record v.reserved { records = records_for (uncovered range (value_at v.reserved.records)) }
-  pub other : u.memory ≡ v.memory
-  pub told : AreTold v u
-  pub ends : end_of range < 2 ^ 64
+-- what stands once the old place is freed, too
+module _ (range : Extent) {items longer new : List Item} {t v : Contents} (u : Contents) {at : Aim}
+    (is : new ≡ longer ++ item.Free range ∷ []) (c : Claimed items longer t v at)
+    (table : u.reserved ≡ record v.reserved { records = records_for (uncovered range (value_at v.reserved.records)) })
+    (other : u.memory ≡ v.memory) (ends : end_of range < 2 ^ 64) where
+  freed-kept : (kernel : Extent) → AreKept kernel items t at → AreKept kernel (longer ++ item.Free range ∷ []) u at
+  freed-kept kernel kept = kept-free (c.kept kernel kept) u range ends (c.room kernel kept) table other
 
-module _ {kernel : Extent} {items : List Item} {v u : Contents} {at : Aim} {range : Extent} (kept : AreKept kernel items v at)
-    (f : Freed v u range) (room : length v.reserved.records + 2 ≤ v.reserved.room) where
-  freed-kept : AreKept kernel (items ++ item.Free range ∷ []) u at
-  freed-kept = kept-free kept u range f.ends room f.table f.other
+  pub freed-keeps : Keeps items t new u at
+  freed-keeps = λ kernel kept. rw is (freed-kept kernel kept)
 
-  freed-bytes : Follows kernel items (items ++ item.Free range ∷ []) (byte_of v.store) (byte_of u.store)
-  freed-bytes = follows-item kernel items (item.Free range) u.memory u.reserved (byte_of v.store) (byte_of u.store) (λ x. refl)
-      freed-kept.memory freed-kept.reserved f.told
-
--- what stands once the old place is freed
-pub record Left (items longer : List Item) (t u : Contents) (at : Aim) : Type 0 where
-  pub kept : Keeps items t longer u at
-  pub bytes : (kernel : Extent) → AreKept kernel items t at → Follows kernel items longer (byte_of t.store) (byte_of u.store)
-
-pub left-freed : {items longer new : List Item} {t v u : Contents} {at : Aim} {range : Extent} → new ≡ longer ++ item.Free range ∷ []
-    → Claimed items longer t v at → Freed v u range → Left items new t u at
-left-freed is c f = record {
-  kept = λ kernel kept. rw is (freed-kept (c.kept kernel kept) f (c.room kernel kept));
-  bytes = λ kernel kept.
-      rw is (follows-then _ _ _ _ _ _ _ (c.bytes kernel kept) (freed-bytes (c.kept kernel kept) f (c.room kernel kept)));
-}
+  pub freed-tells : AreTold v u → KeepsBytes items t new u at
+  freed-tells told = λ kernel kept spelled.
+      let after = freed-kept kernel kept in
+      rw is (follows-then _ _ _ _ _ _ _ (c.bytes kernel kept spelled)
+      (follows-item kernel longer (item.Free range) u.memory u.reserved _ _ (λ x. refl) after.memory after.reserved told))
 
 -- where nothing was written
 pub still-bytes : {items longer : List Item} {t : Contents} (p : Contents) {at : Aim} → longer ≡ items

@@ -1,13 +1,11 @@
 -- Small ranges over the built-in places and beside them, computed.
 use Rattle.std.proofs.Common.{List, [], ◌∷◌, refl, arith}
-use Rattle.std.proofs.lemmas.Bool.{and_parts}
-use Rattle.bm_base.specs.Extent.{Extent, covers}
+use Rattle.std.proofs.lemmas.Bool.Decides.{nat_tests}
+use Rattle.bm_base.specs.Extent.{Extent}
 use Rattle.memblock_model.specs.declared.owner.Owner.TheVariants as owner
 use Rattle.memblock_model.specs.declared.which.Which.TheVariants as which
 use Rattle.memblock_model.specs.declared.item.Item.{Item}
 use Rattle.memblock_model.specs.declared.item.Item.TheVariants as item
-use Rattle.memblock_model.specs.Tables.{live}
-use Rattle.growth_model.proofs.SeatLaws.{covers-from}
 use Rattle.memblock_grow.specs.Touch.{TouchesTable}
 
 -- four frames from 64 KiB on, of which the tables have the last two
@@ -24,13 +22,5 @@ last_byte_of_the_reserved_table : TouchesTable image (record { base = 80895; siz
 last_byte_of_the_reserved_table = (which.Reserved, (80895, refl))
 
 behind_the_reserved_table : TouchesTable image (record { base = 80896; size = 1024 }) begun → ⊥
-behind_the_reserved_table (which.Memory, (x, both)) =
-    let parts = and_parts (covers (live which.Memory image begun) x) (covers (record { base = 80896; size = 1024 }) x) both in
-    let t = covers-from (live which.Memory image begun) x parts.0 in
-    let r = covers-from (record { base = 80896; size = 1024 }) x parts.1 in
-    omega arith
-behind_the_reserved_table (which.Reserved, (x, both)) =
-    let parts = and_parts (covers (live which.Reserved image begun) x) (covers (record { base = 80896; size = 1024 }) x) both in
-    let t = covers-from (live which.Reserved image begun) x parts.0 in
-    let r = covers-from (record { base = 80896; size = 1024 }) x parts.1 in
-    omega arith
+behind_the_reserved_table (which.Memory, (x, both)) = grind (arith, nat_tests, both)
+behind_the_reserved_table (which.Reserved, (x, both)) = grind (arith, nat_tests, both)

@@ -5,26 +5,12 @@ use Rattle.memblock_model.specs.declared.owner.Owner.TheVariants as owner
 use Rattle.growth_model.specs.declared.refusal.Refusal.TheVariants as refusal
 use Rattle.growth_model.specs.Growth.{claimed}
 use Rattle.growth_model.proofs.EndLaws.{Ends-wanting}
-use Rattle.memblock_grow.specs.Kept.{IsMemblock, Keeps, KeepsBytes}
-use Rattle.memblock_grow.specs.Prepared.{PreparesWith}
-use Rattle.memblock_grow.proofs.KeptLaws.{kept-same}
-use Rattle.memblock_grow.proofs.WholeLaws.{whole-on}
 use Rattle.memblock_grow.proofs.PreparedLaws.{prepares-with, none-on-err}
 use Rattle.memblock_grow.proofs.ReservedLaws.{still-bytes}
 use Rattle.memblock_grow.proofs.ChangeLaws.{handed}
 use Rattle.memblock_grow.proofs.ClaimLaws.{claim-begins, claim-prepares}
 use Rattle.memblock_grow.proofs.memory.take_place.Goals as goal
 use Rattle.memblock_grow.proofs.memory.take_place.Goals.{After-prepare, After-claim}
-
--- preparing leaves the tables and the bytes
-keeps : (c : After-prepare) → Keeps c.args.journal.now.items c.args.tables.now c.args.journal.now.items c.prepare.new.self c.args.aim
-keeps c = λ kernel kept. kept-same kept c.prepare.new.self c.prepare.ensures.memory c.prepare.ensures.reserved
-
-tells : (c : After-prepare) → KeepsBytes c.args.journal.now.items c.args.tables.now c.args.journal.now.items c.prepare.new.self c.args.aim
-tells c = still-bytes c.prepare.new.self refl c.prepare.ensures.bytes
-
-whole : (c : After-prepare) → IsMemblock c.requires.kept.0 c.args.journal.now.items c.prepare.new.self c.args.aim
-whole c = whole-on c.requires.kept.1 (keeps c) (tells c) c.requires.kept.1.placed
 
 pub returns-in_err-may_claim-clause-bytes : goal.returns-in_err-may_claim-clause-bytes
 returns-in_err-may_claim-clause-bytes c = still-bytes c.args.tables.now refl (λ x. refl)
@@ -43,11 +29,7 @@ pub returns-in_err-prepare-clause-err : goal.returns-in_err-prepare-clause-err
 returns-in_err-prepare-clause-err c =
     none-on-err c.from_residual-in_err-prepare.result c.args.journal.now.items c.in_err-prepare.ensures.err
 
-with-place : (c : After-claim) → PreparesWith c.args.place c.args.journal.now.items c.claim.new.journal.items c.args.tables.now.store
-    c.claim.new.tables.store
-with-place c = prepares-with c.in_ok-prepare.ensures.ready c.claim.ensures.prepared
-
 pub returns-clause-err : goal.returns-clause-err
 returns-clause-err c =
     claim-prepares c.claim.result (owner.Table which.Memory) (c.in_ok-may_claim.ensures.ok (owner.Table which.Memory)) c.claim.ensures.ends
-    (with-place (goal.at.returns-clause-err c).After-claim)
+    (prepares-with c.in_ok-prepare.ensures.ready c.claim.ensures.prepared)

@@ -3,14 +3,14 @@ use Rattle.std.proofs.lemmas.List.{append-nil}
 use Rattle.bm_base.specs.Extent.{Extent, end_of}
 use Rattle.memblock_model.specs.declared.which.Which.TheVariants as which
 use Rattle.memblock_model.specs.declared.item.Item.TheVariants as item
-use Rattle.memblock_model.specs.Tables.{room_of}
+use Rattle.memblock_model.specs.Tables.{room_of, moved_to}
 use Rattle.memblock_grow.specs.Prepared.{Prepares}
 use Rattle.memblock_grow.proofs.reserved.grow_reserved.Goals as goal
-use Rattle.memblock_grow.proofs.reserved.grow_reserved.Goals.{In-Some, After-cover, After-uncover}
+use Rattle.memblock_grow.proofs.reserved.grow_reserved.Goals.{In-Some, After-cover}
 use Rattle.memblock_grow.proofs.KeptLaws.{kept-same}
 use Rattle.memblock_grow.proofs.PlaceLaws.{knows-mirrors, left-far}
 use Rattle.memblock_grow.proofs.PreparedLaws.{prepares-item}
-use Rattle.memblock_grow.proofs.ReservedLaws.{room-some, frames-some, IsBeside, beside-found, beside-free, beside-apart, growth-none, growth-wants, moved_items, written, left-size, left-found, twice-is, claim-room, Claimed, claimed, Left, left-freed, prepares-moved, still-bytes}
+use Rattle.memblock_grow.proofs.ReservedLaws.{room-some, frames-some, IsBeside, beside-found, beside-free, beside-apart, growth-none, growth-wants, moved_items, written, left-size, left-found, twice-is, claim-room, Claimed, claimed, freed-keeps, freed-tells, prepares-moved, still-bytes}
 
 -- the place was found beside the range
 known : (c : In-Some) → IsBeside c.args.journal.now.items c.args.avoid c.in-Some.place
@@ -53,16 +53,6 @@ stands c at =
       prepared = prepares-moved c.place.inside.base (2 * c.head-head.result.room) two here twice at.is
           (λ x. c.cover.ensures.ready x ∙ c.relocate.ensures.ready x ∙ c.in_ok-prepare.ensures.ready x);
     }
-
--- and once the old place is freed
-left : (c : After-uncover) → Claimed c.args.journal.now.items c.push_ready-2.new.self.items c.args.tables.now c.cover.new.tables c.args.aim
-    → Left c.args.journal.now.items c.push_ready-in-Some-left.new.self.items c.args.tables.now c.uncover.new.tables c.args.aim
-left c there = left-freed (λ k. (c.push_ready-in-Some-left.ensures k).items) there (record {
-  table = c.uncover.ensures.reserved;
-  other = c.uncover.ensures.memory;
-  told = c.uncover.ensures.bytes;
-  ends = c.uncover.ensures.within;
-})
 
 pub place_beside-requires-clause-some : goal.place_beside-requires-clause-some
 place_beside-requires-clause-some c = room-some c.requires.kept.1.kept which.Reserved c.head-head.ensures.head
@@ -125,7 +115,7 @@ cover-requires-clause-room c =
 pub push_ready-requires-in-Some-left-clause-item : goal.push_ready-requires-in-Some-left-clause-item
 push_ready-requires-in-Some-left-clause-item c =
     let left = left-found c.requires.kept.1.kept which.Reserved c.head-head.ensures.head c.left_place-left.ensures in
-    left-size which.Reserved c.args.journal.now.items c.in-Some-left.range (sym left ∙ c.in-Some-left.is)
+    left-size which.Reserved c.args.journal.now.items (moved_to which.Reserved c.args.journal.now.items) _ (sym left ∙ c.in-Some-left.is)
 
 pub uncover-requires : goal.uncover-requires
 uncover-requires c =
@@ -143,12 +133,14 @@ returns-in-Some-left-clause-ends c =
 pub returns-in-Some-left-clause-kept : goal.returns-in-Some-left-clause-kept
 returns-in-Some-left-clause-kept c =
     let at = goal.at.returns-in-Some-left-clause-kept c in
-    (left at.After-uncover (stands at.After-cover (known at.In-Some)).claimed).kept
+    freed-keeps _ _ (λ k. (c.push_ready-in-Some-left.ensures k).items) (stands at.After-cover (known at.In-Some)).claimed
+    c.uncover.ensures.reserved c.uncover.ensures.memory c.uncover.ensures.within
 
 pub returns-in-Some-left-clause-bytes : goal.returns-in-Some-left-clause-bytes
-returns-in-Some-left-clause-bytes c = λ kernel kept spelled.
+returns-in-Some-left-clause-bytes c =
     let at = goal.at.returns-in-Some-left-clause-bytes c in
-    (left at.After-uncover (stands at.After-cover (known at.In-Some)).claimed).bytes kernel kept
+    freed-tells _ _ (λ k. (c.push_ready-in-Some-left.ensures k).items) (stands at.After-cover (known at.In-Some)).claimed
+    c.uncover.ensures.reserved c.uncover.ensures.memory c.uncover.ensures.within c.uncover.ensures.bytes
 
 pub returns-in-Some-left-clause-prepared : goal.returns-in-Some-left-clause-prepared
 returns-in-Some-left-clause-prepared c =
@@ -169,8 +161,8 @@ returns-in-None-clause-kept c =
     let at = goal.at.returns-in-None-clause-kept c in (stands at.After-cover (known at.In-Some)).claimed.kept
 
 pub returns-in-None-clause-bytes : goal.returns-in-None-clause-bytes
-returns-in-None-clause-bytes c = λ kernel kept spelled.
-    let at = goal.at.returns-in-None-clause-bytes c in (stands at.After-cover (known at.In-Some)).claimed.bytes kernel kept
+returns-in-None-clause-bytes c =
+    let at = goal.at.returns-in-None-clause-bytes c in (stands at.After-cover (known at.In-Some)).claimed.bytes
 
 pub returns-in-None-clause-prepared : goal.returns-in-None-clause-prepared
 returns-in-None-clause-prepared c =

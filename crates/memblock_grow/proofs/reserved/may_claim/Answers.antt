@@ -9,7 +9,7 @@ use Rattle.growth_model.proofs.RoomLaws.{free-claimed}
 use Rattle.memblock_grow.specs.declared.more.More.TheVariants as more
 use Rattle.memblock_grow.proofs.PlaceLaws.{knows-mirrors}
 use Rattle.memblock_grow.proofs.MoreLaws.{full-is, space-of}
-use Rattle.memblock_grow.proofs.ReservedLaws.{room-some, growth-none, beside-some}
+use Rattle.memblock_grow.proofs.ReservedLaws.{room-some, beside-found, growth-none}
 use Rattle.memblock_grow.proofs.ClaimLaws.{claim-refused}
 use Rattle.memblock_grow.proofs.reserved.may_claim.Goals as goal
 use Rattle.memblock_grow.proofs.reserved.may_claim.Goals.{After-is_full}
@@ -39,7 +39,8 @@ returns-then-not-is_full-clause-ok c = λ who.
 pub returns-in-Some-clause-ok : goal.returns-in-Some-clause-ok
 returns-in-Some-clause-ok c = λ who.
     unrefused (goal.at.returns-in-Some-clause-ok c).After-is_full who
-    (inr (beside-some c.requires.kept.1.kept c.args.range c.head-head.ensures.head c.place_beside.ensures (ap is_some c.in-Some.is)))
+    (inr (ap is_some (beside-found c.requires.kept.1.kept {avoid = c.args.range} c.head-head.ensures.head c.place_beside.ensures
+    c.in-Some.is).found))
 
 pub returns-in-None-clause-refused : goal.returns-in-None-clause-refused
 returns-in-None-clause-refused c = λ who.
