@@ -32,10 +32,8 @@ unfolding claimed
 claim-begins range who items unrefused =
     let growths : Change = grown which.Reserved (new_in which.Reserved range) (reserved_growth range) in
     let last : Change = write (item.Claim range who) in
-    let o : Outcome = growths items in
-    let more = length-append o.steps (last (after items o)).steps in
-    subst (λ (o : Outcome). 0 < length o.steps) (sym (followed growths last items (then-unrefused items growths last unrefused).0))
-    (omega (arith, more))
+    let more = length-append (growths items).steps (last (after items (growths items))).steps in
+    rw (followed growths last items (then-unrefused items growths last unrefused).0) (omega (arith, more))
 
 pub claim-prepares : (r : Result (Unit {0}) Refusal) (who : Owner) {place : Extent} {items longer : List Item} {s t : List Stored}
     → (claimed place who items).refused ≡ None → Ends r items longer (claimed place who) → PreparesWith place items longer s t

@@ -13,7 +13,7 @@ use Rattle.memblock_model.specs.declared.item.Item.TheVariants as item
 use Rattle.memblock_model.specs.Labels.{Label, Labels, plain_label, with_node, with_mirror}
 use Rattle.memblock_model.specs.Items.{trimmed, limit_after, upward_after}
 use Rattle.memblock_model.specs.Tables.{table_of, table_after, records_for, records_of, pieces, room_of, room_after, moved_to, moved_after, place_of, built_in}
-use Rattle.memblock_model.proofs.ItemLaws.{limit_of-push, upward_of-push, room_of-push, moved_to-push}
+use Rattle.memblock_model.proofs.ItemLaws.{limit_of-push, upward_of-push, table_of-push, room_of-push, moved_to-push}
 use Rattle.memblock_model.proofs.TableLaws.{value_at-records}
 use Rattle.memblock_ranges.specs.Steps.{EndsInSpace}
 use Rattle.memblock_ranges.specs.Tables.{Table, Contents, table_in, other_in, records_in, room_in, place_in}
@@ -24,15 +24,6 @@ use Rattle.growth_model.specs.Sound.{Fits}
 use Rattle.growth_model.specs.Bytes.{table_for}
 use Rattle.memblock_grow.specs.declared.aim.Aim.{Aim}
 use Rattle.memblock_grow.specs.Kept.{AreKept, aimed}
-
--- the table of the items and one more, by its records, its place and its room
-table-by : (w : Which) (kernel : Extent) (items : List Item) (i : Item) (new : Table) → new.records ≡ records_of w (items ++ i ∷ [])
-    → new.place ≡ unwrap_or (moved_after w (moved_to w items) i) (built_in w kernel) → new.room ≡ room_after w (room_of w items) i
-    → new ≡ table_for w kernel (items ++ i ∷ [])
-table-by w kernel items i new p q r =
-    let place = q ∙ sym (ap (λ (o : Option ℕ). unwrap_or o (built_in w kernel)) (moved_to-push w items i)) in
-    let room = r ∙ sym (room_of-push w items i) in
-    λ k. record { records = p k; place = place k; room = room k }
 
 -- each has room for its records, as the tables see it
 fits-by : (kernel : Extent) (items : List Item) (m r : Table) → m ≡ table_for which.Memory kernel items
@@ -97,8 +88,8 @@ module _ {kernel : Extent} {items : List Item} {t : Contents} {at : Aim} (kept :
   -- the frames of a table's place end in the address space, behind a quiet item and behind a growth
   far-quiet : (i : Item) → IsQuiet i → (w : Which) (place : ℕ) → moved_after w (moved_to w items) i ≡ Some place
       → place + in_whole_frames (24 * room_after w (room_of w items) i) < 2 ^ 64
-  far-quiet i quiet w place moved = subst (λ (n : ℕ). place + in_whole_frames (24 * n) < 2 ^ 64) (sym (quiet.0 w (room_of w items)))
-      (kept.far w place (sym (quiet.1 w (moved_to w items)) ∙ moved))
+  far-quiet i quiet w place moved =
+      rw (quiet.0 w (room_of w items)) (kept.far w place (sym (quiet.1 w (moved_to w items)) ∙ moved))
 
   far-grown : (v w : Which) (base room : ℕ) → base + in_whole_frames (48 * room_of w items) < 2 ^ 64 → (place : ℕ)
       → moved_after v (moved_to v items) (item.Grown w base room) ≡ Some place
@@ -125,34 +116,28 @@ module _ {kernel : Extent} {items : List Item} {t : Contents} {at : Aim} (kept :
   table-stays : (w : Which) (i : Item) → table_after w (table_of w items) i ≡ table_of w items
       → room_after w (room_of w items) i ≡ room_of w items → moved_after w (moved_to w items) i ≡ moved_to w items
       → table_in w u ≡ table_in w t → table_in w u ≡ table_for w kernel (items ++ i ∷ [])
+  unfolding records_of
   table-stays w i same stays moved is =
-      let was = is ∙ table-is kept w in
-      table-by w kernel items i (table_in w u)
-      (ap (λ (s : Table). s.records) was ∙ untouched-items w items i (records_of w items) refl same)
-      (ap (λ (s : Table). s.place) was ∙ sym (ap (λ (o : Option ℕ). unwrap_or o (built_in w kernel)) moved))
-      (ap (λ (s : Table). s.room) was ∙ sym stays)
+      rw (is, table-is kept w, table_of-push w items i, moved_to-push w items i, room_of-push w items i, same, stays, moved) refl
 
   table-edited : (w : Which) (i : Item) → IsQuiet i
       → table_in w u ≡ record (table_in w t) { records = records_for (table_after w (value_at (records_in w t)) i) }
       → table_in w u ≡ table_for w kernel (items ++ i ∷ [])
+  unfolding records_of
   table-edited w i quiet is =
-      table-by w kernel items i (table_in w u)
-      (edited-items w items i (records_in w t) (records_in w u) (kept.ends w) (records-are kept w) (ap (λ (s : Table). s.records) is))
-      (ap (λ (s : Table). s.place) is ∙ place-is kept w
-      ∙ sym (ap (λ (o : Option ℕ). unwrap_or o (built_in w kernel)) (quiet.1 w (moved_to w items))))
-      (ap (λ (s : Table). s.room) is ∙ room-is kept w ∙ sym (quiet.0 w (room_of w items)))
+      rw (is, values-are kept w, place-is kept w, room-is kept w, table_of-push w items i, moved_to-push w items i, room_of-push w items i,
+          quiet.0 w (room_of w items), quiet.1 w (moved_to w items)) refl
 
   table-moved : (w : Which) (place room : ℕ) → table_after w (table_of w items) (item.Grown w place room) ≡ table_of w items
       → room_after w (room_of w items) (item.Grown w place room) ≡ 2 * room_of w items
       → moved_after w (moved_to w items) (item.Grown w place room) ≡ Some place
       → table_in w u ≡ record (table_in w t) { place = place; room = 2 * room_in w t }
       → table_in w u ≡ table_for w kernel (items ++ item.Grown w place room ∷ [])
+  unfolding records_of
   table-moved w place room same twice moved is =
       let i : Item = item.Grown w place room in
-      table-by w kernel items i (table_in w u)
-      (ap (λ (s : Table). s.records) is ∙ untouched-items w items i (records_in w t) (records-are kept w) same)
-      (ap (λ (s : Table). s.place) is ∙ sym (ap (λ (o : Option ℕ). unwrap_or o (built_in w kernel)) moved))
-      (ap (λ (s : Table). s.room) is ∙ ap (λ (n : ℕ). 2 * n) (room-is kept w) ∙ sym twice)
+      rw (is, records-are kept w, room-is kept w, table_of-push w items i, moved_to-push w items i, room_of-push w items i, same, twice,
+          moved) refl
 
   table-quiet : (w : Which) (i : Item) → IsQuiet i → ((f : Labels) → table_after w f i ≡ f) → table_in w u ≡ table_in w t
       → table_in w u ≡ table_for w kernel (items ++ i ∷ [])
@@ -164,7 +149,7 @@ module _ {kernel : Extent} {items : List Item} {t : Contents} {at : Aim} (kept :
   few-moved : (w : Which) (place : ℕ) → table_in w u ≡ record (table_in w t) { place = place; room = 2 * room_in w t }
       → length (records_in w u) ≤ room_in w u
   few-moved w place is =
-      subst (λ (s : Table). length s.records ≤ s.room) (sym is) (let few = few-kept kept w in omega (arith, few))
+      let few = few-kept kept w in subst (λ (s : Table). length s.records ≤ s.room) (sym is) (omega (arith, few))
 
   -- one item more
   kept-by : (i : Item) (to : Aim) → EndsInSpace i → limit_after at.limit i ≡ to.limit → upward_after at.upward i ≡ to.upward
@@ -179,8 +164,7 @@ module _ {kernel : Extent} {items : List Item} {t : Contents} {at : Aim} (kept :
     upward = upward_of-push items i ∙ ap (λ (b : Bool). upward_after b i) kept.upward ∙ directed;
     ends = λ w. items-within w items i space (kept.ends w);
     fits = fits-by kernel (items ++ i ∷ []) u.memory u.reserved first second few too;
-    far = λ w place moved. subst (λ (n : ℕ). place + in_whole_frames (24 * n) < 2 ^ 64) (sym (room_of-push w items i))
-        (far w place (sym (moved_to-push w items i) ∙ moved));
+    far = λ w place moved. rw (room_of-push w items i) (far w place (sym (moved_to-push w items i) ∙ moved));
   }
 
   -- an edit of one table
@@ -190,9 +174,8 @@ module _ {kernel : Extent} {items : List Item} {t : Contents} {at : Aim} (kept :
       → u.memory ≡ t.memory → length (records_for (table_after which.Reserved (value_at t.reserved.records) i)) ≤ t.reserved.room
       → AreKept kernel (items ++ i ∷ []) u at
   kept-reserved i quiet space limited directed other is same few =
-      kept-by i at space limited directed
-      (table-quiet which.Memory i quiet other same) (table-edited which.Reserved i quiet is)
-      (few-stays which.Memory same) (subst (λ (s : Table). length s.records ≤ s.room) (sym is) few) (far-quiet kept i quiet)
+      kept-by i at space limited directed (table-quiet which.Memory i quiet other same) (table-edited which.Reserved i quiet is)
+      (few-stays which.Memory same) (rw is few) (far-quiet kept i quiet)
 
   kept-memory : (i : Item) → IsQuiet i → EndsInSpace i → limit_after at.limit i ≡ at.limit → upward_after at.upward i ≡ at.upward
       → ((f : Labels) → table_after which.Reserved f i ≡ f)
@@ -200,9 +183,8 @@ module _ {kernel : Extent} {items : List Item} {t : Contents} {at : Aim} (kept :
       → u.reserved ≡ t.reserved → length (records_for (table_after which.Memory (value_at t.memory.records) i)) ≤ t.memory.room
       → AreKept kernel (items ++ i ∷ []) u at
   kept-memory i quiet space limited directed other is same few =
-      kept-by i at space limited directed (table-edited which.Memory i quiet is)
-      (table-quiet which.Reserved i quiet other same)
-      (subst (λ (s : Table). length s.records ≤ s.room) (sym is) few) (few-stays which.Reserved same) (far-quiet kept i quiet)
+      kept-by i at space limited directed (table-edited which.Memory i quiet is) (table-quiet which.Reserved i quiet other same)
+      (rw is few) (few-stays which.Reserved same) (far-quiet kept i quiet)
 
   pub kept-claim : (range : Extent) (who : Owner) → end_of range < 2 ^ 64
       → length t.reserved.records + pieces range (value_at t.reserved.records) ≤ t.reserved.room

@@ -75,8 +75,8 @@ moving items place = write (item.Grown which.Memory place.base (2 * room_of whic
 
 module _ {items : List Item} {place : Extent} (known : IsBest items place) where
   pub best-free : Unclaimed (owner_of items) place
-  best-free = subst (λ (e : Extent). Unclaimed (owner_of items) e) (sym known.is)
-      (found-unclaimed items (table_query (room_of which.Memory items) 0 (limit_of items)) place.base known.found)
+  best-free =
+      rw known.is (found-unclaimed items (table_query (room_of which.Memory items) 0 (limit_of items)) place.base known.found)
 
   memory-some : (taking place >> (moving items place >> leaving items)) items ≡ memory_growth items
   unfolding memory_growth memory_growth_at
@@ -153,9 +153,7 @@ module _ {kernel : Extent} {items mid : List Item} {t k r : Contents} {at : Aim}
       let size : place.size ≡ in_whole_frames (48 * room_of which.Memory items) = ap (λ (e : Extent). e.size) m.is in
       let ends = m.ends in
       let here = m.here in
-      let small : base + in_whole_frames (48 * room_of which.Memory items) < 2 ^ 64 = omega (arith, size, ends, here) in
-      kept-grown after r which.Memory base room
-      (subst (λ (n : ℕ). base + in_whole_frames (48 * n) < 2 ^ 64) (sym same) small) m.table m.other
+      kept-grown after r which.Memory base room (rw same (omega (arith, size, ends, here))) m.table m.other
 
   memory-bytes : AreSpelled t.memory t.reserved (byte_of t.store) → KeepsBytes items t mid k at
       → Follows kernel items (mid ++ item.Grown which.Memory base room ∷ []) (byte_of t.store) (byte_of r.store)

@@ -130,8 +130,7 @@ left-by n (Some p) = refl
 
 module _ {items : List Item} {avoid place : Extent} (known : IsBeside items avoid place) where
   pub beside-free : Unclaimed (owner_of items) place
-  beside-free = subst (λ (e : Extent). Unclaimed (owner_of items) e) (sym known.is)
-      (beside-new items avoid (room_of which.Reserved items) place.base known.found).free
+  beside-free = rw known.is (beside-new items avoid (room_of which.Reserved items) place.base known.found).free
 
   -- it may be moved to
   pub beside-apart : {kernel : Extent} {t : Contents} {at : Aim} (p : Contents) {base : ℕ} → AreKept kernel items t at
