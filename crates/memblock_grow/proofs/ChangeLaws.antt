@@ -1,7 +1,6 @@
 -- A change that makes room and then writes one item: how it ends, wherever it ends.
 use Rattle.std.proofs.Common.{◌≡◌, ℕ, false, List, [], ◌∷◌, ◌++◌, Result, Ok, Err, IsErrAnd, ap, subst, arith}
 use Rattle.bm_base.specs.Extent.{Extent}
-use Rattle.phys_store.specs.Bytes.{byte_of}
 use Rattle.memblock_model.specs.declared.item.Item.{Item}
 use Rattle.memblock_ranges.specs.Tables.{Contents}
 use Rattle.growth_model.specs.declared.refusal.Refusal.{Refusal}
@@ -43,4 +42,4 @@ pub change-bytes : (i : Item) {old mid new : List Item} {t : Contents} (u : Cont
 change-bytes i {mid} u {v} {at} is stays kept told before = λ kernel known spelled.
     let after = subst (λ (l : List Item). AreKept kernel l v at) is (kept kernel known) in
     rw is (follows-then _ _ _ _ _ _ _ (before kernel known spelled)
-    (follows-item kernel mid i v.memory v.reserved (byte_of u.store) (byte_of v.store) (stays kernel) after.memory after.reserved told))
+    (follows-item kernel mid i v.memory v.reserved _ _ (stays kernel) after.memory after.reserved told))

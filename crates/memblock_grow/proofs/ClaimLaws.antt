@@ -1,5 +1,5 @@
 -- A claim that is refused at once, and one that isn't refused: what it prepares, with a place that was prepared before it.
-use Rattle.std.proofs.Common.{◌≡◌, ◌<◌, true, None, List, length, Result, Ok, Err, OnErr, sym, ◌∙◌, subst, arith}
+use Rattle.std.proofs.Common.{◌≡◌, ◌<◌, true, None, List, length, Result, Ok, Err, OnErr, sym, ◌∙◌, arith}
 use Rattle.std.proofs.lemmas.List.{length-append}
 use Rattle.bm_base.specs.Extent.{Extent}
 use Rattle.phys_store.specs.Bytes.{Stored}
@@ -9,7 +9,7 @@ use Rattle.memblock_model.specs.declared.item.Item.{Item}
 use Rattle.memblock_model.specs.declared.item.Item.TheVariants as item
 use Rattle.growth_model.specs.declared.refusal.Refusal.{Refusal}
 use Rattle.growth_model.specs.declared.refusal.Refusal.TheVariants as refusal
-use Rattle.growth_model.specs.Outcome.{Outcome, Change, after, if_due, write, ◌>>◌}
+use Rattle.growth_model.specs.Outcome.{Change, after, if_due, write, ◌>>◌}
 use Rattle.growth_model.specs.Growth.{is_full, new_in, reserved_growth, grown, claimed}
 use Rattle.growth_model.specs.Ends.{Ends}
 use Rattle.growth_model.proofs.EndLaws.{followed, Ends-first, Ends-due}

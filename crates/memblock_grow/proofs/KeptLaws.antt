@@ -1,6 +1,5 @@
 -- The tables follow the items, one by one.
 use Rattle.std.proofs.Common.{◌≡◌, ℕ, ◌+◌, ◌*◌, ◌^◌, ◌<◌, ◌≤◌, Bool, Option, Some, List, [], ◌∷◌, ◌++◌, length, refl, sym, ◌∙◌, ap, subst, arith}
-use Rattle.std.specs.Prelude.{unwrap_or}
 use Rattle.std.proofs.lemmas.Option.{same_Some}
 use Rattle.bm_base.specs.Extent.{Extent, end_of}
 use Rattle.address_runs.specs.Runs.{RunOf, value_at}
@@ -12,13 +11,13 @@ use Rattle.memblock_model.specs.declared.item.Item.{Item}
 use Rattle.memblock_model.specs.declared.item.Item.TheVariants as item
 use Rattle.memblock_model.specs.Labels.{Label, Labels, plain_label, with_node, with_mirror}
 use Rattle.memblock_model.specs.Items.{trimmed, limit_after, upward_after}
-use Rattle.memblock_model.specs.Tables.{table_of, table_after, records_for, records_of, pieces, room_of, room_after, moved_to, moved_after, place_of, built_in}
+use Rattle.memblock_model.specs.Tables.{table_of, table_after, records_for, records_of, pieces, room_of, room_after, moved_to, moved_after, place_of}
 use Rattle.memblock_model.proofs.ItemLaws.{limit_of-push, upward_of-push, table_of-push, room_of-push, moved_to-push}
 use Rattle.memblock_model.proofs.TableLaws.{value_at-records}
 use Rattle.memblock_ranges.specs.Steps.{EndsInSpace}
 use Rattle.memblock_ranges.specs.Tables.{Table, Contents, table_in, other_in, records_in, room_in, place_in}
 use Rattle.memblock_ranges.proofs.CountLaws.{length-covered, length-uncovered, length-relabelled, length-trimmed}
-use Rattle.memblock_ranges.proofs.StepLaws.{edited-items, untouched-items, items-within}
+use Rattle.memblock_ranges.proofs.StepLaws.{items-within}
 use Rattle.growth_model.specs.Growth.{in_whole_frames}
 use Rattle.growth_model.specs.Sound.{Fits}
 use Rattle.growth_model.specs.Bytes.{table_for}
@@ -118,15 +117,14 @@ module _ {kernel : Extent} {items : List Item} {t : Contents} {at : Aim} (kept :
       → table_in w u ≡ table_in w t → table_in w u ≡ table_for w kernel (items ++ i ∷ [])
   unfolding records_of
   table-stays w i same stays moved is =
-      rw (is, table-is kept w, table_of-push w items i, moved_to-push w items i, room_of-push w items i, same, stays, moved) refl
+      rw (is, table-is kept w, table_of-push, moved_to-push, room_of-push, same, stays, moved) refl
 
   table-edited : (w : Which) (i : Item) → IsQuiet i
       → table_in w u ≡ record (table_in w t) { records = records_for (table_after w (value_at (records_in w t)) i) }
       → table_in w u ≡ table_for w kernel (items ++ i ∷ [])
   unfolding records_of
   table-edited w i quiet is =
-      rw (is, values-are kept w, place-is kept w, room-is kept w, table_of-push w items i, moved_to-push w items i, room_of-push w items i,
-          quiet.0 w (room_of w items), quiet.1 w (moved_to w items)) refl
+      rw (is, values-are kept w, place-is kept w, room-is kept w, table_of-push, moved_to-push, room_of-push, quiet.0, quiet.1) refl
 
   table-moved : (w : Which) (place room : ℕ) → table_after w (table_of w items) (item.Grown w place room) ≡ table_of w items
       → room_after w (room_of w items) (item.Grown w place room) ≡ 2 * room_of w items
@@ -135,9 +133,7 @@ module _ {kernel : Extent} {items : List Item} {t : Contents} {at : Aim} (kept :
       → table_in w u ≡ table_for w kernel (items ++ item.Grown w place room ∷ [])
   unfolding records_of
   table-moved w place room same twice moved is =
-      let i : Item = item.Grown w place room in
-      rw (is, records-are kept w, room-is kept w, table_of-push w items i, moved_to-push w items i, room_of-push w items i, same, twice,
-          moved) refl
+      rw (is, records-are kept w, room-is kept w, table_of-push, moved_to-push, room_of-push, same, twice, moved) refl
 
   table-quiet : (w : Which) (i : Item) → IsQuiet i → ((f : Labels) → table_after w f i ≡ f) → table_in w u ≡ table_in w t
       → table_in w u ≡ table_for w kernel (items ++ i ∷ [])

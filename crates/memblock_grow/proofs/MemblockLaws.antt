@@ -1,9 +1,8 @@
 -- What holds of a memblock holds at first, and behind each item and each fill.
-use Rattle.std.proofs.Common.{◌≡◌, ℕ, ◌+◌, ◌-◌, ◌*◌, Bool, true, false, ◌||◌, nat_lt, nat_le, if◌then◌else◌, List, [], ◌∷◌, ◌++◌, replicate, get_or, IsTrue, refl, sym, ◌∙◌, subst, inl, inr, arith}
-use Rattle.std.proofs.lemmas.Bool.{cases_Bool, cases_lt}
+use Rattle.std.proofs.Common.{◌≡◌, ℕ, ◌-◌, ◌*◌, false, List, [], ◌∷◌, ◌++◌, replicate, get_or, refl, sym, ◌∙◌, subst, arith}
 use Rattle.std.proofs.lemmas.Bool.Decides.{nat_tests}
 use Rattle.std.proofs.lemmas.List.{get_or-replicate, get_or_past, length-replicate}
-use Rattle.bm_base.specs.Extent.{Extent, covers}
+use Rattle.bm_base.specs.Extent.{Extent}
 use Rattle.phys_store.specs.Bytes.{Stored, byte_of, Wrote}
 use Rattle.memblock_model.specs.declared.which.Which.{Which}
 use Rattle.memblock_model.specs.declared.which.Which.TheVariants as which
@@ -14,7 +13,6 @@ use Rattle.memblock_ranges.specs.Spelling.{spelled_table}
 use Rattle.memblock_ranges.specs.Tables.{Table, Contents, bytes_of}
 use Rattle.growth_model.specs.Sound.{IsImage, IsAway, Clear}
 use Rattle.growth_model.specs.Bytes.{table_for, spelled_at, shown_by, AreSpelled, leaves, byte, Filled, put, Follows}
-use Rattle.growth_model.proofs.SeatLaws.{covers-from}
 use Rattle.growth_model.proofs.FirstLaws.{no_table_full, nothing_said}
 use Rattle.growth_model.proofs.SoundLaws.{Stands}
 use Rattle.growth_model.proofs.FollowLaws.{follows-item, follows-stands}
@@ -25,23 +23,17 @@ use Rattle.memblock_grow.proofs.KeptLaws.{kept-same}
 
 -- a table without records is zeros
 zeros_at : (n k : ℕ) → ◌≡◌ {A = ℕ} (get_or (replicate n 0) k 0) 0
-zeros_at n k = elim (cases_lt k n) as (λ _. ◌≡◌ {A = ℕ} (get_or (replicate n 0) k 0) 0) [
-  | inl inside ↦ get_or-replicate n k 0 0 inside
-  | inr past ↦ get_or_past (replicate n 0) k 0 (omega (arith, length-replicate {A = ℕ} n 0, past))
-]
+zeros_at n k =
+    let inside = get_or-replicate {A = ℕ} n k 0 0 in
+    let past = get_or_past {X = ℕ} (replicate n 0) k 0 in
+    grind (arith, inside, past, length-replicate {A = ℕ} n 0)
 
 empty_at : (t : Table) (x : ℕ) → t.records ≡ [] → spelled_at t x ≡ 0
 unfolding spelled_table
 empty_at t x none = rw none (zeros_at (24 * t.room) (x - t.place))
 
-either_zero : (b c : Bool) (m n : ℕ) → m ≡ 0 → n ≡ 0 → (if b then m else (if c then n else 0)) ≡ 0
-either_zero true c m n first second = first
-either_zero false true m n first second = second
-either_zero false false m n first second = refl
-
 shown-empty : (m r : Table) (x : ℕ) → m.records ≡ [] → r.records ≡ [] → shown_by m r x 0 ≡ 0
-shown-empty m r x first second =
-    either_zero (covers (bytes_of m) x) (covers (bytes_of r) x) (spelled_at m x) (spelled_at r x) (empty_at m x first) (empty_at r x second)
+shown-empty m r x first second = let a = empty_at m x first in let b = empty_at r x second in grind (arith, a, b)
 
 -- at first
 abbrev pub first_table : Which → Extent → Table
@@ -83,8 +75,7 @@ module _ (i : Item) {kernel : Extent} {items longer : List Item} {t u : Contents
     (more : longer ≡ items ++ i ∷ []) (now : AreKept kernel (items ++ i ∷ []) u to) (stays : (x : ℕ) → leaves kernel items i x ≡ false)
     (told : AreTold t u) where
   pub follows-one : Follows kernel items longer (byte_of t.store) (byte_of u.store)
-  follows-one =
-      rw more (follows-item kernel items i u.memory u.reserved (byte_of t.store) (byte_of u.store) stays now.memory now.reserved told)
+  follows-one = rw more (follows-item kernel items i u.memory u.reserved _ _ stays now.memory now.reserved told)
 
   pub whole-one : Stands kernel longer → IsMemblock kernel longer u to
   whole-one stands =
@@ -100,15 +91,9 @@ module _ (i : Item) {kernel : Extent} {items longer : List Item} {t u : Contents
 pub wrote-put : (old new : List Stored) (fill : Filled) → Wrote old new fill.range.base fill.range.size (λ _. fill.byte)
     → (x : ℕ) → byte_of new x ≡ put fill x (byte_of old x)
 wrote-put old new fill wrote x =
-    elim (cases_Bool (covers fill.range x)) as (λ _. byte_of new x ≡ put fill x (byte_of old x)) [
-      | inl inside ↦
-          let at = covers-from fill.range x inside in
-          let place : fill.range.base + (x - fill.range.base) ≡ x = omega arith in
-          rw inside (subst (λ (y : ℕ). byte_of new y ≡ fill.byte) place (wrote.within (x - fill.range.base) (omega arith)))
-      | inr out ↦
-          let beside : IsTrue (nat_lt x fill.range.base || nat_le (fill.range.base + fill.range.size) x) = grind (arith, nat_tests, out) in
-          rw out (wrote.outside x beside)
-    ]
+    let within = wrote.within (x - fill.range.base) in
+    let outside = wrote.outside x in
+    grind (arith, nat_tests, within, outside)
 
 pub whole-fill : {kernel : Extent} {items : List Item} {t : Contents} (u : Contents) {at : Aim} (fill : Filled) → u.memory ≡ t.memory
     → u.reserved ≡ t.reserved → ((x : ℕ) → byte_of u.store x ≡ put fill x (byte_of t.store x)) → IsAway kernel fill.range items

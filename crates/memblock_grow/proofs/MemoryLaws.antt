@@ -1,5 +1,5 @@
 -- The growth of the memory table: where it goes, what it writes, and what it makes of the tables and of each byte.
-use Rattle.std.proofs.Common.{◌≡◌, ℕ, ◌+◌, ◌*◌, ◌^◌, ◌<◌, Option, Some, None, List, [], ◌∷◌, ◌++◌, Result, Ok, Err, IsErrAnd, refl, sym, ◌∙◌, ap, subst, arith}
+use Rattle.std.proofs.Common.{◌≡◌, ℕ, ◌*◌, ◌^◌, ◌<◌, Option, Some, None, List, [], ◌∷◌, ◌++◌, Result, Ok, Err, IsErrAnd, refl, sym, ◌∙◌, ap, subst, arith}
 use Rattle.std.specs.Option.{option_map, IfSome}
 use Rattle.bm_base.specs.Extent.{Extent, end_of}
 use Rattle.phys_store.specs.Bytes.{byte_of}
@@ -29,7 +29,7 @@ use Rattle.memblock_grow.specs.Kept.{AreKept, IsMemblock, AllowsFree, Keeps, Kee
 use Rattle.memblock_grow.specs.Places.{frames_between}
 use Rattle.memblock_grow.proofs.KeptLaws.{room-is, kept-grown}
 use Rattle.memblock_grow.proofs.ChangeLaws.{handed}
-use Rattle.memblock_grow.proofs.PlaceLaws.{IsPlaceOf, mapped-some, mapped-none, between-is}
+use Rattle.memblock_grow.proofs.PlaceLaws.{mapped-some, mapped-none, between-is}
 use Rattle.memblock_grow.proofs.ReservedLaws.{left-size}
 
 -- the best place below the limit
@@ -50,7 +50,7 @@ module _ {kernel : Extent} {items : List Item} {t : Contents} {at : Aim} (kept :
   best-found {place} said is some =
       let n = room_of which.Memory items in
       let found = best items (table_query n 0 (limit_of items)) in
-      let known : IsPlaceOf found (48 * n) place = mapped-some found (48 * n) place (sym (best-along said is) ∙ some) in
+      let known = mapped-some found (48 * n) place (sym (best-along said is) ∙ some) in
       record { found = known.found; is = known.is }
 
   pub memory-none : {head : Head} {o : Option Extent} → head ≡ head_of t.memory
@@ -159,8 +159,8 @@ module _ {kernel : Extent} {items mid : List Item} {t k r : Contents} {at : Aim}
       → Follows kernel items (mid ++ item.Grown which.Memory base room ∷ []) (byte_of t.store) (byte_of r.store)
   memory-bytes spelled bytes =
       follows-then _ _ _ _ _ _ _ (bytes kernel kept spelled)
-      (follows-grown kernel mid which.Memory base room k.memory r.memory r.reserved (byte_of k.store) (byte_of r.store)
-      (keeps kernel kept).memory memory-kept.memory memory-kept.reserved m.told)
+      (follows-grown kernel mid which.Memory base room k.memory r.memory r.reserved _ _ (keeps kernel kept).memory memory-kept.memory
+      memory-kept.reserved m.told)
 
 -- what a table leaves may be freed, where it is away from both tables
 free-by : {kernel : Extent} {is : List Item} {t : Contents} {at : Aim} (n : ℕ) (o : Option ℕ) {left : Option Extent}

@@ -1,5 +1,5 @@
 -- What is prepared behind one call after another, behind an item that is no growth, behind a growth, and by the end of a call.
-use Rattle.std.proofs.Common.{◌≡◌, ℕ, ◌*◌, Bool, true, false, ◌||◌, List, [], ◌∷◌, ◌++◌, Result, Ok, Err, OnErr, refl, sym, ◌∙◌, ap, subst, append_assoc, arith}
+use Rattle.std.proofs.Common.{◌≡◌, ℕ, ◌*◌, Bool, false, ◌||◌, List, [], ◌∷◌, ◌++◌, Result, Ok, Err, OnErr, refl, sym, ◌∙◌, ap, subst, append_assoc, arith}
 use Rattle.std.proofs.lemmas.Bool.Decides.{nat_tests}
 use Rattle.std.proofs.lemmas.List.{append-nil}
 use Rattle.std.proofs.Math.Bool.{or_assoc}
@@ -19,10 +19,7 @@ grown-append (i ∷ is) b x = rw (grown-append is b x) (sym (or_assoc (grows_ove
 
 -- what further items and a place prepare, in another order
 swap : (g h c s : Bool) → (h || (c || (g || s))) ≡ ((g || h) || (c || s))
-swap false h c s = refl
-swap true true c s = refl
-swap true false true s = refl
-swap true false false s = refl
+swap g h c s = grind arith
 
 -- one call behind another
 pub prepares-then : {items mid last : List Item} {s t u : List Stored} → Prepares items mid s t → Prepares mid last t u
@@ -60,9 +57,7 @@ with-then {place} {s} first second = record {
 
 -- a table grew into that place, to twice the room
 join : (g c s : Bool) → (g || (c || s)) ≡ ((g || (c || false)) || s)
-join true c s = refl
-join false true s = refl
-join false false s = refl
+join g c s = grind arith
 
 pub with-growth : (w : Which) (n : ℕ) {items mid longer : List Item} {base room : ℕ} {place : Extent} {s t u : List Stored}
     → PreparesWith place items mid s t → longer ≡ mid ++ item.Grown w base room ∷ [] → base ≡ place.base → room ≡ 2 * n

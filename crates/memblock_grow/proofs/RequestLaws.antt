@@ -1,12 +1,9 @@
 -- The place that an allocation finds by the tables is the one that the items say, and how the claim of it ends.
-use Rattle.std.proofs.lemmas.Bool.{cases_Bool}
-use Rattle.std.proofs.Common.{◌≡◌, ℕ, ◌+◌, ◌^◌, ◌<◌, Bool, true, false, inl, inr, Option, Some, None, List, [], ◌∷◌, Result, Ok, Err, IsErrAnd, refl, sym, ◌∙◌, ap, arith}
-use Rattle.std.specs.Option.{option_or}
+use Rattle.std.proofs.Common.{◌≡◌, ℕ, ◌+◌, ◌^◌, ◌<◌, Bool, true, false, Option, Some, None, List, [], ◌∷◌, Result, Ok, Err, IsErrAnd, refl, sym, ◌∙◌, ap, arith}
 use Rattle.bm_base.specs.Extent.{Extent}
 use Rattle.memblock_model.specs.declared.owner.Owner.{Owner}
 use Rattle.memblock_model.specs.declared.item.Item.{Item}
 use Rattle.memblock_model.specs.Items.{limit_of}
-use Rattle.memblock_model.specs.Search.{top}
 use Rattle.boot_journal.specs.Mirrors.{mirrors_in}
 use Rattle.memblock_ranges.specs.Tables.{Contents}
 use Rattle.growth_model.specs.declared.refusal.Refusal.{Refusal}
@@ -30,25 +27,18 @@ anywhere-mirrorless : (items : List Item) (t : Contents) (up : Bool) (r : Reques
     → mirrors_in items ≡ false → first_of t up (anywhere r limit lo true wanted) ≡ None
 anywhere-mirrorless items t up r limit lo None knows none = refl
 anywhere-mirrorless items t up r limit lo (Some node) knows none =
-    elim (cases_Bool r.exact) as (λ _. first_of t up (anywhere r limit lo true (Some node)) ≡ None) [
-      | inl exact ↦ rw exact refl
-      | inr preferred ↦ rw preferred (ap (λ (o : Option ℕ). option_or o None)
-          (top-mirrorless items t up (attempt r limit lo true None).query knows none))
-    ]
+    let nowhere = top-mirrorless items t up (attempt r limit lo true None).query knows none in grind (arith, nowhere)
 
 pub nodes-mirrorless : (items : List Item) (t : Contents) (up : Bool) (r : Request) (limit lo : ℕ) → KnowsMirrors items t
     → mirrors_in items ≡ false → first_of t up (nodes r limit lo true) ≡ None
 nodes-mirrorless items t up r limit lo knows none =
-    ap (λ (o : Option ℕ). option_or o (first_of t up (anywhere r limit lo true r.node)))
-    (top-mirrorless items t up (attempt r limit lo true r.node).query knows none)
-    ∙ anywhere-mirrorless items t up r limit lo r.node knows none
+    rw (top-mirrorless items t up (attempt r limit lo true r.node).query knows none)
+    (anywhere-mirrorless items t up r limit lo r.node knows none)
 
 module _ {kernel : Extent} {items : List Item} {t : Contents} {at : Aim} (kept : AreKept kernel items t at) where
   first-is : (all : List Attempt) → first_of t at.upward all ≡ first_top items all
   first-is [] = refl
-  first-is (a ∷ rest) =
-      ap (λ (o : Option ℕ). option_or o (first_of t at.upward rest)) (top-is kept a)
-      ∙ ap (λ (o : Option ℕ). option_or (top items a.query a.mirror) o) (first-is rest)
+  first-is (a ∷ rest) = rw (top-is kept a, first-is rest) refl
 
   pub place-is-for : (r : Request) {o found : Option ℕ} → o ≡ first_of t at.upward (attempts r at.limit) → o ≡ found
       → place_for r items ≡ found

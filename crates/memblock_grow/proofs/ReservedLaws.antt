@@ -33,7 +33,7 @@ use Rattle.memblock_grow.specs.Kept.{AreKept, AreTold, Keeps, KeepsBytes}
 use Rattle.memblock_grow.specs.Prepared.{Prepares}
 use Rattle.memblock_grow.specs.Places.{frames_beside, left_frames}
 use Rattle.memblock_grow.proofs.KeptLaws.{values-are, room-is, few-kept, few-covered, kept-same, kept-claim, kept-free, kept-grown}
-use Rattle.memblock_grow.proofs.PlaceLaws.{IsPlaceOf, mapped-some, mapped-none, beside-is, left-is}
+use Rattle.memblock_grow.proofs.PlaceLaws.{mapped-some, mapped-none, beside-is, left-is}
 use Rattle.memblock_grow.proofs.ChangeLaws.{handed}
 use Rattle.memblock_grow.proofs.PreparedLaws.{prepares-growth, prepares-item}
 
@@ -100,8 +100,7 @@ module _ {kernel : Extent} {items : List Item} {t : Contents} {at : Aim} (kept :
       → o ≡ frames_beside t at head.room avoid → o ≡ Some place → IsBeside items avoid place
   beside-found {avoid} {place} said is some =
       let n = room_of which.Reserved items in
-      let known : IsPlaceOf (place_beside avoid n items) (48 * n) place =
-      mapped-some (place_beside avoid n items) (48 * n) place (sym (beside-along avoid said is) ∙ some) in
+      let known = mapped-some (place_beside avoid n items) (48 * n) place (sym (beside-along avoid said is) ∙ some) in
       record { found = known.found; is = known.is }
 
   -- where no place was found
@@ -209,11 +208,11 @@ module _ {kernel : Extent} {items : List Item} {t p r v : Contents} {at : Aim} {
   claimed-bytes : Follows kernel items (moved_items items base room place) (byte_of t.store) (byte_of v.store)
   claimed-bytes =
       follows-then _ _ _ _ _ _ _
-      (follows-grown kernel items which.Reserved base room p.reserved r.memory r.reserved (byte_of t.store) (byte_of r.store)
-      before.reserved moved-kept.memory moved-kept.reserved
+      (follows-grown kernel items which.Reserved base room p.reserved r.memory r.reserved _ _ before.reserved moved-kept.memory
+      moved-kept.reserved
       (λ x. m.told x ∙ ap (λ (b : ℕ). shown_by r.memory r.reserved x (left_by p.reserved x b)) (m.bytes x)))
-      (follows-item kernel (items ++ item.Grown which.Reserved base room ∷ []) (item.Claim place (owner.Table which.Reserved)) v.memory
-      v.reserved (byte_of r.store) (byte_of v.store) (λ x. refl) claimed-kept.memory claimed-kept.reserved m.after)
+      (follows-item kernel _ (item.Claim place (owner.Table which.Reserved)) v.memory v.reserved _ _ (λ x. refl) claimed-kept.memory
+      claimed-kept.reserved m.after)
 
 -- what stands once the new place is claimed
 pub record Claimed (items longer : List Item) (t v : Contents) (at : Aim) : Type 0 where
