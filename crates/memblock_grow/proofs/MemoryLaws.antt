@@ -41,9 +41,7 @@ module _ {kernel : Extent} {items : List Item} {t : Contents} {at : Aim} (kept :
   best-along : {head : Head} {o : Option Extent} → head ≡ head_of t.memory → o ≡ frames_between t at.upward head.room 0 at.limit
       → o ≡ option_map (λ place. frames_at place (48 * room_of which.Memory items))
       (best items (table_query (room_of which.Memory items) 0 (limit_of items)))
-  best-along said is =
-      is ∙ ap (λ (h : Head). frames_between t at.upward h.room 0 at.limit) said
-      ∙ ap (λ (n : ℕ). frames_between t at.upward (room_in which.Memory t) 0 n) (sym kept.limit) ∙ between-is kept 0 (limit_of items)
+  best-along said is = rw (is, said, sym kept.limit) (between-is kept 0 (limit_of items))
 
   pub best-found : {head : Head} {o : Option Extent} {place : Extent} → head ≡ head_of t.memory
       → o ≡ frames_between t at.upward head.room 0 at.limit → o ≡ Some place → IsBest items place

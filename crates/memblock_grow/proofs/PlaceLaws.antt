@@ -66,14 +66,7 @@ module _ {kernel : Extent} {items : List Item} {t : Contents} {at : Aim} (kept :
   pub beside-is : (avoid : Extent) → frames_beside t at (room_in which.Reserved t) avoid
       ≡ option_map (λ place. frames_at place (48 * room_of which.Reserved items))
       (place_beside avoid (room_of which.Reserved items) items)
-  beside-is avoid =
-      let n = room_of which.Reserved items in
-      rw (
-        room-is kept which.Reserved,
-        best-is (table_query n (end_of avoid) at.limit),
-        best-is (table_query n 0 (min avoid.base at.limit)),
-        kept.limit,
-      ) refl
+  beside-is avoid = rw (room-is kept which.Reserved, best-is, best-is, kept.limit) refl
 
 -- what is found among frames is found
 pub record IsPlaceOf (o : Option ℕ) (n : ℕ) (place : Extent) : Type 0 where

@@ -95,9 +95,7 @@ by-exact (Err refusal.Memory) {s} h = (
   record {
     more = h.more;
     goes_on = h.goes_on;
-    each = λ x.
-        let none : covers nowhere x ≡ false = grind (arith, nat_tests) in
-        h.each x ∙ ap (λ (b : Bool). is_grown_over h.more x || (b || is_ready s x)) (sym none);
+    each = λ x. let none : covers nowhere x ≡ false = grind (arith, nat_tests) in rw (h.each x, none) refl;
   },
 )
 
