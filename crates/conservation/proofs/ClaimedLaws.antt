@@ -1,5 +1,5 @@
 -- Owners and the claims that the journal has for them; frames that are touched, and those that aren't.
-use Rattle.std.proofs.Common.{◌≡◌, ◌⊎◌, ℕ, ◌+◌, ◌*◌, ◌<◌, ◌≤◌, Bool, true, false, Option, Some, None, is_none, List, [], ◌∷◌, fold, refl, sym, ◌∙◌, ap, inl, inr, ⊎_elim, arith}
+use Rattle.std.proofs.Common.{◌≡◌, ◌⊎◌, ℕ, ◌+◌, ◌*◌, ◌<◌, ◌≤◌, Bool, true, false, Option, Some, None, is_none, List, [], ◌∷◌, fold, refl, sym, ◌∙◌, ap, inl, inr, arith}
 use Rattle.std.specs.List.{list_any}
 use Rattle.std.proofs.lemmas.Bool.Decides.{nat_tests}
 use Rattle.std.proofs.lemmas.Bool.{cases_Bool}
@@ -16,17 +16,6 @@ use Rattle.conservation.specs.Claimed.{decides, IsRecorded, IsTouched, IsUntouch
 -- where an owner comes from: it was there before the items, of which none decides, or one of them is the claim
 abbrev pub ComesFrom : Owners → List Item → ℕ → Owner → Type 0
 ComesFrom f items x who = ((f x ≡ Some who) × (list_any (λ i. decides i x) items ≡ false)) ⊎ IsRecorded items x who
-
--- a claim among later items is one among all
-later : (i : Item) (items : List Item) (x : ℕ) (who : Owner) → IsRecorded items x who → IsRecorded (i ∷ items) x who
-later i items x who known = record {
-  before = i ∷ known.before;
-  range = known.range;
-  behind = known.behind;
-  recorded = ap (λ (js : List Item). i ∷ js) known.recorded;
-  covered = known.covered;
-  stands = known.stands;
-}
 
 -- what the first item makes of the byte, where none behind it decides
 first : (f : Owners) (i : Item) (items : List Item) (x : ℕ) (who : Owner) → owners_after f i x ≡ Some who
@@ -51,26 +40,29 @@ first f (item.Free range) items x who has none =
       | inl inside ↦ (let given : None ≡ Some who = rw inside at has in absurd (cc))
       | inr outside ↦ inl (rw outside at has, rw outside none)
     ]
-first f (item.Mem range) items x who has none = inl (has, none)
-first f item.Trim items x who has none = inl (has, none)
-first f (item.Node range node) items x who has none = inl (has, none)
-first f (item.Mirror range) items x who has none = inl (has, none)
-first f (item.Limit at) items x who has none = inl (has, none)
-first f (item.Upward on) items x who has none = inl (has, none)
-first f (item.Grown which place room) items x who has none = inl (has, none)
+first f i items x who has none = inl (has, none)
 
 comes_from : (f : Owners) (items : List Item) (x : ℕ) (who : Owner) → fold owners_after f items x ≡ Some who → ComesFrom f items x who
 comes_from f [] x who has = inl (has, refl)
-comes_from f (i ∷ items) x who has =
-    ⊎_elim
-    (λ (early : (owners_after f i x ≡ Some who) × (list_any (λ j. decides j x) items ≡ false)). first f i items x who early.0 early.1)
-    (λ (known : IsRecorded items x who). inr (later i items x who known)) (comes_from (owners_after f i) items x who has)
+comes_from f (i ∷ items) x who has = elim (comes_from (owners_after f i) items x who has) as (λ _. ComesFrom f (i ∷ items) x who) [
+  | inl early ↦ first f i items x who early.0 early.1
+  | inr known ↦
+      inr (record {
+        before = i ∷ known.before;
+        range = known.range;
+        behind = known.behind;
+        recorded = ap (λ (js : List Item). i ∷ js) known.recorded;
+        covered = known.covered;
+        stands = known.stands;
+      })
+]
 
 -- each owner has its claim in the journal
 pub owner_recorded : (items : List Item) (x : ℕ) (who : Owner) → owner_of items x ≡ Some who → IsRecorded items x who
-owner_recorded items x who has =
-    ⊎_elim (λ (early : (no_owners x ≡ Some who) × (list_any (λ j. decides j x) items ≡ false)). absurd (cc (early.0)))
-    (λ (known : IsRecorded items x who). known) (comes_from no_owners items x who has)
+owner_recorded items x who has = elim (comes_from no_owners items x who has) as (λ _. IsRecorded items x who) [
+  | inl early ↦ absurd (cc (early.0))
+  | inr known ↦ known
+]
 
 -- a byte of a frame lies between the frame's ends, and the other way round
 pub frame_covers : (frame x : ℕ) → 4096 * frame ≤ x → x < 4096 * frame + 4096 → covers (bytes_of_frame frame) x ≡ true

@@ -1,6 +1,6 @@
 -- Which blocks have a frame, and how many of them do.
-use Rattle.std.proofs.Common.{◌≡◌, ℕ, ◌+◌, ◌-◌, ◌%◌, ◌^◌, ◌<◌, ◌≤◌, Bool, true, false, cond, count_by, Option, Some, None, List, [], ◌∷◌, refl, sym, ◌∙◌, ap, subst, inl, inr, ⊎_elim, arith}
-use Rattle.std.proofs.lemmas.Bool.{cases_Bool, true≢false}
+use Rattle.std.proofs.Common.{◌≡◌, ℕ, ◌+◌, ◌-◌, ◌%◌, ◌^◌, ◌<◌, Bool, true, false, ◌&&◌, nat_le, nat_lt, cond, count_by, Option, Some, None, List, [], ◌∷◌, refl, sym, ◌∙◌, ap, inl, inr, arith}
+use Rattle.std.proofs.lemmas.Bool.{false_from_ne_true}
 use Rattle.std.proofs.lemmas.Nat.{pow_pos}
 use Rattle.std.proofs.lemmas.List.Sums.{sum_by-cons}
 use Rattle.address_runs.specs.Edits.{NothingFrom}
@@ -18,63 +18,56 @@ use Rattle.conservation.specs.Headline.{has_frame, blocks_with, with_buddy}
 pub in_block : (b : Block) (frame : ℕ) → b.first % 2 ^ b.order ≡ 0 → has_frame b frame ≡ true → IsInBlock b frame
 in_block b frame aligned inside =
     let ends = tests_both b.first frame (b.first + 2 ^ b.order) inside in
-    let above = ends.0 in
-    let below = ends.1 in
-    in_set (2 ^ b.order) b.first frame (omega (arith, above)) (omega (arith, below, aligned))
+    in_set (2 ^ b.order) b.first frame (omega (arith, ends.0)) (omega (arith, ends.1, aligned))
 
--- and those of a block and its buddy are those of the set of twice as many
+-- and those of a set are those from its first one on
+in_range : (order first frame : ℕ) → IsInSet order first frame
+    → (nat_le (first - first % 2 ^ order) frame && nat_lt frame (first - first % 2 ^ order + 2 ^ order)) ≡ true
+in_range order first frame same =
+    both_tests (first - first % 2 ^ order) frame (first - first % 2 ^ order + 2 ^ order) (set_from (2 ^ order) first frame same)
+    (set_until (2 ^ order) first frame (pow_pos order) same)
+
+-- so a block and its buddy have those of the set of twice as many
 pub in_buddies : (b : Block) (frame : ℕ) → IsInSet (b.order + 1) b.first frame → has_frame (with_buddy b) frame ≡ true
-in_buddies b frame same =
-    let s : ℕ = 2 ^ (b.order + 1) in
-    both_tests (b.first - b.first % s) frame (b.first - b.first % s + s) (set_from s b.first frame same)
-    (set_until s b.first frame (pow_pos (b.order + 1)) same)
+in_buddies b frame same = in_range (b.order + 1) b.first frame same
 
--- blocks of which none passes a test
+-- one block more, by whether it passes the test
+counted : (p : Block → Bool) (c : Block) (cs : List Block) (passes : Bool) → p c ≡ passes
+    → count_by p (c ∷ cs) ≡ cond passes 1 0 + count_by p cs
+counted p c cs passes is = sum_by-cons (λ (d : Block). cond (p d) 1 0) c cs ∙ ap (λ t. cond t 1 0 + count_by p cs) is
+
+-- blocks of which none does
 none_counted : (p : Block → Bool) (bs : List Block) → ((b : Block) → Lists bs b → p b ≡ false) → count_by p bs ≡ 0
 none_counted p [] fails = refl
 none_counted p (c ∷ cs) fails =
-    let here : p c ≡ false = fails c (inl refl) in
-    let rest : count_by p cs ≡ 0 = none_counted p cs (λ b listed. fails b (inr listed)) in
-    sum_by-cons (λ (b : Block). cond (p b) 1 0) c cs ∙ ap (λ t. cond t 1 0 + count_by p cs) here ∙ ap (λ n. 0 + n) rest
+    counted p c cs false (fails c (inl refl)) ∙ ap (λ n. 0 + n) (none_counted p cs (λ b listed. fails b (inr listed)))
 
 -- and blocks of which one alone does
 one_counted : (p : Block → Bool) (b : Block) (from : ℕ) (bs : List Block) → AscendFrom from bs → Lists bs b → p b ≡ true
     → ((c : Block) → Lists bs c → p c ≡ true → c ≡ b) → count_by p bs ≡ 1
 one_counted p b from [] ascend listed holds only = absurd listed
-one_counted p b from (c ∷ cs) ascend listed holds only =
-    elim (cases_Bool (p c)) as (λ _. count_by p (c ∷ cs) ≡ 1) [
-      | inl here ↦
-          (let same : c ≡ b = only c (inl refl) here in
-          let others : (d : Block) → Lists cs d → p d ≡ false = λ d in_rest. elim (cases_Bool (p d)) as (λ _. p d ≡ false) [
-            | inl passes ↦
-                (let equal : d ≡ c = only d (inr in_rest) passes ∙ sym same in
-                let behind : c.first + 1 ≤ d.first = ascend_behind (c.first + 1) cs d ascend.1 in_rest in
-                let first : d.first ≡ c.first = ap (λ (e : Block). e.first) equal in
-                absurd (omega (arith, behind, first)))
-            | inr fails ↦ fails
-          ] in
-          sum_by-cons (λ (d : Block). cond (p d) 1 0) c cs ∙ ap (λ t. cond t 1 0 + count_by p cs) here
-          ∙ ap (λ n. 1 + n) (none_counted p cs others))
-      | inr away ↦
-          (let rest : Lists cs b =
-          ⊎_elim (λ (same : c ≡ b). absurd (true≢false (sym holds ∙ ap p (sym same) ∙ away))) (λ (r : Lists cs b). r) listed in
-          sum_by-cons (λ (d : Block). cond (p d) 1 0) c cs ∙ ap (λ t. cond t 1 0 + count_by p cs) away
-          ∙ ap (λ n. 0 + n) (one_counted p b (c.first + 1) cs ascend.1 rest holds (λ d in_rest passes. only d (inr in_rest) passes)))
-    ]
+one_counted p b from (c ∷ cs) ascend (inl same) holds only =
+    counted p c cs true (ap p same ∙ holds) ∙ ap (λ n. 1 + n) (none_counted p cs (λ d in_rest. false_from_ne_true (p d) (λ passes.
+    (let behind = ascend_behind (c.first + 1) cs d ascend.1 in_rest in
+    let first = ap (λ (e : Block). e.first) (only d (inr in_rest) passes ∙ sym same) in
+    omega (arith, behind, first)))))
+one_counted p b from (c ∷ cs) ascend (inr in_rest) holds only =
+    let behind = ascend_behind (c.first + 1) cs b ascend.1 in_rest in
+    let fails : p c ≡ false = false_from_ne_true (p c) (λ passes.
+    (let first = ap (λ (e : Block). e.first) (only c (inl refl) passes) in omega (arith, behind, first))) in
+    counted p c cs false fails
+    ∙ ap (λ n. 0 + n) (one_counted p b (c.first + 1) cs ascend.1 in_rest holds (λ d listed. only d (inr listed)))
 
 -- what has a frame is free
 pub free_inside : (f : Frames) (b : Block) (frame : ℕ) → Lists (blocks_of f) b → has_frame b frame ≡ true → f frame ≡ Some b.node
 free_inside f b frame listed inside =
-    let block : IsBlock f b = listed_sound f b listed in
+    let block = listed_sound f b listed in
     (block.good frame (in_block b frame block.aligned inside)).0
 
 -- a frame that isn't free is in no block
 pub no_block_with : (f : Frames) (frame : ℕ) → f frame ≡ None → blocks_with (blocks_of f) frame ≡ 0
 no_block_with f frame none = none_counted (λ b. has_frame b frame) (blocks_of f) (λ b listed.
-    elim (cases_Bool (has_frame b frame)) as (λ _. has_frame b frame ≡ false) [
-      | inl inside ↦ absurd (cc (sym none ∙ free_inside f b frame listed inside))
-      | inr outside ↦ outside
-    ])
+    false_from_ne_true (has_frame b frame) (λ inside. cc (sym none ∙ free_inside f b frame listed inside)))
 
 -- and one that is free is in exactly one
 pub one_block_with : (f : Frames) (frame node : ℕ) → NothingFrom MAX_FRAMES f → f frame ≡ Some node → blocks_with (blocks_of f) frame ≡ 1
@@ -82,12 +75,9 @@ one_block_with f frame node none free =
     let b : Block = block_around (order_up_to f frame node 10) frame node in
     let made : block_of f frame ≡ Some b = ap (block_for f frame) free in
     let found = block_found f frame b made in
-    let inside : has_frame b frame ≡ true =
-    (let s : ℕ = 2 ^ b.order in
-    let first : b.first - b.first % s ≡ b.first = (let aligned = found.0.aligned in omega (arith, aligned)) in
-    both_tests b.first frame (b.first + s)
-    (subst (λ (a : ℕ). a ≤ frame) first (set_from s b.first frame found.1))
-    (subst (λ (a : ℕ). frame < a + s) first (set_until s b.first frame (pow_pos b.order) found.1))) in
+    let aligned = found.0.aligned in
+    let first : b.first - b.first % 2 ^ b.order ≡ b.first = omega (arith, aligned) in
+    let inside : has_frame b frame ≡ true = rw first at (in_range b.order b.first frame found.1) in
     one_counted (λ c. has_frame c frame) b 0 (blocks_of f) (listed_ascends f) (listed_complete f b none found.0) inside
     (λ c listed within.
     (let block : IsBlock f c = listed_sound f c listed in

@@ -1,23 +1,20 @@
 -- Small journals, blocks and boots: what the definitions say of them, and which boots they refuse.
-use Rattle.std.proofs.Common.{◌≡◌, ℕ, ◌^◌, ◌<◌, ◌≤◌, ◌==◌, true, false, if◌then◌else◌, Some, None, List, [], ◌∷◌, refl, inl, inr, ⊎_elim, arith}
+use Rattle.std.proofs.Common.{◌≡◌, ℕ, ◌^◌, ◌<◌, ◌≤◌, ◌==◌, true, false, if◌then◌else◌, Some, None, List, [], ◌∷◌, refl, inl, inr, arith}
 use Rattle.std.proofs.lemmas.Bool.Decides.{nat_tests}
 use Rattle.std.proofs.lemmas.Bool.{cases_Bool}
 use Rattle.bm_base.specs.Extent.{Extent, covers}
-use Rattle.bm_base.specs.Frames.{bytes_of_frame}
+use Rattle.bm_base.specs.Zones.{zone_of}
 use Rattle.bm_base.specs.declared.zone.Zone.TheVariants as zone
 use Rattle.address_runs.specs.Runs.{RunOf}
 use Rattle.address_runs.specs.Edits.{NothingFrom}
-use Rattle.memblock_model.specs.Items.{tag_of}
 use Rattle.memblock_model.specs.declared.owner.Owner.TheVariants as owner
 use Rattle.memblock_model.specs.declared.item.Item.{Item}
 use Rattle.memblock_model.specs.declared.item.Item.TheVariants as item
-use Rattle.memblock_model.specs.Labels.{node_of_tag}
 use Rattle.frame_blocks.specs.declared.block.Block.{Block}
 use Rattle.frame_blocks.specs.declared.run.TheConstants.{MAX_FRAMES}
 use Rattle.frame_blocks.specs.Frames.{Frames}
 use Rattle.frame_blocks.specs.Listed.{Lists, blocks_of}
 use Rattle.frame_blocks.proofs.BlockLaws.{listed_complete, listed_sound}
-use Rattle.page_alloc.specs.Kept.{IsHeldByNone, IsHeldByOne, IsInNoBlock, IsInOneBlock}
 use Rattle.page_alloc.specs.Pages.{State, begun}
 use Rattle.boot_model.specs.Boot.{Given, Told}
 use Rattle.conservation.specs.ByMap.{IsUsableBy}
@@ -121,11 +118,6 @@ abbrev pair_of_node_one : List Item
 pair_of_node_one =
     item.Mem (record { base = 0x4000; size = 0x2000 }) ∷ (item.Node (record { base = 0x4000; size = 0x2000 }) 1 ∷ [])
 
-tagged : (frame x : ℕ) → 4 ≤ frame → frame < 6 → covers (bytes_of_frame frame) x ≡ true
-    → node_of_tag (tag_of pair_of_node_one x) ≡ Some 1
-tagged frame x above below inside =
-    let within : covers (record { base = 0x4000; size = 0x2000 }) x ≡ true = grind (arith, nat_tests) in rw within refl
-
 -- frame 5 is told as free, of some node
 abbrev five : ℕ → Frames
 five node frame = if frame == 5 then Some node else None
@@ -135,13 +127,10 @@ five_alone node frame far = let other : (frame == 5) ≡ false = grind (arith, n
 
 -- a usable frame that is told as nobody's and in no block is refused
 lost_frame : (given : Given) (told : Told) → IsUsable given 4 → AllTouchedOrInOne given (telling told pair_of_node_one (five 1)) → ⊥
-lost_frame given told usable all =
-    ⊎_elim
-    (λ (touched : IsTouched pair_of_node_one 4 × (blocks_with (blocks_of (five 1)) 4 ≡ 0)). absurd (cc (touched.0.owned)))
-    (λ (in_one : IsUntouched pair_of_node_one 4 × (blocks_with (blocks_of (five 1)) 4 ≡ 1)).
-    (let none : blocks_with (blocks_of (five 1)) 4 ≡ 0 = no_block_with (five 1) 4 refl in
-    let count = in_one.1 in
-    absurd (omega (arith, none, count)))) (all 4 usable)
+lost_frame given told usable all = elim (all 4 usable) as (λ _. ⊥) [
+  | inl touched ↦ cc (touched.0.owned)
+  | inr in_one ↦ (let none = no_block_with (five 1) 4 refl in omega (arith, none, in_one.1))
+]
 
 -- and so is a frame in a block that somebody has a byte of
 handed_claim : (given : Given) (told : Told) → NoOtherInABlock given (telling told journal (five 1)) → ⊥
@@ -168,28 +157,28 @@ other_node given told whole =
     cc same
 
 -- and it is refused as a block by itself where its buddy is free too
+pair_free : (given : Given) (frame : ℕ) → 4 ≤ frame → frame < 6 → IsUsable given frame → zone_of frame ≡ zone.Dma
+    → IsFreeFor given pair_of_node_one (with_buddy (five_block 1)) frame
+pair_free given frame above below usable low = record {
+  usable = usable;
+  untouched = λ x inside. refl;
+  node = λ x inside.
+      let within : covers (record { base = 0x4000; size = 0x2000 }) x ≡ true = grind (arith, nat_tests) in rw within refl;
+  zone = low;
+}
+
 half_alone : (given : Given) (told : Told) → IsUsable given 4 → IsUsable given 5
     → BlocksAreMaximal given (telling told pair_of_node_one (five 1)) → ⊥
 half_alone given told four_usable five_usable maximal =
     maximal (five_block 1) (five_listed 1) (omega arith) (λ frame inside.
-    (let above : 4 ≤ frame = grind (arith, nat_tests) in
-    let below : frame < 6 = grind (arith, nat_tests) in
     elim (cases_Bool (frame == 4)) as (λ _. IsFreeFor given pair_of_node_one (with_buddy (five_block 1)) frame) [
-      | inl lower ↦ (let is : frame ≡ 4 = grind (arith, nat_tests) in
-          record {
-            usable = rw is four_usable;
-            untouched = λ x within. refl;
-            node = λ x within. tagged frame x above below within;
-            zone = rw is refl;
-          })
-      | inr upper ↦ (let is : frame ≡ 5 = grind (arith, nat_tests) in
-          record {
-            usable = rw is five_usable;
-            untouched = λ x within. refl;
-            node = λ x within. tagged frame x above below within;
-            zone = rw is refl;
-          })
-    ]))
+      | inl lower ↦
+          (let is : frame ≡ 4 = grind (arith, nat_tests) in
+          rw is (pair_free given 4 (omega arith) (omega arith) four_usable refl))
+      | inr upper ↦
+          (let is : frame ≡ 5 = grind (arith, nat_tests) in
+          rw is (pair_free given 5 (omega arith) (omega arith) five_usable refl))
+    ])
 
 -- a frame that was handed over and is neither in a block nor held behind the page script is refused, and so is one in a block that
 -- wasn't handed over
@@ -197,10 +186,10 @@ abbrev paged : Told → Frames → State → Told
 paged told free after = record told { free = free; after = after }
 
 lost_page : (told : Told) → AllInOneOrHeld (paged told (five 1) (begun (λ frame. None))) → ⊥
-lost_page told all = ⊎_elim
-    (λ (in_block : IsInOneBlock (begun (λ frame. None)) 5 × IsHeldByNone (begun (λ frame. None)) 5).
-    (let none : None ≡ Some in_block.0.block.node = (in_block.0.is.good 5 in_block.0.has).0 in cc none))
-    (λ (held : IsHeldByOne (begun (λ frame. None)) 5 × IsInNoBlock (begun (λ frame. None)) 5). absurd (cc held.0.holds.is)) (all 5 1 refl)
+lost_page told all = elim (all 5 1 refl) as (λ _. ⊥) [
+  | inl in_block ↦ cc ((in_block.0.is.good 5 in_block.0.has).0)
+  | inr held ↦ cc (held.0.holds.is)
+]
 
 page_from_nowhere : (told : Told) → NoOtherInOneOrHeld (paged told (λ frame. None) (begun (five 1))) → ⊥
 page_from_nowhere told none =

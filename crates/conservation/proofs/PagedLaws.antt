@@ -1,13 +1,11 @@
 -- The page script goes over frames that were handed over, so it keeps each in one block or held.
-use Rattle.std.proofs.Common.{◌≡◌, ℕ, Some, Ok, sym, subst}
-use Rattle.page_alloc.specs.Kept.{IsInNone, IsInOne}
+use Rattle.std.proofs.Common.{◌≡◌, Ok, sym, subst}
 use Rattle.page_alloc.specs.Pages.{HaveOrders, State, begun}
 use Rattle.page_alloc.proofs.KeptLaws.{Goes, begun_goes, in_none, in_one}
-use Rattle.slit_zonelists.specs.Near.{after_with}
 use Rattle.slit_zonelists.proofs.LineLaws.{after_goes}
 use Rattle.boot_model.specs.Boot.{Given, Told, told_boot}
 use Rattle.conservation.specs.Paged.{AllInOneOrHeld, NoOtherInOneOrHeld}
-use Rattle.conservation.proofs.HeadlineLaws.{IsTold, below, is_told}
+use Rattle.conservation.proofs.HeadlineLaws.{below, is_told}
 
 goes : (given : Given) (t : Told) → told_boot given ≡ Ok t → HaveOrders given.page_lines → Goes t.free t.after
 goes given t ends orders =

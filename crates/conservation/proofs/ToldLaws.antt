@@ -10,12 +10,10 @@ pub record IsToldOf (given : Given) (t : Told) : Type 0 where
   pub boots : boot given ≡ Ok made
   pub tells : told given made ≡ t
 
-told_of : (given : Given) (answer : Result BootSoFar Cause) (t : Told) → (answer >>= λ made. Ok (told given made)) ≡ Ok t
-    → (made : BootSoFar) × (answer ≡ Ok made) × (told given made ≡ t)
-told_of given (Ok made) t ends = (made, refl, cc ends)
-told_of given (Err cause) t ends = absurd (cc ends)
+told_of : (given : Given) (answer : Result BootSoFar Cause) (t : Told) → boot given ≡ answer
+    → (answer >>= λ made. Ok (told given made)) ≡ Ok t → IsToldOf given t
+told_of given (Ok made) t is ends = record { made = made; boots = is; tells = cc ends }
+told_of given (Err cause) t is ends = absurd (cc ends)
 
 pub is_told_of : (given : Given) (t : Told) → told_boot given ≡ Ok t → IsToldOf given t
-is_told_of given t ends =
-    let known = told_of given (boot given) t ends in
-    record { made = known.0; boots = known.1; tells = known.2 }
+is_told_of given t ends = told_of given (boot given) t refl ends
