@@ -1,5 +1,5 @@
 -- Calls that carry out what is wanted, one after another.
-use Rattle.std.proofs.Common.{◌≡◌, ◌≢◌, ◌<◌, length, ℕ, Bool, true, false, Option, Some, None, List, [], ◌∷◌, ◌++◌, Result, Ok, Err, refl, sym, ◌∙◌, ap, subst}
+use Rattle.std.proofs.Common.{◌≡◌, ◌≢◌, ◌<◌, length, Bool, true, false, Option, Some, None, List, [], ◌∷◌, ◌++◌, Result, Ok, Err, refl, sym, ◌∙◌, ap, subst}
 use Rattle.std.proofs.lemmas.List.{append-nil, append_assoc}
 use Rattle.std.specs.Prelude.{OnErr, OnOk}
 use Rattle.bm_base.specs.ResultSteps.{◌>>=◌}
@@ -23,16 +23,13 @@ use Rattle.boot_model.specs.declared.stop.Stop.TheVariants as stops
 use Rattle.boot_stages.specs.Carries.{AreCutShort, Carries, or_refused_growth, stop_of_refusal}
 
 -- one item is what its change comes to
-one_carried : (i : Item) (old : List Item) → carried_out (i ∷ []) old ≡ (ended old (change i old) >>= λ next. Ok next)
-unfolding carried_out
-one_carried i old = refl
-
-answered : (said : Result (List Item) Refused) → (said >>= λ next. Ok next) ≡ said
-answered (Ok items) = refl
-answered (Err refused) = refl
+pub answered : {A E : Type 0} (said : Result A E) → (said >>= λ x. Ok x) ≡ said
+answered (Ok x) = refl
+answered (Err e) = refl
 
 one_ends : (i : Item) (old : List Item) → carried_out (i ∷ []) old ≡ ended old (change i old)
-one_ends i old = one_carried i old ∙ answered (ended old (change i old))
+unfolding carried_out
+one_ends i old = answered (ended old (change i old))
 
 -- nothing
 pub carries-nothing : (items : List Item) → carried_out [] items ≡ Ok items
@@ -61,23 +58,22 @@ carries-change (Err (refusal.NoGapForTable w room)) i old new ends =
     one_ends i old ∙ ap (λ (n : Option Refused). unless_refused n (after old (change i old))) ends.0
 carries-change (Err refusal.Memory) i old new ends = short_at i [] old new ends
 
--- a trim, a limit
-pub carries-trim : (old new : List Item) → new ≡ old ++ item.Trim ∷ [] → carried_out (item.Trim ∷ []) old ≡ Ok new
-carries-trim old new same = one_ends item.Trim old ∙ ap (λ (items : List Item). Ok items) (sym same)
-
-pub carries-limit : (at : ℕ) (old new : List Item) → new ≡ old ++ item.Limit at ∷ [] → carried_out (item.Limit at ∷ []) old ≡ Ok new
-carries-limit at old new same = one_ends (item.Limit at) old ∙ ap (λ (items : List Item). Ok items) (sym same)
+-- an item that comes alone
+pub carries-alone : (i : Item) (old new : List Item) → ended old (change i old) ≡ Ok (old ++ i ∷ []) → new ≡ old ++ i ∷ []
+    → carried_out (i ∷ []) old ≡ Ok new
+carries-alone i old new alone same = one_ends i old ∙ alone ∙ ap (λ (items : List Item). Ok items) (sym same)
 
 -- the direction, which is one item or none
 pub carries-direction : (upward : Bool) (old new : List Item) → new ≡ old ++ direction_items upward
     → carried_out (direction_items upward) old ≡ Ok new
-carries-direction true old new same = one_ends (item.Upward true) old ∙ ap (λ (items : List Item). Ok items) (sym same)
+carries-direction true old new same = carries-alone (item.Upward true) old new refl same
 carries-direction false old new same = carries-nothing old ∙ ap (λ (items : List Item). Ok items) (sym (same ∙ append-nil old))
 
 -- the first part was carried out, and the second ends so
-carried-on : (is js old mid : List Item) → carried_out is old ≡ Ok mid → carried_out (is ++ js) old ≡ carried_out js mid
-carried-on is js old mid first =
-    carried-append is js old ∙ ap (λ (said : Result (List Item) Refused). said >>= λ next. carried_out js next) first
+carried-by : (is js old : List Item) (said : Result (List Item) Refused) → carried_out is old ≡ said
+    → carried_out (is ++ js) old ≡ (said >>= λ next. carried_out js next)
+carried-by is js old said first =
+    carried-append is js old ∙ ap (λ (s : Result (List Item) Refused). s >>= λ next. carried_out js next) first
 
 short_second : (is js old mid new : List Item) → carried_out is old ≡ Ok mid → AreCutShort js mid new → AreCutShort (is ++ js) old new
 short_second is js old mid new first cut = record {
@@ -86,15 +82,15 @@ short_second is js old mid new first cut = record {
   rest = cut.rest;
   parts = ap (λ (t : List Item). is ++ t) cut.parts ∙ sym (append_assoc is cut.done (cut.next ∷ cut.rest));
   items = cut.items;
-  carried = carried-on is cut.done old mid first ∙ cut.carried;
+  carried = carried-by is cut.done old (Ok mid) first ∙ cut.carried;
   short = cut.short;
 }
 
 pub carries-second : (r : Result (Unit {0}) Refusal) (is js old mid new : List Item) → carried_out is old ≡ Ok mid
     → Carries r js mid new → Carries r (is ++ js) old new
-carries-second (Ok x) is js old mid new first rest = carried-on is js old mid first ∙ rest
+carries-second (Ok x) is js old mid new first rest = carried-by is js old (Ok mid) first ∙ rest
 carries-second (Err refusal.NoGap) is js old mid new first rest = rest
-carries-second (Err (refusal.NoGapForTable w room)) is js old mid new first rest = carried-on is js old mid first ∙ rest
+carries-second (Err (refusal.NoGapForTable w room)) is js old mid new first rest = carried-by is js old (Ok mid) first ∙ rest
 carries-second (Err refusal.Memory) is js old mid new first rest = short_second is js old mid new first rest
 
 -- the first part ended with an error
@@ -112,26 +108,22 @@ short_first is js old new cut = record {
 pub carries-first : (e : Refusal) (is js old new : List Item) → Carries {T = Unit {0}} (Err e) is old new
     → Carries {T = Unit {0}} (Err e) (is ++ js) old new
 carries-first refusal.NoGap is js old new first = first
-carries-first (refusal.NoGapForTable w room) is js old new first =
-    carried-append is js old ∙ ap (λ (said : Result (List Item) Refused). said >>= λ next. carried_out js next) first
+carries-first (refusal.NoGapForTable w room) is js old new first = carried-by is js old (Err (record { which = w; room = room })) first
 carries-first refusal.Memory is js old new first = short_first is js old new first
 
 -- a `?` that hands the error on
-pub carries-exit : (e : Refusal) (r : Result (Unit {0}) Refusal) (is js old new : List Item) (y : Refusal) → r ≡ Err y → y ≡ e
+pub carries-exit : (e : Refusal) (r : Result (Unit {0}) Refusal) (is js old new : List Item) → r ≡ Err e
     → Carries {T = Unit {0}} (Err e) is old new → Carries r (is ++ js) old new
-carries-exit e r is js old new y same from first =
-    let at : r ≡ Err e = same ∙ ap (λ (z : Refusal). Err z) from in
-    rw at (carries-first e is js old new first)
+carries-exit e r is js old new exits first = rw exits (carries-first e is js old new first)
 
 -- the first item was carried out, or not
 pub change-second : (x : Unit {0}) (r : Result (Unit {0}) Refusal) (i : Item) (js old mid new : List Item) → Ends (Ok x) old mid (change i)
     → Carries r js mid new → Carries r (i ∷ js) old new
 change-second x r i js old mid new ends rest = carries-second r (i ∷ []) js old mid new (carries-change (Ok x) i old mid ends) rest
 
-pub change-exit : (e : Refusal) (r : Result (Unit {0}) Refusal) (i : Item) (js old new : List Item) (y : Refusal) → r ≡ Err y → y ≡ e
+pub change-exit : (e : Refusal) (r : Result (Unit {0}) Refusal) (i : Item) (js old new : List Item) → r ≡ Err e
     → Ends {T = Unit {0}} (Err e) old new (change i) → Carries r (i ∷ js) old new
-change-exit e r i js old new y same from ends =
-    carries-exit e r (i ∷ []) js old new y same from (carries-change (Err e) i old new ends)
+change-exit e r i js old new exits ends = carries-exit e r (i ∷ []) js old new exits (carries-change (Err e) i old new ends)
 
 -- what holds anyway
 pub on_ok : (r : Result (Unit {0}) Refusal) (P : Type 0) → P → OnOk r P
@@ -165,13 +157,10 @@ claim-begun x old new range who ends =
     behind_begun (growth old) (growth old).refused (item.Claim range who) old new refl ends.0 ends.1
 
 -- memory was wanting before the first item
-pub carries-wanting : (r : Result (Unit {0}) Refusal) (i : Item) (js old new : List Item) (y : Refusal) → r ≡ Err y → y ≡ refusal.Memory
+pub carries-wanting : (r : Result (Unit {0}) Refusal) (i : Item) (js old new : List Item) → r ≡ Err refusal.Memory
     → 0 < length (change i old).steps → new ≡ old → Carries r (i ∷ js) old new
-carries-wanting r i js old new y same is some stays =
-    let at : r ≡ Err refusal.Memory = same ∙ ap (λ (z : Refusal). Err z) is in
-    let cut : AreCutShort (i ∷ js) old new =
-    short_at i js old new (record { count = 0; short = some; stands = stays ∙ sym (append-nil old) }) in
-    rw at cut
+carries-wanting r i js old new exits some stays =
+    rw exits (short_at i js old new (record { count = 0; short = some; stands = stays ∙ sym (append-nil old) }))
 
 -- some of what is wanted was carried out, and this is left
 pub record Leaves (all left old here : List Item) : Type 0 where
@@ -187,7 +176,7 @@ pub leaves-next : (all is js left old here new : List Item) → left ≡ is ++ j
 leaves-next all is js left old here new same first before = record {
   done = before.done ++ is;
   parts = before.parts ∙ ap (λ (t : List Item). before.done ++ t) same ∙ sym (append_assoc before.done is js);
-  carried = carried-on before.done is old here before.carried ∙ first;
+  carried = carried-by before.done is old (Ok here) before.carried ∙ first;
 }
 
 -- as what is left ends, so does all of it

@@ -12,11 +12,11 @@ pub link-on : (s : Stage) (stages : List Stage) (made next : BootSoFar) → s ma
     → in_order (s ∷ stages) made ≡ in_order stages next
 link-on s stages made next goes = ap (λ (said : Result BootSoFar Cause). said >>= λ n. in_order stages n) goes
 
-link_by : (said : Result BootSoFar Cause) (stages : List Stage) (stop : Stop) → with_error stop_of said ≡ Err stop
-    → with_error stop_of (said >>= λ n. in_order stages n) ≡ Err stop
-link_by (Ok made) stages stop is = absurd (cc)
-link_by (Err cause) stages stop is = let same : stop_of cause ≡ stop = cc in ap (λ (s : Stop). Err s) same
+pub stopped : {A : Type 0} (said : Result BootSoFar Cause) (later : BootSoFar → Result A Cause) (stop : Stop)
+    → with_error stop_of said ≡ Err stop → with_error stop_of (said >>= later) ≡ Err stop
+stopped (Ok made) later stop is = absurd (cc)
+stopped (Err cause) later stop is = cc
 
 pub link-stops : (s : Stage) (stages : List Stage) (made : BootSoFar) (stop : Stop) → with_error stop_of (s made) ≡ Err stop
     → with_error stop_of (in_order (s ∷ stages) made) ≡ Err stop
-link-stops s stages made stop is = link_by (s made) stages stop is
+link-stops s stages made stop is = stopped (s made) (λ n. in_order stages n) stop is

@@ -1,6 +1,7 @@
 mod Examples
 pub mod BytesLaws
 pub mod CarriesLaws
+pub mod ExitLaws
 pub mod HandoverLaws
 pub mod LaterLaws
 pub mod MapLaws

@@ -1,5 +1,5 @@
 -- What the boot comes to by the table's answer for its map.
-use Rattle.std.proofs.Common.{◌≡◌, ◌≢◌, ℕ, Bool, true, false, nat_lt, if◌then◌else◌, List, drop, length, Option, Some, None, Result, Ok, Err, Vec, Global, refl, subst, ap, sym, ◌∙◌}
+use Rattle.std.proofs.Common.{◌≡◌, ◌≢◌, ℕ, Bool, true, false, nat_lt, if◌then◌else◌, List, drop, length, Option, Some, None, Result, Ok, Err, Vec, Global, refl, subst, ap, ◌∙◌}
 use Rattle.std.specs.Prelude.{IfOk}
 use Rattle.address_runs.specs.Runs.{RunOf, value_at, IsRunsOf}
 use Rattle.bm_base.specs.Answers.{Answers}
@@ -27,12 +27,9 @@ use Rattle.boot_model.specs.First.{IsFirstMemory}
 use Rattle.boot_model.proofs.NodedLaws.{first_known}
 use Rattle.boot_model.specs.Stages.{in_order}
 use Rattle.boot_model.specs.Stop.{cause_of_growth, stop_of}
+use Rattle.boot_stages.proofs.CarriesLaws.{answered}
+use Rattle.boot_stages.proofs.LaterLaws.{stopped}
 use Rattle.boot_stages.specs.Boots.{AreStopped, IsDecided, MapAnswer, judged_answer, goes_on_with}
-
--- the last stage's answer is the chain's
-last_stage : (answer : Result BootSoFar Cause) → (answer >>= λ made. Ok made) ≡ answer
-last_stage (Ok made) = refl
-last_stage (Err cause) = refl
 
 -- what a map in its room, and one that isn't, tells of its number of runs
 told_room : (full : Bool) (runs : ℕ) (map items : List (RunOf ℕ)) → (if full then Err (faults.MapFull runs) else Ok map) ≡ Ok items
@@ -51,7 +48,7 @@ pub decided : (given : Given) (answer : MapAnswer) → Answers faults.Memory (λ
 decided given (Ok runs) answers =
     let c : List (RunOf ℕ) = map_of (claims given) in
     let known = told_room (nat_lt E820_MAX_ENTRIES (length c)) (length c) c runs.items answers in
-    rw known.0 (last_stage (has_frames given (begin given)))
+    rw known.0 (answered (has_frames given (begin given)))
     ∙ ap (λ (map : List (RunOf ℕ)). has_frames given (begin_with map given.options)) known.1
 decided given (Err (faults.MapFull runs)) answers =
     let c : List (RunOf ℕ) = map_of (claims given) in
@@ -71,7 +68,7 @@ judged_same given None runs (Ok map) answers =
     ap (λ (items : List (RunOf ℕ)). Ok (begin_with items given.options)) same
 judged_same given None runs (Err stop) answers = λ other. absurd (cc (answers other))
 judged_same given (Some reason) runs (Ok map) answers = absurd (cc)
-judged_same given (Some reason) runs (Err stop) answers = λ other. (let is = answers other in cc)
+judged_same given (Some reason) runs (Err stop) answers = λ other. cc (answers other)
 
 -- the answer, judged, is what the first stages come to
 pub map_answers : (given : Given) (answer : MapAnswer) → Answers faults.Memory (λ runs. runs.items) answer
@@ -86,25 +83,14 @@ map_answers given (Ok runs) maps are result answers =
     rw (decided given (Ok runs) maps) (judged_same given (judged (types_in_reach given)) runs result (subst P kinds_are answers))
 map_answers given (Err (faults.MapFull runs)) maps are (Ok map) answers = absurd (cc)
 map_answers given (Err (faults.MapFull runs)) maps are (Err stop) answers =
-    λ other. (
-    let is : judged_answer (reach given) (Err (faults.MapFull runs)) ≡ Err stop = answers other in
-    let same : stops.MapFull runs ≡ stop = cc in
-    rw (decided given (Err (faults.MapFull runs)) maps) (ap (λ (s : Stop). Err s) same))
+    λ other. rw (decided given (Err (faults.MapFull runs)) maps) (cc (answers other))
 map_answers given (Err faults.Memory) maps are (Ok map) answers = absurd (cc)
-map_answers given (Err faults.Memory) maps are (Err stop) answers =
-    λ other. (let is : Err stops.Memory ≡ Err stop = answers other in absurd (other (cc)))
+map_answers given (Err faults.Memory) maps are (Err stop) answers = λ other. absurd (other (cc (answers other)))
 
--- a boot that stops at its map stops, and else goes on with memory
-stopped : {A : Type 0} (said : Result BootSoFar Cause) (later : BootSoFar → Result A Cause) (stop : Stop)
-    → with_error stop_of said ≡ Err stop → with_error stop_of (said >>= later) ≡ Err stop
-stopped (Ok made) later stop is = absurd (cc)
-stopped (Err cause) later stop is = let same : stop_of cause ≡ stop = cc in ap (λ (s : Stop). Err s) same
-
-went_on : {A : Type 0} (said : Result BootSoFar Cause) (later : BootSoFar → Result A Cause) (made : BootSoFar)
-    → with_error stop_of said ≡ Ok made
-    → (said >>= later) ≡ later made
-went_on (Ok before) later made is = let same : before ≡ made = cc in ap later same
-went_on (Err cause) later made is = absurd (cc)
+-- an answer that is told with another error
+pub told_ok : {A E F : Type 0} (f : E → F) (said : Result A E) (a : A) → with_error f said ≡ Ok a → said ≡ Ok a
+told_ok f (Ok b) a is = let same : b ≡ a = cc in ap (λ (x : _). Ok x) same
+told_ok f (Err e) a is = absurd (cc)
 
 -- what stops the boot stops what is told of it
 pub told_stops : {X : Type 0} (view : X → Told) (given : Given) (answer : Result X Stop) (stop : Stop) → answer ≡ Err stop
@@ -121,23 +107,11 @@ boot_stops view given answer stop is answers =
     told_stops view given answer stop is
     (λ other. stopped (map_judged given) (λ made. in_order (later_stages given) made) stop (answers other))
 
-pub boot_goes_on : (given : Given) (made : BootSoFar) → with_error stop_of (map_judged given) ≡ Ok made
-    → boot given ≡ in_order (later_stages given) made
-unfolding boot
-boot_goes_on given made is = went_on (map_judged given) (λ m. in_order (later_stages given) m) made is
-
--- what is carried out is what is made, and a growth that is refused is the stop
-items_made : (made : BootSoFar) (said : Result (List Item) Refused) (items : List Item) → or_refused_growth said ≡ Ok items
-    → with_items made said ≡ Ok (record made { items = items })
-items_made made (Ok carried) items is =
-    let same : carried ≡ items = cc in ap (λ (is : List Item). Ok (record made { items = is })) same
-items_made made (Err refused) items is = absurd (cc)
-
+-- a growth that is refused is the stop
 items_stop : (made : BootSoFar) (said : Result (List Item) Refused) (stop : Stop) → or_refused_growth said ≡ Err stop
     → with_error stop_of (with_items made said) ≡ Err stop
 items_stop made (Ok carried) stop is = absurd (cc)
-items_stop made (Err refused) stop is =
-    let same : stop_of (cause_of_growth refused) ≡ stop = cc in ap (λ (s : Stop). Err s) same
+items_stop made (Err refused) stop is = cc
 
 -- the items that the stage of memory wants
 abbrev pub memory_said : Given → BootSoFar → Result (List Item) Refused
@@ -147,19 +121,22 @@ pub memory_stops : {X : Type 0} (view : X → Told) (given : Given) (made : Boot
     → answer ≡ Err stop
     → with_error stop_of (map_judged given) ≡ Ok made → (stop ≢ stops.Memory → or_refused_growth (memory_said given made) ≡ Err stop)
     → Answers stops.Memory view answer (with_error stop_of (told_boot given))
+unfolding boot
 memory_stops view given made answer stop is judged answers =
     told_stops view given answer stop is
-    (λ other. ap (with_error stop_of) (boot_goes_on given made judged)
+    (λ other. ap (λ (said : Result BootSoFar Cause). with_error stop_of (said >>= λ m. in_order (later_stages given) m))
+    (told_ok stop_of (map_judged given) made judged)
     ∙ stopped (has_memory given made) (λ next. in_order (drop 1 (later_stages given)) next) stop
     (items_stop made (memory_said given made) stop (answers other)))
 
 pub memory_goes_on : (given : Given) (made : BootSoFar) (items : List Item) → with_error stop_of (map_judged given) ≡ Ok made
     → or_refused_growth (memory_said given made) ≡ Ok items
     → boot given ≡ in_order (drop 1 (later_stages given)) (record made { items = items })
+unfolding boot
 memory_goes_on given made items judged answers =
-    boot_goes_on given made judged
-    ∙ went_on (has_memory given made) (λ next. in_order (drop 1 (later_stages given)) next) (record made { items = items })
-    (ap (with_error stop_of) (items_made made (memory_said given made) items answers))
+    ap (λ (said : Result BootSoFar Cause). said >>= λ m. in_order (later_stages given) m) (told_ok stop_of (map_judged given) made judged)
+    ∙ ap (λ (said : Result (List Item) Refused). with_items made said >>= λ next. in_order (drop 1 (later_stages given)) next)
+    (told_ok (λ refused. stop_of (cause_of_growth refused)) (memory_said given made) items answers)
 
 -- the stages behind memory
 pub stages_stop : {X : Type 0} (view : X → Told) (given : Given) (made : BootSoFar) (answer : Result X Stop) (stop : Stop)
@@ -176,23 +153,11 @@ boot_told given made comes = ap (λ (said : Result BootSoFar Cause). said >>= λ
 pub claims-told : (given : Given) (c : Claims) (entries extension : List Entry) (edits : List Edit) (more : List Entry)
     → c ≡ finished entries extension edits more
     → entries ≡ given.entries → extension ≡ given.extension → edits ≡ given.options.edits → more ≡ added given → claims given ≡ c
-claims-told given c entries extension edits more is first second third fourth =
-    sym (is ∙ ap (λ (es : List Entry). finished es extension edits more) first
-    ∙ ap (λ (es : List Entry). finished given.entries es edits more) second
-    ∙ ap (λ (es : List Edit). finished given.entries given.extension es more) third
-    ∙ ap (λ (es : List Entry). finished given.entries given.extension given.options.edits es) fourth)
-
--- an answer that is told with another error
-pub told_ok : {A E F : Type 0} (f : E → F) (said : Result A E) (a : A) → with_error f said ≡ Ok a → said ≡ Ok a
-told_ok f (Ok b) a is = let same : b ≡ a = cc in ap (λ (x : _). Ok x) same
-told_ok f (Err e) a is = absurd (cc)
-
-carried_ok : (said : Result (List Item) Refused) (items : List Item) → or_refused_growth said ≡ Ok items → said ≡ Ok items
-carried_ok (Ok carried) items is = let same : carried ≡ items = cc in ap (λ (x : List Item). Ok x) same
-carried_ok (Err refused) items is = absurd (cc)
+claims-told given c entries extension edits more is first second third fourth = cc
 
 -- memory as the map gives it
 pub first_made : (given : Given) (made : BootSoFar) (items : List Item) → with_error stop_of (map_judged given) ≡ Ok made
     → or_refused_growth (memory_said given made) ≡ Ok items → IsFirstMemory (reach given) items
 first_made given made items judged answers =
-    first_known given made items (told_ok stop_of (map_judged given) made judged) (carried_ok (memory_said given made) items answers)
+    first_known given made items (told_ok stop_of (map_judged given) made judged)
+    (told_ok (λ refused. stop_of (cause_of_growth refused)) (memory_said given made) items answers)

@@ -40,21 +40,20 @@ places-wanting width r old is =
     rw is (ends-first stage.Memory stage.Memory old old (listed sections_in) (sections_placed width)
     (ends-wanting sections_in stage.Memory old))
 
-pub places-first : (width : Width) (e : StageStop) (r : Result Sections StageStop) (y : StageStop) (old new : List Item)
-    (sections : List Section) → r ≡ Err y → y ≡ e → sections ≡ present (memory_of old)
-    → EndsAs {A = RootsPlaced} stage.Memory (Err e) old new (roots width sections old)
+pub places-first : (width : Width) (e : StageStop) (r : Result Sections StageStop) (old new : List Item) (sections : List Section)
+    → r ≡ Err e → sections ≡ present (memory_of old) → EndsAs {A = RootsPlaced} stage.Memory (Err e) old new (roots width sections old)
     → EndsAs stage.Memory (ok_as places_view r) old new (places_of_sections width old)
-places-first width e r y old new sections is same present_is ends =
-    rw (is, same) (from_present width (Err e) old new sections present_is
+places-first width e r old new sections exits is ends =
+    rw exits (from_present width (Err e) old new sections is
     (ends-first e stage.Memory old new (roots width sections) (behind_roots sections) ends))
 
-pub places-second : (width : Width) (e : StageStop) (r : Result Sections StageStop) (y : StageStop) (old mid new : List Item)
-    (sections : List Section) (table : RootsPlaced) → r ≡ Err y → y ≡ e → sections ≡ present (memory_of old)
+pub places-second : (width : Width) (e : StageStop) (r : Result Sections StageStop) (old mid new : List Item) (sections : List Section)
+    (table : RootsPlaced) → r ≡ Err e → sections ≡ present (memory_of old)
     → EndsAs stage.Memory (Ok table) old mid (roots width sections old)
     → EndsAs {A = List Placed} stage.Memory (Err e) mid new (maps sections mid)
     → EndsAs stage.Memory (ok_as places_view r) old new (places_of_sections width old)
-places-second width e r y old mid new sections table is same present_is first ends =
-    rw (is, same) (from_present width (Err e) old new sections present_is
+places-second width e r old mid new sections table exits is first ends =
+    rw exits (from_present width (Err e) old new sections is
     (ends-second table (Err e) stage.Memory old mid new (roots width sections) (behind_roots sections) first
     (ends-first e stage.Memory mid new (maps sections) (λ placed. returns (record { roots = table; placed = placed })) ends)))
 

@@ -9,10 +9,8 @@ stood : (c : After-into_parts-store)
     → Stand c.args.memblock.journal.items c.into_parts-store.result.0 c.into_parts-store.result.1.memory
     c.into_parts-store.result.1.reserved
 stood c =
-    stand-by c.args.memblock.kernel c.args.memblock.journal.items c.into_parts-store.result.0 c.tables-fact.result.now
-    c.args.memblock.tables c.into_parts-store.result.1 c.into_parts-store.ensures.heads c.tables-fact.ensures.tables
-    c.tables-fact.ensures.memory c.tables-fact.ensures.reserved c.into_parts-store.ensures.memory c.into_parts-store.ensures.reserved
-    c.requires.noded c.requires.within
+    stand-by c.args.memblock.kernel _ _ _ _ _ c.into_parts-store.ensures.heads c.tables-fact.ensures.tables c.tables-fact.ensures.memory
+    c.tables-fact.ensures.reserved c.into_parts-store.ensures.memory c.into_parts-store.ensures.reserved c.requires.noded c.requires.within
 
 pub spans-requires-clause-memory : goal.spans-requires-clause-memory
 spans-requires-clause-memory c =

@@ -1,9 +1,7 @@
 -- Each range's item is the first of those that are left.
-use Rattle.std.proofs.Common.{◌+◌, List, ◌∷◌, [], Ok, drop, map, sym, subst, ◌∙◌, arith}
+use Rattle.std.proofs.Common.{List, ◌∷◌, [], Ok, map, sym, subst, ◌∙◌, arith}
 use Rattle.std.proofs.lemmas.List.{at_drop_all}
-use Rattle.std.proofs.lemmas.Result.{err_from_is_err_and}
 use Rattle.bm_base.specs.Extent.{Extent}
-use Rattle.memblock_model.specs.declared.item.Item.{Item}
 use Rattle.memblock_model.specs.declared.item.Item.TheVariants as item
 use Rattle.growth_model.specs.Carried.{carried_out}
 use Rattle.growth_model.specs.Growth.{mirrored}
@@ -12,55 +10,37 @@ use Rattle.stage_model.proofs.LentLaws.{goes-then}
 use Rattle.early_stages.specs.Wanted.{mirror_items}
 use Rattle.boot_model.specs.Mirrors.{IsMirror, frames_in}
 use Rattle.boot_stages.proofs.BytesLaws.{goes-once}
-use Rattle.boot_stages.proofs.CarriesLaws.{Leaves, carries-change, carries-left, carries-nothing, change-exit, leaves-all, leaves-next}
+use Rattle.boot_stages.proofs.CarriesLaws.{carries-change, carries-left, carries-nothing, change-exit, leaves-all, leaves-next}
+use Rattle.boot_stages.proofs.ExitLaws.{exit}
 use Rattle.boot_stages.proofs.MemoryLaws.{mirrors_next}
 use Rattle.boot_stages.proofs.memory.add_mirrors.Goals as goal
 
 pub set_mirror-requires-clause-some : goal.set_mirror-requires-clause-some
 set_mirror-requires-clause-some c =
-    let here : IsMirror c.mirror-item.result =
-    subst IsMirror (sym c.mirror-item.is) (c.requires.whole c.loop-mirror.mirror-index c.mirror-item.result
-    (omega (arith, c.loop-mirror-test.true))) in
-    here.some
+    (subst IsMirror (sym c.mirror-item.is) (c.requires.whole c.loop-mirror.mirror-index c.mirror-item.result
+    (omega (arith, c.loop-mirror-test.true)))).some
 
 pub returns-in_err-set_mirror-clause-carries : goal.returns-in_err-set_mirror-clause-carries
 returns-in_err-set_mirror-clause-carries c =
-    let r = c.from_residual.result in
-    let p = err_from_is_err_and r c.from_residual.ensures.1 in
-    let range : Extent = c.mirror-item.result in
-    let rest : List Item = mirror_items (map frames_in (drop (c.loop-mirror.mirror-index + 1) c.args.mirrors.now)) in
-    let here = c.loop-mirror.memblock.journal.items in
-    let new = c.set_mirror.new.self.journal.items in
-    let next = mirrors_next c.args.mirrors.now c.loop-mirror.mirror-index range (omega (arith, c.loop-mirror-test.true))
+    let next = mirrors_next c.args.mirrors.now c.loop-mirror.mirror-index c.mirror-item.result (omega (arith, c.loop-mirror-test.true))
     c.mirror-item.is c.requires.whole in
-    carries-left r (mirror_items (map frames_in c.args.mirrors.now)) (item.Mirror range ∷ rest) c.args.memblock.now.journal.items here new
-    (subst (λ (is : List Item). Leaves (mirror_items (map frames_in c.args.mirrors.now)) is c.args.memblock.now.journal.items here) next
-    c.loop-mirror.invariant.left)
-    (change-exit c.in_err-set_mirror.field-0.0 r (item.Mirror range) rest here new p.0 p.1 p.2 c.in_err-set_mirror.ensures.ends)
+    carries-left _ _ _ _ _ _ (rw next at c.loop-mirror.invariant.left)
+    (change-exit c.in_err-set_mirror.field-0.0 _ _ _ _ _ (exit _ _ c.from_residual.ensures.1) c.in_err-set_mirror.ensures.ends)
 
 pub loop-mirror-init : goal.loop-mirror-init
-loop-mirror-init c = record {
-  left = leaves-all (mirror_items (map frames_in c.args.mirrors.now)) c.args.memblock.now.journal.items;
-  begun = c.requires.begun;
-  lent = c.stand_still.ensures;
-}
+loop-mirror-init c = record { left = leaves-all _ _; begun = c.requires.begun; lent = c.stand_still.ensures }
 
 pub loop-mirror-preserved : goal.loop-mirror-preserved
 loop-mirror-preserved c =
     let range : Extent = c.mirror-item.result in
-    let rest : List Item = mirror_items (map frames_in (drop (c.loop-mirror.mirror-index + 1) c.args.mirrors.now)) in
-    let here = c.loop-mirror.memblock.journal.items in
-    let new = c.set_mirror.new.self.journal.items in
     let next = mirrors_next c.args.mirrors.now c.loop-mirror.mirror-index range (omega (arith, c.loop-mirror-test.true))
     c.mirror-item.is c.requires.whole in
     record {
-      left = leaves-next (mirror_items (map frames_in c.args.mirrors.now)) (item.Mirror range ∷ []) rest _
-          c.args.memblock.now.journal.items here new next
-          (carries-change (Ok tt) (item.Mirror range) here new c.in_ok-set_mirror.ensures.ends) c.loop-mirror.invariant.left;
-      begun = ends-begun {T = Unit {0}} (Ok tt) here new (mirrored range) c.loop-mirror.invariant.begun c.in_ok-set_mirror.ensures.ends;
-      lent = goes-then c.args.memblock.now c.loop-mirror.memblock c.set_mirror.new.self c.loop-mirror.invariant.lent
-          (goes-once c.loop-mirror.memblock c.set_mirror.new.self c.set_mirror.ensures.kernel c.set_mirror.ensures.bytes
-          c.set_mirror.ensures.still_ready);
+      left = leaves-next _ (item.Mirror range ∷ []) _ _ _ _ _ next
+          (carries-change (Ok tt) (item.Mirror range) _ _ c.in_ok-set_mirror.ensures.ends) c.loop-mirror.invariant.left;
+      begun = ends-begun {T = Unit {0}} (Ok tt) _ _ (mirrored range) c.loop-mirror.invariant.begun c.in_ok-set_mirror.ensures.ends;
+      lent = goes-then _ _ _ c.loop-mirror.invariant.lent
+          (goes-once _ _ c.set_mirror.ensures.kernel c.set_mirror.ensures.bytes c.set_mirror.ensures.still_ready);
     }
 
 pub returns-clause-carries : goal.returns-clause-carries
@@ -68,12 +48,9 @@ returns-clause-carries c =
     let here = c.loop-mirror.memblock.journal.items in
     let rest = at_drop_all (λ (rs : List Extent). carried_out (mirror_items (map frames_in rs)) here) c.args.mirrors.now
     c.loop-mirror.mirror-index (omega (arith, c.loop-mirror-test.false)) in
-    carries-left (Ok tt) (mirror_items (map frames_in c.args.mirrors.now))
-    (mirror_items (map frames_in (drop c.loop-mirror.mirror-index c.args.mirrors.now))) c.args.memblock.now.journal.items here here
-    c.loop-mirror.invariant.left (rest ∙ carries-nothing here)
+    carries-left (Ok tt) _ _ _ here here c.loop-mirror.invariant.left (rest ∙ carries-nothing here)
 
 pub returns-in_err-set_mirror-clause-lent : goal.returns-in_err-set_mirror-clause-lent
 returns-in_err-set_mirror-clause-lent c =
-    goes-then c.args.memblock.now c.loop-mirror.memblock c.set_mirror.new.self c.loop-mirror.invariant.lent
-    (goes-once c.loop-mirror.memblock c.set_mirror.new.self c.set_mirror.ensures.kernel c.set_mirror.ensures.bytes
-    c.set_mirror.ensures.still_ready)
+    goes-then _ _ _ c.loop-mirror.invariant.lent
+    (goes-once _ _ c.set_mirror.ensures.kernel c.set_mirror.ensures.bytes c.set_mirror.ensures.still_ready)

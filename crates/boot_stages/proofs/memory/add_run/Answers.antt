@@ -1,5 +1,5 @@
 -- By the run's type and place it is one item, or none.
-use Rattle.std.proofs.Common.{◌≡◌, ℕ, ◌<◌, Some, true, [], ◌∷◌, Result, Ok, ap, sym, ◌∙◌, subst, inl, inr, arith}
+use Rattle.std.proofs.Common.{◌≡◌, ℕ, ◌<◌, Some, true, Ok, ap, sym, ◌∙◌, subst, inl, inr, arith}
 use Rattle.bm_base.specs.Extent.{Extent}
 use Rattle.address_runs.specs.Runs.{RunOf}
 use Rattle.e820_model.specs.Usable.{is_memory}
@@ -7,7 +7,6 @@ use Rattle.memblock_model.specs.declared.owner.Owner.TheVariants as owner
 use Rattle.memblock_model.specs.declared.item.Item.TheVariants as item
 use Rattle.growth_model.specs.Carried.{carried_out}
 use Rattle.early_stages.specs.Wanted.{items_of_run}
-use Rattle.boot_stages.specs.Carries.{Carries}
 use Rattle.boot_stages.proofs.BytesLaws.{goes-once}
 use Rattle.boot_stages.proofs.CarriesLaws.{carries-change, carries-nothing}
 use Rattle.boot_stages.proofs.MemoryLaws.{high_run, memory_run, other_run, soft_run}
@@ -15,14 +14,9 @@ use Rattle.boot_stages.proofs.memory.add_run.Goals as goal
 
 pub returns-then-run-clause-carries : goal.returns-then-run-clause-carries
 returns-then-run-clause-carries c =
-    let r : Result (Unit {0}) _ = c.claim.result in
-    let old = c.args.memblock.now.journal.items in
-    let new = c.claim.new.self.journal.items in
     let run : RunOf ℕ = record { base = c.run.inside.range.base; size = c.run.inside.range.size; value = c.run.inside.kind } in
-    let Ends : RunOf ℕ → Type 0 = λ x. Carries r (items_of_run c.args.reach x) old new in
-    subst Ends c.run.view_is
-    (rw (soft_run c.args.reach run c.if-run.true)
-    (carries-change r (item.Claim c.run.inside.range owner.Soft) old new c.claim.ensures.ends))
+    rw (← c.run.view_is, soft_run c.args.reach run c.if-run.true)
+    (carries-change _ (item.Claim c.run.inside.range owner.Soft) _ _ c.claim.ensures.ends)
 
 pub returns-then-not-is_memory-clause-carries : goal.returns-then-not-is_memory-clause-carries
 returns-then-not-is_memory-clause-carries c =
@@ -38,23 +32,15 @@ returns-then-not-is_memory-clause-carries c =
 
 pub returns-clause-carries : goal.returns-clause-carries
 returns-clause-carries c =
-    let r : Result (Unit {0}) _ = c.add_memory.result in
-    let old = c.args.memblock.now.journal.items in
-    let new = c.add_memory.new.self.journal.items in
     let run : RunOf ℕ = record { base = c.run.inside.range.base; size = c.run.inside.range.size; value = c.run.inside.kind } in
-    let Ends : RunOf ℕ → Type 0 = λ x. Carries r (items_of_run c.args.reach x) old new in
-    let Adds : Extent → Type 0 = λ part. Carries r (item.Mem part ∷ []) old new in
     let same : c.range.inside.base ≡ run.base = ap (λ (e : Extent). e.base) c.range.view_is in
     let low : run.base < c.args.reach = omega (arith, same, c.if-range-reach.false) in
     let memory : is_memory (Some run.value) ≡ true = sym c.is_memory.ensures ∙ c.if-not-is_memory.false in
-    subst Ends c.run.view_is (rw (memory_run c.args.reach run c.if-run.false memory low)
-    (subst Adds c.below_limit.ensures (carries-change r (item.Mem c.below_limit.result) old new c.add_memory.ensures.ends)))
+    rw (← c.run.view_is, memory_run c.args.reach run c.if-run.false memory low, ← c.below_limit.ensures)
+    (carries-change _ (item.Mem c.below_limit.result) _ _ c.add_memory.ensures.ends)
 
 pub returns-then-run-clause-lent : goal.returns-then-run-clause-lent
-returns-then-run-clause-lent c =
-    goes-once c.args.memblock.now c.claim.new.self c.claim.ensures.kernel c.claim.ensures.bytes c.claim.ensures.still_ready
+returns-then-run-clause-lent c = goes-once _ _ c.claim.ensures.kernel c.claim.ensures.bytes c.claim.ensures.still_ready
 
 pub returns-clause-lent : goal.returns-clause-lent
-returns-clause-lent c =
-    goes-once c.args.memblock.now c.add_memory.new.self c.add_memory.ensures.kernel c.add_memory.ensures.bytes
-    c.add_memory.ensures.still_ready
+returns-clause-lent c = goes-once _ _ c.add_memory.ensures.kernel c.add_memory.ensures.bytes c.add_memory.ensures.still_ready
