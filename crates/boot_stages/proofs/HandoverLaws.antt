@@ -1,5 +1,5 @@
 -- What both tables say of frames at the end of a boot.
-use Rattle.std.proofs.Common.{◌≡◌, ◌∙◌, ℕ, ◌*◌, ◌/◌, ◌^◌, List, ap, sym, subst, arith}
+use Rattle.std.proofs.Common.{◌≡◌, ◌∙◌, ℕ, ◌*◌, ◌/◌, ◌^◌, List, refl, ap, sym, arith}
 use Rattle.address_runs.specs.Runs.{value_at}
 use Rattle.address_runs.specs.Edits.{NothingFrom}
 use Rattle.phys_store.specs.Bytes.{Stored}
@@ -37,20 +37,16 @@ pub record Stand (items : List Item) (store : List Stored) (memory reserved : He
 module _ {items : List Item} {store : List Stored} {memory reserved : Head} (s : Stand items store memory reserved) where
   pub memory-records : HasRecords store memory 4503599627370496
   memory-records =
-      let none : NothingFrom 4503599627370496 (value_at s.first.records) =
-      λ x far. ap (λ (f : Labels). f x) s.first_says ∙ s.noded.within x (omega arith) in
-      subst (λ (h : Head). HasRecords store h 4503599627370496) (sym s.first_head)
-      (stands_below s.first store 4503599627370496 s.first_stands none)
+      rw s.first_head (stands_below s.first store 4503599627370496 s.first_stands
+      (λ x far. ap (λ (f : Labels). f x) s.first_says ∙ s.noded.within x (omega (arith, far))))
 
   pub memory-whole : AreWholeFrames (list_in store memory)
   memory-whole =
-      let same : (x : ℕ) → value_at s.first.records x ≡ value_at s.first.records (4096 * (x / 4096)) =
-      λ x. ap (λ (f : Labels). f x) s.first_says ∙ s.noded.frames x ∙ ap (λ (f : Labels). f (4096 * (x / 4096))) (sym s.first_says) in
-      subst (λ (h : Head). AreWholeFrames (list_in store h)) (sym s.first_head) (stands_whole s.first store s.first_stands same)
+      rw s.first_head (stands_whole s.first store s.first_stands (λ x.
+      ap (λ (f : Labels). f x) s.first_says ∙ s.noded.frames x ∙ ap (λ (f : Labels). f (4096 * (x / 4096))) (sym s.first_says)))
 
   pub reserved-records : HasRecords store reserved (2 ^ 64)
-  reserved-records =
-      subst (λ (h : Head). HasRecords store h (2 ^ 64)) (sym s.second_head) (stands_ascending s.second store s.second_stands)
+  reserved-records = rw s.second_head (stands_ascending s.second store s.second_stands)
 
   pub spans-told : spans_of (node_of_frame (value_at (list_in store memory))) ≡ spanned items
   spans-told =
@@ -62,11 +58,8 @@ module _ {items : List Item} {store : List Stored} {memory reserved : Head} (s :
   pub free-told : (frame : ℕ) → free_node_in (value_at (list_in store memory)) (value_at (list_in store reserved)) frame ≡ handed_over items
       frame
   free-told frame =
-      ap (λ (h : Head). free_node_in (value_at (list_in store h)) (value_at (list_in store reserved)) frame) s.first_head
-      ∙ ap (λ (h : Head). free_node_in (value_at (list_in store (head_of s.first))) (value_at (list_in store h)) frame) s.second_head
-      ∙ stands_free s.first s.second store frame s.first_stands s.second_stands
-      ∙ ap (λ (f : Labels). free_node_in f (value_at s.second.records) frame) s.first_says
-      ∙ ap (λ (f : Labels). free_node_in (memory_of items) f frame) s.second_says
+      rw (s.first_head, s.second_head) (stands_free s.first s.second store frame s.first_stands s.second_stands
+      ∙ rw (s.first_says, s.second_says) refl)
 
 -- they do stand there
 pub stand-by : (kernel : Extent) (items : List Item) (store : List Stored) (tables found : Tables) (heads : Heads)

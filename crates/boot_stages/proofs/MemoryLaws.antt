@@ -1,5 +1,5 @@
 -- The items of a run by its type, the end of memory by its table, and the list of what is wanted in its parts.
-use Rattle.std.proofs.Common.{◌≡◌, ◌≢◌, ℕ, ◌+◌, ◌^◌, ◌<◌, ◌≤◌, ◌==◌, true, false, ◌&&◌, nat_lt, Some, List, [], ◌∷◌, ◌++◌, length, get_or, drop, map, Ok, refl, sym, ◌∙◌, ap, subst, arith}
+use Rattle.std.proofs.Common.{◌≡◌, ◌≢◌, ℕ, ◌+◌, ◌^◌, ◌<◌, ◌≤◌, true, false, Some, List, [], ◌∷◌, ◌++◌, length, get_or, drop, map, Ok, refl, sym, ◌∙◌, ap, subst, arith}
 use Rattle.std.specs.List.{All}
 use Rattle.std.proofs.lemmas.Bool.Decides.{nat_tests}
 use Rattle.std.proofs.lemmas.List.{append_assoc, at_drop_more}
@@ -30,23 +30,17 @@ use Rattle.boot_stages.specs.Parts.{beginning, ending, mapping}
 
 -- the items of a run
 pub soft_run : (limit : ℕ) (r : RunOf ℕ) → r.value ≡ 0xEFFFFFFF → items_of_run limit r ≡ item.Claim (extent_of r) owner.Soft ∷ []
-soft_run limit r is = let test : (r.value == 0xEFFFFFFF) ≡ true = grind (arith, nat_tests) in rw test refl
+soft_run limit r is = grind (arith, nat_tests)
 
 pub memory_run : (limit : ℕ) (r : RunOf ℕ) → r.value ≢ 0xEFFFFFFF → is_memory (Some r.value) ≡ true → r.base < limit
     → items_of_run limit r ≡ item.Mem (part_below limit r) ∷ []
-memory_run limit r kind memory low =
-    let other : (r.value == 0xEFFFFFFF) ≡ false = grind (arith, nat_tests, kind) in
-    let held : (is_memory (Some r.value) && nat_lt r.base limit) ≡ true = grind (arith, nat_tests) in rw (other, held) refl
+memory_run limit r kind memory low = grind (arith, nat_tests, kind)
 
 pub other_run : (limit : ℕ) (r : RunOf ℕ) → r.value ≢ 0xEFFFFFFF → is_memory (Some r.value) ≡ false → items_of_run limit r ≡ []
-other_run limit r kind memory =
-    let other : (r.value == 0xEFFFFFFF) ≡ false = grind (arith, nat_tests, kind) in
-    let out : (is_memory (Some r.value) && nat_lt r.base limit) ≡ false = grind (arith, nat_tests) in rw (other, out) refl
+other_run limit r kind memory = grind (arith, nat_tests, kind)
 
 pub high_run : (limit : ℕ) (r : RunOf ℕ) → r.value ≢ 0xEFFFFFFF → limit ≤ r.base → items_of_run limit r ≡ []
-high_run limit r kind high =
-    let other : (r.value == 0xEFFFFFFF) ≡ false = grind (arith, nat_tests, kind) in
-    let out : (is_memory (Some r.value) && nat_lt r.base limit) ≡ false = grind (arith, nat_tests) in rw (other, out) refl
+high_run limit r kind high = grind (arith, nat_tests, kind)
 
 -- the end of a list's last run
 pub end_last : {X : Type 0} (at : ℕ) (r : RunOf X) (rs : List (RunOf X)) (d : RunOf X)

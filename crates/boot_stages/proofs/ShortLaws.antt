@@ -7,6 +7,7 @@ use Rattle.growth_model.specs.Ends.{IsCutShort}
 use Rattle.memblock_grow.specs.declared.stop.StageStop.{StageStop}
 use Rattle.memblock_grow.specs.declared.stop.StageStop.TheVariants as stage
 use Rattle.stage_model.specs.Doing.{Done, EndsAs, after}
+use Rattle.boot_model.specs.declared.stop.Stop.{Stop}
 use Rattle.boot_model.specs.declared.stop.Stop.TheVariants as stops
 use Rattle.boot_stages.specs.Boots.{stop_of_stage}
 use Rattle.boot_stages.specs.Carries.{stop_of_refusal}
@@ -28,15 +29,15 @@ memory_of_refusal refusal.NoGap some is = absurd (some refl)
 memory_of_refusal (refusal.NoGapForTable w room) some is = absurd (cc)
 memory_of_refusal refusal.Memory some is = refl
 
-pub stage-short : {A : Type 0} (e : StageStop) (old new : List Item) (d : Done StageStop A)
-    → IfErr d.answer (λ stop. stop ≢ stage.Memory) → EndsAs {A = A} stage.Memory (Err e) old new d → stop_of_stage e ≡ stops.Memory
-    → IsCutShort old new d.steps
-stage-short e old new d errs ends is =
-    left stage.Memory (λ stop. stop ≢ stage.Memory) (λ other. other refl) e old new d (memory_of_stage e is) errs ends
+pub stage-short : {A T : Type 0} (e : StageStop) (stop : Stop) (old new : List Item) (d : Done StageStop A)
+    → IfErr d.answer (λ why. why ≢ stage.Memory) → EndsAs {A = A} stage.Memory (Err e) old new d → stop ≡ stop_of_stage e
+    → ◌≡◌ {A = Result T Stop} (Err stop) (Err stops.Memory) → IsCutShort old new d.steps
+stage-short e stop old new d errs ends told is =
+    left stage.Memory (λ why. why ≢ stage.Memory) (λ other. other refl) e old new d (memory_of_stage e (cc (told, is))) errs ends
 
-pub refusal-short : {A : Type 0} (e : Refusal) (old new : List Item) (d : Done Refusal A)
+pub refusal-short : {A T : Type 0} (e : Refusal) (stop : Stop) (old new : List Item) (d : Done Refusal A)
     → IfErr d.answer (λ why. (why ≢ refusal.NoGap) × (why ≢ refusal.Memory)) → EndsAs {A = A} refusal.Memory (Err e) old new d
-    → e ≢ refusal.NoGap → stop_of_refusal e ≡ stops.Memory → IsCutShort old new d.steps
-refusal-short e old new d errs ends some is =
+    → e ≢ refusal.NoGap → stop ≡ stop_of_refusal e → ◌≡◌ {A = Result T Stop} (Err stop) (Err stops.Memory) → IsCutShort old new d.steps
+refusal-short e stop old new d errs ends some told is =
     left refusal.Memory (λ why. (why ≢ refusal.NoGap) × (why ≢ refusal.Memory)) (λ other. other.1 refl) e old new d
-    (memory_of_refusal e some is) errs ends
+    (memory_of_refusal e some (cc (told, is))) errs ends

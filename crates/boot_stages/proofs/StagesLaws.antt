@@ -1,5 +1,5 @@
 -- What is known behind the lines before the sections, and behind all stages.
-use Rattle.std.proofs.Common.{◌≡◌, ◌∙◌, ℕ, ◌^◌, ◌≤◌, List, [], ◌∷◌, drop, Ok, ap, sym, subst, arith}
+use Rattle.std.proofs.Common.{◌≡◌, ◌∙◌, ℕ, ◌^◌, ◌≤◌, List, [], ◌∷◌, drop, Ok, sym, subst, arith}
 use Rattle.memblock_model.specs.Labels.{Labels}
 use Rattle.memblock_model.specs.Items.{memory_of}
 use Rattle.growth_model.specs.Bytes.{Filled, Holds}
@@ -67,14 +67,10 @@ up_to_lines given made start mid second m nodes area live ids told answers befor
     let s2 : BootSoFar = behind_crash made start mid second nodes area in
     let second_kernel : second.kernel ≡ given.kernel = crash_lent.kernel ∙ nodes_lent.kernel ∙ kernel in
     let here : HoldsWith [] second = holds-lent [] mid second crash_lent (holds-lent [] start mid nodes_lent holds) in
-    let reached = run [] here in
-    let lines_end = lines-run given.kernel before s2 second m live ids [] told answers second_kernel reached in
+    let reached = rw (no_ids, none_told, lines) at (run [] here) in
+    let lines_end = lines-run given.kernel (before_sections given.lines) s2 second m [] ids [] [] answers second_kernel reached in
     let s3 : BootSoFar = made_by_lines s2 m ids lines_end.fills answers in
-    let begins : Ids → List Answer → BootSoFar = λ l t. made_by_lines s2 second l [] t in
-    let comes : runs_lines given.kernel (before_sections given.lines) s2 ≡ Ok s3 =
-    ap (λ (ls : List Line). runs_lines given.kernel ls s2) (sym lines)
-    ∙ ap (λ (l : Ids). runs_lines given.kernel before (begins l [])) (sym no_ids)
-    ∙ ap (λ (t : List Answer). runs_lines given.kernel before (begins live t)) (sym none_told) ∙ lines_end.come in
+    let comes : runs_lines given.kernel (before_sections given.lines) s2 ≡ Ok s3 = lines_end.come in
     let behind : List Stage = has_sections given ∷ runs_lines given.kernel (behind_sections given.lines) ∷ [] in
     let noded_first : IsNoded (2 ^ 52) (memory_of mid.journal.items) =
     noded-within (reach given) (2 ^ 52) (memory_of mid.journal.items) (nodes_known given s0 s1 first (nodes_come s0)) (reach-small given) in
@@ -112,10 +108,11 @@ all_run given made start mid second m next last nodes area places ids final answ
     let s4 : BootSoFar = put_sections places (at_memblock s3 next) in
     let kernel : next.kernel ≡ given.kernel = lent.kernel ∙ up.kernel in
     let here : HoldsWith up.fills next = holds-lent up.fills m next lent up.holds in
-    let lines_end = lines-run given.kernel behind s4 next last ids final up.fills answers told kernel (run up.fills here) in
+    let reached = rw lines at (run up.fills here) in
+    let lines_end =
+    lines-run given.kernel (behind_sections given.lines) s4 next last ids final up.fills answers told kernel reached in
     let s5 : BootSoFar = made_by_lines s4 last final lines_end.fills told in
-    let comes : runs_lines given.kernel (behind_sections given.lines) s4 ≡ Ok s5 =
-    ap (λ (ls : List Line). runs_lines given.kernel ls s4) (sym lines) ∙ lines_end.come in
+    let comes : runs_lines given.kernel (behind_sections given.lines) s4 ≡ Ok s5 = lines_end.come in
     let by_sections : memory_of next.journal.items ≡ memory_of m.journal.items = section_labels given s3 s4 (sections_come s3) in
     let by_lines : memory_of last.journal.items ≡ memory_of next.journal.items =
     lines_labels given.kernel (behind_sections given.lines) s4 s5 comes in
