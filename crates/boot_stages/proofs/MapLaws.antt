@@ -29,7 +29,7 @@ use Rattle.boot_model.specs.Stages.{in_order}
 use Rattle.boot_model.specs.Stop.{cause_of_growth, stop_of}
 use Rattle.boot_stages.proofs.CarriesLaws.{answered}
 use Rattle.boot_stages.proofs.LaterLaws.{stopped}
-use Rattle.boot_stages.specs.Boots.{AreStopped, IsDecided, MapAnswer, judged_answer, goes_on_with}
+use Rattle.boot_stages.specs.Boots.{IsDecided, MapAnswer, judged_answer, goes_on_with}
 
 -- what a map in its room, and one that isn't, tells of its number of runs
 told_room : (full : Bool) (runs : ℕ) (map items : List (RunOf ℕ)) → (if full then Err (faults.MapFull runs) else Ok map) ≡ Ok items
@@ -99,13 +99,10 @@ pub told_stops : {X : Type 0} (view : X → Told) (given : Given) (answer : Resu
 told_stops view given answer stop is stops_so =
     rw is (λ other. stopped (boot given) (λ made. Ok (told given made)) stop (stops_so other))
 
-pub boot_stops : {X : Type 0} (view : X → Told) (given : Given) (answer : Result X Stop) (stop : Stop)
-    → answer ≡ Err stop → Answers stops.Memory (made_of given) (Err stop) (with_error stop_of (map_judged given))
-    → Answers stops.Memory view answer (with_error stop_of (told_boot given))
+pub boot_stops : (given : Given) (stop : Stop) → Answers stops.Memory (made_of given) (Err stop) (with_error stop_of (map_judged given))
+    → stop ≢ stops.Memory → with_error stop_of (boot given) ≡ Err stop
 unfolding boot
-boot_stops view given answer stop is answers =
-    told_stops view given answer stop is
-    (λ other. stopped (map_judged given) (λ made. in_order (later_stages given) made) stop (answers other))
+boot_stops given stop answers other = stopped (map_judged given) (λ made. in_order (later_stages given) made) stop (answers other)
 
 -- a growth that is refused is the stop
 items_stop : (made : BootSoFar) (said : Result (List Item) Refused) (stop : Stop) → or_refused_growth said ≡ Err stop
@@ -117,17 +114,14 @@ items_stop made (Err refused) stop is = cc
 abbrev pub memory_said : Given → BootSoFar → Result (List Item) Refused
 memory_said given made = carried_out (first_items (early_of given) made.map) made.items
 
-pub memory_stops : {X : Type 0} (view : X → Told) (given : Given) (made : BootSoFar) (answer : Result X Stop) (stop : Stop)
-    → answer ≡ Err stop
-    → with_error stop_of (map_judged given) ≡ Ok made → (stop ≢ stops.Memory → or_refused_growth (memory_said given made) ≡ Err stop)
-    → Answers stops.Memory view answer (with_error stop_of (told_boot given))
+pub memory_stops : (given : Given) (made : BootSoFar) (stop : Stop) → with_error stop_of (map_judged given) ≡ Ok made
+    → or_refused_growth (memory_said given made) ≡ Err stop → with_error stop_of (boot given) ≡ Err stop
 unfolding boot
-memory_stops view given made answer stop is judged answers =
-    told_stops view given answer stop is
-    (λ other. ap (λ (said : Result BootSoFar Cause). with_error stop_of (said >>= λ m. in_order (later_stages given) m))
+memory_stops given made stop judged refused =
+    ap (λ (said : Result BootSoFar Cause). with_error stop_of (said >>= λ m. in_order (later_stages given) m))
     (told_ok stop_of (map_judged given) made judged)
     ∙ stopped (has_memory given made) (λ next. in_order (drop 1 (later_stages given)) next) stop
-    (items_stop made (memory_said given made) stop (answers other)))
+    (items_stop made (memory_said given made) stop refused)
 
 pub memory_goes_on : (given : Given) (made : BootSoFar) (items : List Item) → with_error stop_of (map_judged given) ≡ Ok made
     → or_refused_growth (memory_said given made) ≡ Ok items
@@ -137,14 +131,6 @@ memory_goes_on given made items judged answers =
     ap (λ (said : Result BootSoFar Cause). said >>= λ m. in_order (later_stages given) m) (told_ok stop_of (map_judged given) made judged)
     ∙ ap (λ (said : Result (List Item) Refused). with_items made said >>= λ next. in_order (drop 1 (later_stages given)) next)
     (told_ok (λ refused. stop_of (cause_of_growth refused)) (memory_said given made) items answers)
-
--- the stages behind memory
-pub stages_stop : {X : Type 0} (view : X → Told) (given : Given) (made : BootSoFar) (answer : Result X Stop) (stop : Stop)
-    → answer ≡ Err stop
-    → boot given ≡ in_order (drop 1 (later_stages given)) made → AreStopped given made stop
-    → Answers stops.Memory view answer (with_error stop_of (told_boot given))
-stages_stop view given made answer stop is comes stopped_so =
-    told_stops view given answer stop is (λ other. ap (with_error stop_of) comes ∙ stopped_so other)
 
 pub boot_told : (given : Given) (made : BootSoFar) → boot given ≡ Ok made → told_boot given ≡ Ok (told given made)
 boot_told given made comes = ap (λ (said : Result BootSoFar Cause). said >>= λ m. Ok (told given m)) comes

@@ -6,7 +6,6 @@ use Rattle.growth_model.specs.Bytes.{Filled, Holds}
 use Rattle.memblock_grow.specs.Contents.{Contents}
 use Rattle.stage_model.specs.Noded.{IsNoded}
 use Rattle.stage_model.specs.Lent.{GoesOn}
-use Rattle.script_reader.specs.declared.act.Line.{Line}
 use Rattle.early_script.specs.declared.outcome.Answer.{Answer}
 use Rattle.early_script.specs.Found.{bytes_in}
 use Rattle.early_script.specs.Ids.{Ids}
@@ -51,24 +50,21 @@ pub record UpToLines (given : Given) (made : BootSoFar) (start mid second m : Co
   pub kernel : m.kernel ≡ given.kernel
   pub holds : HoldsWith fills m
 
-pub up_to_lines : (given : Given) (made : BootSoFar) (start mid second m : Contents) (nodes : Noded) (area : Crash) (live ids : Ids)
-    (told answers : List Answer) (before : List Line) → start.kernel ≡ given.kernel
-    → IsFirstMemory (reach given) start.journal.items → HoldsWith [] start
+pub up_to_lines : (given : Given) (made : BootSoFar) (start mid second m : Contents) (nodes : Noded) (area : Crash) (ids : Ids)
+    (answers : List Answer) → start.kernel ≡ given.kernel → IsFirstMemory (reach given) start.journal.items → HoldsWith [] start
     → ((n : BootSoFar) → Comes (has_nodes given) put_nodes n start mid (Ok nodes)) → GoesOn start mid
     → ((n : BootSoFar) → Comes (has_crash_area given) put_crash n mid second (Ok area)) → GoesOn mid second
-    → live ≡ [] → told ≡ [] → before ≡ before_sections given.lines
     → ((fills : List Filled) → Holds second.kernel second.journal.items fills (bytes_in second)
-    → Reaches (after_lines (stage_of live second fills told) before) ids m answers)
+    → Reaches (after_lines (stage_of [] second fills []) (before_sections given.lines)) ids m answers)
     → m.kernel ≡ second.kernel → UpToLines given made start mid second m nodes area ids answers
-up_to_lines given made start mid second m nodes area live ids told answers before kernel first holds nodes_come nodes_lent crash_come
-    crash_lent no_ids none_told lines run same =
+up_to_lines given made start mid second m nodes area ids answers kernel first holds nodes_come nodes_lent crash_come crash_lent run same =
     let s0 : BootSoFar = begun_with made start in
     let s1 : BootSoFar = behind_nodes made start mid nodes in
     let s2 : BootSoFar = behind_crash made start mid second nodes area in
     let second_kernel : second.kernel ≡ given.kernel = crash_lent.kernel ∙ nodes_lent.kernel ∙ kernel in
     let here : HoldsWith [] second = holds-lent [] mid second crash_lent (holds-lent [] start mid nodes_lent holds) in
-    let reached = rw (no_ids, none_told, lines) at (run [] here) in
-    let lines_end = lines-run given.kernel (before_sections given.lines) s2 second m [] ids [] [] answers second_kernel reached in
+    let lines_end =
+    lines-run given.kernel (before_sections given.lines) s2 second m [] ids [] [] answers second_kernel (run [] here) in
     let s3 : BootSoFar = made_by_lines s2 m ids lines_end.fills answers in
     let comes : runs_lines given.kernel (before_sections given.lines) s2 ≡ Ok s3 = lines_end.come in
     let behind : List Stage = has_sections given ∷ runs_lines given.kernel (behind_sections given.lines) ∷ [] in
@@ -92,25 +88,22 @@ pub record AllRun (given : Given) (made : BootSoFar) (start last : Contents) (la
   pub run : AreRun given (begun_with made start) last later
   pub noded : IsNoded (2 ^ 52) (memory_of last.journal.items)
 
-pub all_run : (given : Given) (made : BootSoFar) (start mid second m next last : Contents) (nodes : Noded) (area : Crash) (places :
-    SectionPlaces)
-    (ids final : Ids) (answers told : List Answer) (behind : List Line)
+pub all_run : (given : Given) (made : BootSoFar) (start mid second m next last : Contents) (nodes : Noded) (area : Crash)
+    (places : SectionPlaces) (ids final : Ids) (answers told : List Answer)
     → UpToLines given made start mid second m nodes area ids answers
     → ((n : BootSoFar) → Comes (has_sections given) put_sections n m next (Ok places)) → GoesOn m next
-    → behind ≡ behind_sections given.lines
     → ((fills : List Filled) → Holds next.kernel next.journal.items fills (bytes_in next)
-    → Reaches (after_lines (stage_of ids next fills answers) behind) final last told)
+    → Reaches (after_lines (stage_of ids next fills answers) (behind_sections given.lines)) final last told)
     → last.kernel ≡ next.kernel
     → AllRun given made start last (record { nodes = nodes; crash = area; sections = places; answers = told })
-all_run given made start mid second m next last nodes area places ids final answers told behind up sections_come lent lines run same =
+all_run given made start mid second m next last nodes area places ids final answers told up sections_come lent run same =
     let s2 : BootSoFar = behind_crash made start mid second nodes area in
     let s3 : BootSoFar = made_by_lines s2 m ids up.fills answers in
     let s4 : BootSoFar = put_sections places (at_memblock s3 next) in
     let kernel : next.kernel ≡ given.kernel = lent.kernel ∙ up.kernel in
     let here : HoldsWith up.fills next = holds-lent up.fills m next lent up.holds in
-    let reached = rw lines at (run up.fills here) in
     let lines_end =
-    lines-run given.kernel (behind_sections given.lines) s4 next last ids final up.fills answers told kernel reached in
+    lines-run given.kernel (behind_sections given.lines) s4 next last ids final up.fills answers told kernel (run up.fills here) in
     let s5 : BootSoFar = made_by_lines s4 last final lines_end.fills told in
     let comes : runs_lines given.kernel (behind_sections given.lines) s4 ≡ Ok s5 = lines_end.come in
     let by_sections : memory_of next.journal.items ≡ memory_of m.journal.items = section_labels given s3 s4 (sections_come s3) in

@@ -19,10 +19,10 @@ up : (c : In_ok-run_lines) (made : BootSoFar) → UpToLines (inputs_view c.args.
     c.give_nodes.new.memblock c.reserve_area.new.memblock c.run_lines.new.mb (nodes_view c.in_ok-nodes.nodes) c.in_ok-crash.crash
     c.run_lines.new.live c.run_lines.new.answers.items
 up c made =
-    up_to_lines (inputs_view c.args.inputs.now) made _ _ _ _ _ _ _ _ _ _ _ c.requires.kernel c.requires.first c.requires.bytes
-    c.in_ok-nodes.ensures.comes c.in_ok-nodes.ensures.lent c.in_ok-crash.ensures.comes c.in_ok-crash.ensures.lent c.new-live.ensures
-    c.new-answers.ensures.items (c.split_at_sections.ensures.before ∙ ap before_sections c.deref.ensures.value)
-    c.in_ok-run_lines.ensures.ok c.in_ok-run_lines.ensures.kernel
+    let lines = c.split_at_sections.ensures.before ∙ ap before_sections c.deref.ensures.value in
+    up_to_lines (inputs_view c.args.inputs.now) made _ _ _ _ _ _ _ _ c.requires.kernel c.requires.first c.requires.bytes
+    c.in_ok-nodes.ensures.comes c.in_ok-nodes.ensures.lent c.in_ok-crash.ensures.comes c.in_ok-crash.ensures.lent
+    (rw (c.new-live.ensures, c.new-answers.ensures.items, lines) at c.in_ok-run_lines.ensures.ok) c.in_ok-run_lines.ensures.kernel
 
 all : (c : In_ok-run_lines-2) (made : BootSoFar) → UpToLines (inputs_view c.args.inputs.now) made c.args.memblock.now
     c.give_nodes.new.memblock c.reserve_area.new.memblock c.run_lines.new.mb (nodes_view c.in_ok-nodes.nodes) c.in_ok-crash.crash
@@ -34,9 +34,9 @@ all : (c : In_ok-run_lines-2) (made : BootSoFar) → UpToLines (inputs_view c.ar
       answers = c.run_lines-2.new.answers.items;
     })
 all c made known =
-    all_run (inputs_view c.args.inputs.now) made _ _ _ _ _ _ _ _ _ _ _ _ _ _ known c.in_ok-sections.ensures.comes
-    c.in_ok-sections.ensures.lent (c.split_at_sections.ensures.behind ∙ ap behind_sections c.deref.ensures.value)
-    c.in_ok-run_lines-2.ensures.ok c.in_ok-run_lines-2.ensures.kernel
+    let lines = c.split_at_sections.ensures.behind ∙ ap behind_sections c.deref.ensures.value in
+    all_run (inputs_view c.args.inputs.now) made _ _ _ _ _ _ _ _ _ _ _ _ _ known c.in_ok-sections.ensures.comes
+    c.in_ok-sections.ensures.lent (rw lines at c.in_ok-run_lines-2.ensures.ok) c.in_ok-run_lines-2.ensures.kernel
 
 pub returns-in_err-nodes-clause-stopped : goal.returns-in_err-nodes-clause-stopped
 returns-in_err-nodes-clause-stopped c =

@@ -9,6 +9,7 @@ use Rattle.growth_model.specs.Bytes.{Filled, byte}
 use Rattle.phys_store.specs.Bytes.{Stored, byte_of}
 use Rattle.memblock_grow.specs.Contents.{Contents as Memblock}
 use Rattle.bm_base.specs.ResultSteps.{with_error}
+use Rattle.boot_model.specs.declared.stop.Stop.{Stop}
 use Rattle.boot_model.specs.Boot.{Given, BootSoFar, Told, boot, handed_over, heads_of, later_stages, reach, spanned, told}
 use Rattle.boot_model.specs.Stages.{in_order}
 use Rattle.boot_model.specs.Stop.{stop_of}
@@ -31,19 +32,23 @@ use Rattle.early_script.specs.Ids.{Ids}
 use Rattle.page_alloc.specs.Book.{state_of}
 use Rattle.boot_stages.proofs.ExitLaws.{exit}
 use Rattle.boot_stages.proofs.BytesLaws.{holds-lent}
-use Rattle.boot_stages.proofs.MapLaws.{boot_stops, boot_told, first_made, made_of, memory_goes_on, memory_stops, stages_stop, told_ok}
+use Rattle.boot_stages.proofs.MapLaws.{boot_stops, boot_told, first_made, made_of, memory_goes_on, memory_stops, told_ok, told_stops}
 use Rattle.boot_stages.proofs.stages.boot.Goals as goal
 use Rattle.boot_stages.proofs.stages.boot.Goals.{In_ok-make_memory}
 
 pub returns-in_err-map-clause-boots : goal.returns-in_err-map-clause-boots
 returns-in_err-map-clause-boots c =
-    boot_stops _ (inputs_view c.args.inputs) _ c.in_err-map.field-0.0 (exit _ _ c.from_residual.ensures.1) c.in_err-map.ensures.answers
+    let given : Given = inputs_view c.args.inputs in
+    told_stops _ given _ c.in_err-map.field-0.0 (exit _ _ c.from_residual.ensures.1)
+    (boot_stops given c.in_err-map.field-0.0 c.in_err-map.ensures.answers)
 
 pub returns-in_err-make_memory-clause-boots : goal.returns-in_err-make_memory-clause-boots
 returns-in_err-make_memory-clause-boots c =
-    memory_stops _ (inputs_view c.args.inputs) (made_of (inputs_view c.args.inputs) c.in_ok-map.map) _ c.in_err-make_memory.field-0.0
-    (exit _ _ c.from_residual-in_err-make_memory.ensures.1) c.in_ok-map.ensures.answers
-    (rw c.deref.ensures.value at c.in_err-make_memory.ensures.answers)
+    let given : Given = inputs_view c.args.inputs in
+    let stop : Stop = c.in_err-make_memory.field-0.0 in
+    let refused = rw c.deref.ensures.value at c.in_err-make_memory.ensures.answers in
+    told_stops _ given _ stop (exit _ _ c.from_residual-in_err-make_memory.ensures.1)
+    (λ other. memory_stops given (made_of given c.in_ok-map.map) stop c.in_ok-map.ensures.answers (refused other))
 
 -- what is known where memory was made
 record MemoryIsMade (given : Given) (map : Vec (RunOf ℕ) Global) (m : Memblock) : Type 0 where
@@ -79,10 +84,9 @@ run_stages-requires-clause-first c = (memory_is_made (goal.at.run_stages-require
 pub returns-in_err-later-clause-boots : goal.returns-in_err-later-clause-boots
 returns-in_err-later-clause-boots c =
     let given : Given = inputs_view c.args.inputs in
-    let made : BootSoFar = made_of given c.in_ok-map.map in
-    stages_stop _ given (begun_with made c.make_memory.new.memblock) _ c.in_err-later.field-0.0
-    (exit _ _ c.from_residual-in_err-later.ensures.1)
-    (memory_is_made (goal.at.returns-in_err-later-clause-boots c).In_ok-make_memory).comes (c.in_err-later.ensures.stopped made)
+    let comes = (memory_is_made (goal.at.returns-in_err-later-clause-boots c).In_ok-make_memory).comes in
+    told_stops _ given _ c.in_err-later.field-0.0 (exit _ _ c.from_residual-in_err-later.ensures.1)
+    (λ other. ap (with_error stop_of) comes ∙ c.in_err-later.ensures.stopped (made_of given c.in_ok-map.map) other)
 
 pub hand_over_memory-requires-clause-within : goal.hand_over_memory-requires-clause-within
 hand_over_memory-requires-clause-within c =
