@@ -75,8 +75,12 @@ carried-by : (is js old : List Item) (said : Result (List Item) Refused) → car
 carried-by is js old said first =
     carried-append is js old ∙ ap (λ (s : Result (List Item) Refused). s >>= λ next. carried_out js next) first
 
-short_second : (is js old mid new : List Item) → carried_out is old ≡ Ok mid → AreCutShort js mid new → AreCutShort (is ++ js) old new
-short_second is js old mid new first cut = record {
+pub carries-second : (r : Result (Unit {0}) Refusal) (is js old mid new : List Item) → carried_out is old ≡ Ok mid
+    → Carries r js mid new → Carries r (is ++ js) old new
+carries-second (Ok x) is js old mid new first rest = carried-by is js old (Ok mid) first ∙ rest
+carries-second (Err refusal.NoGap) is js old mid new first rest = rest
+carries-second (Err (refusal.NoGapForTable w room)) is js old mid new first rest = carried-by is js old (Ok mid) first ∙ rest
+carries-second (Err refusal.Memory) is js old mid new first cut = record {
   done = is ++ cut.done;
   next = cut.next;
   rest = cut.rest;
@@ -86,16 +90,12 @@ short_second is js old mid new first cut = record {
   short = cut.short;
 }
 
-pub carries-second : (r : Result (Unit {0}) Refusal) (is js old mid new : List Item) → carried_out is old ≡ Ok mid
-    → Carries r js mid new → Carries r (is ++ js) old new
-carries-second (Ok x) is js old mid new first rest = carried-by is js old (Ok mid) first ∙ rest
-carries-second (Err refusal.NoGap) is js old mid new first rest = rest
-carries-second (Err (refusal.NoGapForTable w room)) is js old mid new first rest = carried-by is js old (Ok mid) first ∙ rest
-carries-second (Err refusal.Memory) is js old mid new first rest = short_second is js old mid new first rest
-
 -- the first part ended with an error
-short_first : (is js old new : List Item) → AreCutShort is old new → AreCutShort (is ++ js) old new
-short_first is js old new cut = record {
+pub carries-first : (e : Refusal) (is js old new : List Item) → Carries {T = Unit {0}} (Err e) is old new
+    → Carries {T = Unit {0}} (Err e) (is ++ js) old new
+carries-first refusal.NoGap is js old new first = first
+carries-first (refusal.NoGapForTable w room) is js old new first = carried-by is js old (Err (record { which = w; room = room })) first
+carries-first refusal.Memory is js old new cut = record {
   done = cut.done;
   next = cut.next;
   rest = cut.rest ++ js;
@@ -104,12 +104,6 @@ short_first is js old new cut = record {
   carried = cut.carried;
   short = cut.short;
 }
-
-pub carries-first : (e : Refusal) (is js old new : List Item) → Carries {T = Unit {0}} (Err e) is old new
-    → Carries {T = Unit {0}} (Err e) (is ++ js) old new
-carries-first refusal.NoGap is js old new first = first
-carries-first (refusal.NoGapForTable w room) is js old new first = carried-by is js old (Err (record { which = w; room = room })) first
-carries-first refusal.Memory is js old new first = short_first is js old new first
 
 -- a `?` that hands the error on
 pub carries-exit : (e : Refusal) (r : Result (Unit {0}) Refusal) (is js old new : List Item) → r ≡ Err e
@@ -143,8 +137,7 @@ behind_begun : (first : Outcome) (r : Option Refused) (i : Item) (old new : List
     → (followed_by first r (write i (after old first))).refused ≡ None
     → new ≡ after old (followed_by first r (write i (after old first))) → HasBegun new
 behind_begun first None i old new is unrefused same =
-    let last : new ≡ (old ++ joined first.steps) ++ i ∷ [] =
-    same ∙ ap (λ (t : List Item). old ++ t) (joined-append first.steps ((i ∷ []) ∷ []))
+    let last = same ∙ ap (λ (t : List Item). old ++ t) (joined-append first.steps ((i ∷ []) ∷ []))
     ∙ sym (append_assoc old (joined first.steps) (i ∷ [])) in
     subst HasBegun (sym last) (last_begun (old ++ joined first.steps) i)
 behind_begun first (Some refused) i old new is unrefused same = let clash : Some refused ≡ None = sym is ∙ unrefused in absurd (cc)
