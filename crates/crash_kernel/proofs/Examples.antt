@@ -64,99 +64,50 @@ middle = record { start = 0x10000000; end = Some 0x20000000; size = 0x1000000 }
 abbrev open_range : CrashRange
 open_range = record { start = 0x20000000; end = None; size = 0x4000000 }
 
-below_start : is_in 0xFFFFFFF middle ≡ false
-below_start = refl
-
-at_start : is_in 0x10000000 middle ≡ true
-at_start = refl
-
-last_of_range : is_in 0x1FFFFFFF middle ≡ true
-last_of_range = refl
-
-at_end : is_in 0x20000000 middle ≡ false
-at_end = refl
-
-without_end : is_in 0xFFFFFFFFFFFF open_range ≡ true
-without_end = refl
+in_examples : (is_in 0xFFFFFFF middle ≡ false) × (is_in 0x10000000 middle ≡ true) × (is_in 0x1FFFFFFF middle ≡ true)
+    × (is_in 0x20000000 middle ≡ false) × (is_in 0xFFFFFFFFFFFF open_range ≡ true)
+in_examples = (refl, refl, refl, refl, refl)
 
 -- the first range that holds the total counts, and where none does nothing is asked for
-first_counts : size_for 0x18000000 (middle ∷ (record { start = 0; end = None; size = 7 } ∷ [])) ≡ 0x1000000
-first_counts = refl
-
-second_counts : size_for 0x20000000 (middle ∷ (open_range ∷ [])) ≡ 0x4000000
-second_counts = refl
-
-none_counts : size_for 0x1000 (middle ∷ (open_range ∷ [])) ≡ 0
-none_counts = refl
+size_examples : (size_for 0x18000000 (middle ∷ (record { start = 0; end = None; size = 7 } ∷ [])) ≡ 0x1000000)
+    × (size_for 0x20000000 (middle ∷ (open_range ∷ [])) ≡ 0x4000000) × (size_for 0x1000 (middle ∷ (open_range ∷ [])) ≡ 0)
+size_examples = (refl, refl, refl)
 
 -- a base of 0 leaves the place free
-free_place : spot_for 0 ≡ spot.Automatic
-free_place = refl
-
-fixed_place : spot_for 0x2000000 ≡ spot.Fixed 0x2000000
-fixed_place = refl
+spot_examples : (spot_for 0 ≡ spot.Automatic) × (spot_for 0x2000000 ≡ spot.Fixed 0x2000000)
+spot_examples = (refl, refl)
 
 -- the plain form goes before the high one, unless it comes to no byte
 abbrev both_forms : Asked
 both_forms = record { plain = Some (one_range 0x4000000 0); high = Some 0x8000000; low = None }
 
-plain_first : area_for 0x40000000 both_forms ≡ Some (record { size = 0x4000000; spot = spot.Automatic })
+area_examples : (area_for 0x40000000 both_forms ≡ Some (record { size = 0x4000000; spot = spot.Automatic }))
+    × (area_for 0x40000000 (record both_forms { plain = Some (one_range 0 0x2000000) })
+    ≡ Some (record { size = 0x8000000; spot = spot.High }))
+    × (area_for 0x1000 (record both_forms { plain = Some (record { ranges = middle ∷ []; base = 0 }) })
+    ≡ Some (record { size = 0x8000000; spot = spot.High }))
+    × (area_for 0x40000000 (record { plain = None; high = Some 0; low = Some 0x1000 }) ≡ None)
 unfolding area_for
-plain_first = refl
+area_examples = (refl, refl, refl, refl)
 
-plain_of_none : area_for 0x40000000 (record both_forms { plain = Some (one_range 0 0x2000000) })
-    ≡ Some (record { size = 0x8000000; spot = spot.High })
-unfolding area_for
-plain_of_none = refl
-
-no_range_holds : area_for 0x1000 (record both_forms { plain = Some (record { ranges = middle ∷ []; base = 0 }) })
-    ≡ Some (record { size = 0x8000000; spot = spot.High })
-unfolding area_for
-no_range_holds = refl
-
-high_of_none : area_for 0x40000000 (record { plain = None; high = Some 0; low = Some 0x1000 }) ≡ None
-unfolding area_for
-high_of_none = refl
-
--- two bytes at 1 MiB, where three are memory: they fit there, and no other way
+-- two bytes at 1 MiB, where three are memory, where one of the three is claimed, and where two are of node 1
 abbrev three : List Item
 three = item.Mem (record { base = 0x100000; size = 3 }) ∷ []
 
 abbrev claimed_one : List Item
 claimed_one = item.Mem (record { base = 0x100000; size = 3 }) ∷ (item.Claim (record { base = 0x100001; size = 1 }) owner.Initrd ∷ [])
 
-fits_there : fixed_range 0x100000 2 three ≡ Some (record { base = 0x100000; size = 2 })
-unfolding fits fits_in each_in each_from
-fits_there = refl
-
-too_long : fixed_range 0x100000 4 three ≡ None
-unfolding fits fits_in each_in each_from
-too_long = refl
-
-is_claimed : fixed_range 0x100000 2 claimed_one ≡ None
-unfolding fits fits_in each_in each_from
-is_claimed = refl
-
--- memory that is no multiple of 1 MiB, and a range that passes the end of addresses
-no_multiple : fixed_range 0x100001 2 three ≡ None
-unfolding fits fits_in each_in each_from
-no_multiple = refl
-
-past_the_end : fixed_range 0xFFFFFFFFFFF00000 0x100000 three ≡ None
-unfolding fits fits_in each_in each_from
-past_the_end = refl
-
--- two nodes aren't one range
 abbrev noded_bytes : List Item
 noded_bytes = item.Mem (record { base = 0x100000; size = 3 }) ∷ (item.Node (record { base = 0x100001; size = 2 }) 1 ∷ [])
 
-of_two_nodes : fixed_range 0x100000 2 noded_bytes ≡ None
-unfolding fits fits_in each_in each_from
-of_two_nodes = refl
-
-asked_there : main_range 2 (spot.Fixed 0x100000) three ≡ Some (record { base = 0x100000; size = 2 })
+-- two bytes fit there, asked for or not; four don't, nor two where one is claimed or of another node, at no multiple of 1 MiB, or past
+-- the end of addresses
+fixed_examples : (fixed_range 0x100000 2 three ≡ Some (record { base = 0x100000; size = 2 }))
+    × (main_range 2 (spot.Fixed 0x100000) three ≡ Some (record { base = 0x100000; size = 2 }))
+    × (fixed_range 0x100000 4 three ≡ None) × (fixed_range 0x100000 2 claimed_one ≡ None) × (fixed_range 0x100001 2 three ≡ None)
+    × (fixed_range 0xFFFFFFFFFFF00000 0x100000 three ≡ None) × (fixed_range 0x100000 2 noded_bytes ≡ None)
 unfolding main_range fits fits_in each_in each_from
-asked_there = refl
+fixed_examples = (refl, refl, refl, refl, refl, refl, refl)
 
 -- what is free, and an area of it that needs no low part
 abbrev two_bytes : Extent
@@ -192,30 +143,17 @@ low_part_wanting : HasLowPart two_asked three (record { base = 0x100000000; size
 low_part_wanting known = let clash : true ≡ false = known in cc
 
 -- what comes of an area without a place
-in_use : with_main (record { size = 2; spot = spot.Fixed 0x100000 }) 0x10000000 None three ≡ returns crash.InUse three
-in_use = refl
-
-no_area : with_main (record { size = 2; spot = spot.Automatic }) 0x10000000 None three ≡ returns crash.NoArea three
-no_area = refl
-
-no_high_area : unplaced spot.High ≡ crash.NoArea
-no_high_area = refl
+unplaced_examples : (with_main (record { size = 2; spot = spot.Fixed 0x100000 }) 0x10000000 None three ≡ returns crash.InUse three)
+    × (with_main (record { size = 2; spot = spot.Automatic }) 0x10000000 None three ≡ returns crash.NoArea three)
+    × (unplaced spot.High ≡ crash.NoArea)
+unplaced_examples = (refl, refl, refl)
 
 -- a low part is needed from 4 GiB on, of 256 MiB where the line doesn't say, and not where it says none
-right_below : needs_low (record { base = 0xFF000000; size = 0x2000000 }) 0x10000000 ≡ false
-right_below = refl
-
-right_at : needs_low (record { base = 0x100000000; size = 0x2000000 }) 1 ≡ true
-right_at = refl
-
-of_no_byte : needs_low (record { base = 0x100000000; size = 0x2000000 }) 0 ≡ false
-of_no_byte = refl
-
-low_unsaid : low_size no_crash ≡ 0x10000000
-low_unsaid = refl
-
-low_said : low_size (record no_crash { low = Some 0 }) ≡ 0
-low_said = refl
+low_examples : (needs_low (record { base = 0xFF000000; size = 0x2000000 }) 0x10000000 ≡ false)
+    × (needs_low (record { base = 0x100000000; size = 0x2000000 }) 1 ≡ true)
+    × (needs_low (record { base = 0x100000000; size = 0x2000000 }) 0 ≡ false)
+    × (low_size no_crash ≡ 0x10000000) × (low_size (record no_crash { low = Some 0 }) ≡ 0)
+low_examples = (refl, refl, refl, refl, refl)
 
 -- nothing is asked for: nothing is done, whatever happened before
 nothing_asked : (items : List Item) → reserved no_crash items ≡ returns crash.Nothing items

@@ -1,5 +1,5 @@
 -- Places that a search found: they end within the window, meet neither table, and one of exactly its range is its base.
-use Rattle.std.proofs.Common.{◌≡◌, ℕ, ◌+◌, ◌%◌, ◌^◌, ◌<◌, ◌≤◌, ◌==◌, true, false, nat_lt, Some, None, List, refl, subst, arith}
+use Rattle.std.proofs.Common.{◌≡◌, ℕ, ◌+◌, ◌%◌, ◌^◌, ◌<◌, ◌≤◌, ◌==◌, Bool, true, false, nat_lt, if◌then◌else◌, Some, None, List, refl, arith}
 use Rattle.std.proofs.lemmas.Bool.Decides.{nat_tests}
 use Rattle.bm_base.specs.Extent.{Extent}
 use Rattle.memblock_model.specs.declared.which.Which.TheVariants as which
@@ -33,34 +33,28 @@ exact_base items size base place found =
     let high : place + size ≤ base + size = known.high in
     omega arith
 
-pub exact-fits : (items : List Item) (size base place : ℕ) → best items (area_query size 1 base (base + size)) ≡ Some place
-    → fits items (area_query size 1 base (base + size)) false base ≡ true
-exact-fits items size base place found =
-    subst (λ (p : ℕ). fits items (area_query size 1 base (base + size)) false p ≡ true) (exact_base items size base place found)
-    (best_fits items (area_query size 1 base (base + size)) place found)
-
 pub exact-away : (kernel : Extent) (items : List Item) (size base place : ℕ) → Seated kernel items
     → best items (area_query size 1 base (base + size)) ≡ Some place → IsAway kernel (record { base = base; size = size }) items
 exact-away kernel items size base place placed found =
-    subst (λ (p : ℕ). IsAway kernel (record { base = p; size = size }) items) (exact_base items size base place found)
-    (found-away kernel items (area_query size 1 base (base + size)) place placed found)
-
-pub exact-fails : (items : List Item) (size base : ℕ) → base + size < 2 ^ 64 → best items (area_query size 1 base (base + size)) ≡ None
-    → fits items (area_query size 1 base (base + size)) false base ≡ false
-exact-fails items size base small none = best_none items (area_query size 1 base (base + size)) none base (omega arith)
+    rw (exact_base items size base place found) at (found-away kernel items (area_query size 1 base (base + size)) place placed found)
 
 -- what comes of a place that is asked for, by that search
+fixed_by : (items : List Item) (size base : ℕ) (b : Bool) → base % 0x100000 ≡ 0 → base + size < 2 ^ 64
+    → fits items (area_query size 1 base (base + size)) false base ≡ b
+    → fixed_range base size items ≡ (if b then Some (record { base = base; size = size }) else None)
+fixed_by items size base b aligned small is =
+    let one : (base % 0x100000 == 0) ≡ true = grind (arith, nat_tests) in
+    let two : nat_lt (base + size) (2 ^ 64) ≡ true = grind (arith, nat_tests) in
+    rw (one, two, is) refl
+
 pub fixed-found : (items : List Item) (size base place : ℕ) → base % 0x100000 ≡ 0 → base + size < 2 ^ 64
     → best items (area_query size 1 base (base + size)) ≡ Some place
     → fixed_range base size items ≡ Some (record { base = base; size = size })
 fixed-found items size base place aligned small found =
-    let one : (base % 0x100000 == 0) ≡ true = grind (arith, nat_tests) in
-    let two : nat_lt (base + size) (2 ^ 64) ≡ true = grind (arith, nat_tests) in
-    rw (one, two, exact-fits items size base place found) refl
+    fixed_by items size base true aligned small
+    (rw (exact_base items size base place found) at (best_fits items (area_query size 1 base (base + size)) place found))
 
 pub fixed-fails : (items : List Item) (size base : ℕ) → base % 0x100000 ≡ 0 → base + size < 2 ^ 64
     → best items (area_query size 1 base (base + size)) ≡ None → fixed_range base size items ≡ None
 fixed-fails items size base aligned small none =
-    let one : (base % 0x100000 == 0) ≡ true = grind (arith, nat_tests) in
-    let two : nat_lt (base + size) (2 ^ 64) ≡ true = grind (arith, nat_tests) in
-    rw (one, two, exact-fails items size base small none) refl
+    fixed_by items size base false aligned small (best_none items (area_query size 1 base (base + size)) none base (omega arith))

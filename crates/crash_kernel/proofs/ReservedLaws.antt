@@ -1,12 +1,14 @@
 -- The stage step by step: how its parts end by the ends of what they carry out, and that the area meets no table once it is claimed.
 use Rattle.std.proofs.Common.{◌≡◌, ◌≢◌, ℕ, Bool, if◌then◌else◌, Option, Some, None, List, [], ◌∷◌, ◌++◌, Result, Ok, Err, refl, sym, ◌∙◌, ap, subst}
 use Rattle.bm_base.specs.Extent.{Extent}
+use Rattle.memblock_model.specs.declared.which.Which.{Which}
 use Rattle.memblock_model.specs.declared.which.Which.TheVariants as which
 use Rattle.memblock_model.specs.declared.owner.Owner.{Owner}
 use Rattle.memblock_model.specs.declared.owner.Owner.TheVariants as owner
 use Rattle.memblock_model.specs.declared.item.Item.{Item}
 use Rattle.memblock_model.specs.declared.item.Item.TheVariants as item
 use Rattle.memblock_model.specs.Items.{memory_of}
+use Rattle.memblock_model.specs.Tables.{live}
 use Rattle.growth_model.specs.declared.refusal.Refusal.{Refusal}
 use Rattle.growth_model.specs.declared.refusal.Refusal.TheVariants as refusal
 use Rattle.growth_model.specs.Outcome.{Change, Outcome, Refused, followed_by, write}
@@ -39,33 +41,11 @@ pub change-fails : (e : Refusal) (old new : List Item) (change : Change) (next :
     → Ends {T = Unit {0}} (Err e) old new change → EndsAs {A = Crash} refusal.Memory (Err e) old new ((changes change >>= next) old)
 change-fails e old new change next h = ends-first e refusal.Memory old new (changes change) next (ends-change (Err e) old new change h)
 
--- a refusal that is passed on
-pub exits : (r : Result Crash Refusal) (y e : Refusal) (old new : List Item) (d : Done Refusal Crash) → r ≡ Err y → y ≡ e
-    → EndsAs refusal.Memory (Err e) old new d → EndsAs refusal.Memory r old new d
-exits r y e old new d is same h =
-    subst (λ (t : Result Crash Refusal). EndsAs refusal.Memory t old new d) (sym (is ∙ ap (λ (x : Refusal). Err x) same)) h
-
 -- the low part, by the place that was found
-pub low-by : (r : Result Crash Refusal) (old new : List Item) (main : Extent) (size : ℕ) (low : Option Extent) → low ≡ low_range size old
-    → EndsAs refusal.Memory r old new (with_low main low old) → EndsAs refusal.Memory r old new (low_part main size old)
+pub low-at : (items : List Item) (main : Extent) (size : ℕ) (low : Option Extent) → low ≡ low_range size items
+    → low_part main size items ≡ with_low main low items
 unfolding low_part
-low-by r old new main size low found h = subst (λ (o : Option Extent). EndsAs refusal.Memory r old new (with_low main o old)) found h
-
--- the stage, by the total, the size of a low part, the area and the place that was found
-pub reserved-by : (r : Result Crash Refusal) (old new : List Item) (asked : Asked) (total low : ℕ) (area : Option Area)
-    → total ≡ memory_bytes (memory_of old) → low ≡ low_size asked → area ≡ area_for total asked
-    → EndsAs refusal.Memory r old new (with_area low area old) → EndsAs refusal.Memory r old new (reserved asked old)
-unfolding reserved
-reserved-by r old new asked total low area counted said is h =
-    subst (λ (n : ℕ). EndsAs refusal.Memory r old new (with_area (low_size asked) (area_for n asked) old)) counted
-    (subst (λ (n : ℕ). EndsAs refusal.Memory r old new (with_area n (area_for total asked) old)) said
-    (subst (λ (o : Option Area). EndsAs refusal.Memory r old new (with_area low o old)) is h))
-
-pub area-by : (r : Result Crash Refusal) (old new : List Item) (low : ℕ) (area : Area) (main : Option Extent)
-    → main ≡ main_range area.size area.spot old → EndsAs refusal.Memory r old new (with_main area low main old)
-    → EndsAs refusal.Memory r old new (with_area low (Some area) old)
-area-by r old new low area main found h =
-    subst (λ (o : Option Extent). EndsAs refusal.Memory r old new (with_main area low o old)) found h
+low-at items main size low found = rw found refl
 
 -- behind the claim of the area
 pub main-then : (r : Result Crash Refusal) (old mid new : List Item) (low : ℕ) (area : Area) (main : Extent) (b : Bool)
@@ -73,10 +53,9 @@ pub main-then : (r : Result Crash Refusal) (old mid new : List Item) (low : ℕ)
     → EndsAs refusal.Memory r mid new ((if b then low_part main low else returns (crash.At main None)) mid)
     → EndsAs refusal.Memory r old new (with_main area low (Some main) old)
 main-then r old mid new low area main b is claim h =
-    let next : Bool → Unit {0} → Doing Refusal Crash = λ t done. if t then low_part main low else returns (crash.At main None) in
-    subst (λ (t : Bool). EndsAs refusal.Memory r old new ((changes (claimed main owner.Crash) >>= next t) old)) is
-    (ends-second tt r refusal.Memory old mid new (changes (claimed main owner.Crash)) (next b)
-    (ends-change (Ok tt) old mid (claimed main owner.Crash) claim) h)
+    ends-second tt r refusal.Memory old mid new (changes (claimed main owner.Crash))
+    (λ done. if needs_low main low then low_part main low else returns (crash.At main None))
+    (ends-change (Ok tt) old mid (claimed main owner.Crash) claim) (rw is at h)
 
 pub main-fails : (e : Refusal) (old new : List Item) (low : ℕ) (area : Area) (main : Extent)
     → Ends {T = Unit {0}} (Err e) old new (claimed main owner.Crash)
@@ -94,21 +73,20 @@ claimed-away kernel r items new who placed away ends =
     let still : IsAway kernel r t =
     away-still kernel r items t (room-going kernel r (new_in which.Reserved r) items placed).aside away in
     let is : new ≡ t ++ one = ends.1 ∙ claimed-after items r who ends.0 in
-    subst (IsAway kernel r) (sym is) (
-      subst (λ (e : Extent). Clear r e) (sym (live-same which.Memory kernel t (t ++ one) (moves-of which.Memory t one)
-          (rooms-of which.Memory t one))) still.0,
-      subst (λ (e : Extent). Clear r e) (sym (live-same which.Reserved kernel t (t ++ one) (moves-of which.Reserved t one)
-          (rooms-of which.Reserved t one))) still.1,
-    )
+    let clear : (w : Which) → Clear r (live w kernel t) → Clear r (live w kernel (t ++ one)) = λ w.
+    subst (Clear r) (sym (live-same w kernel t (t ++ one) (moves-of w t one) (rooms-of w t one))) in
+    rw is (clear which.Memory still.0, clear which.Reserved still.1)
 
--- the stage as it goes on from the total, the size of a low part, the area and the place that was found
-pub reserved-at : (items : List Item) (asked : Asked) (total low : ℕ) (area : Option Area) → total ≡ memory_bytes (memory_of items)
-    → low ≡ low_size asked → area ≡ area_for total asked → reserved asked items ≡ with_area low area items
+-- the stage as it goes on from the total, the area and the place that was found
+pub area-at : (items : List Item) (asked : Asked) (total : ℕ) (area : Option Area) → total ≡ memory_bytes (memory_of items)
+    → area ≡ area_for total asked → reserved asked items ≡ with_area (low_size asked) area items
 unfolding reserved
-reserved-at items asked total low area counted said is =
-    ap (λ (n : ℕ). with_area (low_size asked) (area_for n asked) items) (sym counted)
-    ∙ ap (λ (n : ℕ). with_area n (area_for total asked) items) (sym said)
-    ∙ ap (λ (o : Option Area). with_area low o items) (sym is)
+area-at items asked total area counted is = rw (is, counted) refl
+
+pub main-at : (items : List Item) (asked : Asked) (total : ℕ) (area : Area) (main : Option Extent) → total ≡ memory_bytes (memory_of items)
+    → Some area ≡ area_for total asked → main ≡ main_range area.size area.spot items
+    → reserved asked items ≡ with_main area (low_size asked) main items
+main-at items asked total area main counted is found = rw (area-at items asked total (Some area) counted is, found) refl
 
 -- an answer behind no step is the one that is told
 pub idle-ok : (a told : Crash) (old new : List Item) (d : Done Refusal Crash) → EndsAs refusal.Memory (Ok a) old new d
@@ -128,11 +106,7 @@ writes : (told : Crash) (items : List Item) (first : Outcome) (refused : Option 
 writes told items first None i next same = λ is.
     some-step first.steps (next tt).steps (i ∷ []) (ap (λ (t : Done Refusal Crash). t.steps) is)
 writes told items first (Some r) i next same = λ is.
-    let answer : (going_on first.steps (refusal_of first.refused) next).answer ≡ Ok told =
-    ap (λ (t : Done Refusal Crash). t.answer) is in
-    let none : ◌≡◌ {A = Result Crash Refusal} (Err (refusal.NoGapForTable r.which r.room)) (Ok told) =
-    subst (λ (o : Option Refused). (going_on first.steps (refusal_of o) next).answer ≡ Ok told) same answer in
-    cc
+    let none = rw same at (ap (λ (t : Done Refusal Crash). t.answer) is) in cc none
 
 -- so a claim is no answer behind no step
 claim-writes : (told : Crash) (items : List Item) (range : Extent) (who : Owner) (next : Unit {0} → Doing Refusal Crash)
@@ -143,11 +117,7 @@ claim-writes told items range who next =
     writes told items first first.refused (item.Claim range who) (λ done. next done (after items (changes (claimed range who) items))) refl
 
 -- where the area has a place it is claimed
-pub claims : (told : Crash) (items : List Item) (asked : Asked) (total low : ℕ) (area : Area) (main : Extent)
-    → total ≡ memory_bytes (memory_of items) → low ≡ low_size asked → Some area ≡ area_for total asked
-    → Some main ≡ main_range area.size area.spot items → reserved asked items ≢ returns told items
-claims told items asked total low area main counted said is found = λ idle.
-    let at : with_area low (Some area) items ≡ with_main area low (Some main) items =
-    ap (λ (o : Option Extent). with_main area low o items) (sym found) in
+pub claims : (told : Crash) (items : List Item) (area : Area) (low : ℕ) (main : Extent)
+    → with_main area low (Some main) items ≢ returns told items
+claims told items area low main =
     claim-writes told items main owner.Crash (λ done. if needs_low main low then low_part main low else returns (crash.At main None))
-    (sym at ∙ sym (reserved-at items asked total low (Some area) counted said is) ∙ idle)

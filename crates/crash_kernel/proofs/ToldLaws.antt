@@ -1,8 +1,8 @@
 -- An area that the stage tells was free, and it has a low part exactly where it needs one.
 use Rattle.std.proofs.Common.{◌≡◌, ◌⊎◌, inl, inr, ℕ, ◌+◌, ◌%◌, ◌^◌, ◌≤◌, ◌==◌, Bool, true, false, ◌&&◌, nat_lt, is_some, if◌then◌else◌, Option, Some, None, List, [], Result, Ok, refl, sym, ◌∙◌, ap, subst, arith}
-use Rattle.std.proofs.lemmas.Bool.{true≢false}
+use Rattle.std.proofs.lemmas.Bool.{true≢false, and_parts}
 use Rattle.std.proofs.lemmas.Bool.Decides.{nat_tests}
-use Rattle.std.proofs.lemmas.Option.{same_Some}
+use Rattle.std.proofs.lemmas.Option.{none-some, same_Some}
 use Rattle.std.specs.Option.{option_map, option_or}
 use Rattle.bm_base.specs.Extent.{Extent, covers, end_of}
 use Rattle.memblock_model.specs.declared.which.Which.TheVariants as which
@@ -58,19 +58,17 @@ record IsFound (items : List Item) (size hi : ℕ) (r : Extent) : Type 0 where
 
 best_by : (items : List Item) (size lo hi : ℕ) (found : Option ℕ) (r : Extent) → best items (area_query size 0x1000000 lo hi) ≡ found
     → option_map (λ (base : ℕ). let e : Extent = record { base = base; size = size } in e) found ≡ Some r → IsFound items size hi r
-best_by items size lo hi None r was is = let clash : None ≡ Some r = is in cc
+best_by items size lo hi None r was is = absurd (none-some r is)
 best_by items size lo hi (Some place) r was is =
     let known = found-fits items (area_query size 0x1000000 lo hi) place was in
     let here : Extent = record { base = place; size = size } in
-    let multiple : place % 0x1000000 ≡ 0 = known.aligned in
-    let ends : place + size ≤ hi = known.high in
     let found : IsFound items size hi here = record {
       free = place_free items (area_query size 0x1000000 lo hi) place known;
       sized = refl;
-      aligned = omega arith;
-      within = ends;
+      aligned = omega (arith, known.aligned);
+      within = known.high;
     } in
-    subst (IsFound items size hi) (same_Some here r is) found
+    rw (← same_Some here r is) found
 
 best_found : (items : List Item) (size lo hi : ℕ) (r : Extent) → best_range size lo hi items ≡ Some r → IsFound items size hi r
 best_found items size lo hi r is = best_by items size lo hi (best items (area_query size 0x1000000 lo hi)) r refl is
@@ -89,21 +87,21 @@ record IsMain (items : List Item) (size : ℕ) (r : Extent) : Type 0 where
   sized : r.size ≡ size
   aligned : r.base % 0x100000 ≡ 0
 
-fixed_by : (items : List Item) (size base : ℕ) (multiple small fit : Bool) (r : Extent) → (base % 0x100000 == 0) ≡ multiple
-    → fits items (area_query size 1 base (base + size)) false base ≡ fit
-    → (if multiple && small && fit then Some (let e : Extent = record { base = base; size = size } in e) else None) ≡ Some r
-    → IsMain items size r
-fixed_by items size base true true true r multiple fit is =
+fixed_by : (items : List Item) (size base : ℕ) (b : Bool) (r : Extent)
+    → ((base % 0x100000 == 0) && nat_lt (base + size) (2 ^ 64) && fits items (area_query size 1 base (base + size)) false base) ≡ b
+    → (if b then Some (let e : Extent = record { base = base; size = size } in e) else None) ≡ Some r → IsMain items size r
+fixed_by items size base true r passed is =
+    let fit = fits items (area_query size 1 base (base + size)) false base in
+    let parts = and_parts ((base % 0x100000 == 0) && nat_lt (base + size) (2 ^ 64)) fit passed in
+    let multiple = (and_parts (base % 0x100000 == 0) (nat_lt (base + size) (2 ^ 64)) parts.0).0 in
     let here : Extent = record { base = base; size = size } in
     let found : IsMain items size here = record {
-      free = fits_free items size base fit;
+      free = fits_free items size base parts.1;
       sized = refl;
       aligned = grind (arith, nat_tests, multiple);
     } in
-    subst (IsMain items size) (same_Some here r is) found
-fixed_by items size base true true false r multiple fit is = let clash : None ≡ Some r = is in cc
-fixed_by items size base true false fits_there r multiple fit is = let clash : None ≡ Some r = is in cc
-fixed_by items size base false small fits_there r multiple fit is = let clash : None ≡ Some r = is in cc
+    rw (← same_Some here r is) found
+fixed_by items size base false r passed is = absurd (none-some r is)
 
 or_cases : (a b : Option Extent) (r : Extent) → option_or a b ≡ Some r → (a ≡ Some r) ⊎ (b ≡ Some r)
 or_cases None b r h = inr h
@@ -117,8 +115,8 @@ best_main items size lo hi r is =
 main_found : (items : List Item) (size : ℕ) (where_to : Spot) (r : Extent) → main_range size where_to items ≡ Some r → IsMain items size r
 unfolding main_range
 main_found items size (spot.Fixed base) r is =
-    fixed_by items size base (base % 0x100000 == 0) (nat_lt (base + size) (2 ^ 64))
-    (fits items (area_query size 1 base (base + size)) false base) r refl refl is
+    fixed_by items size base
+    ((base % 0x100000 == 0) && nat_lt (base + size) (2 ^ 64) && fits items (area_query size 1 base (base + size)) false base) r refl is
 main_found items size spot.Automatic r is =
     elim (or_cases (best_range size 0x1000000 (2 ^ 32) items) (high_range size items) r is) as (λ _. IsMain items size r) [
       | inl low ↦ best_main items size 0x1000000 (2 ^ 32) r low
