@@ -27,17 +27,13 @@ spread_over : spread 0x1000 0x4000000 (section 4 1 ∷ section 5 1 ∷ section 9
     ∷ []
 spread_over = refl
 
-usage_of_three : usage_request 3 1 ≡ record { size = 120; align = 64; min = 0; max = None; node = Some 1; exact = false }
-usage_of_three = refl
-
--- the maps of a group are wanted of the node itself, that of one section from elsewhere too
-maps_of_three : map_request 3 1 true
-    ≡ record { size = 0x600000; align = 0x200000; min = 0x1000000; max = None; node = Some 1; exact = true }
-maps_of_three = refl
-
-map_of_one : map_request 1 1 false
-    ≡ record { size = 0x200000; align = 0x200000; min = 0x1000000; max = None; node = Some 1; exact = false }
-map_of_one = refl
+-- 40 bytes of usage data each; the maps of a group are wanted of the node itself, that of one section from elsewhere too
+request_examples : (usage_request 3 1 ≡ record { size = 120; align = 64; min = 0; max = None; node = Some 1; exact = false })
+    × (map_request 3 1 true
+    ≡ record { size = 0x600000; align = 0x200000; min = 0x1000000; max = None; node = Some 1; exact = true })
+    × (map_request 1 1 false
+    ≡ record { size = 0x200000; align = 0x200000; min = 0x1000000; max = None; node = Some 1; exact = false })
+request_examples = (refl, refl, refl)
 
 no_sections : (map_each 0x1000 [] [] [] ≡ returns [] []) × (maps [] [] ≡ listed (λ items. []) [])
 unfolding maps

@@ -1,9 +1,8 @@
 -- One map after another, and all maps of a group: as what is left ends, so does all.
-use Rattle.std.proofs.Common.{◌≡◌, ℕ, ◌+◌, ◌*◌, ◌<◌, ◌≤◌, true, false, List, [], ◌∷◌, ◌++◌, length, take, drop, get_or, Result, Ok, Err, refl, sym, ◌∙◌, ap, subst, add-one, drop-cons, append_assoc, arith}
-use Rattle.std.proofs.lemmas.List.{drop_all, take_more, length-take-le}
+use Rattle.std.proofs.Common.{◌≡◌, ◌≢◌, ℕ, ◌+◌, ◌*◌, ◌<◌, ◌≤◌, true, false, List, [], ◌∷◌, ◌++◌, length, take, drop, get_or, Result, Ok, Err, refl, append_assoc, arith}
+use Rattle.std.proofs.lemmas.List.{drop_all, drop_more, take_more, length-take-le}
 use Rattle.memblock_model.specs.declared.item.Item.{Item}
 use Rattle.memblock_model.specs.declared.owner.Owner.TheVariants as owner
-use Rattle.memblock_model.specs.declared.which.Which.{Which}
 use Rattle.growth_model.specs.declared.refusal.Refusal.{Refusal}
 use Rattle.growth_model.specs.declared.refusal.Refusal.TheVariants as refusal
 use Rattle.memblock_model.specs.declared.request.Request.{Request}
@@ -13,8 +12,8 @@ use Rattle.memblock_grow.specs.declared.section.Section.{Section}
 use Rattle.memblock_grow.specs.declared.stop.What.TheVariants as what
 use Rattle.memblock_grow.specs.declared.stop.StageStop.{StageStop}
 use Rattle.memblock_grow.specs.declared.stop.StageStop.TheVariants as stop
-use Rattle.stage_model.specs.Doing.{EndsAs, returns}
-use Rattle.stage_model.specs.Requests.{allocated, placed, or_else}
+use Rattle.stage_model.specs.Doing.{Doing, EndsAs, returns}
+use Rattle.stage_model.specs.Requests.{allocated, placed, or_else, stop_for}
 use Rattle.stage_model.proofs.DoingLaws.{ends-second, ends-first, ends-returns}
 use Rattle.stage_model.proofs.RequestLaws.{ends-allocation, else-first, else-table, else-wanting, else-second}
 use Rattle.section_maps.specs.declared.placed.Placed.{Placed}
@@ -31,29 +30,21 @@ placed_at usage map s = record { section = s.number; node = s.node; map = map; u
 spread-push : (usage map : ℕ) (ss : List Section) (s : Section)
     → spread usage map (ss ++ s ∷ []) ≡ spread usage map ss ++ placed_at (usage + 40 * length ss) (map + 0x200000 * length ss) s ∷ []
 spread-push usage map [] s =
-    let u : usage ≡ usage + 40 * 0 = omega arith in
-    let m : map ≡ map + 0x200000 * 0 = omega arith in
-    ap (λ (a : ℕ). placed_at a map s ∷ []) u ∙ ap (λ (b : ℕ). placed_at (usage + 40 * 0) b s ∷ []) m
+    let u : usage + 40 * 0 ≡ usage = omega arith in
+    let m : map + 0x200000 * 0 ≡ map = omega arith in
+    rw (u, m) refl
 spread-push usage map (t ∷ ts) s =
     let u : usage + 40 + 40 * length ts ≡ usage + 40 * length (t ∷ ts) = omega arith in
     let m : map + 0x200000 + 0x200000 * length ts ≡ map + 0x200000 * length (t ∷ ts) = omega arith in
-    let rest : List Placed → List Placed = λ ps. placed_at usage map t ∷ (spread (usage + 40) (map + 0x200000) ts ++ ps) in
-    ap (λ (ps : List Placed). placed_at usage map t ∷ ps) (spread-push (usage + 40) (map + 0x200000) ts s)
-    ∙ ap (λ (a : ℕ). rest (placed_at a (map + 0x200000 + 0x200000 * length ts) s ∷ [])) u
-    ∙ ap (λ (b : ℕ). rest (placed_at (usage + 40 * length (t ∷ ts)) b s ∷ [])) m
+    rw (spread-push (usage + 40) (map + 0x200000) ts s, u, m) refl
 
 pub spread-next : (usage map i : ℕ) (ss : List Section) (d : Section) (before now : List Placed) → i < length ss
     → now ≡ before ++ spread usage map (take i ss)
     → now ++ placed_at (usage + 40 * i) (map + 0x200000 * i) (get_or ss i d) ∷ [] ≡ before ++ spread usage map (take (i + 1) ss)
 spread-next usage map i ss d before now few so_far =
-    let s : Section = get_or ss i d in
     let long : length (take i ss) ≡ i = length-take-le i ss (omega arith) in
-    let one : ℕ → List Placed = λ n. placed_at (usage + 40 * n) (map + 0x200000 * n) s ∷ [] in
-    ap (λ (ps : List Placed). ps ++ one i) so_far
-    ∙ append_assoc before (spread usage map (take i ss)) (one i)
-    ∙ ap (λ (n : ℕ). before ++ (spread usage map (take i ss) ++ one n)) (sym long)
-    ∙ ap (λ (ps : List Placed). before ++ ps) (sym (spread-push usage map (take i ss) s))
-    ∙ ap (λ (ts : List Section). before ++ spread usage map ts) (sym (take_more ss i d few))
+    let more = rw long at (spread-push usage map (take i ss) (get_or ss i d)) in
+    rw (so_far, append_assoc, take_more ss i d few, more) refl
 
 -- the maps of sections, one by one
 pub record Goes (entry : List Item) (usage : ℕ) (first : List Placed) (sections : List Section) (now : List Item) (at : ℕ)
@@ -69,9 +60,7 @@ module _ (entry : List Item) (usage : ℕ) (first : List Placed) (sections : Lis
     (before : List Placed) where
   left-at : (i : ℕ) (d : Section) → i < length sections → Goes entry usage first sections now at before (drop i sections)
       → Goes entry usage first sections now at before (get_or sections i d ∷ drop (i + 1) sections)
-  left-at i d few goes =
-      subst (Goes entry usage first sections now at before)
-      (drop-cons sections i d few ∙ ap (λ (n : ℕ). get_or sections i d ∷ drop n sections) (sym (add-one i))) goes
+  left-at i d few goes = rw (drop_more sections i d few) at goes
 
   pub goes-next : (i : ℕ) (d : Section) (mid : List Item) (map : ℕ) (longer : List Placed) → i < length sections
       → Goes entry usage first sections now at before (drop i sections)
@@ -85,7 +74,7 @@ module _ (entry : List Item) (usage : ℕ) (first : List Placed) (sections : Lis
         ends = λ r new h. (left-at i d few goes).ends r new
             (ends-second map r stop.Memory now mid new (placed (what.Map s.number) (map_request 1 s.node false) (owner.Map s.number))
             (λ map. map_each (at + 40) (before ++ placed_at at map s ∷ []) (drop (i + 1) sections)) was
-            (subst (λ (ps : List Placed). EndsAs stop.Memory r mid new (map_each (at + 40) ps (drop (i + 1) sections) mid)) is h));
+            (rw is at h));
       }
 
   pub goes-stops : (e : StageStop) (i : ℕ) (d : Section) (new : List Item) → i < length sections
@@ -102,18 +91,18 @@ module _ (entry : List Item) (usage : ℕ) (first : List Placed) (sections : Lis
   pub goes-all : (i : ℕ) → length sections ≤ i → Goes entry usage first sections now at before (drop i sections)
       → EndsAs stop.Memory (Ok before) entry now (map_each usage first sections entry)
   goes-all i all goes =
-      let here : Goes entry usage first sections now at before [] =
-      subst (Goes entry usage first sections now at before) (drop_all i sections all) goes in
-      here.ends (Ok before) now (ends-returns before stop.Memory now)
+      let here = rw (drop_all i sections all) at goes in here.ends (Ok before) now (ends-returns before stop.Memory now)
 
 -- the maps of a group in one buffer, or one by one
+abbrev pub maps_in : ℕ → List Placed → Section → List Section → Doing StageStop (List Placed)
+maps_in usage before first sections =
+    or_else (what.Map first.number) (map_all usage before first sections) (map_each usage before sections)
+
 module _ (usage : ℕ) (before : List Placed) (first : Section) (sections : List Section) (q : Request) (old : List Item)
     (asked : q ≡ map_request (length sections) first.node true) where
   alloc-ends : (r : Result ℕ Refusal) (new : List Item) → Allocates r old new (place_for q old) q.size (owner.Map first.number)
       → EndsAs refusal.Memory r old new (allocated (map_request (length sections) first.node true) (owner.Map first.number) old)
-  alloc-ends r new h =
-      subst (λ (p : Request). EndsAs refusal.Memory r old new (allocated p (owner.Map first.number) old)) asked
-      (ends-allocation r old new q (owner.Map first.number) h)
+  alloc-ends r new h = rw asked at (ends-allocation r old new q (owner.Map first.number) h)
 
   buffer-fails : (e : Refusal) (new : List Item) → Allocates (Err e) old new (place_for q old) q.size (owner.Map first.number)
       → EndsAs {A = List Placed} refusal.Memory (Err e) old new (map_all usage before first sections old)
@@ -123,35 +112,28 @@ module _ (usage : ℕ) (before : List Placed) (first : Section) (sections : List
 
   pub buffer-placed : (map : ℕ) (now : List Placed) (new : List Item) → now ≡ before ++ spread usage map sections
       → Allocates (Ok map) old new (place_for q old) q.size (owner.Map first.number)
-      → EndsAs stop.Memory (Ok now) old new (or_else (what.Map first.number) (map_all usage before first sections)
-      (map_each usage before sections) old)
+      → EndsAs stop.Memory (Ok now) old new (maps_in usage before first sections old)
   buffer-placed map now new is h =
       else-first now (what.Map first.number) old new (map_all usage before first sections) (map_each usage before sections)
       (ends-second map (Ok now) refusal.Memory old new new
       (allocated (map_request (length sections) first.node true) (owner.Map first.number))
-      (λ map. returns (before ++ spread usage map sections)) (alloc-ends (Ok map) new h) (ap (λ (ps : List Placed). Ok ps) (sym is), refl))
+      (λ map. returns (before ++ spread usage map sections)) (alloc-ends (Ok map) new h) (rw is refl, refl))
 
-  pub buffer-table : (w : Which) (room : ℕ) (new : List Item)
-      → Allocates (Err (refusal.NoGapForTable w room)) old new (place_for q old) q.size (owner.Map first.number)
-      → EndsAs stop.Memory (Err (stop.NoTablePlace w room)) old new (or_else (what.Map first.number) (map_all usage before first sections)
-      (map_each usage before sections) old)
-  buffer-table w room new h =
+  pub buffer-stops : (e : Refusal) (new : List Item) → e ≢ refusal.NoGap
+      → Allocates (Err e) old new (place_for q old) q.size (owner.Map first.number)
+      → EndsAs stop.Memory (Err (stop_for (what.Map first.number) e)) old new (maps_in usage before first sections old)
+  buffer-stops refusal.NoGap new other h = absurd (other refl)
+  buffer-stops (refusal.NoGapForTable w room) new other h =
       else-table w room (what.Map first.number) old new (map_all usage before first sections) (map_each usage before sections)
       (buffer-fails (refusal.NoGapForTable w room) new h)
-
-  pub buffer-wanting : (new : List Item)
-      → Allocates (Err refusal.Memory) old new (place_for q old) q.size (owner.Map first.number)
-      → EndsAs stop.Memory (Err stop.Memory) old new (or_else (what.Map first.number) (map_all usage before first sections)
-      (map_each usage before sections) old)
-  buffer-wanting new h =
+  buffer-stops refusal.Memory new other h =
       else-wanting (what.Map first.number) old new (map_all usage before first sections) (map_each usage before sections)
       (buffer-fails refusal.Memory new h)
 
   pub buffer-each : (r : Result (List Placed) StageStop) (mid new : List Item)
       → Allocates (Err refusal.NoGap) old mid (place_for q old) q.size (owner.Map first.number)
       → EndsAs stop.Memory r mid new (map_each usage before sections mid)
-      → EndsAs stop.Memory r old new (or_else (what.Map first.number) (map_all usage before first sections)
-      (map_each usage before sections) old)
+      → EndsAs stop.Memory r old new (maps_in usage before first sections old)
   buffer-each r mid new h rest =
       else-second r (what.Map first.number) old mid new (map_all usage before first sections) (map_each usage before sections)
       (buffer-fails refusal.NoGap mid h) rest
@@ -159,23 +141,14 @@ module _ (usage : ℕ) (before : List Placed) (first : Section) (sections : List
 -- a group: its usage data, and longer its maps
 module _ (before : List Placed) (first : Section) (sections : List Section) (q : Request) (old : List Item)
     (asked : q ≡ usage_request (length sections) first.node) where
-  usage-ends : (r : Result ℕ StageStop) (new : List Item)
-      → EndsAs stop.Memory r old new (placed (what.Usage first.number) q (owner.Usage first.number) old)
-      → EndsAs stop.Memory r old new (placed (what.Usage first.number) (usage_request (length sections) first.node)
-      (owner.Usage first.number) old)
-  usage-ends r new h =
-      subst (λ (p : Request). EndsAs stop.Memory r old new (placed (what.Usage first.number) p (owner.Usage first.number) old)) asked h
-
   pub group-second : (r : Result (List Placed) StageStop) (usage : ℕ) (mid new : List Item)
       → EndsAs stop.Memory (Ok usage) old mid (placed (what.Usage first.number) q (owner.Usage first.number) old)
-      → EndsAs stop.Memory r mid new (or_else (what.Map first.number) (map_all usage before first sections)
-      (map_each usage before sections) mid)
+      → EndsAs stop.Memory r mid new (maps_in usage before first sections mid)
       → EndsAs stop.Memory r old new (group_placed before first sections old)
   group-second r usage mid new was h =
       ends-second usage r stop.Memory old mid new
       (placed (what.Usage first.number) (usage_request (length sections) first.node) (owner.Usage first.number))
-      (λ usage. or_else (what.Map first.number) (map_all usage before first sections) (map_each usage before sections))
-      (usage-ends (Ok usage) mid was) h
+      (λ usage. maps_in usage before first sections) (rw asked at was) h
 
   pub group-first : (e : StageStop) (new : List Item)
       → EndsAs {A = ℕ} stop.Memory (Err e) old new (placed (what.Usage first.number) q (owner.Usage first.number) old)
@@ -183,5 +156,4 @@ module _ (before : List Placed) (first : Section) (sections : List Section) (q :
   group-first e new h =
       ends-first e stop.Memory old new
       (placed (what.Usage first.number) (usage_request (length sections) first.node) (owner.Usage first.number))
-      (λ usage. or_else (what.Map first.number) (map_all usage before first sections) (map_each usage before sections))
-      (usage-ends (Err e) new h)
+      (λ usage. maps_in usage before first sections) (rw asked at h)

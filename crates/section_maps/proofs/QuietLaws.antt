@@ -5,8 +5,7 @@ use Rattle.memblock_model.specs.declared.item.Item.{Item}
 use Rattle.memblock_model.specs.Items.{memory_of, limit_of}
 use Rattle.memblock_grow.specs.declared.section.Section.{Section}
 use Rattle.memblock_grow.specs.declared.stop.What.TheVariants as what
-use Rattle.stage_model.specs.Doing.{after, returns, listed, in_turn}
-use Rattle.stage_model.specs.Requests.{allocated, placed, or_else}
+use Rattle.stage_model.specs.Doing.{after}
 use Rattle.stage_model.specs.Quiet.{IsQuietStep}
 use Rattle.stage_model.proofs.QuietLaws.{quiet-returns, quiet-listed, quiet-bind, quiet-turn, quiet-allocated, quiet-placed, quiet-else, quiet-appended_memory, quiet-appended_limit}
 use Rattle.section_maps.specs.declared.placed.Placed.{Placed}
@@ -15,33 +14,25 @@ use Rattle.section_maps.specs.Maps.{Group, sections_in, groups_of, usage_request
 quiet-each : (usage : ℕ) (before : List Placed) (sections : List Section) → IsQuietStep (map_each usage before sections)
 quiet-each usage before [] = quiet-returns before
 quiet-each usage before (s ∷ ss) =
-    quiet-bind (placed (what.Map s.number) (map_request 1 s.node false) (owner.Map s.number))
-    (λ map. map_each (usage + 40) (before ++ record { section = s.number; node = s.node; map = map; usage = usage } ∷ []) ss)
-    (quiet-placed (what.Map s.number) (map_request 1 s.node false) (owner.Map s.number))
+    quiet-bind _ _ (quiet-placed (what.Map s.number) (map_request 1 s.node false) (owner.Map s.number))
     (λ map. quiet-each (usage + 40) (before ++ record { section = s.number; node = s.node; map = map; usage = usage } ∷ []) ss)
 
 quiet-all : (usage : ℕ) (before : List Placed) (first : Section) (sections : List Section)
     → IsQuietStep (map_all usage before first sections)
 quiet-all usage before first sections =
-    quiet-bind (allocated (map_request (length sections) first.node true) (owner.Map first.number))
-    (λ map. returns (before ++ spread usage map sections))
-    (quiet-allocated (map_request (length sections) first.node true) (owner.Map first.number))
+    quiet-bind _ _ (quiet-allocated (map_request (length sections) first.node true) (owner.Map first.number))
     (λ map. quiet-returns (before ++ spread usage map sections))
 
 quiet-group : (before : List Placed) (g : Group) → IsQuietStep (map_group before g)
 quiet-group before g =
     let ss = sections_in g in
-    quiet-bind (placed (what.Usage g.first.number) (usage_request (length ss) g.first.node) (owner.Usage g.first.number))
-    (λ usage. or_else (what.Map g.first.number) (map_all usage before g.first ss) (map_each usage before ss))
-    (quiet-placed (what.Usage g.first.number) (usage_request (length ss) g.first.node) (owner.Usage g.first.number))
-    (λ usage. quiet-else (what.Map g.first.number) (map_all usage before g.first ss) (map_each usage before ss)
-    (quiet-all usage before g.first ss) (quiet-each usage before ss))
+    quiet-bind _ _ (quiet-placed (what.Usage g.first.number) (usage_request (length ss) g.first.node) (owner.Usage g.first.number))
+    (λ usage. quiet-else (what.Map g.first.number) _ _ (quiet-all usage before g.first ss) (quiet-each usage before ss))
 
 pub quiet-maps : (sections : List Section) → IsQuietStep (maps sections)
 unfolding maps
 quiet-maps sections =
-    quiet-bind (listed (λ items. [])) (λ none. in_turn map_group none (groups_of sections)) (quiet-listed (λ items. []))
-    (λ none. quiet-turn map_group quiet-group none (groups_of sections))
+    quiet-bind _ _ (quiet-listed (λ items. [])) (λ none. quiet-turn map_group quiet-group none (groups_of sections))
 
 pub maps-memory : (sections : List Section) (items : List Item) → memory_of (after items (maps sections items)) ≡ memory_of items
 maps-memory sections items = quiet-appended_memory items (maps sections items).steps ((quiet-maps sections).each items)

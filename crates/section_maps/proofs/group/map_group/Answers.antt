@@ -1,9 +1,10 @@
 -- The maps in one buffer, or one by one.
 use Rattle.std.proofs.Common.{ap}
 use Rattle.memblock_model.specs.declared.request.Request.{Request}
+use Rattle.growth_model.specs.declared.refusal.Refusal.TheVariants as refusal
 use Rattle.stage_model.specs.Doing.{ok_as}
 use Rattle.stage_model.proofs.LentLaws.{goes-then}
-use Rattle.section_maps.proofs.MapLaws.{buffer-placed, buffer-table, buffer-wanting, buffer-each}
+use Rattle.section_maps.proofs.MapLaws.{buffer-placed, buffer-stops, buffer-each}
 use Rattle.section_maps.proofs.group.map_group.Goals as goal
 
 pub alloc-requires-clause-aligned : goal.alloc-requires-clause-aligned
@@ -30,12 +31,13 @@ returns-in-Err-NoGap-clause-lent c =
 
 pub returns-in-Err-NoGapForTable-clause-ends : goal.returns-in-Err-NoGapForTable-clause-ends
 returns-in-Err-NoGapForTable-clause-ends c =
-    buffer-table c.args.usage c.args.placed.now.items c.args.first.now c.args.sections.now c.map_request-request.result
-    c.args.memblock.now.journal.items c.map_request-request.ensures c.in-Err-NoGapForTable.which c.in-Err-NoGapForTable.room
-    c.alloc.new.self.journal.items (rw c.in-Err-NoGapForTable.field-0-is at c.in-Err-NoGapForTable.ensures.ends)
+    buffer-stops c.args.usage c.args.placed.now.items c.args.first.now c.args.sections.now c.map_request-request.result
+    c.args.memblock.now.journal.items c.map_request-request.ensures
+    (refusal.NoGapForTable c.in-Err-NoGapForTable.which c.in-Err-NoGapForTable.room) c.alloc.new.self.journal.items (λ same. cc)
+    (rw c.in-Err-NoGapForTable.field-0-is at c.in-Err-NoGapForTable.ensures.ends)
 
 pub returns-in-Err-Memory-clause-ends : goal.returns-in-Err-Memory-clause-ends
 returns-in-Err-Memory-clause-ends c =
-    buffer-wanting c.args.usage c.args.placed.now.items c.args.first.now c.args.sections.now c.map_request-request.result
-    c.args.memblock.now.journal.items c.map_request-request.ensures c.alloc.new.self.journal.items
+    buffer-stops c.args.usage c.args.placed.now.items c.args.first.now c.args.sections.now c.map_request-request.result
+    c.args.memblock.now.journal.items c.map_request-request.ensures refusal.Memory c.alloc.new.self.journal.items (λ same. cc)
     (rw c.in-Err-Memory.field-0-is at c.in-Err-Memory.ensures.ends)

@@ -1,16 +1,13 @@
 -- The sections of the first one's node are the next group.
-use Rattle.std.proofs.Common.{◌≡◌, ℕ, ◌≤◌, List, Ok, Err, length, take, get_or, refl, sym, subst, arith}
+use Rattle.std.proofs.Common.{◌≡◌, Ok, length, take, get_or, arith}
 use Rattle.std.proofs.lemmas.List.Sums.{prefix_len-le-length}
 use Rattle.std.proofs.lemmas.Result.{err_from_is_err_and}
-use Rattle.memblock_grow.specs.declared.section.Section.{Section}
 use Rattle.memblock_grow.specs.declared.stop.StageStop.TheVariants as stop
-use Rattle.stage_model.specs.Doing.{EndsAs}
 use Rattle.stage_model.proofs.DoingLaws.{ends-begun}
 use Rattle.stage_model.proofs.LentLaws.{goes-then}
-use Rattle.section_maps.specs.declared.placed.Placed.{Placed}
 use Rattle.section_maps.specs.Maps.{group_placed}
 use Rattle.section_maps.proofs.MapLaws.{no_section}
-use Rattle.section_maps.proofs.GroupLaws.{Goes, is_of, goes-first, goes-next, goes-stops, goes-all, maps-wanting}
+use Rattle.section_maps.proofs.GroupLaws.{is_of, own_part, goes-first, goes-next, goes-stops, goes-all, maps-wanting}
 use Rattle.section_maps.proofs.maps.place_maps.Goals as goal
 
 pub loop-rest-init : goal.loop-rest-init
@@ -30,24 +27,14 @@ returns-in_err-placed-clause-ends c =
 pub split_at-requires : goal.split_at-requires
 split_at-requires c =
     let rest = c.loop-rest.rest.now in
-    let n : c.count_same.result ≤ length rest =
-    subst (λ (n : ℕ). n ≤ length rest) (sym c.count_same.ensures)
-    (prefix_len-le-length (is_of (get_or rest 0 no_section).node) rest) in
-    n
+    rw c.count_same.ensures (prefix_len-le-length (is_of (get_or rest 0 no_section).node) rest)
 
 pub returns-in_err-place_group-clause-ends : goal.returns-in_err-place_group-clause-ends
 returns-in_err-place_group-clause-ends c =
-    let rest = c.loop-rest.rest.now in
-    let now = c.loop-rest.memblock.journal.items in
-    let new = c.place_group.new.memblock.journal.items in
-    let placed = c.loop-rest.placed.items in
     let p = err_from_is_err_and c.from_residual-in_err-place_group.result c.from_residual-in_err-place_group.ensures.1 in
-    let failed : EndsAs {A = List Placed} stop.Memory (Err c.in_err-place_group.field-0.0) now new
-    (group_placed placed (get_or rest 0 no_section) (take c.count_same.result rest) now) =
-    subst (λ (ts : List Section). EndsAs {A = List Placed} stop.Memory (Err c.in_err-place_group.field-0.0) now new
-    (group_placed placed (get_or rest 0 no_section) ts now)) c.split_at.ensures.front c.in_err-place_group.ensures.ends in
-    rw (p.1, p.2) (goes-stops c.in_err-place_group.field-0.0 c.args.memblock.now.journal.items c.args.sections.now now new placed rest
-    (get_or rest 0 no_section) no_section c.count_same.result c.in-len1-up.len_at_least refl c.count_same.ensures failed
+    rw (p.1, p.2) (goes-stops c.args.memblock.now.journal.items c.args.sections.now c.loop-rest.memblock.journal.items
+    c.loop-rest.placed.items c.in_err-place_group.field-0.0 c.place_group.new.memblock.journal.items c.loop-rest.rest.now no_section
+    c.in-len1-up.len_at_least (rw (c.split_at.ensures.front, c.count_same.ensures) at c.in_err-place_group.ensures.ends)
     c.loop-rest.invariant.goes)
 
 pub returns-in_err-place_group-clause-lent : goal.returns-in_err-place_group-clause-lent
@@ -57,30 +44,18 @@ returns-in_err-place_group-clause-lent c =
 
 pub loop-rest-preserved : goal.loop-rest-preserved
 loop-rest-preserved c =
-    let entry = c.args.memblock.now.journal.items in
-    let sections = c.args.sections.now in
     let rest = c.loop-rest.rest.now in
     let now = c.loop-rest.memblock.journal.items in
     let mid = c.place_group.new.memblock.journal.items in
-    let placed = c.loop-rest.placed.items in
     let longer = c.place_group.new.placed.items in
-    let first : Section = get_or rest 0 no_section in
-    let was : EndsAs stop.Memory (Ok longer) now mid (group_placed placed first (take c.count_same.result rest) now) =
-    subst (λ (ts : List Section). EndsAs stop.Memory (Ok longer) now mid (group_placed placed first ts now)) c.split_at.ensures.front
-    c.in_ok-place_group.ensures.ends in
+    let was = rw (c.split_at.ensures.front, c.count_same.ensures) at c.in_ok-place_group.ensures.ends in
     record {
-      goes = subst (Goes entry sections mid longer) (sym c.split_at.ensures.back)
-          (goes-next entry sections now mid placed longer rest first no_section c.count_same.result c.in-len1-up.len_at_least refl
-          c.count_same.ensures was c.loop-rest.invariant.goes);
-      few = let long = c.split_at.ensures.back_len in let most = c.loop-rest.invariant.few in omega (arith, long, most);
-      room =
-          let long = c.split_at.ensures.back_len in
-          let front = c.split_at.ensures.front_len in
-          let len = c.place_group.ensures.len in
-          let capacity = c.place_group.ensures.capacity in
-          let room = c.loop-rest.invariant.room in
-          omega (arith, long, front, len, capacity, room);
-      begun = ends-begun (Ok longer) stop.Memory now mid (group_placed placed first (take c.count_same.result rest) now)
+      goes = rw (c.split_at.ensures.back, c.count_same.ensures) (goes-next c.args.memblock.now.journal.items c.args.sections.now now
+          c.loop-rest.placed.items mid longer rest no_section c.in-len1-up.len_at_least was c.loop-rest.invariant.goes);
+      few = omega arith;
+      room = omega arith;
+      begun = ends-begun (Ok longer) stop.Memory now mid
+          (group_placed c.loop-rest.placed.items (get_or rest 0 no_section) (take (own_part no_section rest) rest) now)
           c.loop-rest.invariant.begun was;
       lent = goes-then c.args.memblock.now c.loop-rest.memblock c.place_group.new.memblock c.loop-rest.invariant.lent
           c.in_ok-place_group.ensures.lent;
