@@ -21,8 +21,8 @@ use Rattle.growth_model.specs.Outcome.{after as after_change}
 use Rattle.growth_model.proofs.QuietLaws.{memory_growth-quiet, quiet-grown}
 use Rattle.memblock_grow.specs.declared.stop.StageStop.{StageStop}
 use Rattle.memblock_grow.specs.declared.stop.What.TheVariants as what
-use Rattle.stage_model.specs.Doing.{Done, ◌>>=◌, after, appended, going_on, in_turn, returns, listed}
-use Rattle.stage_model.specs.Requests.{placed, refused_growth}
+use Rattle.stage_model.specs.Doing.{Done, ◌>>=◌, after, appended, going_on, in_turn, returns}
+use Rattle.stage_model.specs.Requests.{refused_growth}
 use Rattle.stage_model.specs.Quiet.{IsQuietStep}
 use Rattle.stage_model.proofs.DoingLaws.{appended-append}
 use Rattle.stage_model.proofs.QuietLaws.{quiet-appended_limit, quiet-appended_memory, quiet-bind, quiet-placed, quiet-returns, quiet-listed, quiet-turn}
@@ -104,18 +104,15 @@ given-limit b items =
 -- node data leaves memory alone
 quiet-data : (done : Unit {0}) (n : ℕ) → IsQuietStep (data_placed done n)
 quiet-data done n =
-    quiet-bind (placed (what.NodeData n) (node_data_request n) (owner.NodeData n)) (λ place. returns tt)
-    (quiet-placed (what.NodeData n) (node_data_request n) (owner.NodeData n)) (λ place. quiet-returns tt)
+    quiet-bind _ _ (quiet-placed (what.NodeData n) (node_data_request n) (owner.NodeData n)) (λ place. quiet-returns tt)
 
 quiet-with_data : (found : Judgement) (nodes : List ℕ) → IsQuietStep (with_data found nodes)
 quiet-with_data found nodes =
-    quiet-bind (in_turn data_placed tt nodes) (λ done. returns (noded_by found nodes)) (quiet-turn data_placed quiet-data tt nodes)
-    (λ done. quiet-returns (noded_by found nodes))
+    quiet-bind _ _ (quiet-turn data_placed quiet-data tt nodes) (λ done. quiet-returns (noded_by found nodes))
 
 quiet-behind : (found : Judgement) (done : Unit {0}) → IsQuietStep (behind found done)
 quiet-behind found done =
-    quiet-bind (listed (λ items. nodes_with_memory (memory_of items))) (λ nodes. with_data found nodes)
-    (quiet-listed (λ items. nodes_with_memory (memory_of items))) (λ nodes. quiet-with_data found nodes)
+    quiet-bind _ _ (quiet-listed (λ items. nodes_with_memory (memory_of items))) (quiet-with_data found)
 
 -- what quiet steps and nodes leave as it is, all of it leaves
 module _ {V : Type 0} (seen_of : List Item → V)
@@ -155,28 +152,23 @@ pub keeps-limit : (table : Option Affinity) (off : Bool) (items : List Item)
     → limit_of (after items (assigned table off items)) ≡ limit_of items
 keeps-limit table off items = keeps-all limit_of quiet-appended_limit given-limit table off items
 
--- where all ranges got their nodes, memory has them
-next-memory : (r : NumaBlock) (rs : List NumaBlock) (items : List Item) (d : Done StageStop (Unit {0}))
-    (answer : Result (Unit {0}) StageStop)
-    → (answer ≡ Ok tt → memory_of (after items d) ≡ relabelled (extent_of r) (with_node (Some r.value)) (memory_of items))
-    → ((in_turn given tt rs (after items d)).answer ≡ Ok tt
-    → memory_of (after (after items d) (in_turn given tt rs (after items d))) ≡ noded_all rs (memory_of (after items d)))
-    → (going_on d.steps answer (λ a. in_turn given a rs (after items d))).answer ≡ Ok tt
-    → memory_of (appended items (going_on d.steps answer (λ a. in_turn given a rs (after items d))).steps)
-    ≡ noded_all (r ∷ rs) (memory_of items)
-unfolding noded_all
-next-memory r rs items d (Ok a) first rest answered =
-    let last : List (List Item) = (in_turn given tt rs (after items d)).steps in
-    ap memory_of (appended-append items d.steps last) ∙ rest answered ∙ ap (noded_all rs) (first refl)
-next-memory r rs items d (Err e) first rest answered = absurd (cc)
+-- an answer of two steps tells that the first one answered
+went-on : {E A B : Type 0} (steps : List (List Item)) (answer : Result A E) (next : A → Done E B) (b : B)
+    → (going_on steps answer next).answer ≡ Ok b → (a : A) × (answer ≡ Ok a)
+went-on steps (Ok a) next b is = (a, refl)
+went-on steps (Err e) next b is = absurd (cc is)
 
+-- where all ranges got their nodes, memory has them
 turn-memory : (rs : List NumaBlock) (items : List Item) → (in_turn given tt rs items).answer ≡ Ok tt
     → memory_of (after items (in_turn given tt rs items)) ≡ noded_all rs (memory_of items)
 unfolding noded_all
 turn-memory [] items answered = refl
 turn-memory (r ∷ rs) items answered =
     let d : Done StageStop (Unit {0}) = given tt r items in
-    next-memory r rs items d d.answer (given-memory r items) (turn-memory rs (after items d)) answered
+    let next : Unit {0} → Done StageStop (Unit {0}) = λ a. in_turn given a rs (after items d) in
+    let first = went-on d.steps d.answer next tt answered in
+    rw first.1 (ap memory_of (appended-append items d.steps (next tt).steps) ∙ turn-memory rs (after items d) (rw first.1 at answered)
+    ∙ ap (noded_all rs) (given-memory r items first.1))
 
 -- what an answer of the stage tells: the memory behind it, and that the nodes are those that have memory
 pub record IsBehind (items : List Item) (found : Judgement) (new : List Item) (noded : Noded) : Type 0 where
@@ -185,30 +177,27 @@ pub record IsBehind (items : List Item) (found : Judgement) (new : List Item) (n
 
 data-nodes : (found : Judgement) (nodes : List ℕ) (items : List Item) (noded : Noded) → (with_data found nodes items).answer ≡ Ok noded
     → noded.with_memory ≡ nodes
-data-nodes found nodes items noded answered = by (in_turn data_placed tt nodes items).answer answered where
-  by : (answer : Result (Unit {0}) StageStop)
-      → (going_on (in_turn data_placed tt nodes items).steps answer
-      (λ a. returns {E = StageStop} (noded_by found nodes) (after items (in_turn data_placed tt nodes items)))).answer ≡ Ok noded
-      → noded.with_memory ≡ nodes
-  by (Ok a) is = let same : noded_by found nodes ≡ noded = cc in ap (λ (n : Noded). n.with_memory) (sym same)
-  by (Err e) is = absurd (cc)
+data-nodes found nodes items noded answered =
+    let d : Done StageStop (Unit {0}) = in_turn data_placed tt nodes items in
+    let first = went-on d.steps d.answer (λ a. returns (noded_by found nodes) (after items d)) noded answered in
+    let same : noded_by found nodes ≡ noded = cc (rw first.1 at answered) in
+    ap (λ (n : Noded). n.with_memory) (sym same)
 
-ended-by : (items : List Item) (found : Judgement) (noded : Noded) (d : Done StageStop (Unit {0})) (answer : Result (Unit {0}) StageStop)
-    → (answer ≡ Ok tt → memory_of (after items d) ≡ noded_all (ranges_given (limit_of items) found) (memory_of items))
-    → (going_on d.steps answer (λ a. behind found a (after items d))).answer ≡ Ok noded
-    → IsBehind items found (appended items (going_on d.steps answer (λ a. behind found a (after items d))).steps) noded
-ended-by items found noded d (Err e) first answered = absurd (cc)
-ended-by items found noded d (Ok a) first answered =
+ended-by : (items : List Item) (found : Judgement) (noded : Noded) (d : Done StageStop (Unit {0}))
+    → (d.answer ≡ Ok tt → memory_of (after items d) ≡ noded_all (ranges_given (limit_of items) found) (memory_of items))
+    → (going_on d.steps d.answer (λ a. behind found a (after items d))).answer ≡ Ok noded
+    → IsBehind items found (appended items (going_on d.steps d.answer (λ a. behind found a (after items d))).steps) noded
+ended-by items found noded d all answered =
     let mid : List Item = after items d in
     let last : Done StageStop Noded = behind found tt mid in
-    let whole : appended items (d.steps ++ last.steps) ≡ appended mid last.steps = appended-append items d.steps last.steps in
-    let still : memory_of (appended mid last.steps) ≡ memory_of mid =
-    quiet-appended_memory mid last.steps ((quiet-behind found tt).each mid) in
-    record {
-      memory = ap memory_of whole ∙ still ∙ first refl;
-      nodes = data-nodes found (nodes_with_memory (memory_of mid)) (mid ++ []) noded answered
-          ∙ ap nodes_with_memory (sym (ap memory_of whole ∙ still));
-    }
+    let first = went-on d.steps d.answer (λ a. behind found a mid) noded answered in
+    let still = ap memory_of (appended-append items d.steps last.steps)
+    ∙ quiet-appended_memory mid last.steps ((quiet-behind found tt).each mid) in
+    rw first.1 (record {
+      memory = still ∙ all first.1;
+      nodes = data-nodes found (nodes_with_memory (memory_of mid)) (mid ++ []) noded (rw first.1 at answered)
+          ∙ ap nodes_with_memory (sym still);
+    })
 
 pub behind-answer : (table : Option Affinity) (off : Bool) (items : List Item) (noded : Noded)
     → (assigned table off items).answer ≡ Ok noded
@@ -220,5 +209,5 @@ behind-answer table off items noded answered =
     let from : List Item → Done StageStop Noded = λ start. (in_turn given tt ranges >>= behind found) start in
     subst (λ (start : List Item). (from start).answer ≡ Ok noded → IsBehind items found (after start (from start)) noded)
     (sym (append-nil items))
-    (ended-by items found noded (in_turn given tt ranges items) (in_turn given tt ranges items).answer (turn-memory ranges items))
+    (ended-by items found noded (in_turn given tt ranges items) (turn-memory ranges items))
     answered

@@ -24,7 +24,7 @@ use Rattle.stage_model.specs.Noded.{AreOfFrames, IsNoded}
 use Rattle.numa_nodes.specs.Assigned.{Noded, assigned, ranges_given}
 use Rattle.numa_nodes.specs.Steps.{CanGetNodes}
 use Rattle.numa_nodes.proofs.AssignLaws.{ranges-cases}
-use Rattle.numa_nodes.proofs.MemoryLaws.{behind-answer, noded_all, relabelled-some}
+use Rattle.numa_nodes.proofs.MemoryLaws.{behind-answer, noded_all}
 
 -- a label with a node, where there is one to give
 abbrev relabel : Option ℕ → Option Label → Option Label
@@ -50,13 +50,6 @@ unfolding noded_all
 noded-append [] ss f = refl
 noded-append (r ∷ rs) ss f = noded-append rs ss (relabelled (extent_of r) (with_node (Some r.value)) f)
 
-all-some : (rs : List NumaBlock) (f : Labels) (x : ℕ) → is_some (noded_all rs f x) ≡ is_some (f x)
-unfolding noded_all
-all-some [] f x = refl
-all-some (r ∷ rs) f x =
-    all-some rs (relabelled (extent_of r) (with_node (Some r.value)) f) x
-    ∙ relabelled-some (extent_of r) (with_node (Some r.value)) f x
-
 -- where one of two gives a node, the label has that node
 abbrev labelled : Option ℕ → Option Label → Option Label
 labelled node o = option_map (with_node node) o
@@ -65,10 +58,8 @@ both-relabel : (a b : Option ℕ) (o : Option Label) → (is_some o ≡ true →
     → relabel b (relabel a o) ≡ labelled (option_or b a) o
 both-relabel (Some n) (Some m) None covered = refl
 both-relabel (Some n) (Some m) (Some l) covered = refl
-both-relabel None (Some m) None covered = refl
-both-relabel None (Some m) (Some l) covered = refl
-both-relabel (Some n) None None covered = refl
-both-relabel (Some n) None (Some l) covered = refl
+both-relabel None (Some m) o covered = refl
+both-relabel (Some n) None o covered = refl
 both-relabel None None None covered = refl
 both-relabel None None (Some l) covered = absurd (true≢false (sym (covered refl)))
 
@@ -84,50 +75,32 @@ value-small (r ∷ rs) x n can at = elim (cases_Bool (lies_in r x)) as (λ _. n 
 
 -- what is known of the labels g that memory f got: by these nodes
 record IsGiven (limit : ℕ) (f g : Labels) (nodes : ℕ → Option ℕ) : Type 0 where
-  given : (x : ℕ) → x < limit → g x ≡ labelled (nodes x) (f x)
+  given : (x : ℕ) → g x ≡ labelled (nodes x) (f x)
   small : (x n : ℕ) → nodes x ≡ Some n → n < 1024
-  whole : (x : ℕ) → x < limit → is_some (f x) ≡ true → is_some (nodes x) ≡ true
+  whole : (x : ℕ) → is_some (f x) ≡ true → is_some (nodes x) ≡ true
   frames : (x : ℕ) → x < limit → nodes x ≡ nodes (4096 * (x / 4096))
-  kept : (x : ℕ) → is_some (g x) ≡ is_some (f x)
 
-none-is : {X : Type 0} (o : Option X) → is_some o ≡ false → o ≡ None
-none-is None none = refl
-none-is (Some x) none = absurd (true≢false none)
-
-label-node : (n : Option ℕ) (o : Option Label) (label : Label) → labelled n o ≡ Some label → label.node ≡ n
+label-node : (n : Option ℕ) (o : Option Label) (label : Label) → labelled n o ≡ Some label → (is_some o ≡ true) × (label.node ≡ n)
 label-node n None label at = absurd (none-some label at)
-label-node n (Some l) label at = ap (λ (k : Label). k.node) (sym (same_Some (with_node n l) label at))
+label-node n (Some l) label at = (refl, ap (λ (k : Label). k.node) (sym (same_Some (with_node n l) label at)))
 
 -- so memory is noded
 is-noded : (limit : ℕ) (f g : Labels) (nodes : ℕ → Option ℕ) → IsGiven limit f g nodes → AreOfFrames f
     → NothingFrom limit f → IsNoded limit g
 is-noded limit f g nodes by frames within = record {
   frames = λ x. elim (cases_lt x limit) as (λ _. g x ≡ g (4096 * (x / 4096))) [
-    | inl near ↦
-        let below : 4096 * (x / 4096) < limit = omega (arith, near) in
-        by.given x near ∙ ap (λ (node : Option ℕ). labelled node (f x)) (by.frames x near)
-        ∙ ap (labelled (nodes (4096 * (x / 4096)))) (frames x)
-        ∙ sym (by.given (4096 * (x / 4096)) below)
-    | inr far ↦
-        let none : is_some (f x) ≡ false = ap is_some (within x far) in
-        none-is (g x) (by.kept x ∙ none)
-        ∙ sym (none-is (g (4096 * (x / 4096))) (by.kept (4096 * (x / 4096)) ∙ sym (ap is_some (frames x)) ∙ none))
+    | inl near ↦ rw (by.given x, by.frames x near, frames x) (sym (by.given (4096 * (x / 4096))))
+    | inr far ↦ rw (by.given x, by.given (4096 * (x / 4096)), ← frames x, within x far) refl
   ];
-  nodes = λ x label at. elim (cases_lt x limit) as (λ _. (node : ℕ) × (label.node ≡ Some node) × (node < 1024)) [
-    | inr far ↦ absurd (true≢false (sym (ap is_some at) ∙ by.kept x ∙ ap is_some (within x far)))
-    | inl near ↦ noded x label at near
-  ];
-  within = λ x far. none-is (g x) (by.kept x ∙ ap is_some (within x far));
+  nodes = λ x label at.
+      let known = label-node (nodes x) (f x) label (sym (by.given x) ∙ at) in
+      noded x label (nodes x) known.1 refl (by.whole x known.0);
+  within = λ x far. rw (within x far) at (by.given x);
 } where
-  noded_by : (x : ℕ) (label : Label) (o : Option ℕ) → label.node ≡ o → nodes x ≡ o → is_some o ≡ true
+  noded : (x : ℕ) (label : Label) (o : Option ℕ) → label.node ≡ o → nodes x ≡ o → is_some o ≡ true
       → (node : ℕ) × (label.node ≡ Some node) × (node < 1024)
-  noded_by x label None has at some = absurd (true≢false (sym some))
-  noded_by x label (Some n) has at some = (n, has, by.small x n at)
-
-  noded : (x : ℕ) (label : Label) → g x ≡ Some label → x < limit → (node : ℕ) × (label.node ≡ Some node) × (node < 1024)
-  noded x label at near =
-      let memory : is_some (f x) ≡ true = sym (by.kept x) ∙ ap is_some at in
-      noded_by x label (nodes x) (label-node (nodes x) (f x) label (sym (by.given x near) ∙ at)) refl (by.whole x near memory)
+  noded x label None has at some = absurd (true≢false (sym some))
+  noded x label (Some n) has at some = (n, has, by.small x n at)
 
 -- by a table that is used
 two-small : (a b : Option ℕ) (n : ℕ) → ((m : ℕ) → a ≡ Some m → m < 1024) → ((m : ℕ) → b ≡ Some m → m < 1024)
@@ -147,9 +120,9 @@ module _ (f : Labels) (off : Bool) (table : Option Affinity) where
   abbrev nodes_found : ℕ → Option ℕ
   nodes_found x = option_or (value_at found.rest x) (value_at found.joined x)
 
-  used-given : (limit : ℕ) → limit ≤ 2 ^ 64 → AreOfFrames (λ x. is_some (f x)) → found.why ≡ why.Used
+  used-given : (limit : ℕ) → limit ≤ 2 ^ 64 → NothingFrom limit f → AreOfFrames (λ x. is_some (f x)) → found.why ≡ why.Used
       → IsGiven limit f (noded_all (found.joined ++ found.rest) f) nodes_found
-  used-given limit reach frames used =
+  used-given limit reach within frames used =
       let memory : ℕ → Bool = λ x. is_some (f x) in
       let runs = given-runs memory off table in
       let can = given-small memory off table in
@@ -160,22 +133,23 @@ module _ (f : Labels) (off : Bool) (table : Option Affinity) where
       rw (drop-append_seam found.joined found.rest) at (All-drop Small (length found.joined) (found.joined ++ found.rest) can) in
       let in_frames : (x : ℕ) → memory x ≡ memory (frame_base x) = λ x.
       let base : 4096 * (x / 4096) ≡ x - x % 4096 = omega arith in frames x ∙ ap memory base in
-      let covers : (x : ℕ) → x < limit → is_some (f x) ≡ true
-      → (is_some (value_at found.joined x) || is_some (value_at found.rest x)) ≡ true =
-      λ x near some. given-covers memory off table x used some (omega (arith, near, reach)) in
+      let covers : (x : ℕ) → is_some (f x) ≡ true → (is_some (value_at found.joined x) || is_some (value_at found.rest x)) ≡ true =
+      λ x some. elim (cases_lt x limit) as (λ _. (is_some (value_at found.joined x) || is_some (value_at found.rest x)) ≡ true) [
+        | inl near ↦ given-covers memory off table x used some (omega (arith, near, reach))
+        | inr far ↦ absurd (true≢false (sym some ∙ ap is_some (within x far)))
+      ] in
       record {
-        given = λ x near.
+        given = λ x.
             rw noded-append (noded-runs found.rest (noded_all found.joined f) x runs.1)
             ∙ ap (relabel (value_at found.rest x)) (noded-runs found.joined f x runs.0)
-            ∙ both-relabel (value_at found.joined x) (value_at found.rest x) (f x) (covers x near);
+            ∙ both-relabel (value_at found.joined x) (value_at found.rest x) (f x) (covers x);
         small = λ x n at. two-small (value_at found.joined x) (value_at found.rest x) n
             (λ m has. value-small found.joined x m first has) (λ m has. value-small found.rest x m second has) at;
-        whole = λ x near some. two-some (value_at found.joined x) (value_at found.rest x) (covers x near some);
+        whole = λ x some. two-some (value_at found.joined x) (value_at found.rest x) (covers x some);
         frames = λ x near.
             let base : x - x % 4096 ≡ 4096 * (x / 4096) = omega arith in
             let same = rw base at (given-frames memory off table in_frames x (omega (arith, near, reach))) in
             rw (same.0, same.1) refl;
-        kept = λ x. all-some (found.joined ++ found.rest) f x;
       }
 
 -- and without one: all memory lies below the limit
@@ -183,7 +157,7 @@ below-given : (reach limit : ℕ) (f : Labels) → NothingFrom limit f
     → IsGiven reach f (noded_all (record { base = 0; size = limit; value = 0 } ∷ []) f) (λ x. Some 0)
 unfolding noded_all
 below-given reach limit f within = record {
-  given = λ x near. elim (cases_lt x limit) as (λ _. relabelled (record { base = 0; size = limit }) (with_node (Some 0)) f x
+  given = λ x. elim (cases_lt x limit) as (λ _. relabelled (record { base = 0; size = limit }) (with_node (Some 0)) f x
       ≡ labelled (Some 0) (f x)) [
         | inl below ↦
             let here : covers (record { base = 0; size = limit }) x ≡ true = grind (arith, nat_tests) in
@@ -193,9 +167,8 @@ below-given reach limit f within = record {
             rw (not_here, within x above) refl
       ];
   small = λ x n at. let same : 0 ≡ n = same_Some 0 n at in omega (arith, same);
-  whole = λ x near some. refl;
+  whole = λ x some. refl;
   frames = λ x near. refl;
-  kept = λ x. relabelled-some (record { base = 0; size = limit }) (with_node (Some 0)) f x;
 }
 
 -- by any judgement
@@ -206,7 +179,7 @@ given-noded reach limit f off table near frames within low =
     let below : List NumaBlock = record { base = 0; size = limit; value = 0 } ∷ [] in
     ranges-cases (λ rs. IsNoded reach (noded_all rs f)) j.why limit j
     (λ used. is-noded reach f (noded_all (j.joined ++ j.rest) f) (nodes_found f off table)
-    (used-given f off table reach near (λ x. ap is_some (frames x)) used) frames within)
+    (used-given f off table reach near within (λ x. ap is_some (frames x)) used) frames within)
     (is-noded reach f (noded_all below f) (λ x. Some 0) (below-given reach limit f low) frames within)
 
 pub answer-noded : (reach : ℕ) (table : Option Affinity) (off : Bool) (items : List Item) (noded : Noded)
