@@ -1,7 +1,8 @@
 -- The bytes that are memory, counted record by record.
-use Rattle.std.proofs.Common.{◌≡◌, ℕ, zero, suc, ◌+◌, ◌-◌, ◌^◌, ◌<◌, ◌≤◌, true, false, ◌||◌, min, is_some, Some, None, List, [], ◌∷◌, length, take, get_or, refl, ◌∙◌, ap, inl, inr, arith}
+use Rattle.std.proofs.Common.{◌≡◌, ℕ, zero, suc, ◌+◌, ◌-◌, ◌^◌, ◌<◌, ◌≤◌, true, false, ◌||◌, min, is_some, sum_by, List, [], ◌∷◌, length, take, get_or, refl, ◌∙◌, ap, inl, inr, arith}
 use Rattle.std.proofs.lemmas.Bool.{cases_Bool, cases_lt}
 use Rattle.std.proofs.lemmas.Bool.Decides.{nat_tests}
+use Rattle.std.proofs.lemmas.List.Sums.{sum_by-cons}
 use Rattle.address_runs.specs.Runs.{RunOf, run_end, lies_in, value_at, AreRuns}
 use Rattle.address_runs.specs.Edits.{NothingFrom}
 use Rattle.address_runs.specs.Sweep.{StartFrom}
@@ -19,8 +20,7 @@ use Rattle.crash_kernel.specs.Total.{memory_bytes}
 module _ {X : Type 0} where
   -- the sizes of all runs together
   abbrev pub sizes : List (RunOf X) → ℕ
-  sizes [] = 0
-  sizes (r ∷ rs) = r.size + sizes rs
+  sizes rs = sum_by (λ r. r.size) rs
 
   -- those of the runs before one come to its base at most
   sizes_below : (at i : ℕ) (rs : List (RunOf X)) (d : RunOf X) → StartFrom at rs → AreRuns rs → i < length rs
@@ -28,27 +28,15 @@ module _ {X : Type 0} where
   sizes_below at i [] d start runs lt = absurd (omega arith)
   sizes_below at zero (r ∷ rs) d start runs lt = let from : at ≤ r.base = start in omega arith
   sizes_below at (suc i) (r ∷ rs) d start runs lt =
-      let from : at ≤ r.base = start in
-      let rest : run_end r + sizes (take i rs) ≤ (get_or rs i d).base =
-      sizes_below (run_end r) i rs d (rest_from r rs runs) runs.2 (omega arith) in
-      omega arith
+      let rest = sizes_below (run_end r) i rs d (rest_from r rs runs) runs.2 (omega arith) in
+      omega (arith, start, rest, sum_by-cons (λ (s : RunOf X). s.size) r (take i rs))
 
   start_first : (rs : List (RunOf X)) → StartFrom 0 rs
   start_first [] = tt
   start_first (r ∷ rs) = omega arith
 
   pub sizes-before : (i : ℕ) (rs : List (RunOf X)) (d : RunOf X) → AreRuns rs → i < length rs → sizes (take i rs) ≤ (get_or rs i d).base
-  sizes-before i rs d runs lt = let from : 0 + sizes (take i rs) ≤ (get_or rs i d).base =
-      sizes_below 0 i rs d (start_first rs) runs lt in omega arith
-
-  -- one run more
-  pub sizes-next : (i : ℕ) (rs : List (RunOf X)) (d : RunOf X) → i < length rs
-      → sizes (take (suc i) rs) ≡ sizes (take i rs) + (get_or rs i d).size
-  sizes-next i [] d lt = absurd (omega arith)
-  sizes-next zero (r ∷ rs) d lt = omega arith
-  sizes-next (suc i) (r ∷ rs) d lt =
-      let rest : sizes (take (suc i) rs) ≡ sizes (take i rs) + (get_or rs i d).size = sizes-next i rs d (omega arith) in
-      omega arith
+  sizes-before i rs d runs lt = let from = sizes_below 0 i rs d (start_first rs) runs lt in omega (arith, from)
 
   -- runs below an address end there at most
   ends_by : (n : ℕ) (r : RunOf X) (rs : List (RunOf X)) → 0 < r.size → NothingFrom n (value_at (r ∷ rs)) → run_end r ≤ n
@@ -56,8 +44,7 @@ module _ {X : Type 0} where
     | inl past ↦
         let last : ℕ = run_end r - 1 in
         let lies : lies_in r last ≡ true = inside r last (omega arith) (omega arith) in
-        let clash : Some r.value ≡ None = (let at : value_at (r ∷ rs) last ≡ None = none last (omega arith) in rw lies at at) in
-        absurd (cc clash)
+        let clash = rw lies at (none last (omega arith)) in absurd (cc clash)
     | inr within ↦ within
   ]
 
@@ -81,14 +68,11 @@ module _ {X : Type 0} where
   sizes-count n [] runs none = count_none (λ x. false) n (λ i lt. refl)
   sizes-count n (r ∷ rs) runs none =
       let ends : run_end r ≤ n = ends_by n r rs runs.0 none in
-      let rest : count_below (λ x. is_some (value_at rs x)) n ≡ sizes rs = sizes-count n rs runs.2 (rest_by n r rs ends none) in
-      let both : count_below (λ x. is_some (value_at (r ∷ rs) x)) n ≡ count_below (λ x. lies_in r x || is_some (value_at rs x)) n =
-      count_same (λ x. is_some (value_at (r ∷ rs) x)) (λ x. lies_in r x || is_some (value_at rs x)) n (λ i lt. some_either r rs i) in
-      let either : count_below (λ x. lies_in r x || is_some (value_at rs x)) n
-      ≡ count_below (lies_in r) n + count_below (λ x. is_some (value_at rs x)) n =
-      count_either (lies_in r) (λ x. is_some (value_at rs x)) n (λ i lt lies. first_alone r rs i runs lies) in
+      let rest = sizes-count n rs runs.2 (rest_by n r rs ends none) in
       let first : count_below (lies_in r) n ≡ min (run_end r) n - r.base = count_interval r.base (run_end r) n in
-      both ∙ either ∙ omega (arith, rest, first, ends)
+      count_same (λ x. is_some (value_at (r ∷ rs) x)) (λ x. lies_in r x || is_some (value_at rs x)) n (λ i lt. some_either r rs i)
+      ∙ count_either (lies_in r) (λ x. is_some (value_at rs x)) n (λ i lt lies. first_alone r rs i runs lies)
+      ∙ omega (arith, rest, first, ends, sum_by-cons (λ (s : RunOf X). s.size) r rs)
 
 pub runs-bytes : (rs : List (RunOf Label)) → AreRuns rs → NothingFrom (2 ^ 64) (value_at rs) → memory_bytes (value_at rs) ≡ sizes rs
 unfolding memory_bytes
