@@ -7,7 +7,6 @@ use Rattle.growth_model.specs.declared.refusal.Refusal.{Refusal}
 use Rattle.growth_model.specs.declared.refusal.Refusal.TheVariants as refusal
 use Rattle.memblock_model.specs.declared.request.Request.{Request}
 use Rattle.growth_model.specs.Outcome.{Change}
-use Rattle.growth_model.specs.Growth.{claimed}
 use Rattle.growth_model.specs.Request.{place_for}
 use Rattle.growth_model.specs.Carried.{AreQuiet}
 use Rattle.growth_model.proofs.MemoryItemLaws.{quiet-append}
@@ -55,9 +54,7 @@ quiet-changes change quiet = record { each = quiet.each }
 pub quiet-claimed_at : (place : Option ℕ) (size : ℕ) (who : Owner) → IsQuietStep (claimed_at place size who)
 quiet-claimed_at None size who = quiet-stops refusal.NoGap
 quiet-claimed_at (Some place) size who =
-    quiet-bind (changes (claimed (record { base = place; size = size }) who)) (λ done. returns place)
-    (quiet-changes (claimed (record { base = place; size = size }) who) (claimed-quiet (record { base = place; size = size }) who))
-    (λ done. quiet-returns place)
+    quiet-bind _ _ (quiet-changes _ (claimed-quiet (record { base = place; size = size }) who)) (λ done. quiet-returns place)
 
 pub quiet-allocated : (q : Request) (who : Owner) → IsQuietStep (allocated q who)
 unfolding allocated
