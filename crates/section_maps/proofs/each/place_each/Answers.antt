@@ -32,9 +32,9 @@ loop-section-preserved c =
       goes = goes-next c.args.memblock.now.journal.items c.args.usage c.args.placed.now.items c.args.sections.now now c.loop-section.at
           c.loop-section.placed.items c.loop-section.section-index no_section mid c.in_ok-map.map c.put_placed.new.placed.items
           c.loop-section-test.true c.loop-section.invariant.goes c.in_ok-map.ensures.ends c.put_placed.ensures.placed;
-      usages = let so_far = c.loop-section.invariant.usages in omega (arith, so_far);
-      len = let one = c.put_placed.ensures.len in let so_long = c.loop-section.invariant.len in omega (arith, one, so_long);
-      capacity = let one = c.put_placed.ensures.capacity in let so_wide = c.loop-section.invariant.capacity in omega (arith, one, so_wide);
+      usages = omega arith;
+      len = omega arith;
+      capacity = omega arith;
       begun = ends-begun (Ok c.in_ok-map.map) stop.Memory now mid
           (placed (what.Map s.number) (map_request 1 s.node false) (owner.Map s.number) now) c.loop-section.invariant.begun
           c.in_ok-map.ensures.ends;

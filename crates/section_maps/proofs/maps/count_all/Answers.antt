@@ -8,13 +8,10 @@ at_index : (ss : List Section) → AllPairs (λ s t. s.number < t.number) ss →
     → i ≤ (get_or ss i d).number
 at_index ss ascend zero d within = omega arith
 at_index ss ascend (suc i) d within =
-    let low = at_index ss ascend i d (omega arith) in
-    let less = ascend i (suc i) d (omega arith) within in
-    omega (arith, low, less)
+    omega (arith, at_index ss ascend i d (omega arith), ascend i (suc i) d (omega arith) within)
 
 pub returns-clause-few : goal.returns-clause-few
 returns-clause-few c =
     let ss = c.args.sections.now in
     let last = at_index ss c.requires.ascend (length ss - 1) no_section (omega arith) in
-    let less = c.number_fits.ensures in
-    omega (arith, last, less)
+    omega (arith, last)

@@ -1,5 +1,5 @@
 -- The sections of the first one's node are the next group.
-use Rattle.std.proofs.Common.{◌≡◌, Ok, length, take, get_or, arith}
+use Rattle.std.proofs.Common.{Ok, take, get_or, arith}
 use Rattle.std.proofs.lemmas.List.Sums.{prefix_len-le-length}
 use Rattle.std.proofs.lemmas.Result.{err_from_is_err_and}
 use Rattle.memblock_grow.specs.declared.stop.StageStop.TheVariants as stop
@@ -14,7 +14,7 @@ pub loop-rest-init : goal.loop-rest-init
 loop-rest-init c = record {
   goes = goes-first c.args.memblock.now.journal.items c.args.sections.now c.in_ok-placed.placed.items c.in_ok-placed.ensures.empty;
   few = c.count_all.ensures.few;
-  room = let room = c.in_ok-placed.ensures.room in let count = c.count_all.ensures.count in omega (arith, room, count);
+  room = omega (arith, c.in_ok-placed.ensures.room);
   begun = c.requires.begun;
   lent = c.stand_still.ensures;
 }
@@ -63,6 +63,5 @@ loop-rest-preserved c =
 
 pub returns-clause-ends : goal.returns-clause-ends
 returns-clause-ends c =
-    let none : length c.loop-rest.rest.now ≡ 0 = let less = c.in_default.len_below in omega (arith, less) in
     goes-all c.args.memblock.now.journal.items c.args.sections.now c.loop-rest.memblock.journal.items c.loop-rest.placed.items
-    c.loop-rest.rest.now none c.loop-rest.invariant.goes
+    c.loop-rest.rest.now (omega arith) c.loop-rest.invariant.goes
