@@ -98,18 +98,11 @@ module _ (old mid : List Item) (found : Judgement)
       by-data (Err e) new
       (ends-first e stop.Memory mid new (in_turn data_placed tt (nodes_in mid)) (λ done. returns (noded_by found (nodes_in mid))) placed)
 
-pub by-judgement : (r : Result Noded StageStop) (old new : List Item) (found : Judgement) (table : Option Affinity) (off : Bool)
-    → found ≡ judged (is_memory old) off table → EndsAs stop.Memory r old new (assigned_by found old)
-    → EndsAs stop.Memory r old new (assigned table off old)
+-- the stage by its judgement
+pub assigned-is : (table : Option Affinity) (off : Bool) (items : List Item)
+    → assigned table off items ≡ assigned_by (judged (is_memory items) off table) items
 unfolding assigned
-by-judgement r old new found table off is was =
-    subst (λ (f : Judgement). EndsAs stop.Memory r old new (assigned_by f old)) is was
-
-pub all-wanting : (items : List Item) (table : Option Affinity) (off : Bool)
-    → EndsAs {A = Noded} stop.Memory (Err stop.Memory) items items (assigned table off items)
-all-wanting items table off =
-    by-judgement (Err stop.Memory) items items (judged (is_memory items) off table) table off refl
-    (by-wanting items (judged (is_memory items) off table))
+assigned-is table off items = refl
 
 -- the records of the memory table tell memory
 pub records-tell : (kernel : Extent) (items : List Item) (records : List (RunOf Label)) (t : Table) → records ≡ t.records

@@ -1,15 +1,13 @@
 -- The table is judged by the memory that the memory table tells.
-use Rattle.std.proofs.Common.{◌≡◌, refl}
 use Rattle.std.proofs.lemmas.Result.{err_from_is_err_and}
 use Rattle.std.specs.Option.{option_map, option_copied}
 use Rattle.memblock_model.specs.Items.{limit_of}
 use Rattle.srat_reader.specs.Table.{affinity}
 use Rattle.node_hulls.specs.Judgement.{judged, judgement}
 use Rattle.node_hulls.specs.Kept.{in_any}
-use Rattle.numa_nodes.specs.Assigned.{is_memory, nodes_view}
-use Rattle.stage_model.specs.Doing.{ok_as}
+use Rattle.numa_nodes.specs.Assigned.{is_memory}
 use Rattle.stage_model.specs.Lent.{GoesOn}
-use Rattle.numa_nodes.proofs.AssignLaws.{all-wanting, by-judgement, can-get, goes-lent, ranges-tell, records-tell}
+use Rattle.numa_nodes.proofs.AssignLaws.{assigned-is, by-wanting, can-get, goes-lent, ranges-tell, records-tell}
 use Rattle.numa_nodes.proofs.stage.assign.Goals as goal
 use Rattle.numa_nodes.proofs.stage.assign.Goals.{After-tables}
 
@@ -21,13 +19,17 @@ looked_at c =
 
 pub returns-in_err-memory-clause-ends : goal.returns-in_err-memory-clause-ends
 returns-in_err-memory-clause-ends c =
+    let items = c.args.memblock.now.journal.items in
+    let table = option_map affinity (option_copied c.args.srat) in
     let p = err_from_is_err_and c.from_residual.result c.from_residual.ensures.1 in
-    rw (p.1, p.2) (all-wanting c.args.memblock.now.journal.items (option_map affinity (option_copied c.args.srat)) c.args.off)
+    rw (p.1, p.2, assigned-is table c.args.off items) (by-wanting items (judged (is_memory items) c.args.off table))
 
 pub returns-in_err-found-clause-ends : goal.returns-in_err-found-clause-ends
 returns-in_err-found-clause-ends c =
+    let items = c.args.memblock.now.journal.items in
+    let table = option_map affinity (option_copied c.args.srat) in
     let p = err_from_is_err_and c.from_residual-in_err-found.result c.from_residual-in_err-found.ensures.1 in
-    rw (p.1, p.2) (all-wanting c.args.memblock.now.journal.items (option_map affinity (option_copied c.args.srat)) c.args.off)
+    rw (p.1, p.2, assigned-is table c.args.off items) (by-wanting items (judged (is_memory items) c.args.off table))
 
 pub returns-in_err-memory-clause-lent : goal.returns-in_err-memory-clause-lent
 returns-in_err-memory-clause-lent c = looked_at (goal.at.returns-in_err-memory-clause-lent c).After-tables
@@ -44,14 +46,15 @@ pub returns-clause-ends : goal.returns-clause-ends
 returns-clause-ends c =
     let m = c.args.memblock.now in
     let items = m.journal.items in
-    let table = option_map affinity (option_copied c.args.srat) in
     let tells = records-tell m.kernel items c.records.result c.tables.result.now.memory c.records.ensures c.tables.ensures.memory
     c.tables.ensures.within in
     let memory = ranges-tell items c.in_ok-memory.memory.items c.records.result c.in_ok-memory.ensures.bytes tells in
-    let found : judgement c.in_ok-found.found ≡ judged (is_memory items) c.args.off table =
-    rw (c.in_ok-found.ensures.value, c.deref.ensures.value, memory) refl in
-    by-judgement (ok_as nodes_view c.assign_by.result) items c.assign_by.new.memblock.journal.items (judgement c.in_ok-found.found) table
-    c.args.off found c.assign_by.ensures.ends
+    rw (
+      assigned-is (option_map affinity (option_copied c.args.srat)) c.args.off items,
+      ← memory,
+      ← c.deref.ensures.value,
+      ← c.in_ok-found.ensures.value,
+    ) c.assign_by.ensures.ends
 
 pub returns-clause-lent : goal.returns-clause-lent
 returns-clause-lent c =
