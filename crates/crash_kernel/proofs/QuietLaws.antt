@@ -4,9 +4,8 @@ use Rattle.bm_base.specs.Extent.{Extent}
 use Rattle.memblock_model.specs.declared.owner.Owner.TheVariants as owner
 use Rattle.memblock_model.specs.Items.{memory_of}
 use Rattle.growth_model.specs.declared.refusal.Refusal.{Refusal}
-use Rattle.growth_model.specs.Growth.{claimed, freed}
 use Rattle.growth_model.proofs.QuietLaws.{claimed-quiet, freed-quiet}
-use Rattle.stage_model.specs.Doing.{Doing, returns}
+use Rattle.stage_model.specs.Doing.{Doing}
 use Rattle.stage_model.specs.Quiet.{IsQuietStep}
 use Rattle.stage_model.proofs.QuietLaws.{quiet-bind, quiet-changes, quiet-returns, quiet-seen}
 use Rattle.boot_options.specs.Crash.{CrashWords as Asked}
@@ -23,10 +22,9 @@ quiet_if true f g first second = first
 quiet_if false f g first second = second
 
 quiet_with_low : (main : Extent) (low : Option Extent) → IsQuietStep (with_low main low)
-quiet_with_low main None = quiet-bind _ _ (quiet-changes (freed main) (freed-quiet main)) (λ done. quiet-returns crash.LowFailed)
+quiet_with_low main None = quiet-bind _ _ (quiet-changes _ (freed-quiet main)) (λ done. quiet-returns crash.LowFailed)
 quiet_with_low main (Some low) =
-    quiet-bind _ _ (quiet-changes (claimed low owner.CrashLow) (claimed-quiet low owner.CrashLow))
-    (λ done. quiet-returns (crash.At main (Some low)))
+    quiet-bind _ _ (quiet-changes _ (claimed-quiet low owner.CrashLow)) (λ done. quiet-returns (crash.At main (Some low)))
 
 quiet_low_part : (main : Extent) (size : ℕ) → IsQuietStep (low_part main size)
 unfolding low_part
@@ -35,9 +33,8 @@ quiet_low_part main size = quiet-bind _ _ (quiet-seen (low_range size)) (quiet_w
 quiet_with_main : (area : Area) (low : ℕ) (main : Option Extent) → IsQuietStep (with_main area low main)
 quiet_with_main area low None = quiet-returns (unplaced area.spot)
 quiet_with_main area low (Some main) =
-    quiet-bind _ _ (quiet-changes (claimed main owner.Crash) (claimed-quiet main owner.Crash))
-    (λ done. quiet_if (needs_low main low) (low_part main low) (returns (crash.At main None)) (quiet_low_part main low)
-    (quiet-returns (crash.At main None)))
+    quiet-bind _ _ (quiet-changes _ (claimed-quiet main owner.Crash))
+    (λ done. quiet_if (needs_low main low) _ _ (quiet_low_part main low) (quiet-returns (crash.At main None)))
 
 quiet_with_area : (low : ℕ) (area : Option Area) → IsQuietStep (with_area low area)
 quiet_with_area low None = quiet-returns crash.Nothing

@@ -1,5 +1,5 @@
 -- An area that the stage tells was free, and it has a low part exactly where it needs one.
-use Rattle.std.proofs.Common.{◌≡◌, ◌⊎◌, inl, inr, ℕ, ◌+◌, ◌%◌, ◌^◌, ◌≤◌, ◌==◌, Bool, true, false, ◌&&◌, nat_lt, is_some, if◌then◌else◌, Option, Some, None, List, [], Result, Ok, refl, sym, ◌∙◌, ap, subst, arith}
+use Rattle.std.proofs.Common.{◌≡◌, ◌⊎◌, inl, inr, ℕ, ◌+◌, ◌%◌, ◌^◌, ◌≤◌, ◌==◌, Bool, true, false, ◌&&◌, nat_lt, is_some, if◌then◌else◌, Option, Some, None, List, Result, Ok, refl, sym, arith}
 use Rattle.std.proofs.lemmas.Bool.{true≢false, and_parts}
 use Rattle.std.proofs.lemmas.Bool.Decides.{nat_tests}
 use Rattle.std.proofs.lemmas.Option.{none-some, same_Some}
@@ -15,13 +15,13 @@ use Rattle.memblock_model.specs.Tables.{table_of}
 use Rattle.memblock_model.specs.Search.{best, fits}
 use Rattle.memblock_model.proofs.SearchLaws.{IsPlace, fits_in-parts}
 use Rattle.growth_model.specs.declared.refusal.Refusal.{Refusal}
-use Rattle.growth_model.specs.Outcome.{Refused}
+use Rattle.growth_model.specs.Outcome.{Change, Refused}
 use Rattle.growth_model.specs.Growth.{claimed, freed}
 use Rattle.growth_model.specs.Sound.{Unclaimed}
 use Rattle.growth_model.proofs.FoundLaws.{found-fits, no_owner}
 use Rattle.growth_model.proofs.SeatLaws.{covers-from}
-use Rattle.stage_model.specs.Doing.{Done, going_on, returns}
-use Rattle.stage_model.specs.Requests.{refusal_of}
+use Rattle.stage_model.specs.Doing.{Doing, ◌>>=◌, after, going_on, returns}
+use Rattle.stage_model.specs.Requests.{changes, refusal_of}
 use Rattle.boot_options.specs.Crash.{CrashWords as Asked}
 use Rattle.crash_kernel.specs.declared.area.Area.{Area}
 use Rattle.crash_kernel.specs.declared.area.Spot.{Spot}
@@ -49,11 +49,14 @@ place_free items q place known =
     (λ x at. let inside = covers-from r x at in known.label x inside.0 inside.1)
     (λ x at. let inside = covers-from r x at in no_owner (owner_of items x) (known.free x inside.0 inside.1))
 
--- a range that was found: free, of that size, at a multiple of 1 MiB, and it ends by the window's end
-record IsFound (items : List Item) (size hi : ℕ) (r : Extent) : Type 0 where
+-- a range that was found: free, of that size, at a multiple of 1 MiB, and, in a window, ending by its end
+record IsMain (items : List Item) (size : ℕ) (r : Extent) : Type 0 where
   free : IsFree items r
   sized : r.size ≡ size
   aligned : r.base % 0x100000 ≡ 0
+
+record IsFound (items : List Item) (size hi : ℕ) (r : Extent) : Type 0 where
+  main : IsMain items size r
   within : end_of r ≤ hi
 
 best_by : (items : List Item) (size lo hi : ℕ) (found : Option ℕ) (r : Extent) → best items (area_query size 0x1000000 lo hi) ≡ found
@@ -62,13 +65,9 @@ best_by items size lo hi None r was is = absurd (none-some r is)
 best_by items size lo hi (Some place) r was is =
     let known = found-fits items (area_query size 0x1000000 lo hi) place was in
     let here : Extent = record { base = place; size = size } in
-    let found : IsFound items size hi here = record {
-      free = place_free items (area_query size 0x1000000 lo hi) place known;
-      sized = refl;
-      aligned = omega (arith, known.aligned);
-      within = known.high;
-    } in
-    rw (← same_Some here r is) found
+    let free = place_free items (area_query size 0x1000000 lo hi) place known in
+    let main : IsMain items size here = record { free = free; sized = refl; aligned = omega (arith, known.aligned) } in
+    rw (← same_Some here r is) (record { main = main; within = known.high })
 
 best_found : (items : List Item) (size lo hi : ℕ) (r : Extent) → best_range size lo hi items ≡ Some r → IsFound items size hi r
 best_found items size lo hi r is = best_by items size lo hi (best items (area_query size 0x1000000 lo hi)) r refl is
@@ -81,12 +80,6 @@ fits_free items size base h =
     place_free items (area_query size 1 base (base + size)) base
     (fits_in-parts false (table_of which.Memory items) (table_of which.Reserved items) (area_query size 1 base (base + size)) base h)
 
--- a main part that was found
-record IsMain (items : List Item) (size : ℕ) (r : Extent) : Type 0 where
-  free : IsFree items r
-  sized : r.size ≡ size
-  aligned : r.base % 0x100000 ≡ 0
-
 fixed_by : (items : List Item) (size base : ℕ) (b : Bool) (r : Extent)
     → ((base % 0x100000 == 0) && nat_lt (base + size) (2 ^ 64) && fits items (area_query size 1 base (base + size)) false base) ≡ b
     → (if b then Some (let e : Extent = record { base = base; size = size } in e) else None) ≡ Some r → IsMain items size r
@@ -95,22 +88,13 @@ fixed_by items size base true r passed is =
     let parts = and_parts ((base % 0x100000 == 0) && nat_lt (base + size) (2 ^ 64)) fit passed in
     let multiple = (and_parts (base % 0x100000 == 0) (nat_lt (base + size) (2 ^ 64)) parts.0).0 in
     let here : Extent = record { base = base; size = size } in
-    let found : IsMain items size here = record {
-      free = fits_free items size base parts.1;
-      sized = refl;
-      aligned = grind (arith, nat_tests, multiple);
-    } in
-    rw (← same_Some here r is) found
+    rw (← same_Some here r is)
+    (record { free = fits_free items size base parts.1; sized = refl; aligned = grind (arith, nat_tests, multiple) })
 fixed_by items size base false r passed is = absurd (none-some r is)
 
 or_cases : (a b : Option Extent) (r : Extent) → option_or a b ≡ Some r → (a ≡ Some r) ⊎ (b ≡ Some r)
 or_cases None b r h = inr h
 or_cases (Some x) b r h = inl h
-
-best_main : (items : List Item) (size lo hi : ℕ) (r : Extent) → best_range size lo hi items ≡ Some r → IsMain items size r
-best_main items size lo hi r is =
-    let found = best_found items size lo hi r is in
-    record { free = found.free; sized = found.sized; aligned = found.aligned }
 
 main_found : (items : List Item) (size : ℕ) (where_to : Spot) (r : Extent) → main_range size where_to items ≡ Some r → IsMain items size r
 unfolding main_range
@@ -119,19 +103,23 @@ main_found items size (spot.Fixed base) r is =
     ((base % 0x100000 == 0) && nat_lt (base + size) (2 ^ 64) && fits items (area_query size 1 base (base + size)) false base) r refl is
 main_found items size spot.Automatic r is =
     elim (or_cases (best_range size 0x1000000 (2 ^ 32) items) (high_range size items) r is) as (λ _. IsMain items size r) [
-      | inl low ↦ best_main items size 0x1000000 (2 ^ 32) r low
-      | inr high ↦ best_main items size 0x1000000 (2 ^ 46) r high
+      | inl low ↦ (best_found items size 0x1000000 (2 ^ 32) r low).main
+      | inr high ↦ (best_found items size 0x1000000 (2 ^ 46) r high).main
     ]
-main_found items size spot.High r is = best_main items size 0x1000000 (2 ^ 46) r is
+main_found items size spot.High r is = (best_found items size 0x1000000 (2 ^ 46) r is).main
 
 -- the stage, from its answer back to what it found: a change that was refused has no area to tell
 abbrev ok : Crash → Result Crash Refusal
 ok a = Ok a
 
-change_told : (steps : List (List Item)) (r : Option Refused) (next : Unit {0} → Done Refusal Crash) (a : Crash)
-    → (going_on steps (refusal_of r) next).answer ≡ Ok a → (next tt).answer ≡ Ok a
-change_told steps None next a h = h
-change_told steps (Some r) next a h = cc
+change_told : (change : Change) (items : List Item) (next : Unit {0} → Doing Refusal Crash) (a : Crash)
+    → ((changes change >>= next) items).answer ≡ Ok a → (next tt (after items (changes change items))).answer ≡ Ok a
+change_told change items next a = by (change items).refused where
+  by : (r : Option Refused)
+      → (going_on (change items).steps (refusal_of r) (λ done. next done (after items (changes change items)))).answer ≡ Ok a
+      → (next tt (after items (changes change items))).answer ≡ Ok a
+  by None h = h
+  by (Some r) h = cc
 
 -- behind the claim, by the place of the low part
 with_low_told : (asked : Asked) (items : List Item) (m main : Extent) (low found : Option Extent)
@@ -139,22 +127,17 @@ with_low_told : (asked : Asked) (items : List Item) (m main : Extent) (low found
     → (with_low m found (with_claim m items)).answer ≡ Ok (crash.At main low) → HasLowPart asked items m low × (m ≡ main)
 unfolding low_range
 with_low_told asked items m main low None is needs h =
-    let mid = with_claim m items in
     let told : ok crash.LowFailed ≡ Ok (crash.At main low) =
-    change_told (freed m mid).steps (freed m mid).refused (λ done. record { steps = []; answer = Ok crash.LowFailed })
-    (crash.At main low) h in
+    change_told (freed m) (with_claim m items) (λ done. returns crash.LowFailed) (crash.At main low) h in
     cc
 with_low_told asked items m main low (Some l) is needs h =
     let mid = with_claim m items in
     let told : ok (crash.At m (Some l)) ≡ Ok (crash.At main low) =
-    change_told (claimed l owner.CrashLow mid).steps (claimed l owner.CrashLow mid).refused
-    (λ done. record { steps = []; answer = Ok (crash.At m (Some l)) }) (crash.At main low) h in
+    change_told (claimed l owner.CrashLow) mid (λ done. returns (crash.At m (Some l))) (crash.At main low) h in
     let same : m ≡ main = cc in
     let there : Some l ≡ low = cc in
     let found = best_found mid (low_size asked) 0 (2 ^ 32) l is in
-    let has : HasLowPart asked items m (Some l) =
-    (needs, record { size = found.sized; free = found.free; within = found.within }) in
-    (subst (λ (o : Option Extent). HasLowPart asked items m o) there has, same)
+    (rw (← there) (needs, record { size = found.main.sized; free = found.main.free; within = found.within }), same)
 
 -- by whether one is needed
 needs_told : (asked : Asked) (items : List Item) (m main : Extent) (low : Option Extent) (b : Bool) → needs_low m (low_size asked) ≡ b
@@ -167,7 +150,7 @@ needs_told asked items m main low false is h =
     let told : ok (crash.At m None) ≡ Ok (crash.At main low) = h in
     let same : m ≡ main = cc in
     let there : None ≡ low = cc in
-    (subst (λ (o : Option Extent). HasLowPart asked items m o) there is, same)
+    (rw (← there) is, same)
 
 -- an area without a place isn't one that is told
 unplaced_told : (s : Spot) (main : Extent) (low : Option Extent) → ok (unplaced s) ≡ Ok (crash.At main low) → ⊥
@@ -180,21 +163,18 @@ main_told : (asked : Asked) (items : List Item) (area : Area) (main : Extent) (l
     → (with_main area (low_size asked) found items).answer ≡ Ok (crash.At main low) → IsArea asked items main low
 main_told asked items area main low None asks is h = absurd (unplaced_told area.spot main low h)
 main_told asked items area main low (Some m) asks is h =
-    let next : Unit {0} → Done Refusal Crash = λ done.
-    (if needs_low m (low_size asked) then low_part m (low_size asked) else returns (crash.At m None)) (with_claim m items) in
-    let claim = claimed m owner.Crash items in
+    let next : Unit {0} → Doing Refusal Crash = λ done.
+    if needs_low m (low_size asked) then low_part m (low_size asked) else returns (crash.At m None) in
     let behind = needs_told asked items m main low (needs_low m (low_size asked)) refl
-    (change_told claim.steps claim.refused next (crash.At main low) h) in
+    (change_told (claimed m owner.Crash) items next (crash.At main low) h) in
     let known = main_found items area.size area.spot m is in
-    let with_size : ℕ → Area = λ n. record { size = n; spot = area.spot } in
-    let area_is : IsArea asked items m low = record {
+    rw (← behind.1) (record {
       spot = area.spot;
-      size = asks ∙ ap (λ (n : ℕ). Some (with_size n)) (sym known.sized);
+      size = rw known.sized asks;
       free = known.free;
       aligned = known.aligned;
       low_part = behind.0;
-    } in
-    subst (λ (t : Extent). IsArea asked items t low) behind.1 area_is
+    })
 
 area_told : (asked : Asked) (items : List Item) (main : Extent) (low : Option Extent) (area : Option Area)
     → area_for (memory_bytes (memory_of items)) asked ≡ area

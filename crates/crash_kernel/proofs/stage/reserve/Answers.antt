@@ -114,12 +114,9 @@ returns-then-needs_low-clause-idle c = λ told idle.
 
 pub returns-then-needs_low-clause-lent : goal.returns-then-needs_low-clause-lent
 returns-then-needs_low-clause-lent c =
-    let claimed : GoesOn c.args.memblock.now c.claim.new.self = record {
-      kernel = c.claim.ensures.kernel;
-      bytes = c.claim.ensures.bytes;
-      ready = c.claim.ensures.still_ready;
-    } in
-    goes-then c.args.memblock.now c.claim.new.self c.reserve_low.new.memblock claimed c.reserve_low.ensures.lent
+    goes-then c.args.memblock.now c.claim.new.self c.reserve_low.new.memblock
+    (record { kernel = c.claim.ensures.kernel; bytes = c.claim.ensures.bytes; ready = c.claim.ensures.still_ready })
+    c.reserve_low.ensures.lent
 
 pub returns-else-needs_low-clause-ends : goal.returns-else-needs_low-clause-ends
 returns-else-needs_low-clause-ends c =
