@@ -1,5 +1,5 @@
 -- The parts of the stage, one behind another; and what of the memory table they are told.
-use Rattle.std.proofs.Common.{◌≡◌, ◌^◌, ◌<◌, ℕ, Bool, is_some, Option, List, [], ◌∷◌, ◌++◌, Result, Ok, Err, refl, sym, ◌∙◌, ap, subst, arith}
+use Rattle.std.proofs.Common.{◌≡◌, ◌^◌, ◌<◌, ℕ, Bool, is_some, Option, List, [], ◌∷◌, ◌++◌, Result, Ok, Err, refl, ◌∙◌, ap, arith}
 use Rattle.std.proofs.lemmas.List.Elements.{All-cons}
 use Rattle.bm_base.specs.Extent.{Extent}
 use Rattle.address_runs.specs.Runs.{RunOf, value_at}
@@ -10,12 +10,8 @@ use Rattle.memblock_model.specs.Items.{limit_of, memory_of}
 use Rattle.memblock_model.specs.Labels.{Label, Labels}
 use Rattle.memblock_model.specs.Tables.{records_of}
 use Rattle.memblock_model.proofs.TableLaws.{value_at-records}
-use Rattle.phys_store.specs.Bytes.{byte_of}
-use Rattle.memblock_ranges.specs.Tables.{Table, Contents as Tables}
-use Rattle.growth_model.specs.Bytes.{AreSpelled, table_for}
-use Rattle.memblock_grow.specs.Contents.{Contents}
-use Rattle.stage_model.specs.Lent.{GoesOn}
-use Rattle.stage_model.proofs.LentLaws.{goes-none}
+use Rattle.memblock_ranges.specs.Tables.{Table}
+use Rattle.growth_model.specs.Bytes.{table_for}
 use Rattle.srat_reader.specs.Table.{Affinity}
 use Rattle.node_hulls.specs.declared.reasons.Why.{Why}
 use Rattle.node_hulls.specs.declared.reasons.Why.TheVariants as why
@@ -135,10 +131,3 @@ can-get limit found memory off table some is =
     let below : NumaBlock = record { base = 0; size = limit; value = 0 } in
     rw is (ranges-cases CanGetNodes j.why limit j (λ used. given-small memory off table)
     (All-cons (λ (r : NumaBlock). (0 < r.size) × (r.value < 1024)) below [] (some, omega arith) (λ k d less. absurd (omega (arith, less)))))
-
--- a memblock that was only looked at went on
-pub goes-lent : (m : Contents) (t : Tables) → t ≡ m.tables → t.memory ≡ table_for which.Memory m.kernel m.journal.items
-    → t.reserved ≡ table_for which.Reserved m.kernel m.journal.items → AreSpelled t.memory t.reserved (byte_of t.store) → GoesOn m m
-goes-lent m t is memory reserved spelled =
-    goes-none m (sym (ap (λ (u : Tables). u.memory) is) ∙ memory) (sym (ap (λ (u : Tables). u.reserved) is) ∙ reserved)
-    (subst (λ (u : Tables). AreSpelled u.memory u.reserved (byte_of u.store)) is spelled)

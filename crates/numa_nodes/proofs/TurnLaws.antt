@@ -13,11 +13,11 @@ use Rattle.stage_model.proofs.DoingLaws.{ends-first, ends-second}
 use Rattle.numa_nodes.specs.Assigned.{data_placed, node_data_request}
 
 -- as the steps from the one with this index on end, so do all
-abbrev pub Turns : {X : Type 0} → (Unit {0} → X → Doing StageStop (Unit {0})) → List X → ℕ → List Item → List Item → Type 0
-Turns step xs i old here = (r : Result (Unit {0}) StageStop) (new : List Item)
-    → EndsAs stop.Memory r here new (in_turn step tt (drop i xs) here) → EndsAs stop.Memory r old new (in_turn step tt xs old)
+pub record Turns {X : Type 0} (step : Unit {0} → X → Doing StageStop (Unit {0})) (xs : List X) (i : ℕ) (old here : List Item) : Type 0 where
+  pub ends : (r : Result (Unit {0}) StageStop) (new : List Item)
+      → EndsAs stop.Memory r here new (in_turn step tt (drop i xs) here) → EndsAs stop.Memory r old new (in_turn step tt xs old)
 
-module _ {X : Type 0} (step : Unit {0} → X → Doing StageStop (Unit {0})) (xs : List X) (i : ℕ) (old here : List Item)
+module _ {X : Type 0} {step : Unit {0} → X → Doing StageStop (Unit {0})} {xs : List X} {i : ℕ} {old here : List Item}
     (turns : Turns step xs i old here) where
   drop-next : (x d : X) → i < length xs → x ≡ get_or xs i d → drop i xs ≡ x ∷ drop (i + 1) xs
   drop-next x d below is = drop_more xs i d below ∙ ap (λ (y : X). y ∷ drop (i + 1) xs) (sym is)
@@ -25,21 +25,22 @@ module _ {X : Type 0} (step : Unit {0} → X → Doing StageStop (Unit {0})) (xs
   -- the next step answered
   pub turn-next : (x d : X) (mid : List Item) → i < length xs → x ≡ get_or xs i d
       → EndsAs stop.Memory (Ok tt) here mid (step tt x here) → Turns step xs (i + 1) old mid
-  turn-next x d mid below is was = λ r new rest.
-      turns r new (rw (drop-next x d below is) (ends-second tt r stop.Memory here mid new (step tt x)
-      (λ next. in_turn step next (drop (i + 1) xs)) was rest))
+  turn-next x d mid below is was = record {
+    ends = λ r new rest. turns.ends r new (rw (drop-next x d below is) (ends-second tt r stop.Memory here mid new (step tt x)
+        (λ next. in_turn step next (drop (i + 1) xs)) was rest));
+  }
 
   -- it stopped
   pub turn-stops : (x d : X) (new : List Item) (e : StageStop) → i < length xs → x ≡ get_or xs i d
       → EndsAs {A = Unit {0}} stop.Memory (Err e) here new (step tt x here)
       → EndsAs {A = Unit {0}} stop.Memory (Err e) old new (in_turn step tt xs old)
   turn-stops x d new e below is was =
-      turns (Err e) new (rw (drop-next x d below is) (ends-first e stop.Memory here new (step tt x)
+      turns.ends (Err e) new (rw (drop-next x d below is) (ends-first e stop.Memory here new (step tt x)
       (λ next. in_turn step next (drop (i + 1) xs)) was))
 
   -- nothing is left
   pub turn-done : length xs ≤ i → EndsAs {A = Unit {0}} stop.Memory (Ok tt) old here (in_turn step tt xs old)
-  turn-done all = turns (Ok tt) here (rw (drop_all i xs all) (refl, refl))
+  turn-done all = turns.ends (Ok tt) here (rw (drop_all i xs all) (refl, refl))
 
 -- the data of a node by its allocation
 pub data-placed : (r : Result ℕ StageStop) (n : ℕ) (here new : List Item) (q : Request) → q ≡ node_data_request n

@@ -7,15 +7,17 @@ use Rattle.node_hulls.specs.Judgement.{judged, judgement}
 use Rattle.node_hulls.specs.Kept.{in_any}
 use Rattle.numa_nodes.specs.Assigned.{is_memory}
 use Rattle.stage_model.specs.Lent.{GoesOn}
-use Rattle.numa_nodes.proofs.AssignLaws.{assigned-is, by-wanting, can-get, goes-lent, ranges-tell, records-tell}
+use Rattle.stage_model.proofs.LentLaws.{goes-none}
+use Rattle.numa_nodes.proofs.AssignLaws.{assigned-is, by-wanting, can-get, ranges-tell, records-tell}
 use Rattle.numa_nodes.proofs.stage.assign.Goals as goal
 use Rattle.numa_nodes.proofs.stage.assign.Goals.{After-tables}
 
 -- to look at the tables changes nothing
 looked_at : (c : After-tables) → GoesOn c.args.memblock.now c.args.memblock.now
 looked_at c =
-    goes-lent c.args.memblock.now c.tables.result.now c.tables.ensures.tables c.tables.ensures.memory c.tables.ensures.reserved
-    c.tables.ensures.bytes
+    let same = c.tables.ensures.tables in
+    goes-none c.args.memblock.now (rw same at c.tables.ensures.memory) (rw same at c.tables.ensures.reserved)
+    (rw same at c.tables.ensures.bytes)
 
 pub returns-in_err-memory-clause-ends : goal.returns-in_err-memory-clause-ends
 returns-in_err-memory-clause-ends c =

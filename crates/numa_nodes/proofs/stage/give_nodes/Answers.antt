@@ -17,8 +17,7 @@ returns-in_err-set_node-clause-ends c =
     let new = c.set_node.new.memblock.journal.items in
     let e = c.in_err-set_node.field-0.0 in
     let p = err_from_is_err_and c.from_residual.result c.from_residual.ensures.1 in
-    rw (p.1, p.2) (turn-stops given c.args.ranges.now c.loop-run.run-index c.args.memblock.now.journal.items here
-    c.loop-run.invariant.ends run run new e c.loop-run-test.true c.run-item.is
+    rw (p.1, p.2) (turn-stops c.loop-run.invariant.ends run run new e c.loop-run-test.true c.run-item.is
     (subst (λ (b : NumaBlock). EndsAs {A = Unit {0}} stop.Memory (Err e) here new (given tt b here)) c.run.view_is
     c.in_err-set_node.ensures.ends))
 
@@ -35,13 +34,10 @@ loop-run-preserved c =
     c.in_ok-set_node.ensures.ends in
     record {
       begun = ends-begun (Ok tt) stop.Memory here mid (given tt run here) c.loop-run.invariant.begun was;
-      ends = turn-next given c.args.ranges.now c.loop-run.run-index c.args.memblock.now.journal.items here c.loop-run.invariant.ends run run
-          mid c.loop-run-test.true c.run-item.is was;
+      ends = turn-next c.loop-run.invariant.ends run run mid c.loop-run-test.true c.run-item.is was;
       lent = λ start goes.
           goes-then start c.loop-run.memblock c.set_node.new.memblock (c.loop-run.invariant.lent start goes) c.in_ok-set_node.ensures.lent;
     }
 
 pub returns-clause-ends : goal.returns-clause-ends
-returns-clause-ends c =
-    turn-done given c.args.ranges.now c.loop-run.run-index c.args.memblock.now.journal.items c.loop-run.memblock.journal.items
-    c.loop-run.invariant.ends c.loop-run-test.false
+returns-clause-ends c = turn-done c.loop-run.invariant.ends c.loop-run-test.false

@@ -19,8 +19,7 @@ returns-in_err-place-clause-ends c =
     let new = c.place.new.memblock.journal.items in
     let e = c.in_err-place.field-0.0 in
     let p = err_from_is_err_and c.from_residual.result c.from_residual.ensures.1 in
-    rw (p.1, p.2) (turn-stops data_placed c.args.nodes.now c.loop-node.node-index c.args.memblock.now.journal.items here
-    c.loop-node.invariant.ends node 0 new e c.loop-node-test.true refl
+    rw (p.1, p.2) (turn-stops c.loop-node.invariant.ends node 0 new e c.loop-node-test.true refl
     (data-placed (Err e) node here new c.node_data_request-request.result c.node_data_request-request.ensures c.in_err-place.ensures.ends))
 
 pub returns-in_err-place-clause-lent : goal.returns-in_err-place-clause-lent
@@ -29,22 +28,17 @@ returns-in_err-place-clause-lent c = λ start goes.
 
 pub loop-node-preserved : goal.loop-node-preserved
 loop-node-preserved c =
-    let nodes = c.args.nodes.now in
-    let i = c.loop-node.node-index in
-    let node = get_or nodes i 0 in
+    let node = get_or c.args.nodes.now c.loop-node.node-index 0 in
     let here = c.loop-node.memblock.journal.items in
     let mid = c.place.new.memblock.journal.items in
     let was = data-placed (Ok c.in_ok-place.field-0) node here mid c.node_data_request-request.result c.node_data_request-request.ensures
     c.in_ok-place.ensures.ends in
     record {
       begun = ends-begun (Ok tt) stop.Memory here mid (data_placed tt node here) c.loop-node.invariant.begun was;
-      ends = turn-next data_placed nodes i c.args.memblock.now.journal.items here c.loop-node.invariant.ends node 0 mid
-          c.loop-node-test.true refl was;
+      ends = turn-next c.loop-node.invariant.ends node 0 mid c.loop-node-test.true refl was;
       lent = λ start goes.
           goes-then start c.loop-node.memblock c.place.new.memblock (c.loop-node.invariant.lent start goes) c.in_ok-place.ensures.lent;
     }
 
 pub returns-clause-ends : goal.returns-clause-ends
-returns-clause-ends c =
-    turn-done data_placed c.args.nodes.now c.loop-node.node-index c.args.memblock.now.journal.items c.loop-node.memblock.journal.items
-    c.loop-node.invariant.ends c.loop-node-test.false
+returns-clause-ends c = turn-done c.loop-node.invariant.ends c.loop-node-test.false
