@@ -75,13 +75,13 @@ maps-wanting entry sections =
     ends-first stop.Memory stop.Memory entry entry (listed no_placed) (λ before. in_turn map_group before (groups_of sections))
     (ends-wanting no_placed stop.Memory entry)
 
-pub goes-all : (entry : List Item) (sections : List Section) (now : List Item) (placed : List Placed) (rest : List Section)
-    → length rest ≡ 0 → Goes entry sections now placed rest → EndsAs stop.Memory (Ok placed) entry now (maps sections entry)
-goes-all entry sections now placed [] none goes = goes.ends (Ok placed) now (ends-returns placed stop.Memory now)
-goes-all entry sections now placed (s ∷ ss) none goes = absurd (omega arith)
+-- nothing is left, or a group in front of it
+module _ {entry : List Item} {sections : List Section} {now : List Item} {placed : List Placed} where
+  pub goes-all : (rest : List Section) → length rest ≡ 0 → Goes entry sections now placed rest
+      → EndsAs stop.Memory (Ok placed) entry now (maps sections entry)
+  goes-all [] none goes = goes.ends (Ok placed) now (ends-returns placed stop.Memory now)
+  goes-all (s ∷ ss) none goes = absurd (omega arith)
 
--- the group in front of what is left
-module _ (entry : List Item) (sections : List Section) (now : List Item) (placed : List Placed) where
   front : (s : Section) (ss : List Section) → Goes entry sections now placed (s ∷ ss) → (r : Result (List Placed) StageStop)
       (new : List Item)
       → EndsAs stop.Memory r now new (in_turn map_group placed (group_at s ss ∷ groups_of (drop (prefix_len (is_of s.node) ss) ss)) now)

@@ -52,41 +52,35 @@ pub record Goes (entry : List Item) (usage : ℕ) (first : List Placed) (section
   pub ends : (r : Result (List Placed) StageStop) (new : List Item) → EndsAs stop.Memory r now new (map_each at placed rest now)
       → EndsAs stop.Memory r entry new (map_each usage first sections entry)
 
-pub goes-first : (entry : List Item) (usage : ℕ) (before : List Placed) (sections : List Section)
-    → Goes entry usage before sections entry usage before sections
-goes-first entry usage before sections = record { ends = λ r new h. h }
+-- the map of one section
+abbrev pub one_map : Section → Doing StageStop ℕ
+one_map s = placed (what.Map s.number) (map_request 1 s.node false) (owner.Map s.number)
 
-module _ (entry : List Item) (usage : ℕ) (first : List Placed) (sections : List Section) (now : List Item) (at : ℕ)
-    (before : List Placed) where
+module _ {entry : List Item} {usage : ℕ} {first : List Placed} {sections : List Section} {now : List Item} {at : ℕ}
+    {before : List Placed} where
   left-at : (i : ℕ) (d : Section) → i < length sections → Goes entry usage first sections now at before (drop i sections)
       → Goes entry usage first sections now at before (get_or sections i d ∷ drop (i + 1) sections)
   left-at i d few goes = rw (drop_more sections i d few) at goes
 
   pub goes-next : (i : ℕ) (d : Section) (mid : List Item) (map : ℕ) (longer : List Placed) → i < length sections
       → Goes entry usage first sections now at before (drop i sections)
-      → EndsAs stop.Memory (Ok map) now mid (placed (what.Map (get_or sections i d).number) (map_request 1 (get_or sections i d).node false)
-      (owner.Map (get_or sections i d).number) now)
+      → EndsAs stop.Memory (Ok map) now mid (one_map (get_or sections i d) now)
       → longer ≡ before ++ placed_at at map (get_or sections i d) ∷ []
       → Goes entry usage first sections mid (at + 40) longer (drop (i + 1) sections)
-  goes-next i d mid map longer few goes was is =
-      let s : Section = get_or sections i d in
-      record {
-        ends = λ r new h. (left-at i d few goes).ends r new
-            (ends-second map r stop.Memory now mid new (placed (what.Map s.number) (map_request 1 s.node false) (owner.Map s.number))
-            (λ map. map_each (at + 40) (before ++ placed_at at map s ∷ []) (drop (i + 1) sections)) was
-            (rw is at h));
-      }
+  goes-next i d mid map longer few goes was is = record {
+    ends = λ r new h. (left-at i d few goes).ends r new
+        (ends-second map r stop.Memory now mid new (one_map (get_or sections i d))
+        (λ map. map_each (at + 40) (before ++ placed_at at map (get_or sections i d) ∷ []) (drop (i + 1) sections)) was (rw is at h));
+  }
 
   pub goes-stops : (e : StageStop) (i : ℕ) (d : Section) (new : List Item) → i < length sections
       → Goes entry usage first sections now at before (drop i sections)
-      → EndsAs {A = ℕ} stop.Memory (Err e) now new (placed (what.Map (get_or sections i d).number)
-      (map_request 1 (get_or sections i d).node false) (owner.Map (get_or sections i d).number) now)
+      → EndsAs {A = ℕ} stop.Memory (Err e) now new (one_map (get_or sections i d) now)
       → EndsAs {A = List Placed} stop.Memory (Err e) entry new (map_each usage first sections entry)
   goes-stops e i d new few goes failed =
-      let s : Section = get_or sections i d in
       (left-at i d few goes).ends (Err e) new
-      (ends-first e stop.Memory now new (placed (what.Map s.number) (map_request 1 s.node false) (owner.Map s.number))
-      (λ map. map_each (at + 40) (before ++ placed_at at map s ∷ []) (drop (i + 1) sections)) failed)
+      (ends-first e stop.Memory now new (one_map (get_or sections i d))
+      (λ map. map_each (at + 40) (before ++ placed_at at map (get_or sections i d) ∷ []) (drop (i + 1) sections)) failed)
 
   pub goes-all : (i : ℕ) → length sections ≤ i → Goes entry usage first sections now at before (drop i sections)
       → EndsAs stop.Memory (Ok before) entry now (map_each usage first sections entry)

@@ -1,23 +1,18 @@
 -- The next section's map is the next step.
 use Rattle.std.proofs.Common.{Ok, false, get_or, arith}
 use Rattle.std.proofs.lemmas.Result.{err_from_is_err_and}
-use Rattle.memblock_model.specs.declared.owner.Owner.TheVariants as owner
-use Rattle.memblock_grow.specs.declared.section.Section.{Section}
-use Rattle.memblock_grow.specs.declared.stop.What.TheVariants as what
 use Rattle.memblock_grow.specs.declared.stop.StageStop.TheVariants as stop
 use Rattle.stage_model.specs.Requests.{placed}
 use Rattle.stage_model.proofs.DoingLaws.{ends-begun}
 use Rattle.stage_model.proofs.LentLaws.{goes-then}
-use Rattle.section_maps.specs.Maps.{map_request}
-use Rattle.section_maps.proofs.MapLaws.{no_section, goes-next, goes-stops, goes-all}
+use Rattle.section_maps.proofs.MapLaws.{no_section, one_map, goes-next, goes-stops, goes-all}
 use Rattle.section_maps.proofs.each.place_each.Goals as goal
 
 pub returns-in_err-map-clause-ends : goal.returns-in_err-map-clause-ends
 returns-in_err-map-clause-ends c =
     let p = err_from_is_err_and c.from_residual.result c.from_residual.ensures.1 in
-    rw (p.1, p.2) (goes-stops c.args.memblock.now.journal.items c.args.usage c.args.placed.now.items c.args.sections.now
-    c.loop-section.memblock.journal.items c.loop-section.at c.loop-section.placed.items c.in_err-map.field-0.0 c.loop-section.section-index
-    no_section c.place_map.new.memblock.journal.items c.loop-section-test.true c.loop-section.invariant.goes c.in_err-map.ensures.ends)
+    rw (p.1, p.2) (goes-stops c.in_err-map.field-0.0 c.loop-section.section-index no_section c.place_map.new.memblock.journal.items
+    c.loop-section-test.true c.loop-section.invariant.goes c.in_err-map.ensures.ends)
 
 pub returns-in_err-map-clause-lent : goal.returns-in_err-map-clause-lent
 returns-in_err-map-clause-lent c =
@@ -25,25 +20,20 @@ returns-in_err-map-clause-lent c =
 
 pub loop-section-preserved : goal.loop-section-preserved
 loop-section-preserved c =
-    let s : Section = get_or c.args.sections.now c.loop-section.section-index no_section in
     let now = c.loop-section.memblock.journal.items in
     let mid = c.place_map.new.memblock.journal.items in
     record {
-      goes = goes-next c.args.memblock.now.journal.items c.args.usage c.args.placed.now.items c.args.sections.now now c.loop-section.at
-          c.loop-section.placed.items c.loop-section.section-index no_section mid c.in_ok-map.map c.put_placed.new.placed.items
-          c.loop-section-test.true c.loop-section.invariant.goes c.in_ok-map.ensures.ends c.put_placed.ensures.placed;
+      goes = goes-next c.loop-section.section-index no_section mid c.in_ok-map.map c.put_placed.new.placed.items c.loop-section-test.true
+          c.loop-section.invariant.goes c.in_ok-map.ensures.ends c.put_placed.ensures.placed;
       usages = omega arith;
       len = omega arith;
       capacity = omega arith;
       begun = ends-begun (Ok c.in_ok-map.map) stop.Memory now mid
-          (placed (what.Map s.number) (map_request 1 s.node false) (owner.Map s.number) now) c.loop-section.invariant.begun
+          (one_map (get_or c.args.sections.now c.loop-section.section-index no_section) now) c.loop-section.invariant.begun
           c.in_ok-map.ensures.ends;
       lent = goes-then c.args.memblock.now c.loop-section.memblock c.place_map.new.memblock c.loop-section.invariant.lent
           c.in_ok-map.ensures.lent;
     }
 
 pub returns-clause-ends : goal.returns-clause-ends
-returns-clause-ends c =
-    goes-all c.args.memblock.now.journal.items c.args.usage c.args.placed.now.items c.args.sections.now
-    c.loop-section.memblock.journal.items c.loop-section.at c.loop-section.placed.items c.loop-section.section-index
-    c.loop-section-test.false c.loop-section.invariant.goes
+returns-clause-ends c = goes-all c.loop-section.section-index c.loop-section-test.false c.loop-section.invariant.goes

@@ -32,8 +32,7 @@ split_at-requires c =
 pub returns-in_err-place_group-clause-ends : goal.returns-in_err-place_group-clause-ends
 returns-in_err-place_group-clause-ends c =
     let p = err_from_is_err_and c.from_residual-in_err-place_group.result c.from_residual-in_err-place_group.ensures.1 in
-    rw (p.1, p.2) (goes-stops c.args.memblock.now.journal.items c.args.sections.now c.loop-rest.memblock.journal.items
-    c.loop-rest.placed.items c.in_err-place_group.field-0.0 c.place_group.new.memblock.journal.items c.loop-rest.rest.now no_section
+    rw (p.1, p.2) (goes-stops c.in_err-place_group.field-0.0 c.place_group.new.memblock.journal.items c.loop-rest.rest.now no_section
     c.in-len1-up.len_at_least (rw (c.split_at.ensures.front, c.count_same.ensures) at c.in_err-place_group.ensures.ends)
     c.loop-rest.invariant.goes)
 
@@ -50,8 +49,8 @@ loop-rest-preserved c =
     let longer = c.place_group.new.placed.items in
     let was = rw (c.split_at.ensures.front, c.count_same.ensures) at c.in_ok-place_group.ensures.ends in
     record {
-      goes = rw (c.split_at.ensures.back, c.count_same.ensures) (goes-next c.args.memblock.now.journal.items c.args.sections.now now
-          c.loop-rest.placed.items mid longer rest no_section c.in-len1-up.len_at_least was c.loop-rest.invariant.goes);
+      goes = rw (c.split_at.ensures.back, c.count_same.ensures) (goes-next mid longer rest no_section c.in-len1-up.len_at_least was
+          c.loop-rest.invariant.goes);
       few = omega arith;
       room = omega arith;
       begun = ends-begun (Ok longer) stop.Memory now mid
@@ -62,6 +61,4 @@ loop-rest-preserved c =
     }
 
 pub returns-clause-ends : goal.returns-clause-ends
-returns-clause-ends c =
-    goes-all c.args.memblock.now.journal.items c.args.sections.now c.loop-rest.memblock.journal.items c.loop-rest.placed.items
-    c.loop-rest.rest.now (omega arith) c.loop-rest.invariant.goes
+returns-clause-ends c = goes-all c.loop-rest.rest.now (omega arith) c.loop-rest.invariant.goes
