@@ -109,15 +109,9 @@ writes told items first (Some r) i next same = λ is.
     let none = rw same at (ap (λ (t : Done Refusal Crash). t.answer) is) in cc none
 
 -- so a claim is no answer behind no step
-claim-writes : (told : Crash) (items : List Item) (range : Extent) (who : Owner) (next : Unit {0} → Doing Refusal Crash)
+pub claim-writes : (told : Crash) (items : List Item) (range : Extent) (who : Owner) (next : Unit {0} → Doing Refusal Crash)
     → (changes (claimed range who) >>= next) items ≢ returns told items
 unfolding claimed
 claim-writes told items range who next =
     let first : Outcome = grown which.Reserved (new_in which.Reserved range) (reserved_growth range) items in
     writes told items first first.refused (item.Claim range who) (λ done. next done (after items (changes (claimed range who) items))) refl
-
--- where the area has a place it is claimed
-pub claims : (told : Crash) (items : List Item) (area : Area) (low : ℕ) (main : Extent)
-    → with_main area low (Some main) items ≢ returns told items
-claims told items area low main =
-    claim-writes told items main owner.Crash (λ done. if needs_low main low then low_part main low else returns (crash.At main None))

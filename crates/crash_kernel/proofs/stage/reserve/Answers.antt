@@ -1,8 +1,8 @@
-use Rattle.std.proofs.Common.{◌≡◌, ◌≢◌, true, false, Some, None, Ok, refl, sym, ◌∙◌, ap}
+use Rattle.std.proofs.Common.{◌≡◌, ◌≢◌, true, false, if◌then◌else◌, Some, None, Ok, refl, sym, ◌∙◌, ap}
 use Rattle.std.proofs.lemmas.Result.{err_from_is_err_and}
 use Rattle.memblock_model.specs.declared.owner.Owner.TheVariants as owner
 use Rattle.memblock_model.specs.Items.{memory_of}
-use Rattle.memblock_ranges.specs.Tables.{Contents as Tables, Table}
+use Rattle.memblock_ranges.specs.Tables.{Table}
 use Rattle.stage_model.specs.Doing.{returns}
 use Rattle.stage_model.specs.Lent.{GoesOn}
 use Rattle.stage_model.proofs.LentLaws.{goes-none, goes-then}
@@ -10,10 +10,10 @@ use Rattle.boot_options.specs.Crash.{crash_view}
 use Rattle.crash_kernel.specs.declared.crash.Crash.{Crash}
 use Rattle.crash_kernel.specs.declared.crash.Crash.TheVariants as crash
 use Rattle.crash_kernel.specs.Total.{memory_bytes}
-use Rattle.crash_kernel.specs.Places.{low_size}
-use Rattle.crash_kernel.specs.Reserved.{reserved, with_main}
+use Rattle.crash_kernel.specs.Places.{low_size, needs_low}
+use Rattle.crash_kernel.specs.Reserved.{low_part, reserved, with_main}
 use Rattle.crash_kernel.proofs.TotalLaws.{records-bytes}
-use Rattle.crash_kernel.proofs.ReservedLaws.{area-at, claimed-away, claims, idle-ok, main-at, main-fails, main-then}
+use Rattle.crash_kernel.proofs.ReservedLaws.{area-at, claimed-away, claim-writes, idle-ok, main-at, main-fails, main-then}
 use Rattle.crash_kernel.proofs.stage.reserve.Goals as goal
 use Rattle.crash_kernel.proofs.stage.reserve.Goals.{After-tables, After-total_memory-total, In-Some-main_range}
 
@@ -28,8 +28,8 @@ total_is c =
 still : (c : After-tables) → GoesOn c.args.memblock.now c.args.memblock.now
 still c =
     let same = c.tables.ensures.tables in
-    goes-none c.args.memblock.now (ap (λ (u : Tables). u.memory) (sym same) ∙ c.tables.ensures.memory)
-    (ap (λ (u : Tables). u.reserved) (sym same) ∙ c.tables.ensures.reserved) (rw same at c.tables.ensures.bytes)
+    goes-none c.args.memblock.now (rw same at c.tables.ensures.memory) (rw same at c.tables.ensures.reserved)
+    (rw same at c.tables.ensures.bytes)
 
 -- the stage goes on by the place of the area
 by_main : (c : In-Some-main_range) → c.total_memory-total.result ≡ memory_bytes (memory_of c.args.memblock.now.journal.items)
@@ -44,8 +44,10 @@ is_no_answer : (c : In-Some-main_range) → c.total_memory-total.result ≡ memo
     → (told : Crash)
     → reserved (crash_view c.args.option.now) c.args.memblock.now.journal.items ≢ returns told c.args.memblock.now.journal.items
 is_no_answer c total told = λ idle.
-    claims told c.args.memblock.now.journal.items c.in-Some.area (low_size (crash_view c.args.option.now)) c.in-Some-main_range.main
-    (sym (by_main c total) ∙ idle)
+    let main = c.in-Some-main_range.main in
+    let low = low_size (crash_view c.args.option.now) in
+    claim-writes told c.args.memblock.now.journal.items main owner.Crash
+    (λ done. if needs_low main low then low_part main low else returns (crash.At main None)) (sym (by_main c total) ∙ idle)
 
 pub returns-in_default-clause-ends : goal.returns-in_default-clause-ends
 returns-in_default-clause-ends c =
