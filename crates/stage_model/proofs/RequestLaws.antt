@@ -1,5 +1,5 @@
 -- Changes and allocations as steps: how a call that carries one out ends.
-use Rattle.std.proofs.Common.{◌≡◌, inl, inr, ⊎_elim, ℕ, Option, Some, None, List, Result, Ok, Err, IfOk, refl, sym, ◌∙◌, ap}
+use Rattle.std.proofs.Common.{◌≡◌, inl, inr, ⊎_elim, ℕ, Option, Some, None, List, Result, Ok, Err, refl, sym, ◌∙◌, ap}
 use Rattle.memblock_model.specs.declared.which.Which.{Which}
 use Rattle.memblock_model.specs.declared.owner.Owner.{Owner}
 use Rattle.memblock_model.specs.declared.item.Item.{Item}
@@ -42,27 +42,22 @@ pub carried-wanting : (T : Type 0) (old new : List Item) (change : Change) → E
 carried-wanting T old new change cut = inr (refl, cut)
 
 -- an allocation
-found_by : (r : Result ℕ Refusal) (old new : List Item) (place size : ℕ) (who : Owner) → IfOk r (λ base. base ≡ place)
-    → Ends r old new (claimed (record { base = place; size = size }) who)
-    → EndsAs refusal.Memory r old new (claimed_at (Some place) size who old)
-found_by (Ok base) old new place size who at h =
+allocation_by : (place : Option ℕ) (r : Result ℕ Refusal) (old new : List Item) (size : ℕ) (who : Owner)
+    → Allocates r old new place size who → EndsAs refusal.Memory r old new (claimed_at place size who old)
+allocation_by None r old new size who h = rw h.0 (inl (refl, h.1))
+allocation_by (Some place) (Ok base) old new size who h =
     let claim : Change = claimed (record { base = place; size = size }) who in
-    ends-second tt (Ok base) refusal.Memory old new new (changes claim) (λ done. returns place) (ends-change (Ok tt) old new claim h)
-    (rw at refl, refl)
-found_by (Err e) old new place size who at h =
+    ends-second tt (Ok base) refusal.Memory old new new (changes claim) (λ done. returns place) (ends-change (Ok tt) old new claim h.1)
+    (rw h.0 refl, refl)
+allocation_by (Some place) (Err e) old new size who h =
     let claim : Change = claimed (record { base = place; size = size }) who in
     ends-first e refusal.Memory old new (changes claim) (λ done. returns place)
-    (ends-change (Err e) old new claim (Ends-error ℕ (Unit {0}) e old new claim h))
-
-allocation_by : (r : Result ℕ Refusal) (old new : List Item) (place : Option ℕ) (size : ℕ) (who : Owner)
-    → Allocates r old new place size who → EndsAs refusal.Memory r old new (claimed_at place size who old)
-allocation_by r old new None size who h = rw h.0 (inl (refl, h.1))
-allocation_by r old new (Some place) size who h = found_by r old new place size who h.0 h.1
+    (ends-change (Err e) old new claim (Ends-error ℕ (Unit {0}) e old new claim h.1))
 
 pub ends-allocation : (r : Result ℕ Refusal) (old new : List Item) (q : Request) (who : Owner)
     → Allocates r old new (place_for q old) q.size who → EndsAs refusal.Memory r old new (allocated q who old)
 unfolding allocated
-ends-allocation r old new q who h = allocation_by r old new (place_for q old) q.size who h
+ends-allocation r old new q who h = allocation_by (place_for q old) r old new q.size who h
 
 -- an allocation that the boot can't do without
 pub ends-placed : (r : Result ℕ Refusal) (thing : What) (old new : List Item) (q : Request) (who : Owner)
