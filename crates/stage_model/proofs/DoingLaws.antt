@@ -56,11 +56,6 @@ module _ {E A : Type 0} where
   pub ends-wanting : (f : List Item → A) (wanting : E) (items : List Item) → EndsAs wanting (Err wanting) items items (listed f items)
   ends-wanting f wanting items = inr (refl, record { count = 0; short = omega arith; stands = sym (append-nil items) })
 
-  -- an answer that is known
-  pub ends-along : (r s : Result A E) (wanting : E) (old new : List Item) (d : Done E A) → r ≡ s → EndsAs wanting r old new d
-      → EndsAs wanting s old new d
-  ends-along r s wanting old new d is h = rw is at h
-
   pub ends-returns : (a : A) (wanting : E) (items : List Item) → EndsAs wanting (Ok a) items items (returns {E = E} a items)
   ends-returns a wanting items = (refl, refl)
 
