@@ -1,6 +1,6 @@
 -- The listed blocks are in bounds: their orders, their first frames, and how many they are.
-use Rattle.std.proofs.Common.{◌≡◌, ℕ, zero, suc, ◌+◌, ◌%◌, ◌^◌, ◌<◌, ◌≤◌, ◌==◌, Option, Some, None, List, [], ◌∷◌, length, arith, inl, inr}
-use Rattle.std.proofs.lemmas.Bool.{cases_Bool}
+use Rattle.std.proofs.Common.{◌≡◌, ℕ, zero, suc, ◌+◌, ◌%◌, ◌^◌, ◌<◌, ◌≤◌, ◌==◌, Option, Some, None, List, [], ◌∷◌, length, arith}
+use Rattle.std.proofs.lemmas.Bool.{cond_both}
 use Rattle.frame_blocks.specs.declared.block.Block.{Block}
 use Rattle.frame_blocks.specs.declared.run.TheConstants.{MAX_FRAMES}
 use Rattle.frame_blocks.specs.Frames.{Frames}
@@ -26,11 +26,7 @@ MayBeInBounds (Some b) = InBounds b
 -- one more block, if there is one
 led_in_bounds : (x : ℕ) (o : Option Block) (bs : List Block) → MayBeInBounds o → AreInBounds bs → AreInBounds (led_by_block x o bs)
 led_in_bounds x None bs one rest = rest
-led_in_bounds x (Some b) bs one rest =
-    elim (cases_Bool (b.first == x)) as (λ _. AreInBounds (led_by_block x (Some b) bs)) [
-      | inl here ↦ rw here (one, rest)
-      | inr other ↦ rw other rest
-    ]
+led_in_bounds x (Some b) bs one rest = cond_both (b.first == x) (b ∷ bs) bs AreInBounds (λ here. (one, rest)) (λ other. rest)
 
 found_in_bounds : (f : Frames) (x : ℕ) (n : Option ℕ) → x < 2 ^ 40 → MayBeInBounds (block_for f x n)
 found_in_bounds f x None low = tt

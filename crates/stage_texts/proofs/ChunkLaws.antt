@@ -1,9 +1,9 @@
 -- The text of a draft: what is appended to its text, and chunks behind it.
-use Rattle.std.proofs.Common.{◌≡◌, ℕ, ◌+◌, ◌-◌, ◌*◌, ◌/◌, ◌%◌, ◌^◌, ◌<◌, ◌≤◌, List, ◌∷◌, ◌++◌, sym, ap, ◌∙◌, subst, append_assoc, Result, Ok, Err, arith}
+use Rattle.std.proofs.Common.{◌≡◌, ℕ, ◌+◌, ◌-◌, ◌*◌, ◌/◌, ◌%◌, ◌^◌, ◌<◌, ◌≤◌, List, ◌++◌, sym, ap, ◌∙◌, append_assoc, Result, Ok, Err, arith}
 use Rattle.std.specs.Prelude.{OnOk}
 use Rattle.frame_blocks.specs.declared.block.BlockRow.{BlockRow}
 use Rattle.frame_blocks.specs.declared.block.Block.{Block}
-use Rattle.frame_blocks.specs.Rows.{row_from, blocks_of_row}
+use Rattle.frame_blocks.specs.Rows.{blocks_of_row}
 use Rattle.stage_texts.specs.declared.chunks.Chunk.{Chunk}
 use Rattle.stage_texts.specs.BlocksText.{row_text}
 use Rattle.stage_texts.specs.Chunks.{text_of_chunks}
@@ -41,9 +41,8 @@ in_parts : (row : BlockRow) (b m e : ℕ) → row.order ≡ 10 → row.count ≡
 in_parts row b m e great count some whole middle aligned end placed =
     let front : List Block = blocks_of_row (part row 0 b) in
     let back : List Block = blocks_of_row (part row (row.count - e) e) in
-    let all : blocks_of_row row ≡ front ++ (blocks_of_row (part row b (row.count - b - e)) ++ back) =
-    three_parts row b m e great count ∙ ap (λ k. front ++ (blocks_of_row (part row b k) ++ back)) middle in
-    let parts = subst (λ (bs : List Block). ArePlaced bs) all placed in
+    let all = rw middle at (three_parts row b m e great count) in
+    let parts = rw all at placed in
     record {
       few = omega (arith, count, some);
       end = end;
@@ -51,18 +50,17 @@ in_parts row b m e great count some whole middle aligned end placed =
       fill = record {
         order = great;
         first = aligned;
-        count = subst (λ (k : ℕ). k % 1024 ≡ 0) middle whole;
+        count = rw middle at whole;
         end = omega (arith, count, end);
       };
       behind = placed_behind (blocks_of_row (part row b (row.count - b - e))) back (placed_behind front _ parts);
-      text = ap lines all ∙ lines_append front _
-          ∙ ap (λ t. lines front ++ t) (lines_append (blocks_of_row (part row b (row.count - b - e))) back);
+      text = ap lines all ∙ simp lines_append;
     }
 
 pub great_parts : (row : BlockRow) → row.order ≡ 10 → 2048 ≤ row.count → ArePlaced (blocks_of_row row)
     → InParts row (before row.first) ((row.count - before row.first) % 1024)
 great_parts row great many placed =
-    let here = subst (λ (o : ℕ). ArePlaced (row_from o row.first row.node row.zone row.count)) great placed in
+    let here = rw great at placed in
     let first = first_placed 10 row.first row.node row.count row.zone here (omega (arith, many)) in
     let aligned = first.2 in
     let front = before_is row.first aligned in
@@ -77,9 +75,4 @@ pub parts_put : (row : BlockRow) (b e : ℕ) (old first second third : List ℕ)
     → second ≡ first ++ row_text (part row b (row.count - b - e))
     → third ≡ second ++ row_text (part row (row.count - e) e)
     → third ≡ old ++ row_text row
-parts_put row b e old first second third parts one two three =
-    let p : List ℕ = row_text (part row 0 b) in
-    let q : List ℕ = row_text (part row b (row.count - b - e)) in
-    let r : List ℕ = row_text (part row (row.count - e) e) in
-    three ∙ ap (λ t. t ++ r) (two ∙ ap (λ t. t ++ q) one) ∙ append_assoc (old ++ p) q r ∙ append_assoc old p (q ++ r)
-    ∙ ap (λ t. old ++ t) (sym parts.text)
+parts_put row b e old first second third parts one two three = rw (three, two, one, parts.text) (simp append_assoc)

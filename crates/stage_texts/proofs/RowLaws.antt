@@ -1,11 +1,12 @@
 -- The lines of blocks that follow one another in rows, and where such blocks lie.
-use Rattle.std.proofs.Common.{◌≡◌, ℕ, zero, suc, ◌+◌, ◌-◌, ◌*◌, ◌%◌, ◌^◌, ◌<◌, ◌≤◌, List, [], ◌∷◌, ◌++◌, length, drop, refl, sym, ap, ◌∙◌, subst, append_assoc, append-nil, drop-cons, get_or, arith}
+use Rattle.std.proofs.Common.{◌≡◌, ℕ, zero, suc, ◌+◌, ◌-◌, ◌*◌, ◌%◌, ◌^◌, ◌<◌, ◌≤◌, List, [], ◌∷◌, ◌++◌, length, drop, refl, sym, ap, ◌∙◌, append_assoc, drop-cons, get_or, arith, zero-add, suc-add, add-one}
 use Rattle.std.proofs.Math.Nat.{suc-mul, pow-le-pow_right}
 use Rattle.bm_base.specs.declared.zone.Zone.{Zone}
 use Rattle.frame_blocks.specs.declared.block.Block.{Block}
 use Rattle.frame_blocks.specs.declared.block.BlockRow.{BlockRow}
 use Rattle.frame_blocks.specs.Rows.{row_from, blocks_of_row, blocks_of_rows}
 use Rattle.report_texts.specs.Lines.{lines_from}
+use Rattle.report_texts.proofs.PutLaws.{text_end}
 use Rattle.stage_texts.specs.BlocksText.{block_line}
 use Rattle.stage_texts.specs.Sheets.{ArePlaced}
 use Rattle.stage_texts.proofs.BlockLaws.{AreInBounds}
@@ -25,31 +26,21 @@ lines_first b bs = ap (λ t. block_line 0 b ++ t) (lines_any 1 0 bs)
 pub lines_append : (bs cs : List Block) → lines (bs ++ cs) ≡ lines bs ++ lines cs
 lines_append [] cs = refl
 lines_append (b ∷ bs) cs =
-    lines_first b (bs ++ cs) ∙ ap (λ t. block_line 0 b ++ t) (lines_append bs cs)
-    ∙ sym (append_assoc (block_line 0 b) (lines bs) (lines cs)) ∙ ap (λ t. t ++ lines cs) (sym (lines_first b bs))
+    rw (lines_any 1 0 (bs ++ cs), lines_any 1 0 bs, lines_append bs cs) (sym (append_assoc (block_line 0 b) (lines bs) (lines cs)))
 
 -- two rows, one behind the other
 pub row_parts : (k m o x n : ℕ) (z : Zone) → row_from o x n z (k + m) ≡ row_from o x n z k ++ row_from o (x + k * 2 ^ o) n z m
 unfolding row_from
-row_parts zero m o x n z =
-    let none : 0 + m ≡ m = omega arith in
-    let here : x ≡ x + 0 * 2 ^ o = omega arith in
-    ap (λ i. row_from o x n z i) none ∙ ap (λ y. row_from o y n z m) here
+row_parts zero m o x n z = let here : x + 0 * 2 ^ o ≡ x = omega arith in rw (zero-add, here) refl
 row_parts (suc k) m o x n z =
-    let more : suc k + m ≡ suc (k + m) = omega arith in
-    let there : x + 2 ^ o + k * 2 ^ o ≡ x + suc k * 2 ^ o = let h = suc-mul k (2 ^ o) in omega (arith, h) in
-    let b : Block = record { order = o; first = x; node = n; zone = z } in
-    ap (λ i. row_from o x n z i) more
-    ∙ ap (λ (bs : List Block). b ∷ bs) (row_parts k m o (x + 2 ^ o) n z
-    ∙ ap (λ y. row_from o (x + 2 ^ o) n z k ++ row_from o y n z m) there)
+    let there : x + 2 ^ o + k * 2 ^ o ≡ x + suc k * 2 ^ o = omega (arith, suc-mul k (2 ^ o)) in
+    rw (suc-add, row_parts k m o (x + 2 ^ o) n z, there) refl
 
 pub some_first : (o x n k : ℕ) (z : Zone) → 0 < k
     → row_from o x n z k ≡ (let b : Block = record { order = o; first = x; node = n; zone = z } in b) ∷ row_from o (x + 2 ^ o) n z (k - 1)
 unfolding row_from
 some_first o x n zero z some = absurd (omega arith)
-some_first o x n (suc k) z some =
-    let less : k ≡ suc k - 1 = omega arith in
-    ap (λ i. row_from o x n z 1 ++ row_from o (x + 2 ^ o) n z i) less
+some_first o x n (suc k) z some = let less : suc k - 1 ≡ k = omega arith in rw less refl
 
 -- blocks in bounds are placed
 pub bounds_placed : (bs : List Block) → AreInBounds bs → ArePlaced bs
@@ -67,30 +58,22 @@ placed_before (b ∷ bs) cs all = (all.0, all.1, all.2, placed_before bs cs all.
 
 -- the first of some blocks in a row, and those behind it
 pub first_placed : (o x n k : ℕ) (z : Zone) → ArePlaced (row_from o x n z k) → 0 < k → (o ≤ 10) × (x < 2 ^ 40) × (x % 2 ^ o ≡ 0)
-first_placed o x n k z all some =
-    let parts = subst (λ (bs : List Block). ArePlaced bs) (some_first o x n k z some) all in (parts.0, parts.1, parts.2)
+first_placed o x n k z all some = let parts = rw (some_first o x n k z some) at all in (parts.0, parts.1, parts.2)
 
 pub rest_placed : (o x n k : ℕ) (z : Zone) → ArePlaced (row_from o x n z k) → 0 < k → ArePlaced (row_from o (x + 2 ^ o) n z (k - 1))
-rest_placed o x n k z all some =
-    let parts = subst (λ (bs : List Block). ArePlaced bs) (some_first o x n k z some) all in parts.3
+rest_placed o x n k z all some = (rw (some_first o x n k z some) at all).3
 
 -- the line of the first of them and those of the others, and none left
 pub next_line : (o x n k y : ℕ) (z : Zone) → 0 < k → y ≡ x + 2 ^ o
     → lines (row_from o x n z k) ≡ block_line 0 (record { order = o; first = x; node = n; zone = z }) ++ lines (row_from o y n z (k - 1))
-next_line o x n k y z some next =
-    let b : Block = record { order = o; first = x; node = n; zone = z } in
-    ap lines (some_first o x n k z some) ∙ lines_first b (row_from o (x + 2 ^ o) n z (k - 1))
-    ∙ ap (λ i. block_line 0 b ++ lines (row_from o i n z (k - 1))) (sym next)
-
-pub none_more : (o x n k : ℕ) (z : Zone) (text whole : List ℕ) → k ≡ 0 → text ++ lines (row_from o x n z k) ≡ whole → text ≡ whole
-none_more o x n k z text whole none so_far =
-    let empty : lines (row_from o x n z 0) ≡ [] = unfold row_from in refl in
-    sym (append-nil text) ∙ ap (λ t. text ++ t) (sym (ap (λ i. lines (row_from o x n z i)) none ∙ empty)) ∙ so_far
+next_line o x n k y z some next = rw (some_first o x n k z some, lines_any 1 0 (row_from o (x + 2 ^ o) n z (k - 1)), next) refl
 
 pub no_lines : (o x n k : ℕ) (z : Zone) → k ≡ 0 → lines (row_from o x n z k) ≡ []
-no_lines o x n k z none =
-    let empty : lines (row_from o x n z 0) ≡ [] = unfold row_from in refl in
-    ap (λ i. lines (row_from o x n z i)) none ∙ empty
+unfolding row_from
+no_lines o x n k z none = rw none refl
+
+pub none_more : (o x n k : ℕ) (z : Zone) (text whole : List ℕ) → k ≡ 0 → text ++ lines (row_from o x n z k) ≡ whole → text ≡ whole
+none_more o x n k z text whole none so_far = text_end text _ whole (no_lines o x n k z none) so_far
 
 -- blocks of the greatest order that end by 2^40
 pub row_low : (k x n : ℕ) (z : Zone) → x % 1024 ≡ 0 → x + k * 1024 ≤ 2 ^ 40 → ArePlaced (row_from 10 x n z k)
@@ -118,19 +101,11 @@ part row skipped count = record row { first = row.first + skipped * 1024; count 
 pub three_parts : (row : BlockRow) (b m e : ℕ) → row.order ≡ 10 → row.count ≡ b + (m + e)
     → blocks_of_row row ≡ blocks_of_row (part row 0 b) ++ (blocks_of_row (part row b m) ++ blocks_of_row (part row (row.count - e) e))
 three_parts row b m e great count =
-    let o : ℕ = row.order in
-    let n : ℕ = row.node in
-    let z : Zone = row.zone in
     let x : ℕ = row.first in
-    let here : x ≡ x + 0 * 1024 = omega arith in
-    let next : x + b * 2 ^ o ≡ x + b * 1024 = ap (λ i. x + b * 2 ^ i) great in
-    let last : x + b * 1024 + m * 2 ^ o ≡ x + (row.count - e) * 1024 =
-    ap (λ i. x + b * 1024 + m * 2 ^ i) great ∙ omega (arith, count) in
-    ap (λ k. row_from o x n z k) count ∙ row_parts b (m + e) o x n z
-    ∙ ap (λ y. row_from o y n z b ++ row_from o (x + b * 2 ^ o) n z (m + e)) here
-    ∙ ap (λ y. blocks_of_row (part row 0 b) ++ row_from o y n z (m + e)) next
-    ∙ ap (λ bs. blocks_of_row (part row 0 b) ++ bs) (row_parts m e o (x + b * 1024) n z
-    ∙ ap (λ y. blocks_of_row (part row b m) ++ row_from o y n z e) last)
+    let here : x + 0 * 1024 ≡ x = omega arith in
+    let last : x + (row.count - e) * 1024 ≡ x + b * 1024 + m * 1024 = omega (arith, count) in
+    ap (λ k. row_from row.order x row.node row.zone k) count
+    ∙ rw (great, here, last, row_parts b (m + e) 10 x row.node row.zone, row_parts m e 10 (x + b * 1024) row.node row.zone) refl
 
 -- one row of a list, and the text with its lines
 pub rows_placed : (rs : List BlockRow) (i : ℕ) (d : BlockRow) → ArePlaced (blocks_of_rows rs) → i < length rs
@@ -146,12 +121,8 @@ pub row_put : (rs : List BlockRow) (i : ℕ) (d : BlockRow) (before after whole 
 row_put rs i d before after whole within put so_far =
     let r : BlockRow = get_or rs i d in
     let rest : List Block = blocks_of_rows (drop (i + 1) rs) in
-    let next : suc i ≡ i + 1 = omega arith in
-    let first : drop i rs ≡ r ∷ drop (i + 1) rs =
-    drop-cons rs i d within ∙ ap (λ k. r ∷ drop k rs) next in
-    ap (λ t. t ++ lines rest) put ∙ append_assoc before (lines (blocks_of_row r)) (lines rest)
-    ∙ ap (λ t. before ++ t) (sym (ap (λ (qs : List BlockRow). lines (blocks_of_rows qs)) first ∙ lines_append (blocks_of_row r) rest))
-    ∙ so_far
+    let first : drop i rs ≡ r ∷ drop (i + 1) rs = rw add-one (drop-cons rs i d within) in
+    rw (put, append_assoc before (lines (blocks_of_row r)) (lines rest), ← lines_append (blocks_of_row r) rest) (rw first at so_far)
 
 -- the frames of a block as code says them
 pub size_is : (o : ℕ) → o ≤ 10 → (1 * 2 ^ o % 18446744073709551616 ≡ 2 ^ o) × (2 ^ o ≤ 1024)

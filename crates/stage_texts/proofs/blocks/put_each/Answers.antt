@@ -1,17 +1,17 @@
-use Rattle.std.proofs.Common.{◌≡◌, ◌+◌, ◌-◌, ◌*◌, ◌%◌, ◌^◌, ℕ, Result, Err, refl, sym, ap, subst, arith}
+use Rattle.std.proofs.Common.{◌≡◌, ◌+◌, ◌-◌, ◌*◌, ◌%◌, ◌^◌, Result, Err, refl, ap, arith}
 use Rattle.std.proofs.lemmas.Grind.{common_steps}
 use Rattle.bm_base.specs.declared.memory.Memory.{Memory}
 use Rattle.frame_blocks.specs.Rows.{row_from}
 use Rattle.report_texts.proofs.PutLaws.{text_more, too_small}
 use Rattle.stage_texts.specs.BlocksText.{block_line}
-use Rattle.stage_texts.specs.Sheets.{ArePlaced}
 use Rattle.stage_texts.proofs.RowLaws.{first_placed, lines, next_line, none_more, rest_placed, size_is}
 use Rattle.stage_texts.proofs.blocks.put_each.Goals as goal
 
 pub put_block_line-requires : goal.put_block_line-requires
 put_block_line-requires c =
-    (first_placed c.args.row.now.order c.loop-left.first c.args.row.now.node c.loop-left.left c.args.row.now.zone c.loop-left.invariant.low
-    (omega arith)).1
+    let r = c.args.row.now in
+    let l = c.loop-left in
+    (first_placed r.order l.first r.node l.left r.zone l.invariant.low (omega arith)).1
 
 pub returns-in_err-put_block_line : goal.returns-in_err-put_block_line
 returns-in_err-put_block_line c =
@@ -26,17 +26,18 @@ returns-in_err-put_block_line c =
 
 pub overflow_shl-first : goal.overflow_shl-first
 overflow_shl-first c =
-    let small = (first_placed c.args.row.now.order c.loop-left.first c.args.row.now.node c.loop-left.left c.args.row.now.zone
-    c.loop-left.invariant.low (omega arith)).0 in
-    omega (arith, small)
+    let r = c.args.row.now in
+    let l = c.loop-left in
+    let at = first_placed r.order l.first r.node l.left r.zone l.invariant.low (omega arith) in
+    omega (arith, at.0)
 
 pub overflow_add-first : goal.overflow_add-first
 overflow_add-first c =
-    let at = first_placed c.args.row.now.order c.loop-left.first c.args.row.now.node c.loop-left.left c.args.row.now.zone
-    c.loop-left.invariant.low (omega arith) in
-    let size = size_is c.args.row.now.order at.0 in
-    let low = at.1 in
-    omega (arith, size.0, size.1, low)
+    let r = c.args.row.now in
+    let l = c.loop-left in
+    let at = first_placed r.order l.first r.node l.left r.zone l.invariant.low (omega arith) in
+    let size = size_is r.order at.0 in
+    omega (arith, size.0, size.1, at.1)
 
 pub loop-left-preserved : goal.loop-left-preserved
 loop-left-preserved c =
@@ -45,15 +46,10 @@ loop-left-preserved c =
     let at = first_placed r.order l.first r.node l.left r.zone l.invariant.low (omega arith) in
     let next : l.first + 1 * 2 ^ r.order % 18446744073709551616 ≡ l.first + 2 ^ r.order = ap (λ s. l.first + s) (size_is r.order at.0).0 in
     let put = c.in_ok-put_block_line.ensures in
-    let more = put.1 in
-    let before = l.invariant.room in
     record {
-      low = subst (λ (x : ℕ). ArePlaced (row_from r.order x r.node r.zone (l.left - 1))) (sym next)
-          (rest_placed r.order l.first r.node l.left r.zone l.invariant.low (omega arith));
-      text = text_more _ _ _ _ _ _
-          (next_line r.order l.first r.node l.left (l.first + 1 * 2 ^ r.order % 18446744073709551616) r.zone (omega arith) next)
-          l.invariant.text put.0;
-      room = omega (arith, more, before);
+      low = rw next (rest_placed r.order l.first r.node l.left r.zone l.invariant.low (omega arith));
+      text = text_more _ _ _ _ _ _ (next_line r.order l.first r.node l.left _ r.zone (omega arith) next) l.invariant.text put.0;
+      room = omega (arith, put.1);
     }
 
 pub returns : goal.returns

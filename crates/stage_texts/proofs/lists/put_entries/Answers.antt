@@ -1,5 +1,5 @@
 -- An entry for which memory is wanting: the room was too small for all of them.
-use Rattle.std.proofs.Common.{◌≡◌, ℕ, suc, ◌+◌, ◌<◌, ◌≤◌, List, ◌++◌, length, drop, get_or, Result, Err, ap, ◌∙◌, drop-cons, arith}
+use Rattle.std.proofs.Common.{◌≡◌, ℕ, ◌+◌, ◌<◌, ◌≤◌, List, ◌++◌, length, drop, get_or, Result, Err, refl, drop-cons, add-one, arith}
 use Rattle.std.proofs.lemmas.Grind.{common_steps}
 use Rattle.std.specs.List.{flat_map}
 use Rattle.bm_base.specs.declared.memory.Memory.{Memory}
@@ -12,11 +12,9 @@ no_room : (zones : List ListZone) (i : ℕ) (d : ListZone) (old mid : List ℕ) 
     → mid ++ flat_map entry_text (drop i zones) ≡ old ++ flat_map entry_text zones → before ≤ room
     → room < length mid + length (entry_text (get_or zones i d)) → before < length old + length (flat_map entry_text zones)
 no_room zones i d old mid before room within so_far less wants =
-    let next : suc i ≡ i + 1 = omega arith in
-    too_small old mid (entry_text (get_or zones i d)) (flat_map entry_text (drop i zones)) (flat_map entry_text (drop (i + 1) zones))
-    (flat_map entry_text zones) before room
-    (ap (λ (zs : List ListZone). flat_map entry_text zs) (drop-cons zones i d within)
-    ∙ ap (λ k. entry_text (get_or zones i d) ++ flat_map entry_text (drop k zones)) next) so_far less wants
+    let left : flat_map entry_text (drop i zones) ≡ entry_text (get_or zones i d) ++ flat_map entry_text (drop (i + 1) zones) =
+    rw (drop-cons zones i d within, add-one) refl in
+    too_small old mid (entry_text (get_or zones i d)) _ (flat_map entry_text (drop (i + 1) zones)) _ before room left so_far less wants
 
 pub returns-in_err-put_entry : goal.returns-in_err-put_entry
 returns-in_err-put_entry c =

@@ -1,11 +1,9 @@
-use Rattle.std.proofs.Common.{◌≡◌, ◌∙◌, ◌-◌, ◌++◌, ℕ, List, length, sym, ap, append-nil, arith}
-use Rattle.stage_texts.specs.Sheets.{sheet_from}
+use Rattle.std.proofs.Common.{◌≡◌, ℕ, List, length, ap, append-nil, arith}
 use Rattle.stage_texts.proofs.SheetLaws.{renumbered, sheet_none}
 use Rattle.stage_texts.proofs.sheets.renumber.Goals as goal
 
 pub loop-i-init : goal.loop-i-init
-loop-i-init c = λ front old eight is.
-    is ∙ ap (λ t. t ++ sheet_from front old 0 1024) (sym (sheet_none 0 front c.args.digits.now))
+loop-i-init c = λ front old eight is. rw (sheet_none 0 front c.args.digits.now) is
 
 pub loop-i-preserved : goal.loop-i-preserved
 loop-i-preserved c = λ front old eight is.
@@ -15,7 +13,4 @@ loop-i-preserved c = λ front old eight is.
 pub returns : goal.returns
 returns c = λ front old eight is.
     let end : c.loop-i.i ≡ 1024 = omega arith in
-    c.loop-i.invariant front old eight is
-    ∙ ap (λ i. sheet_from front c.args.digits.now 0 i ++ sheet_from front old i (1024 - i)) end
-    ∙ ap (λ t. sheet_from front c.args.digits.now 0 1024 ++ t) (sheet_none 1024 front old)
-    ∙ append-nil (sheet_from front c.args.digits.now 0 1024)
+    rw (end, sheet_none 1024 front old, append-nil) at (c.loop-i.invariant front old eight is)

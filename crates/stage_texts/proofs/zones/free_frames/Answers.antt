@@ -1,8 +1,8 @@
 -- One order after the other.
-use Rattle.std.proofs.Common.{◌≡◌, ◌+◌, ◌∙◌, sym, ap, arith}
+use Rattle.std.proofs.Common.{◌≡◌, ◌+◌, ◌∙◌, sym, arith}
 use Rattle.frame_blocks.specs.Listed.{blocks_of}
 use Rattle.buddy_handover.specs.Contents.{free}
-use Rattle.stage_texts.proofs.ZoneLaws.{all_counted, counted_few, frames_below, next_frames, none_below}
+use Rattle.stage_texts.proofs.ZoneLaws.{all_counted, counted_few, next_frames, none_below}
 use Rattle.stage_texts.proofs.zones.free_frames.Goals as goal
 
 pub loop-order-init : goal.loop-order-init
@@ -23,4 +23,4 @@ pub returns : goal.returns
 returns c =
     let f = free c.args.buddy.now in
     let end : c.loop-order.order ≡ 11 = omega arith in
-    c.loop-order.invariant ∙ ap (λ m. frames_below c.args.node c.args.zone m (blocks_of f)) end ∙ all_counted f c.args.node c.args.zone
+    c.loop-order.invariant ∙ rw end (all_counted f c.args.node c.args.zone)

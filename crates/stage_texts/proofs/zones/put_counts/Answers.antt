@@ -22,10 +22,8 @@ loop-order-preserved c =
     let span = c.args.span.now in
     let l = c.loop-order in
     let put = c.in_ok-put_count.ensures in
-    let more = put.1 in
-    let before = l.invariant.room in
     record {
       text = text_more _ _ _ _ _ _ (next_number (free c.args.buddy.now) span.node span.zone l.order _ (omega arith) c.count.ensures)
           l.invariant.text put.0;
-      room = omega (arith, more, before);
+      room = omega (arith, put.1);
     }

@@ -1,6 +1,5 @@
 -- The lines in memory are those of the next sheet.
-use Rattle.std.proofs.Common.{◌<◌, subst, sym}
-use Rattle.frame_blocks.specs.declared.block.BlockRow.{BlockRow}
+use Rattle.std.proofs.Common.{◌<◌}
 use Rattle.stage_texts.proofs.SheetLaws.{rest_fill, rest_sheet, sheet_size_of, sheet_then}
 use Rattle.stage_texts.proofs.sheets.Sheets.turn.Goals as goal
 
@@ -14,7 +13,7 @@ set_number-requires-clause-long c =
 
 pub invariant_of-self : goal.invariant_of-self
 invariant_of-self c =
-    let some : 0 < c.self.inside.row.count = subst (λ (r : BlockRow). 0 < r.count) (sym c.self.view_is) c.requires in (
+    let some : 0 < c.self.inside.row.count = rw c.self.view_is c.requires in (
       rest_fill c.self.inside.row c.self.invariant.0 some,
       rest_sheet c.self.inside.row c.self.inside.lines.items c.set_number.new.sheet.items c.self.invariant.0 some c.self.invariant.1
           c.set_number.ensures,
@@ -22,5 +21,5 @@ invariant_of-self c =
 
 pub returns-clause-text : goal.returns-clause-text
 returns-clause-text c =
-    let some : 0 < c.self.inside.row.count = subst (λ (r : BlockRow). 0 < r.count) (sym c.self.view_is) c.requires in
+    let some : 0 < c.self.inside.row.count = rw c.self.view_is c.requires in
     rw (← c.self.view_is) (sheet_then c.self.inside.row c.self.invariant.0 some)
