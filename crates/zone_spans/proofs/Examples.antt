@@ -13,33 +13,20 @@ holed x = if (nat_le 1 x && nat_lt x 2) then Some 7 else (if (nat_le 3 x && nat_
 abbrev both : Span
 both = record { node = 7; zone = zone.Dma; start = 1; end = 4; present = 2 }
 
-in_examples : (is_in holed 7 zone.Dma 3 ≡ true) × (is_in holed 7 zone.Dma 2 ≡ false) × (is_in holed 7 zone.Dma32 3 ≡ false)
-    × (is_in holed 6 zone.Dma 3 ≡ false)
-in_examples = (refl, refl, refl, refl)
-
-with_examples : (with_frames 7 zone.Dma 1 1 None ≡ record { node = 7; zone = zone.Dma; start = 1; end = 2; present = 1 })
-    × (with_frames 7 zone.Dma 3 1 (Some (record { node = 7; zone = zone.Dma; start = 1; end = 2; present = 1 })) ≡ both)
-with_examples = (refl, refl)
-
 -- the hole counts for the ends and not for the number
-below_examples : (span_below holed 7 zone.Dma 5 ≡ Some both) × (span_below holed 7 zone.Dma32 5 ≡ None)
+span_examples : (is_in holed 7 zone.Dma 3 ≡ true) × (is_in holed 7 zone.Dma 2 ≡ false) × (is_in holed 7 zone.Dma32 3 ≡ false)
+    × (is_in holed 6 zone.Dma 3 ≡ false)
+    × (with_frames 7 zone.Dma 1 1 None ≡ record { node = 7; zone = zone.Dma; start = 1; end = 2; present = 1 })
+    × (with_frames 7 zone.Dma 3 1 (Some (record { node = 7; zone = zone.Dma; start = 1; end = 2; present = 1 })) ≡ both)
+    × (span_below holed 7 zone.Dma 5 ≡ Some both) × (span_below holed 7 zone.Dma32 5 ≡ None)
     × (span_below holed 7 zone.Dma 1 ≡ None)
-unfolding span_below
-below_examples = (refl, refl, refl)
-
-number_examples : (number_below holed 7 zone.Dma 5 ≡ 2) × (number_below holed 7 zone.Dma 2 ≡ 1)
-unfolding number_below
-number_examples = (refl, refl)
+    × (number_below holed 7 zone.Dma 5 ≡ 2) × (number_below holed 7 zone.Dma 2 ≡ 1)
+unfolding span_below number_below
+span_examples = (refl, refl, refl, refl, refl, refl, refl, refl, refl, refl, refl)
 
 place_examples : (place_of zone.Dma ≡ 0) × (place_of zone.Dma32 ≡ 1) × (place_of zone.Normal ≡ 2)
-place_examples = (refl, refl, refl)
-
-run_examples : (with_run 4 6 7 holed 5 ≡ Some 7) × (with_run 4 6 7 holed 6 ≡ None) × (with_run 4 6 8 holed 3 ≡ Some 7)
-run_examples = (refl, refl, refl)
-
-slot_examples : (slot_with 7 zone.Dma 1 2 None 21 ≡ Some (record { node = 7; zone = zone.Dma; start = 1; end = 2; present = 1 }))
+    × (with_run 4 6 7 holed 5 ≡ Some 7) × (with_run 4 6 7 holed 6 ≡ None) × (with_run 4 6 8 holed 3 ≡ Some 7)
+    × (slot_with 7 zone.Dma 1 2 None 21 ≡ Some (record { node = 7; zone = zone.Dma; start = 1; end = 2; present = 1 }))
     × (slot_with 7 zone.Dma 1 2 None 22 ≡ None)
-slot_examples = (refl, refl)
-
-some_examples : (somes (None ∷ (Some both ∷ (None ∷ []))) ≡ both ∷ []) × (somes [] ≡ [])
-some_examples = (refl, refl)
+    × (somes (None ∷ (Some both ∷ (None ∷ []))) ≡ both ∷ []) × (somes [] ≡ [])
+place_examples = (refl, refl, refl, refl, refl, refl, refl, refl, refl, refl)
