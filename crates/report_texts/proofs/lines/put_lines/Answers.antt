@@ -1,17 +1,16 @@
 -- The line of one more element, or the end of all.
-use Rattle.std.proofs.Common.{◌≡◌, Result, Err, arith}
-use Rattle.std.proofs.lemmas.Grind.{common_steps}
-use Rattle.bm_base.specs.declared.memory.Memory.{Memory}
+use Rattle.std.proofs.Common.{arith}
+use Rattle.std.proofs.lemmas.Result.{err_from_is_err_and}
 use Rattle.report_texts.proofs.LineLaws.{lines_at, lines_end}
 use Rattle.report_texts.proofs.PutLaws.{text_end, text_more, too_small}
 use Rattle.report_texts.proofs.lines.put_lines.Goals as goal
 
 pub returns-in_err-put-clause-puts : goal.returns-in_err-put-clause-puts
 returns-in_err-put-clause-puts g c = λ line says.
-    let told : ◌≡◌ {A = Result (Unit {0}) Memory} c.from_residual.result (Err c.in_err-put.field-0.0) = grind (arith, common_steps) in
     let so_far = c.loop-index.invariant.puts line says in
     let item = c.index-items-index in
-    rw told (too_small _ _ _ _ _ _ _ _ (lines_at line c.args.items.now c.loop-index.index item.result _ item.is c.loop-index-test.true)
+    rw (err_from_is_err_and c.from_residual.result c.from_residual.ensures.1).1
+    (too_small _ _ _ _ _ _ _ _ (lines_at line c.args.items.now c.loop-index.index item.result _ item.is c.loop-index-test.true)
     so_far.0 so_far.1 (says _ _ _ _ _ c.in_err-put.ensures))
 
 pub loop-index-preserved : goal.loop-index-preserved
@@ -23,12 +22,10 @@ loop-index-preserved g c =
           (c.loop-index.invariant.lines line says) (says _ _ _ _ _ c.in_ok-put.ensures);
       puts = λ line says.
           let so_far = c.loop-index.invariant.puts line says in
-          let put = says _ _ _ _ _ c.in_ok-put.ensures in
-          let before = so_far.1 in
-          let more = put.1 in (
+          let put = says _ _ _ _ _ c.in_ok-put.ensures in (
             text_more _ _ _ _ _ _ (lines_at line c.args.items.now c.loop-index.index item.result _ item.is c.loop-index-test.true)
                 so_far.0 put.0,
-            omega (arith, before, more),
+            omega (arith, so_far.1, put.1),
           );
     }
 
