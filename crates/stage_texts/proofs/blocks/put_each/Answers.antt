@@ -1,6 +1,5 @@
-use Rattle.std.proofs.Common.{◌≡◌, ◌+◌, ◌-◌, ◌*◌, ◌%◌, ◌^◌, Result, Err, refl, ap, arith}
-use Rattle.std.proofs.lemmas.Grind.{common_steps}
-use Rattle.bm_base.specs.declared.memory.Memory.{Memory}
+use Rattle.std.proofs.Common.{◌≡◌, ◌+◌, ◌-◌, ◌*◌, ◌%◌, ◌^◌, refl, ap, arith}
+use Rattle.std.proofs.lemmas.Result.{err_from_is_err_and}
 use Rattle.frame_blocks.specs.Rows.{row_from}
 use Rattle.report_texts.proofs.PutLaws.{text_more, too_small}
 use Rattle.stage_texts.specs.BlocksText.{block_line}
@@ -15,11 +14,10 @@ put_block_line-requires c =
 
 pub returns-in_err-put_block_line : goal.returns-in_err-put_block_line
 returns-in_err-put_block_line c =
-    let told : ◌≡◌ {A = Result (Unit {0}) Memory} c.from_residual.result (Err c.in_err-put_block_line.field-0.0) =
-    grind (arith, common_steps) in
     let r = c.args.row.now in
     let l = c.loop-left in
-    rw told (too_small _ _ (block_line 0 (record { order = r.order; first = l.first; node = r.node; zone = r.zone })) _
+    rw (err_from_is_err_and c.from_residual.result c.from_residual.ensures.1).1
+    (too_small _ _ (block_line 0 (record { order = r.order; first = l.first; node = r.node; zone = r.zone })) _
     (lines (row_from r.order (l.first + 2 ^ r.order) r.node r.zone (l.left - 1))) _ _ _
     (next_line r.order l.first r.node l.left (l.first + 2 ^ r.order) r.zone (omega arith) refl) l.invariant.text l.invariant.room
     c.in_err-put_block_line.ensures)

@@ -1,8 +1,7 @@
 -- An entry for which memory is wanting: the room was too small for all of them.
-use Rattle.std.proofs.Common.{◌≡◌, ℕ, ◌+◌, ◌<◌, ◌≤◌, List, ◌++◌, length, drop, get_or, Result, Err, refl, drop-cons, add-one, arith}
-use Rattle.std.proofs.lemmas.Grind.{common_steps}
+use Rattle.std.proofs.Common.{◌≡◌, ℕ, ◌+◌, ◌<◌, ◌≤◌, List, ◌++◌, length, drop, get_or, refl, drop-cons, add-one}
+use Rattle.std.proofs.lemmas.Result.{err_from_is_err_and}
 use Rattle.std.specs.List.{flat_map}
-use Rattle.bm_base.specs.declared.memory.Memory.{Memory}
 use Rattle.slit_zonelists.specs.declared.entry.ListZone.{ListZone}
 use Rattle.report_texts.proofs.PutLaws.{too_small}
 use Rattle.stage_texts.specs.ListsText.{entry_text}
@@ -18,7 +17,7 @@ no_room zones i d old mid before room within so_far less wants =
 
 pub returns-in_err-put_entry : goal.returns-in_err-put_entry
 returns-in_err-put_entry c =
-    let told : ◌≡◌ {A = Result (Unit {0}) Memory} c.from_residual.result (Err c.in_err-put_entry.field-0.0) = grind (arith, common_steps) in
     let l = c.loop-entry in
-    rw told (no_room c.args.zones.now l.entry-index _ _ _ _ _ c.loop-entry-test.true l.invariant.text l.invariant.room
+    rw (err_from_is_err_and c.from_residual.result c.from_residual.ensures.1).1
+    (no_room c.args.zones.now l.entry-index _ _ _ _ _ c.loop-entry-test.true l.invariant.text l.invariant.room
     c.in_err-put_entry.ensures)
