@@ -1,5 +1,5 @@
 -- Small reports and lists of them, by computing.
-use Rattle.std.proofs.Common.{◌≡◌, ℕ, ◌-◌, ◌^◌, nat_le, nat_lt, ◌&&◌, if◌then◌else◌, true, false, List, [], ◌∷◌, ◌++◌, codes, Some, None, refl, ◌∙◌, ap, arith}
+use Rattle.std.proofs.Common.{◌≡◌, ℕ, ◌-◌, ◌^◌, nat_le, nat_lt, ◌&&◌, if◌then◌else◌, true, false, [], ◌∷◌, codes, Some, None, refl, ◌∙◌, ap, arith}
 use Rattle.std.proofs.lemmas.Bool.Decides.{nat_tests}
 use Rattle.std.specs.Fmt.{digits}
 use Rattle.bm_base.proofs.EachLaws.{each_in-same}
@@ -47,24 +47,6 @@ no_frames frame = None
 abbrev no_lists : Known
 no_lists = known None [] []
 
-made : Told
-made = record {
-  width = Bits46;
-  map = reserved ∷ [];
-  options = record { edits = edits.Clear ∷ []; crash = no_crash; numa_off = true; add_efi = false };
-  items = [];
-  heads = heads;
-  nodes = no_nodes;
-  crash = crash.InUse;
-  sections = no_sections;
-  answers = record { line = 2; outcome = outcomes.NoGap } ∷ [];
-  spans = [];
-  free = no_frames;
-  lists = no_lists;
-  page_answers = [];
-  after = begun no_frames;
-}
-
 nothing : Told
 nothing = record {
   width = Bits46;
@@ -83,13 +65,13 @@ nothing = record {
   after = begun no_frames;
 }
 
-text_examples : (report_text reports.Map made ≡ codes "0x0000000007fe0000..0x0000000007ffffff 2 reserved\n")
-    × (report_text reports.Options made ≡ codes "clear\nnuma off\n") × (report_text reports.Options nothing ≡ [])
-    × (report_text reports.Script made ≡ codes "2: no gap\n") × (report_text reports.Crash made ≡ codes "crash in use\n")
-    × (report_text reports.Nodes made ≡ codes "numa absent\nuncovered 0\n")
-    × (report_text reports.Sections made ≡ codes "roots 0x0000000000000000\n") × (report_text reports.Buddyinfo made ≡ [])
-unfolding made nothing reserved digits
-text_examples = (refl, refl, refl, refl, refl, refl, refl, refl)
+made : Told
+made = record nothing {
+  map = reserved ∷ [];
+  options = record { edits = edits.Clear ∷ []; crash = no_crash; numa_off = true; add_efi = false };
+  crash = crash.InUse;
+  answers = record { line = 2; outcome = outcomes.NoGap } ∷ [];
+}
 
 -- tables of which no item tells: each is told from the records at its own head
 abbrev page_at : ℕ → RunOf Label
@@ -101,85 +83,60 @@ standing = record { memory = page_at 0x1000 ∷ page_at 0x2000 ∷ []; reserved 
 table_examples : (shown_text reports.Memory made standing
     ≡ codes "   0: 0x0000000000001000..0x0000000000001fff\n   1: 0x0000000000002000..0x0000000000002fff\n")
     × (shown_text reports.Reserved made standing ≡ codes "   0: 0x0000000000002000..0x0000000000002fff\n")
-unfolding made reserved digits
+unfolding made nothing reserved digits
 table_examples = (refl, refl)
 
-name_examples : (name_of reports.Map ≡ codes "map") × (report_named (codes "map") ≡ Some reports.Map)
-    × (report_named (codes "options") ≡ Some reports.Options) × (report_named (codes "Map") ≡ None) × (report_named [] ≡ None)
-name_examples = (refl, refl, refl, refl, refl)
-
-first_examples : (first_named [] (codes "map") ≡ None) × (first_named (reports.Map ∷ reports.Map ∷ []) (codes "map") ≡ Some reports.Map)
-first_examples = (refl, refl)
-
--- a list has one name more than commas
-names_examples : (names_in (codes "map,,map") ≡ codes "map" ∷ [] ∷ codes "map" ∷ []) × (names_in [] ≡ [] ∷ [])
-names_examples = (refl, refl)
-
--- a name may stand twice; an empty name is none
-are_examples : (are_reports (codes "map,options,map") ≡ true) × (are_reports (codes "map") ≡ true) × (are_reports (codes "map,") ≡ false)
+-- a list has one name more than commas; a name may stand twice; an empty name is none
+list_examples : (names_in (codes "map,,map") ≡ codes "map" ∷ [] ∷ codes "map" ∷ []) × (names_in [] ≡ [] ∷ [])
+    × (are_reports (codes "map,options,map") ≡ true) × (are_reports (codes "map") ≡ true) × (are_reports (codes "map,") ≡ false)
     × (are_reports (codes "map, options") ≡ false) × (are_reports [] ≡ false)
-are_examples = (refl, refl, refl, refl, refl)
-
-in_examples : (reports_in (codes "options,map,options") ≡ reports.Options ∷ reports.Map ∷ reports.Options ∷ [])
+    × (reports_in (codes "options,map,options") ≡ reports.Options ∷ reports.Map ∷ reports.Options ∷ [])
     × (reports_in (codes "maps") ≡ [])
-in_examples = (refl, refl)
+list_examples = (refl, refl, refl, refl, refl, refl, refl, refl, refl)
 
-title_examples : (title true reports.Map ≡ codes "== map\n") × (title false reports.Map ≡ [])
-title_examples = (refl, refl)
-
-part_examples : (part true made reports.Options ≡ codes "== options\nclear\nnuma off\n") × (part false made reports.Options
+-- one report has no line with its name; two have it, the one without lines too
+part_examples : (title true reports.Map ≡ codes "== map\n") × (title false reports.Map ≡ [])
+    × (part true made reports.Options ≡ codes "== options\nclear\nnuma off\n") × (part false made reports.Options
     ≡ codes "clear\nnuma off\n")
-unfolding made
-part_examples = (refl, refl)
-
--- one report has no such line; two have it, the one without lines too
-one_report : text_of (reports.Options ∷ []) made ≡ codes "clear\nnuma off\n"
-unfolding made
-one_report = refl
-
-two_reports : text_of (reports.Map ∷ reports.Options ∷ []) made
-    ≡ codes "== map\n0x0000000007fe0000..0x0000000007ffffff 2 reserved\n== options\nclear\nnuma off\n"
-unfolding made reserved digits
-two_reports = refl
-
-two_without_lines : text_of (reports.Options ∷ reports.Options ∷ []) nothing ≡ codes "== options\n== options\n"
-unfolding nothing
-two_without_lines = refl
-
-no_reports : text_of [] made ≡ []
-no_reports = refl
+    × (text_of (reports.Options ∷ []) made ≡ codes "clear\nnuma off\n")
+    × (text_of (reports.Map ∷ reports.Options ∷ []) made
+    ≡ codes "== map\n0x0000000007fe0000..0x0000000007ffffff 2 reserved\n== options\nclear\nnuma off\n")
+    × (text_of (reports.Options ∷ reports.Options ∷ []) nothing ≡ codes "== options\n== options\n")
+    × (text_of [] made ≡ [])
+unfolding made nothing reserved digits
+part_examples = (refl, refl, refl, refl, refl, refl, refl, refl)
 
 -- each report has a name, and its name finds it
-pages_are_named : (report_named (codes "pages") ≡ Some reports.Pages) × (report_named (codes "pagesinfo") ≡ Some reports.Pagesinfo)
+name_examples : (name_of reports.Map ≡ codes "map") × (report_named (codes "map") ≡ Some reports.Map)
+    × (report_named (codes "options") ≡ Some reports.Options) × (report_named (codes "Map") ≡ None) × (report_named [] ≡ None)
+    × (first_named [] (codes "map") ≡ None) × (first_named (reports.Map ∷ reports.Map ∷ []) (codes "map") ≡ Some reports.Map)
+    × (report_named (codes "pages") ≡ Some reports.Pages) × (report_named (codes "pagesinfo") ≡ Some reports.Pagesinfo)
     × (report_named (codes "zonelists") ≡ Some reports.Zonelists)
-pages_are_named = (refl, refl, refl)
-
-page_texts : (report_text reports.Pages made ≡ []) × (report_text reports.Pagesinfo made ≡ [])
-    × (report_text reports.Zonelists made ≡ codes "slit absent\n")
-unfolding made digits
-page_texts = (refl, refl, refl)
-
-all_are_named : (report_named (codes "memory") ≡ Some reports.Memory) × (report_named (codes "reserved") ≡ Some reports.Reserved)
+    × (report_named (codes "memory") ≡ Some reports.Memory) × (report_named (codes "reserved") ≡ Some reports.Reserved)
     × (report_named (codes "owners") ≡ Some reports.Owners) × (report_named (codes "journal") ≡ Some reports.Journal)
     × (report_named (codes "tables") ≡ Some reports.Tables) × (report_named (codes "summary") ≡ Some reports.Summary)
-all_are_named = (refl, refl, refl, refl, refl, refl)
+name_examples = (refl, refl, refl, refl, refl, refl, refl, refl, refl, refl, refl, refl, refl, refl, refl, refl)
 
--- both tables where they lie at first
-first_tables : report_text reports.Tables made
-    ≡ codes "memory place 0x0000000002ffe000 room 128 records 0\nreserved place 0x0000000002fff000 room 128 records 0\n"
-unfolding made reserved digits
-first_tables = refl
+text_examples : (report_text reports.Map made ≡ codes "0x0000000007fe0000..0x0000000007ffffff 2 reserved\n")
+    × (report_text reports.Options made ≡ codes "clear\nnuma off\n") × (report_text reports.Options nothing ≡ [])
+    × (report_text reports.Script made ≡ codes "2: no gap\n") × (report_text reports.Crash made ≡ codes "crash in use\n")
+    × (report_text reports.Nodes made ≡ codes "numa absent\nuncovered 0\n")
+    × (report_text reports.Sections made ≡ codes "roots 0x0000000000000000\n") × (report_text reports.Buddyinfo made ≡ [])
+    × (report_text reports.Pages made ≡ []) × (report_text reports.Pagesinfo made ≡ [])
+    × (report_text reports.Zonelists made ≡ codes "slit absent\n")
+    × (report_text reports.Tables made
+    ≡ codes "memory place 0x0000000002ffe000 room 128 records 0\nreserved place 0x0000000002fff000 room 128 records 0\n")
+unfolding made nothing reserved digits
+text_examples = (refl, refl, refl, refl, refl, refl, refl, refl, refl, refl, refl, refl)
 
 -- a block of the greatest order and one of order 3
 block : ℕ → ℕ → Block
 block order first = record { order = order; first = first; node = 0; zone = zone.Dma32 }
 
 frames_examples : (frames_in [] ≡ 0) × (frames_in (block 10 0x2000 ∷ block 3 0x2400 ∷ []) ≡ 1032)
+    × (fullness_of (record { place = 0x2FFF000; room = 128; count = 17 }) ≡ record { records = 17; room = 128 })
 unfolding block
-frames_examples = (refl, refl)
-
-fullness_example : fullness_of (record { place = 0x2FFF000; room = 128; count = 17 }) ≡ record { records = 17; room = 128 }
-fullness_example = refl
+frames_examples = (refl, refl, refl)
 
 -- six frames of RAM, of which the last two are free: a block of order 1
 six_frames : RunOf ℕ
@@ -202,28 +159,16 @@ pair_blocks =
     let middle : blocks_from pair 4 2 ≡ pair_block ∷ [] = from-block pair 1 4 0 (omega arith) refl pair_order refl in
     let back : blocks_from pair 6 (2 ^ 40 - 6) ≡ [] =
     from-none pair 6 (2 ^ 40 - 6) (λ y above below. not_first-bare pair y (grind (arith, nat_tests))) in
-    from-append pair 0 4 (2 ^ 40 - 4) ∙ ap (λ (bs : List Block). bs ++ blocks_from pair 4 (2 ^ 40 - 4)) front
-    ∙ from-append pair 4 2 (2 ^ 40 - 6) ∙ ap (λ (bs : List Block). bs ++ blocks_from pair 6 (2 ^ 40 - 6)) middle
-    ∙ ap (λ (bs : List Block). pair_block ∷ bs) back
+    rw (from-append pair 0 4 (2 ^ 40 - 4), front, from-append pair 4 2 (2 ^ 40 - 6), middle, back) refl
 
 small : Told
-small = record {
-  width = Bits46;
+small = record nothing {
   map = six_frames ∷ reserved ∷ [];
-  options = record { edits = []; crash = no_crash; numa_off = false; add_efi = false };
-  items = [];
   heads = record {
     memory = record { place = 0x2FFE000; room = 128; count = 1 };
     reserved = record { place = 0x2FFF000; room = 256; count = 2 };
   };
-  nodes = no_nodes;
-  crash = crash.Nothing;
-  sections = no_sections;
-  answers = [];
-  spans = [];
   free = pair;
-  lists = no_lists;
-  page_answers = [];
   after = begun pair;
 }
 
@@ -246,7 +191,7 @@ small_summary : summary_of small ≡ record {
   reserved = record { records = 2; room = 256 };
   blocks = 1;
 }
-unfolding small
+unfolding small nothing
 small_summary = rw (small_usable, pair_blocks) refl
 
 small_text : report_text reports.Summary small

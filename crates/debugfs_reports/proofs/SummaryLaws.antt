@@ -1,8 +1,7 @@
 -- The frames of the listed blocks are few: there are at most 2^40 blocks, of at most 2^10 frames. And they are those of rows.
-use Rattle.std.proofs.Common.{◌≡◌, ◌∙◌, ℕ, zero, suc, ◌+◌, ◌*◌, ◌^◌, ◌<◌, ◌≤◌, List, [], ◌∷◌, ◌++◌, get_or, length, drop, drop-cons, refl, ap, length-append, ⊎_elim, arith}
+use Rattle.std.proofs.Common.{◌≡◌, ◌∙◌, ℕ, zero, suc, ◌+◌, ◌*◌, ◌^◌, ◌<◌, ◌≤◌, List, [], ◌∷◌, ◌++◌, get_or, length, drop, drop-cons, refl, ap, length-append, add-one, lt_of_not-le, arith}
 use Rattle.std.proofs.Math.Nat.{suc-mul}
 use Rattle.std.proofs.Math.Pow.{pow_mono}
-use Rattle.std.proofs.lemmas.Bool.{cases_lt}
 use Rattle.std.proofs.lemmas.List.{drop_all}
 use Rattle.std.proofs.lemmas.List.Sums.{sum_by-append, sum_by-cons}
 use Rattle.address_runs.specs.Runs.{RunOf, value_at}
@@ -23,15 +22,10 @@ few_in : (bs : List Block) → AreInBounds bs → frames_in bs ≤ 1024 * length
 few_in [] all = omega arith
 few_in (b ∷ bs) all =
     let one : 2 ^ b.order ≤ 2 ^ 10 = pow_mono all.0.order in
-    let rest = few_in bs all.1 in
-    let total = sum_by-cons (λ (c : Block). 2 ^ c.order) b bs in
-    omega (arith, one, rest, total)
+    omega (arith, one, few_in bs all.1, sum_by-cons (λ (c : Block). 2 ^ c.order) b bs)
 
 pub listed_frames : (f : Frames) → frames_in (blocks_of f) ≤ 2 ^ 50
-listed_frames f =
-    let few = few_in (blocks_of f) (listed_in_bounds f) in
-    let length = listed_few f in
-    omega (arith, few, length)
+listed_frames f = omega (arith, few_in (blocks_of f) (listed_in_bounds f), listed_few f)
 
 -- a row has as many blocks as it says, and so many frames
 row_frames : (o x n k : ℕ) (z : Zone) → (frames_in (row_from o x n z k) ≡ k * 2 ^ o) × (length (row_from o x n z k) ≡ k)
@@ -41,10 +35,7 @@ row_frames o x n (suc k) z =
     let b : Block = record { order = o; first = x; node = n; zone = z } in
     let rest = row_frames o (x + 2 ^ o) n k z in
     let total = sum_by-cons (λ (c : Block). 2 ^ c.order) b (row_from o (x + 2 ^ o) n z k) in
-    let product = suc-mul k (2 ^ o) in
-    let frames = rest.0 in
-    let count = rest.1 in
-    (omega (arith, frames, total, product), omega (arith, count))
+    (omega (arith, rest.0, total, suc-mul k (2 ^ o)), omega (arith, rest.1))
 
 -- the rows that are left are one row and the others
 pub row_left : (rs : List BlockRow) (i : ℕ) (d : BlockRow) → i < length rs
@@ -54,11 +45,9 @@ pub row_left : (rs : List BlockRow) (i : ℕ) (d : BlockRow) → i < length rs
 row_left rs i d within =
     let r : BlockRow = get_or rs i d in
     let rest : List Block = blocks_of_rows (drop (i + 1) rs) in
-    let next : suc i ≡ i + 1 = omega arith in
-    let first : drop i rs ≡ r ∷ drop (i + 1) rs = drop-cons rs i d within ∙ ap (λ k. r ∷ drop k rs) next in
-    let whole : blocks_of_rows (drop i rs) ≡ blocks_of_row r ++ rest = ap (λ (qs : List BlockRow). blocks_of_rows qs) first in
+    let whole : blocks_of_rows (drop i rs) ≡ blocks_of_row r ++ rest = rw (drop-cons rs i d within, add-one) refl in
     let one = row_frames r.order r.first r.node r.count r.zone in (
-      ap frames_in whole ∙ sum_by-append (λ (c : Block). 2 ^ c.order) (blocks_of_row r) rest ∙ ap (λ n. n + frames_in rest) one.0,
+      rw (whole, ← one.0) (sum_by-append (λ (c : Block). 2 ^ c.order) (blocks_of_row r) rest),
       ap (λ (bs : List Block). length bs) whole ∙ length-append (blocks_of_row r) rest ∙ ap (λ n. n + length rest) one.1,
     )
 
@@ -72,33 +61,19 @@ pub row_more : (rs : List BlockRow) (i free blocks frames : ℕ) (d : BlockRow) 
     → Counted rs (i + 1) (free + frames) (blocks + (get_or rs i d).count)
 row_more rs i free blocks frames d within is so_far =
     let left = row_left rs i d within in
-    let some = left.0 in
-    let many = left.1 in
-    let before = so_far.all_frames in
-    let count = so_far.all_blocks in
-    record { all_frames = omega (arith, some, before, is); all_blocks = omega (arith, many, count) }
+    record { all_frames = omega (arith, left.0, is); all_blocks = omega (arith, left.1) }
 
 pub counted_few : (rs : List BlockRow) (i free blocks : ℕ) (f : Frames) → blocks_of_rows rs ≡ blocks_of f → Counted rs i free blocks
     → (free + frames_in (blocks_of_rows (drop i rs)) ≤ 2 ^ 50) × (blocks + length (blocks_of_rows (drop i rs)) ≤ 2 ^ 40)
 counted_few rs i free blocks f is so_far =
-    let frames : frames_in (blocks_of_rows rs) ≡ frames_in (blocks_of f) = ap frames_in is in
-    let count : length (blocks_of_rows rs) ≡ length (blocks_of f) = ap (λ (bs : List Block). length bs) is in
-    let most = listed_frames f in
-    let few = listed_few f in
-    let one = so_far.all_frames in
-    let two = so_far.all_blocks in
-    (omega (arith, frames, most, one), omega (arith, count, few, two))
+    (omega (arith, listed_frames f, rw is at so_far.all_frames), omega (arith, listed_few f, rw is at so_far.all_blocks))
 
 -- where no row is left, they are all
 pub counted_all : (rs : List BlockRow) (i free blocks : ℕ) (f : Frames) → length rs ≤ i → blocks_of_rows rs ≡ blocks_of f
     → Counted rs i free blocks → (free ≡ frames_in (blocks_of f)) × (blocks ≡ length (blocks_of f))
 counted_all rs i free blocks f end is so_far =
     let none : drop i rs ≡ [] = drop_all i rs end in
-    let frames : free + frames_in (blocks_of_rows []) ≡ frames_in (blocks_of_rows rs) = rw none at so_far.all_frames in
-    let count : blocks + length (blocks_of_rows []) ≡ length (blocks_of_rows rs) = rw none at so_far.all_blocks in
-    let frames_are : frames_in (blocks_of_rows rs) ≡ frames_in (blocks_of f) = ap frames_in is in
-    let count_is : length (blocks_of_rows rs) ≡ length (blocks_of f) = ap (λ (bs : List Block). length bs) is in
-    (omega (arith, frames, frames_are), omega (arith, count, count_is))
+    (omega (arith, rw (none, is) at so_far.all_frames), omega (arith, rw (none, is) at so_far.all_blocks))
 
 -- the summary, number by number
 pub summary_is : (told : Told) (rs : List (RunOf ℕ)) (limit runs usable free blocks : ℕ) (memory reserved : Fullness)
@@ -112,10 +87,6 @@ summary_is told rs limit runs usable free blocks memory reserved a b same most c
 -- where a product with a power is small and isn't 0, the power is small
 pub shift_small : (k o : ℕ) → 0 < k → k * 2 ^ o < 2 ^ 64 → o < 64
 shift_small zero o some small = absurd (omega (arith, some))
-shift_small (suc k) o some small =
-    ⊎_elim (λ below. below)
-    (λ above.
+shift_small (suc k) o some small = lt_of_not-le (λ above.
     let most : 2 ^ 64 ≤ 2 ^ o = pow_mono above in
-    let product = suc-mul k (2 ^ o) in
-    absurd (omega (arith, most, product, small)))
-    (cases_lt o 64)
+    omega (arith, most, suc-mul k (2 ^ o), small))

@@ -1,37 +1,23 @@
 -- A part more; and behind the last report the texts are those of all.
-use Rattle.std.proofs.Common.{◌≡◌, ◌∙◌, List, ap, length, map, nat_lt, take, arith}
-use Rattle.std.specs.List.{flat_map}
+use Rattle.std.proofs.Common.{◌≡◌, take, arith}
 use Rattle.std.proofs.lemmas.Grind.{common_steps}
 use Rattle.std.proofs.lemmas.List.{take_all}
-use Rattle.boot_model.specs.View.{booted_view}
-use Rattle.debugfs_reports.specs.declared.report.Report.{Report}
-use Rattle.debugfs_reports.specs.ReportList.{shown_part}
 use Rattle.debugfs_reports.proofs.list.render_all.Goals as goal
 
 pub loop-report-preserved : goal.loop-report-preserved
 loop-report-preserved c = record {
   each = λ records stand.
-      let before = c.loop-report.invariant.each records stand in
-      let part = c.in_ok-render_part.ensures records stand in
-      grind (arith, common_steps, before, part);
+      grind (arith, common_steps, c.loop-report.invariant.each records stand, c.in_ok-render_part.ensures records stand);
   whole = λ records stand.
-      let before = c.loop-report.invariant.whole records stand in
-      let part = c.in_ok-render_part.ensures records stand in
-      grind (arith, common_steps, before, part);
+      grind (arith, common_steps, c.loop-report.invariant.whole records stand, c.in_ok-render_part.ensures records stand);
 }
 
 pub returns-clause-each : goal.returns-clause-each
 returns-clause-each c = λ records stand.
-    let reports = c.args.reports.now in
-    let told = booted_view c.args.booted.now in
-    let all : take c.loop-report.report-index reports ≡ reports = take_all _ _ (omega arith) in
-    c.loop-report.invariant.each records stand
-    ∙ ap (λ (rs : List Report). map (shown_part (nat_lt 1 (length reports)) told records) rs) all
+    let all : take c.loop-report.report-index c.args.reports.now ≡ c.args.reports.now = take_all _ _ (omega arith) in
+    rw all at (c.loop-report.invariant.each records stand)
 
 pub returns-clause-whole : goal.returns-clause-whole
 returns-clause-whole c = λ records stand.
-    let reports = c.args.reports.now in
-    let told = booted_view c.args.booted.now in
-    let all : take c.loop-report.report-index reports ≡ reports = take_all _ _ (omega arith) in
-    c.loop-report.invariant.whole records stand
-    ∙ ap (λ (rs : List Report). flat_map (shown_part (nat_lt 1 (length reports)) told records) rs) all
+    let all : take c.loop-report.report-index c.args.reports.now ≡ c.args.reports.now = take_all _ _ (omega arith) in
+    rw all at (c.loop-report.invariant.whole records stand)

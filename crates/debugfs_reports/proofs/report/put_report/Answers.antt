@@ -1,9 +1,8 @@
 -- Each text stands behind the text of the draft.
-use Rattle.std.proofs.Common.{◌≡◌, ◌∙◌, ℕ, List, ◌++◌, Result, ap, sym}
+use Rattle.std.proofs.Common.{◌≡◌, ℕ, List, ◌++◌, Result}
 use Rattle.std.specs.Prelude.{OnOk}
 use Rattle.boot_model.specs.Boot.{Told}
 use Rattle.boot_model.specs.View.{booted_view}
-use Rattle.report_texts.proofs.PutLaws.{puts_ok}
 use Rattle.stage_texts.specs.declared.chunks.Chunk.{Chunk}
 use Rattle.stage_texts.specs.Chunks.{text_of_chunks}
 use Rattle.stage_texts.proofs.ChunkLaws.{on_ok, text_more}
@@ -15,10 +14,7 @@ use Rattle.debugfs_reports.proofs.report.put_report.Goals as goal
 text_put : {E : Type 0} (answer : Result (Unit {0}) E) (chunks : List Chunk) (old new : List ℕ) (report named : Report) (told : Told)
     (records : TableRecords) → report ≡ named → OnOk answer (new ≡ old ++ shown_text named told records)
     → OnOk answer (text_of_chunks chunks ++ new ≡ (text_of_chunks chunks ++ old) ++ shown_text report told records)
-text_put answer chunks old new report named told records is put =
-    on_ok answer
-    (λ more. text_more chunks old new _ more
-    ∙ ap (λ (r : Report). (text_of_chunks chunks ++ old) ++ shown_text r told records) (sym is)) put
+text_put answer chunks old new report named told records is put = rw is (on_ok answer (text_more chunks old new _) put)
 
 pub returns-in-Summary : goal.returns-in-Summary
 returns-in-Summary c = λ records stand.

@@ -1,10 +1,8 @@
 -- The blocks of the rows are those of the free frames, so the frames of one more row fit; and behind the last row all are counted.
-use Rattle.std.proofs.Common.{◌≡◌, ◌∙◌, List, ap, arith, length}
+use Rattle.std.proofs.Common.{◌≡◌, arith, length}
 use Rattle.bm_base.specs.declared.zone.Zone.TheVariants as zone
 use Rattle.boot_model.specs.View.{booted_view}
 use Rattle.frame_blocks.specs.declared.block.BlockRow.{BlockRow}
-use Rattle.frame_blocks.specs.Listed.{blocks_of}
-use Rattle.frame_blocks.specs.Rows.{blocks_of_rows}
 use Rattle.buddy_handover.specs.Contents.{free}
 use Rattle.debugfs_reports.proofs.SummaryLaws.{counted_all, counted_few, row_left, row_more, summary_is}
 use Rattle.debugfs_reports.proofs.summary.summary_of.Goals as goal
@@ -16,33 +14,23 @@ no_row = record { order = 0; first = 0; count = 0; node = 0; zone = zone.Dma }
 pub frames_in_row-free-requires : goal.frames_in_row-free-requires
 frames_in_row-free-requires c =
     let rows = c.deref-row-items.result.now in
-    let l = c.loop-row in
-    let is : blocks_of_rows rows ≡ blocks_of (free c.args.booted.now.buddy) =
-    ap (λ (rs : List BlockRow). blocks_of_rows rs) c.deref-row-items.ensures.value ∙ c.in_ok-rows.ensures.blocks in
-    let few = (counted_few rows l.row-index l.free l.blocks (free c.args.booted.now.buddy) is l.invariant).0 in
-    let left = (row_left rows l.row-index no_row c.loop-row-test.true).0 in
-    omega (arith, few, left)
+    let is = rw (← c.deref-row-items.ensures.value) at c.in_ok-rows.ensures.blocks in
+    let few = (counted_few rows _ _ _ (free c.args.booted.now.buddy) is c.loop-row.invariant).0 in
+    omega (arith, few, (row_left rows c.loop-row.row-index no_row c.loop-row-test.true).0)
 
 pub overflow_add-free : goal.overflow_add-free
 overflow_add-free c =
     let rows = c.deref-row-items.result.now in
-    let l = c.loop-row in
-    let is : blocks_of_rows rows ≡ blocks_of (free c.args.booted.now.buddy) =
-    ap (λ (rs : List BlockRow). blocks_of_rows rs) c.deref-row-items.ensures.value ∙ c.in_ok-rows.ensures.blocks in
-    let few = (counted_few rows l.row-index l.free l.blocks (free c.args.booted.now.buddy) is l.invariant).0 in
-    let left = (row_left rows l.row-index no_row c.loop-row-test.true).0 in
-    let more = c.frames_in_row-free.ensures in
-    omega (arith, few, left, more)
+    let is = rw (← c.deref-row-items.ensures.value) at c.in_ok-rows.ensures.blocks in
+    let few = (counted_few rows _ _ _ (free c.args.booted.now.buddy) is c.loop-row.invariant).0 in
+    omega (arith, few, (row_left rows c.loop-row.row-index no_row c.loop-row-test.true).0, c.frames_in_row-free.ensures)
 
 pub overflow_add-blocks : goal.overflow_add-blocks
 overflow_add-blocks c =
     let rows = c.deref-row-items.result.now in
-    let l = c.loop-row in
-    let is : blocks_of_rows rows ≡ blocks_of (free c.args.booted.now.buddy) =
-    ap (λ (rs : List BlockRow). blocks_of_rows rs) c.deref-row-items.ensures.value ∙ c.in_ok-rows.ensures.blocks in
-    let few = (counted_few rows l.row-index l.free l.blocks (free c.args.booted.now.buddy) is l.invariant).1 in
-    let left = (row_left rows l.row-index no_row c.loop-row-test.true).1 in
-    omega (arith, few, left)
+    let is = rw (← c.deref-row-items.ensures.value) at c.in_ok-rows.ensures.blocks in
+    let few = (counted_few rows _ _ _ (free c.args.booted.now.buddy) is c.loop-row.invariant).1 in
+    omega (arith, few, (row_left rows c.loop-row.row-index no_row c.loop-row-test.true).1)
 
 pub loop-row-preserved : goal.loop-row-preserved
 loop-row-preserved c =
@@ -53,8 +41,7 @@ pub returns : goal.returns
 returns c =
     let rows = c.deref-row-items.result.now in
     let l = c.loop-row in
-    let is : blocks_of_rows rows ≡ blocks_of (free c.args.booted.now.buddy) =
-    ap (λ (rs : List BlockRow). blocks_of_rows rs) c.deref-row-items.ensures.value ∙ c.in_ok-rows.ensures.blocks in
+    let is = rw (← c.deref-row-items.ensures.value) at c.in_ok-rows.ensures.blocks in
     let all = counted_all rows l.row-index l.free l.blocks (free c.args.booted.now.buddy) (omega arith) is l.invariant in
     let runs : c.len.result ≡ length c.args.booted.now.map.items = omega arith in
     summary_is (booted_view c.args.booted.now) _ _ _ _ _ _ _ _ runs c.usable_frames.ensures c.deref.ensures.value c.reach.ensures all.0
