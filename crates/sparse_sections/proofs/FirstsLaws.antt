@@ -11,18 +11,16 @@ use Rattle.sparse_sections.specs.Roots.{root_of, is_root, firsts_behind}
 first_behind : (last : Option ℕ) (ss : List Section) (root : ℕ) → is_root last root ≡ false
     → find (λ s. root_of s == root) (firsts_behind last ss) ≡ find (λ s. root_of s == root) ss
 first_behind last [] root other = refl
-first_behind last (s ∷ ss) root other = elim (cases_Bool (is_root last (root_of s))) as
-    (λ _. find (λ s. root_of s == root) (firsts_behind last (s ∷ ss)) ≡ find (λ s. root_of s == root) (s ∷ ss)) [
-      | inl placed ↦ rw (placed, not_last last (root_of s) root placed other) (first_behind last ss root other)
-      | inr next ↦ rw next (elim (cases_Bool (root_of s == root)) as
-          (λ _. find (λ s. root_of s == root) (s ∷ firsts_behind (Some (root_of s)) ss) ≡ find (λ s. root_of s == root) (s ∷ ss)) [
-            | inl here ↦ rw here refl
-            | inr not_here ↦ rw not_here (first_behind (Some (root_of s)) ss root not_here)
-          ])
-    ] where
-      not_last : (o : Option ℕ) (a b : ℕ) → is_root o a ≡ true → is_root o b ≡ false → (a == b) ≡ false
-      not_last None a b is isnt = cc
-      not_last (Some l) a b is isnt = grind (arith, nat_tests, is, isnt)
+first_behind last (s ∷ ss) root other = elim (cases_Bool (is_root last (root_of s))) [
+  | inl placed ↦ rw (placed, not_last last (root_of s) root placed other) (first_behind last ss root other)
+  | inr next ↦ rw next (elim (cases_Bool (root_of s == root)) [
+    | inl here ↦ rw here refl
+    | inr not_here ↦ rw not_here (first_behind (Some (root_of s)) ss root not_here)
+  ])
+] where
+  not_last : (o : Option ℕ) (a b : ℕ) → is_root o a ≡ true → is_root o b ≡ false → (a == b) ≡ false
+  not_last None a b is isnt = cc
+  not_last (Some l) a b is isnt = grind (arith, nat_tests, is, isnt)
 
 pub first_of_root : (ss : List Section) (root : ℕ)
     → find (λ s. root_of s == root) (firsts_behind None ss) ≡ find (λ s. root_of s == root) ss
@@ -47,33 +45,21 @@ from_each : (f : Section → ℕ) (n : ℕ) (ss : List Section) → AscendFrom f
     → n ≤ f (get_or ss j d)
 from_each f n [] from j d within = absurd (omega arith)
 from_each f n (s ∷ ss) from zero d within = from.0
-from_each f n (s ∷ ss) from (suc j) d within =
-    let low = from.0 in
-    let high = from_each f (f s + 1) ss from.1 j d (omega arith) in
-    omega (arith, low, high)
+from_each f n (s ∷ ss) from (suc j) d within = omega (arith, from_each f (f s + 1) ss from.1 j d (omega arith))
 
 ascend_each : (f : Section → ℕ) (n : ℕ) (ss : List Section) → AscendFrom f n ss → (i j : ℕ) (d : Section) → i < j → j < length ss
     → f (get_or ss i d) < f (get_or ss j d)
-ascend_each f n [] from i j d order within = absurd (omega arith)
-ascend_each f n (s ∷ ss) from i zero d order within = absurd (omega arith)
-ascend_each f n (s ∷ ss) from zero (suc j) d order within =
-    let high = from_each f (f s + 1) ss from.1 j d (omega arith) in
-    omega (arith, high)
+ascend_each f n (s ∷ ss) from zero (suc j) d order within = omega (arith, from_each f (f s + 1) ss from.1 j d (omega arith))
 ascend_each f n (s ∷ ss) from (suc i) (suc j) d order within = ascend_each f (f s + 1) ss from.1 i j d (omega arith) (omega arith)
+ascend_each f n ss from i j d order within = absurd (omega arith)
 
 roots_behind : (last n : ℕ) (ss : List Section) → AscendFrom (λ s. s.number) n ss → last ≤ n / 256
     → AscendFrom root_of (last + 1) (firsts_behind (Some last) ss)
 roots_behind last n [] from reached = tt
 roots_behind last n (s ∷ ss) from reached =
-    let low : n ≤ s.number = from.0 in
-    elim (cases_Bool (last == root_of s)) as (λ _. AscendFrom root_of (last + 1) (firsts_behind (Some last) (s ∷ ss))) [
-      | inl placed ↦
-          let is : last ≡ s.number / 256 = grind (arith, nat_tests, placed) in
-          rw placed (roots_behind last (s.number + 1) ss from.1 (omega (arith, is)))
-      | inr next ↦
-          let isnt : (last ≡ s.number / 256) → ⊥ = λ is. grind (arith, nat_tests, next) in
-          let above : last + 1 ≤ root_of s = omega (arith, low, reached, isnt) in
-          rw next (above, roots_behind (root_of s) (s.number + 1) ss from.1 (omega arith))
+    elim (cases_Bool (last == root_of s)) [
+      | inl placed ↦ rw placed (roots_behind last (s.number + 1) ss from.1 (grind (arith, nat_tests, placed)))
+      | inr next ↦ rw next (grind (arith, nat_tests, next, from.0), roots_behind (root_of s) (s.number + 1) ss from.1 (omega arith))
     ]
 
 firsts_from : (n : ℕ) (ss : List Section) → AscendFrom (λ s. s.number) n ss → AscendFrom root_of 0 (firsts_behind None ss)

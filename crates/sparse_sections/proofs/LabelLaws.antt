@@ -1,5 +1,5 @@
 -- What the first frame of a section carries that is memory.
-use Rattle.std.proofs.Common.{◌≡◌, ℕ, zero, suc, ◌+◌, ◌-◌, ◌*◌, ◌/◌, ◌%◌, ◌<◌, ◌≤◌, Some, None, refl, ◌∙◌, ap, arith}
+use Rattle.std.proofs.Common.{◌≡◌, ℕ, zero, suc, ◌+◌, ◌-◌, ◌*◌, ◌/◌, ◌%◌, ◌<◌, ◌≤◌, Some, None, refl, ◌∙◌, ap, arith, add-zero}
 use Rattle.address_runs.specs.Runs.{RunOf, run_end}
 use Rattle.memblock_model.specs.Labels.{Label, Labels}
 use Rattle.sparse_sections.specs.Present.{first_label, section_label}
@@ -16,9 +16,7 @@ pub label-found : (f : Labels) (a n k : ℕ) (v : Label) → k < n → ((y : ℕ
     → f (4096 * (a + k)) ≡ Some v → first_label f a n ≡ Some v
 unfolding first_label
 label-found f a zero k v few none found = absurd (omega arith)
-label-found f a (suc n) zero v few none found =
-    let here : f (4096 * a) ≡ Some v = ap (λ (y : ℕ). f (4096 * y)) (omega arith) ∙ found in
-    rw here refl
+label-found f a (suc n) zero v few none found = rw (rw add-zero at found) refl
 label-found f a (suc n) (suc k) v few none found =
     rw (none a (omega arith) (omega arith))
     (label-found f (a + 1) n k v (omega arith) (λ y above below. none y (omega arith) (omega arith))

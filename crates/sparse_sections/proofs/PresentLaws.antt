@@ -1,66 +1,49 @@
 -- The sections with memory, record by record.
-use Rattle.std.proofs.Common.{◌≡◌, ℕ, zero, suc, ◌+◌, ◌-◌, ◌*◌, ◌/◌, ◌%◌, ◌^◌, ◌<◌, ◌≤◌, max, Option, Some, None, List, [], ◌∷◌, ◌++◌, refl, sym, ◌∙◌, ap, subst, append_assoc, add-one, drop-cons, drop, length, get_or, arith}
+use Rattle.std.proofs.Common.{◌≡◌, ℕ, zero, suc, ◌+◌, ◌-◌, ◌*◌, ◌/◌, ◌%◌, ◌^◌, ◌<◌, ◌≤◌, max, Some, None, List, [], ◌∷◌, ◌++◌, refl, sym, ◌∙◌, ap, append_assoc, add-one, drop-cons, drop, length, get_or, arith, add-zero, add-suc}
 use Rattle.std.specs.List.{All}
-use Rattle.std.specs.Option.{unwrap_or}
 use Rattle.std.proofs.lemmas.List.{append-nil}
 use Rattle.address_runs.specs.Runs.{RunOf, run_end, value_at, AreRuns}
 use Rattle.address_runs.specs.Sweep.{StartFrom}
 use Rattle.address_runs.proofs.RunsLaws.{inside, behind, none_below, rest_from}
 use Rattle.memblock_model.specs.Labels.{Label, Labels, plain_label}
 use Rattle.memblock_ranges.specs.declared.region.Region.{Region}
-use Rattle.memblock_ranges.specs.Spelling.{node_field, region_of}
+use Rattle.memblock_ranges.specs.Spelling.{region_of}
 use Rattle.memblock_grow.specs.declared.section.Section.{Section}
-use Rattle.sparse_sections.specs.Present.{section_label, section_of, section_for, sections_below, present, sections_from, IsWholeNoded}
+use Rattle.sparse_sections.specs.Present.{section_label, sections_below, present, sections_from, IsWholeNoded}
 use Rattle.sparse_sections.proofs.LabelLaws.{section-none, section-found}
 
 -- none of the next sections has memory
 pub sections-none : (f : Labels) (n k : ℕ) → ((s : ℕ) → n ≤ s → s < n + k → section_label f s ≡ None)
     → sections_below f (n + k) ≡ sections_below f n
 unfolding sections_below
-sections-none f n zero none = let e : n + 0 ≡ n = omega arith in ap (sections_below f) e
+sections-none f n zero none = rw add-zero refl
 sections-none f n (suc k) none =
-    let more : n + suc k ≡ suc (n + k) = omega arith in
-    let next : sections_below f (suc (n + k)) ≡ sections_below f (n + k) =
-    ap (λ (o : Option Label). sections_below f (n + k) ++ section_for (n + k) o) (none (n + k) (omega arith) (omega arith))
-    ∙ append-nil (sections_below f (n + k)) in
-    ap (sections_below f) more ∙ next ∙ sections-none f n k (λ s above below. none s above (omega arith))
+    rw (add-suc, none (n + k) (omega arith) (omega arith), append-nil) (sections-none f n k (λ s above below. none s above (omega arith)))
 
 -- each of the next sections has memory, of one node
 pub sections-run : (f : Labels) (n k node : ℕ) (v : Label) → v.node ≡ Some node
     → ((s : ℕ) → n ≤ s → s < n + k → section_label f s ≡ Some v)
     → sections_below f (n + k) ≡ sections_below f n ++ sections_from n k node
 unfolding sections_below sections_from
-sections-run f n zero node v has all =
-    let e : n + 0 ≡ n = omega arith in ap (sections_below f) e ∙ sym (append-nil (sections_below f n))
+sections-run f n zero node v has all = rw (add-zero, append-nil) refl
 sections-run f n (suc k) node v has all =
-    let more : n + suc k ≡ suc (n + k) = omega arith in
-    let here : section_for (n + k) (section_label f (n + k)) ≡ record { number = n + k; node = node } ∷ [] =
-    ap (section_for (n + k)) (all (n + k) (omega arith) (omega arith)) ∙ ap (section_of (n + k)) has in
-    let next : sections_below f (suc (n + k)) ≡ sections_below f (n + k) ++ record { number = n + k; node = node } ∷ [] =
-    ap (λ (ss : List Section). sections_below f (n + k) ++ ss) here in
     let so_far = sections-run f n k node v has (λ s above below. all s above (omega arith)) in
-    ap (sections_below f) more ∙ next ∙ ap (λ (ss : List Section). ss ++ record { number = n + k; node = node } ∷ []) so_far
-    ∙ append_assoc (sections_below f n) (sections_from n k node) (record { number = n + k; node = node } ∷ [])
+    rw (add-suc, all (n + k) (omega arith) (omega arith), has, so_far, append_assoc) refl
 
 -- the sections of one node, one by one
 pub from-none : (before : List Section) (first node : ℕ) → before ≡ before ++ sections_from first (first - first) node
 unfolding sections_from
 from-none before first node =
-    let e : first - first ≡ 0 = omega arith in
-    sym (ap (λ (n : ℕ). before ++ sections_from first n node) e ∙ append-nil before)
+    let e : first - first ≡ 0 = omega arith in rw (e, append-nil before) refl
 
 pub from-next : (before now : List Section) (first number node : ℕ) → first ≤ number
     → now ≡ before ++ sections_from first (number - first) node
     → now ++ record { number = number; node = node } ∷ [] ≡ before ++ sections_from first (number + 1 - first) node
 unfolding sections_from
 from-next before now first number node above so_far =
-    let one : ℕ → List Section = λ n. record { number = n; node = node } ∷ [] in
-    let here : number ≡ first + (number - first) = omega arith in
+    let here : first + (number - first) ≡ number = omega arith in
     let more : number + 1 - first ≡ suc (number - first) = omega arith in
-    ap (λ (ss : List Section). ss ++ one number) so_far
-    ∙ append_assoc before (sections_from first (number - first) node) (one number)
-    ∙ ap (λ (n : ℕ). before ++ (sections_from first (number - first) node ++ one n)) here
-    ∙ ap (λ (n : ℕ). before ++ sections_from first n node) (sym more)
+    rw (so_far, more, here, append_assoc) refl
 
 pub nobody : RunOf Label
 nobody = record { base = 0; size = 0; value = plain_label }
@@ -88,10 +71,7 @@ left-next f next r rs left =
     record {
       runs = left.runs.2;
       starts = starts-next r rs (0x8000000 * ((run_end r - 1) / 0x8000000 + 1 - 1)) (omega arith) (rest_from r rs left.runs);
-      each = λ x above.
-          let past : run_end r ≤ x = omega arith in
-          let next_value : value_at (r ∷ rs) x ≡ value_at rs x = rw (behind r x past) refl in
-          left.each x (omega arith) ∙ next_value;
+      each = λ x above. rw (behind r x (omega arith)) at (left.each x (omega arith));
     }
 
 -- the sections of a record
@@ -135,36 +115,28 @@ pub next-record : (f : Labels) (next : ℕ) (rs : List (RunOf Label)) (i : ℕ) 
 next-record f next rs i g few whole left is =
     let r : RunOf Label = get_or rs i nobody in
     let told : IsWholeNoded r = whole i nobody few in
-    let rest : drop i rs ≡ r ∷ drop (i + 1) rs = drop-cons rs i nobody few ∙ ap (λ (n : ℕ). r ∷ drop n rs) (sym (add-one i)) in
-    let here : IsLeft f next (r ∷ drop (i + 1) rs) = subst (IsLeft f next) rest left in
+    let here : IsLeft f next (r ∷ drop (i + 1) rs) = rw add-one (rw (drop-cons rs i nobody few) at left) in
     let base : g.base ≡ r.base = ap (λ (t : Region). t.base) is in
     let size : g.size ≡ r.size = ap (λ (t : Region). t.size) is in
-    let field : g.node ≡ node_field r.value = ap (λ (t : Region). t.node) is in
-    let node : g.node ≡ told.node = field ∙ ap (λ (o : Option ℕ). unwrap_or o 1024) told.has in
-    let some : 0 < r.size = here.runs.0 in
-    let reach : run_end r ≤ 2 ^ 52 = told.reach in
-    let from : 0x8000000 * (next - 1) ≤ r.base = here.starts in
     record {
       left = here;
       whole = told;
       base = base;
       size = size;
-      node = told.has ∙ ap (λ (n : ℕ). Some n) (sym node);
-      some = omega (arith, size, some);
-      reach = omega (arith, base, size, reach);
-      from = omega (arith, base, from);
+      node = rw (is, told.has) refl;
+      some = omega (arith, here.runs.0);
+      reach = omega (arith, told.reach);
+      from = omega (arith, here.starts);
     }
-
--- nothing is left
-pub sections-end : (f : Labels) (next m : ℕ) → IsLeft f next [] → next ≤ m → sections_below f m ≡ sections_below f next
-sections-end f next m left reach =
-    ap (sections_below f) (let e : m ≡ next + (m - next) = omega arith in e)
-    ∙ sections-none f next (m - next) (λ s above under. section-none f s (λ x over inner. left.each x (omega arith)))
 
 pub present-none : (f : Labels) → sections_below f 0 ≡ []
 unfolding sections_below
 present-none f = refl
 
+-- nothing is left
 pub present-end : (f : Labels) (next : ℕ) → IsLeft f next [] → next ≤ 2 ^ 25 → sections_below f next ≡ present f
 unfolding present
-present-end f next left reach = sym (sections-end f next (2 ^ 25) left reach)
+present-end f next left reach =
+    let e : 2 ^ 25 ≡ next + (2 ^ 25 - next) = omega arith in
+    sym (ap (sections_below f) e
+    ∙ sections-none f next (2 ^ 25 - next) (λ s above under. section-none f s (λ x over inner. left.each x (omega arith))))
