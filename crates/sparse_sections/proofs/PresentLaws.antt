@@ -81,23 +81,18 @@ pub sections-record : (f : Labels) (next : ℕ) (r : RunOf Label) (rs : List (Ru
 sections-record f next r rs first until node left whole has first_is until_is =
     let some : 0 < r.size = left.runs.0 in
     let from : 0x8000000 * (next - 1) ≤ r.base = left.starts in
-    let order : first ≤ until = omega arith in
-    let low : next ≤ first = omega arith in
-    let own : r.base / 0x8000000 ≤ first = omega arith in
     let none : (x : ℕ) → 0x8000000 * next ≤ x → x < r.base → f x ≡ None = λ x above under.
     left.each x above ∙ none_below r.base x (r ∷ rs) left.runs (omega arith) under in
     let here : (x : ℕ) → 0x8000000 * next ≤ x → r.base ≤ x → x < run_end r → f x ≡ Some r.value = λ x above over under.
-    let lies : value_at (r ∷ rs) x ≡ Some r.value = rw (inside r x over under) refl in left.each x above ∙ lies in
-    let gap : sections_below f first ≡ sections_below f next =
-    ap (sections_below f) (let e : first ≡ next + (first - next) = omega arith in e)
-    ∙ sections-none f next (first - next) (λ s above under.
+    rw (inside r x over under) at (left.each x above) in
+    let gap = sections-none f next (first - next) (λ s above under.
     section-none f s (λ x over inner. none x (omega arith) (omega arith))) in
-    let run : sections_below f (first + (until - first)) ≡ sections_below f first ++ sections_from first (until - first) node =
-    sections-run f first (until - first) node r.value has (λ s above under.
+    let run = sections-run f first (until - first) node r.value has (λ s above under.
     section-found f s r whole (omega arith) (omega arith) some (λ x over inner. none x (omega arith) inner)
     (λ x over inner outer. here x (omega arith) inner outer)) in
-    ap (sections_below f) (let e : until ≡ first + (until - first) = omega arith in e) ∙ run
-    ∙ ap (λ (ss : List Section). ss ++ sections_from first (until - first) node) gap
+    let low : next + (first - next) ≡ first = omega arith in
+    let high : first + (until - first) ≡ until = omega arith in
+    rw (rw high at run, rw low at gap) refl
 
 -- the next record, which the table has at that index
 pub record IsNext (f : Labels) (next : ℕ) (rs : List (RunOf Label)) (i : ℕ) (g : Region) : Type 0 where

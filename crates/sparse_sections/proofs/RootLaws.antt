@@ -1,5 +1,5 @@
 -- One root after another: as what is left ends, so do all.
-use Rattle.std.proofs.Common.{◌≡◌, ℕ, ◌+◌, ◌<◌, ◌≤◌, true, false, Option, Some, None, List, [], ◌∷◌, length, drop, get_or, Result, Ok, Err, sym, ◌∙◌, ap, subst, add-one, drop-cons}
+use Rattle.std.proofs.Common.{◌≡◌, ℕ, ◌+◌, ◌<◌, ◌≤◌, true, false, Option, Some, None, List, [], ◌∷◌, length, drop, get_or, Result, Ok, Err, add-one, drop-cons, refl}
 use Rattle.std.proofs.lemmas.List.{drop_all}
 use Rattle.bm_base.specs.declared.width.Width.{Width}
 use Rattle.bm_base.specs.Width.{root_table_of}
@@ -15,28 +15,6 @@ use Rattle.stage_model.specs.Requests.{placed}
 use Rattle.stage_model.proofs.DoingLaws.{ends-second, ends-first, ends-listed, ends-returns}
 use Rattle.sparse_sections.specs.declared.roots.RootPlace.{RootPlace}
 use Rattle.sparse_sections.specs.Roots.{root_of, is_root, firsts_behind, small_request, root_placed, roots_listed, RootsPlaced, roots}
-
--- a section whose root has a place, and one whose root gets its place now
-pub root-same : (r : Result (List RootPlace) StageStop) (last : Option ℕ) (s : Section) (ss : List Section) (before : List RootPlace)
-    (old new : List Item) → is_root last (root_of s) ≡ true
-    → EndsAs stop.Memory r old new (in_turn root_placed before (firsts_behind last ss) old)
-    → EndsAs stop.Memory r old new (in_turn root_placed before (firsts_behind last (s ∷ ss)) old)
-root-same r last s ss before old new same h = rw same h
-
-pub root-next : (r : Result (List RootPlace) StageStop) (last : Option ℕ) (s : Section) (ss : List Section) (before now : List RootPlace)
-    (old mid new : List Item) → is_root last (root_of s) ≡ false → EndsAs stop.Memory (Ok now) old mid (root_placed before s old)
-    → EndsAs stop.Memory r mid new (in_turn root_placed now (firsts_behind (Some (root_of s)) ss) mid)
-    → EndsAs stop.Memory r old new (in_turn root_placed before (firsts_behind last (s ∷ ss)) old)
-root-next r last s ss before now old mid new other was h =
-    rw other (ends-second now r stop.Memory old mid new (root_placed before s)
-    (λ next. in_turn root_placed next (firsts_behind (Some (root_of s)) ss)) was h)
-
-pub root-fails : (e : StageStop) (last : Option ℕ) (s : Section) (ss : List Section) (before : List RootPlace) (old new : List Item)
-    → is_root last (root_of s) ≡ false → EndsAs {A = List RootPlace} stop.Memory (Err e) old new (root_placed before s old)
-    → EndsAs {A = List RootPlace} stop.Memory (Err e) old new (in_turn root_placed before (firsts_behind last (s ∷ ss)) old)
-root-fails e last s ss before old new other h =
-    rw other (ends-first e stop.Memory old new (root_placed before s)
-    (λ next. in_turn root_placed next (firsts_behind (Some (root_of s)) ss)) h)
 
 abbrev pub no_section : Section
 no_section = record { number = 0; node = 0 }
@@ -56,24 +34,20 @@ goes-first entry sections roots none = record {
       let no_roots : List Item → List RootPlace = λ items. [] in
       ends-second [] r stop.Memory entry entry new (listed no_roots) (λ before. in_turn root_placed before firsts)
       (ends-listed no_roots stop.Memory entry)
-      (subst (λ (before : List RootPlace). EndsAs stop.Memory r entry new (in_turn root_placed before firsts entry)) none h);
+      (rw none at h);
 }
 
 -- the section at the index, and those behind it
 left-at : (sections : List Section) (i : ℕ) (d : Section) → i < length sections
     → drop i sections ≡ get_or sections i d ∷ drop (i + 1) sections
-left-at sections i d few =
-    drop-cons sections i d few ∙ ap (λ (n : ℕ). get_or sections i d ∷ drop n sections) (sym (add-one i))
+left-at sections i d few = rw (add-one, drop-cons sections i d few) refl
 
 pub goes-same : (entry : List Item) (sections : List Section) (now : List Item) (before : List RootPlace) (last : Option ℕ) (i : ℕ)
     (d : Section) → i < length sections → is_root last (root_of (get_or sections i d)) ≡ true → Goes entry sections now before last
     (drop i sections)
     → Goes entry sections now before last (drop (i + 1) sections)
 goes-same entry sections now before last i d few same goes =
-    let s : Section = get_or sections i d in
-    let here : Goes entry sections now before last (s ∷ drop (i + 1) sections) =
-    subst (Goes entry sections now before last) (left-at sections i d few) goes in
-    record { ends = λ r new h. here.ends r new (root-same r last s (drop (i + 1) sections) before now new same h) }
+    let here = rw (left-at sections i d few) at goes in record { ends = λ r new h. here.ends r new (rw same h) }
 
 pub goes-next : (entry : List Item) (sections : List Section) (now mid : List Item) (before roots : List RootPlace) (last : Option ℕ)
     (i : ℕ) (d : Section) → i < length sections → is_root last (root_of (get_or sections i d)) ≡ false
@@ -82,9 +56,12 @@ pub goes-next : (entry : List Item) (sections : List Section) (now mid : List It
     → Goes entry sections mid roots (Some (root_of (get_or sections i d))) (drop (i + 1) sections)
 goes-next entry sections now mid before roots last i d few other was goes =
     let s : Section = get_or sections i d in
-    let here : Goes entry sections now before last (s ∷ drop (i + 1) sections) =
-    subst (Goes entry sections now before last) (left-at sections i d few) goes in
-    record { ends = λ r new h. here.ends r new (root-next r last s (drop (i + 1) sections) before roots now mid new other was h) }
+    let here = rw (left-at sections i d few) at goes in
+    record {
+      ends = λ r new h.
+          here.ends r new (rw other (ends-second roots r stop.Memory now mid new (root_placed before s)
+          (λ next. in_turn root_placed next (firsts_behind (Some (root_of s)) (drop (i + 1) sections))) was h));
+    }
 
 pub goes-fails : (e : StageStop) (entry : List Item) (sections : List Section) (now new : List Item) (before : List RootPlace)
     (last : Option ℕ) (i : ℕ) (d : Section) → i < length sections → is_root last (root_of (get_or sections i d)) ≡ false
@@ -93,16 +70,15 @@ pub goes-fails : (e : StageStop) (entry : List Item) (sections : List Section) (
     → EndsAs {A = List RootPlace} stop.Memory (Err e) entry new (roots_listed sections entry)
 goes-fails e entry sections now new before last i d few other failed goes =
     let s : Section = get_or sections i d in
-    let here : Goes entry sections now before last (s ∷ drop (i + 1) sections) =
-    subst (Goes entry sections now before last) (left-at sections i d few) goes in
-    here.ends (Err e) new (root-fails e last s (drop (i + 1) sections) before now new other failed)
+    let here = rw (left-at sections i d few) at goes in
+    here.ends (Err e) new (rw other (ends-first e stop.Memory now new (root_placed before s)
+    (λ next. in_turn root_placed next (firsts_behind (Some (root_of s)) (drop (i + 1) sections))) failed))
 
 pub goes-all : (entry : List Item) (sections : List Section) (now : List Item) (roots : List RootPlace) (last : Option ℕ) (i : ℕ)
     → length sections ≤ i → Goes entry sections now roots last (drop i sections)
     → EndsAs stop.Memory (Ok roots) entry now (roots_listed sections entry)
 goes-all entry sections now roots last i all goes =
-    let here : Goes entry sections now roots last [] = subst (Goes entry sections now roots last) (drop_all i sections all) goes in
-    here.ends (Ok roots) now (ends-returns roots stop.Memory now)
+    let here = rw (drop_all i sections all) at goes in here.ends (Ok roots) now (ends-returns roots stop.Memory now)
 
 -- the table and then the roots
 pub roots-fail : (e : StageStop) (width : Width) (q : Request) (sections : List Section) (old new : List Item)
@@ -113,7 +89,7 @@ unfolding roots
 roots-fail e width q sections old new request h =
     ends-first e stop.Memory old new (placed what.Roots (small_request (root_table_of width) None) owner.Roots)
     (λ table. roots_listed sections >>= λ places. returns (record { table = table; roots = places }))
-    (subst (λ (r : Request). EndsAs {A = ℕ} stop.Memory (Err e) old new (placed what.Roots r owner.Roots old)) request h)
+    (rw request at h)
 
 roots-behind : (r : Result RootsPlaced StageStop) (table : ℕ) (width : Width) (q : Request) (sections : List Section)
     (old mid new : List Item)
@@ -125,7 +101,7 @@ unfolding roots
 roots-behind r table width q sections old mid new request was h =
     ends-second table r stop.Memory old mid new (placed what.Roots (small_request (root_table_of width) None) owner.Roots)
     (λ table. roots_listed sections >>= λ places. returns (record { table = table; roots = places }))
-    (subst (λ (r : Request). EndsAs stop.Memory (Ok table) old mid (placed what.Roots r owner.Roots old)) request was) h
+    (rw request at was) h
 
 pub roots-stop : (e : StageStop) (table : ℕ) (width : Width) (q : Request) (sections : List Section) (old mid new : List Item)
     → q ≡ small_request (root_table_of width) None → EndsAs stop.Memory (Ok table) old mid (placed what.Roots q owner.Roots old)

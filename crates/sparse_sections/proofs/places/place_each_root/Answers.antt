@@ -13,24 +13,23 @@ use Rattle.sparse_sections.proofs.places.place_each_root.Goals.{then-not-is_root
 pub loop-section-init : goal.loop-section-init
 loop-section-init c = record {
   goes = goes-first c.args.memblock.now.journal.items c.args.sections.now c.in_ok-roots.roots.items c.in_ok-roots.ensures.empty;
-  room = let room = c.in_ok-roots.ensures.room in omega (arith, room);
+  room = omega (arith, c.in_ok-roots.ensures.room);
   begun = c.requires;
   lent = c.stand_still.ensures;
 }
 
-pub returns-in_err-place_root-clause-ends : goal.returns-in_err-place_root-clause-ends
-returns-in_err-place_root-clause-ends c =
+pub returns-in_err-place_root : goal.returns-in_err-place_root
+returns-in_err-place_root c =
     let p = err_from_is_err_and c.from_residual-in_err-place_root.result c.from_residual-in_err-place_root.ensures.1 in
-    let other : is_root c.loop-section.last (root_of (get_or c.args.sections.now c.loop-section.section-index no_section)) ≡ false =
-    ap (is_root c.loop-section.last) (sym c.root_of-root.ensures) ∙ sym c.is_root.ensures ∙ c.if-not-is_root.true in
-    rw (p.1, p.2) (goes-fails c.in_err-place_root.field-0.0 c.args.memblock.now.journal.items c.args.sections.now
-    c.loop-section.memblock.journal.items c.place_root.new.memblock.journal.items c.loop-section.roots.items c.loop-section.last
-    c.loop-section.section-index no_section c.loop-section-test.true other c.in_err-place_root.ensures.ends c.loop-section.invariant.goes)
-
-pub returns-in_err-place_root-clause-lent : goal.returns-in_err-place_root-clause-lent
-returns-in_err-place_root-clause-lent c =
-    goes-then c.args.memblock.now c.loop-section.memblock c.place_root.new.memblock c.loop-section.invariant.lent
-    c.in_err-place_root.ensures.lent
+    let other = ap (is_root c.loop-section.last) (sym c.root_of-root.ensures) ∙ sym c.is_root.ensures ∙ c.if-not-is_root.true in
+    record {
+      ends = rw (p.1, p.2) (goes-fails c.in_err-place_root.field-0.0 c.args.memblock.now.journal.items c.args.sections.now
+          c.loop-section.memblock.journal.items c.place_root.new.memblock.journal.items c.loop-section.roots.items c.loop-section.last
+          c.loop-section.section-index no_section c.loop-section-test.true other c.in_err-place_root.ensures.ends
+          c.loop-section.invariant.goes);
+      lent = goes-then c.args.memblock.now c.loop-section.memblock c.place_root.new.memblock c.loop-section.invariant.lent
+          c.in_err-place_root.ensures.lent;
+    }
 
 pub loop-section-preserved : goal.loop-section-preserved
 loop-section-preserved c =
@@ -49,11 +48,7 @@ loop-section-preserved c =
           rw (w.memblock-is, w.roots-is, is) (record {
             goes = goes-next entry sections now mid before w.place_root.new.roots.items last i no_section c.loop-section-test.true
                 (told ∙ w.if-not-is_root.true) w.in_ok-place_root.ensures.ends c.loop-section.invariant.goes;
-            room =
-                let len = w.place_root.ensures.len in
-                let capacity = w.place_root.ensures.capacity in
-                let room = c.loop-section.invariant.room in
-                omega (arith, len, capacity, room);
+            room = omega (arith, w.place_root.ensures.len, w.place_root.ensures.capacity, c.loop-section.invariant.room);
             begun = ends-begun (Ok w.place_root.new.roots.items) stop.Memory now mid (root_placed before s now)
                 c.loop-section.invariant.begun w.in_ok-place_root.ensures.ends;
             lent = goes-then c.args.memblock.now c.loop-section.memblock w.place_root.new.memblock c.loop-section.invariant.lent
@@ -63,7 +58,7 @@ loop-section-preserved c =
           rw (w.memblock-is, w.roots-is, w.last-is) (record {
             goes = goes-same entry sections now before last i no_section c.loop-section-test.true (told ∙ w.if-not-is_root.false)
                 c.loop-section.invariant.goes;
-            room = let room = c.loop-section.invariant.room in omega (arith, room);
+            room = omega (arith, c.loop-section.invariant.room);
             begun = c.loop-section.invariant.begun;
             lent = c.loop-section.invariant.lent;
           })

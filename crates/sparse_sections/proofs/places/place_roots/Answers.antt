@@ -15,23 +15,23 @@ returns-in_err-table-clause-ends c =
     rw (p.1, p.2) (roots-fail c.in_err-table.field-0.0 c.args.width c.table_request-request.result c.args.sections.now
     c.args.memblock.now.journal.items c.place.new.memblock.journal.items c.table_request-request.ensures c.in_err-table.ensures.ends)
 
-pub returns-in_err-roots-clause-ends : goal.returns-in_err-roots-clause-ends
-returns-in_err-roots-clause-ends c =
+pub returns-in_err-roots : goal.returns-in_err-roots
+returns-in_err-roots c =
     let p = err_from_is_err_and c.from_residual-in_err-roots.result c.from_residual-in_err-roots.ensures.1 in
-    rw (p.1, p.2) (roots-stop c.in_err-roots.field-0.0 c.in_ok-table.table c.args.width c.table_request-request.result c.args.sections.now
-    c.args.memblock.now.journal.items c.place.new.memblock.journal.items c.place_each_root.new.memblock.journal.items
-    c.table_request-request.ensures c.in_ok-table.ensures.ends c.in_err-roots.ensures.ends)
+    record {
+      ends = rw (p.1, p.2) (roots-stop c.in_err-roots.field-0.0 c.in_ok-table.table c.args.width c.table_request-request.result
+          c.args.sections.now c.args.memblock.now.journal.items c.place.new.memblock.journal.items
+          c.place_each_root.new.memblock.journal.items c.table_request-request.ensures c.in_ok-table.ensures.ends
+          c.in_err-roots.ensures.ends);
+      lent = goes-then c.args.memblock.now c.place.new.memblock c.place_each_root.new.memblock c.in_ok-table.ensures.lent
+          c.in_err-roots.ensures.lent;
+    }
 
-pub returns-in_err-roots-clause-lent : goal.returns-in_err-roots-clause-lent
-returns-in_err-roots-clause-lent c =
-    goes-then c.args.memblock.now c.place.new.memblock c.place_each_root.new.memblock c.in_ok-table.ensures.lent c.in_err-roots.ensures.lent
-
-pub returns-clause-ends : goal.returns-clause-ends
-returns-clause-ends c =
-    roots-all c.in_ok-table.table c.in_ok-roots.roots.items c.args.width c.table_request-request.result c.args.sections.now
-    c.args.memblock.now.journal.items c.place.new.memblock.journal.items c.place_each_root.new.memblock.journal.items
-    c.table_request-request.ensures c.in_ok-table.ensures.ends c.in_ok-roots.ensures.ends
-
-pub returns-clause-lent : goal.returns-clause-lent
-returns-clause-lent c =
-    goes-then c.args.memblock.now c.place.new.memblock c.place_each_root.new.memblock c.in_ok-table.ensures.lent c.in_ok-roots.ensures.lent
+pub returns : goal.returns
+returns c = record {
+  ends = roots-all c.in_ok-table.table c.in_ok-roots.roots.items c.args.width c.table_request-request.result c.args.sections.now
+      c.args.memblock.now.journal.items c.place.new.memblock.journal.items c.place_each_root.new.memblock.journal.items
+      c.table_request-request.ensures c.in_ok-table.ensures.ends c.in_ok-roots.ensures.ends;
+  lent = goes-then c.args.memblock.now c.place.new.memblock c.place_each_root.new.memblock c.in_ok-table.ensures.lent
+      c.in_ok-roots.ensures.lent;
+}
