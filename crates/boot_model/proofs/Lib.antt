@@ -6,6 +6,5 @@ pub mod MirrorLaws
 pub mod NodedLaws
 pub mod ReachLaws
 pub mod StageLaws
-pub mod StopLaws
 mod RamLaws
 pub mod WantsLaws
