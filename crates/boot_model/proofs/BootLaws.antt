@@ -39,24 +39,20 @@ pub record GoesOn (given : Given) (made : BootSoFar) : Type 0 where
 
 -- the first two stages leave what was made as it is, and go on only where they find nothing to stop for
 pub room_passed : (full : Bool) (cause : Cause) (before after : BootSoFar) → (if full then Err cause else Ok before) ≡ Ok after
-    → (full ≡ false)
-    × (before ≡ after)
+    → (full ≡ false) × (before ≡ after)
 room_passed true cause before after ends = absurd (cc)
 room_passed false cause before after ends = (refl, cc)
 
-pub frames_passed : (reason : Option MapStop) (before after : BootSoFar) → unless_stopped reason before ≡ Ok after → (reason ≡ None)
-    × (before ≡ after)
+pub frames_passed : (reason : Option MapStop) (before after : BootSoFar) → unless_stopped reason before ≡ Ok after
+    → (reason ≡ None) × (before ≡ after)
 frames_passed None before after ends = (refl, cc)
 frames_passed (Some reason) before after ends = absurd (cc)
 
--- each stage leaves the map as it is: one fact a stage
-pub map_keep : (given : Given) → AllKeep (λ (made : BootSoFar). made.map) (map_stages given)
-map_keep given = (
-  λ before after ends. ap (λ (m : BootSoFar). m.map) (sym (room_passed _ _ before after ends).1),
-  (
-    λ before after ends. ap (λ (m : BootSoFar). m.map) (sym (frames_passed _ before after ends).1),
-    tt,
-  ),
+-- so each of them leaves each part of it as it is: one fact a stage
+pub map_keep : {A : Type 0} (part : BootSoFar → A) (given : Given) → AllKeep part (map_stages given)
+map_keep part given = (
+  λ before after ends. ap part (sym (room_passed _ _ before after ends).1),
+  ((λ before after ends. ap part (sym (frames_passed _ before after ends).1)), tt),
 )
 
 pub items_passed : (answer : Result (List Item) Refused) (before after : BootSoFar) → with_items before answer ≡ Ok after
@@ -75,24 +71,14 @@ pub lines_map : (kernel : Extent) (lines : List Line) → Keeps (λ (made : Boot
 lines_map kernel lines before after ends = ap (λ (m : BootSoFar). m.map) (lines_passed kernel lines before after ends)
 
 pub later_keep : (given : Given) → AllKeep (λ (made : BootSoFar). made.map) (later_stages given)
-later_keep given = (
-  λ before after ends. (items_passed _ before after ends).1,
-  (
-    steps_keep (λ (made : BootSoFar). made.map) cause_of_stage put_nodes (assigned given.domains given.options.numa_off) (λ a m. refl)
-        (λ before. refl),
-    (
-      steps_keep (λ (made : BootSoFar). made.map) cause_of_refusal put_crash (reserved given.options.crash) (λ a m. refl) (λ before. refl),
-      (
-        lines_map given.kernel (before_sections given.lines),
-        (
-          steps_keep (λ (made : BootSoFar). made.map) cause_of_stage put_sections (places_of_sections given.width) (λ a m. refl)
-              (λ before. refl),
-          (lines_map given.kernel (behind_sections given.lines), tt),
-        ),
-      ),
-    ),
-  ),
-)
+later_keep given =
+    let map : BootSoFar → List (RunOf ℕ) = λ made. made.map in
+    let nodes = steps_keep map cause_of_stage put_nodes (assigned given.domains given.options.numa_off) (λ a m. refl) (λ before. refl) in
+    let crash = steps_keep map cause_of_refusal put_crash (reserved given.options.crash) (λ a m. refl) (λ before. refl) in
+    let sections = steps_keep map cause_of_stage put_sections (places_of_sections given.width) (λ a m. refl) (λ before. refl) in
+    let before = lines_map given.kernel (before_sections given.lines) in
+    let behind = lines_map given.kernel (behind_sections given.lines) in
+    ((λ before after ends. (items_passed _ before after ends).1), (nodes, (crash, (before, (sections, (behind, tt))))))
 
 pub goes_on : (given : Given) (made : BootSoFar) → boot given ≡ Ok made → GoesOn given made
 unfolding boot
@@ -102,7 +88,7 @@ goes_on given made ends =
     let behind_frames = passes (has_frames given) (drop 2 (map_stages given)) behind_room.middle judged_map.middle behind_room.rest in
     record {
       map = chain_keeps (λ (m : BootSoFar). m.map) (later_stages given) (later_keep given) judged_map.middle made judged_map.rest
-          ∙ chain_keeps (λ (m : BootSoFar). m.map) (map_stages given) (map_keep given) (begin given) judged_map.middle judged_map.first;
+          ∙ chain_keeps (λ (m : BootSoFar). m.map) (map_stages given) (map_keep _ given) (begin given) judged_map.middle judged_map.first;
       fits = (room_passed _ _ (begin given) behind_room.middle behind_room.first).0;
       judged = (frames_passed _ behind_room.middle behind_frames.middle behind_frames.first).0;
     }
@@ -117,13 +103,11 @@ pub memory_lies : (rs : List (RunOf ℕ)) (x : ℕ) → AreRuns rs → is_memory
 memory_lies [] x runs = refl
 memory_lies (r ∷ rs) x runs =
     let rest : is_memory (value_at rs x) ≡ lies_in_memory rs x = memory_lies rs x runs.2 in
-    elim (cases_Bool (lies_in r x)) as (λ _. is_memory (value_at (r ∷ rs) x) ≡ lies_in_memory (r ∷ rs) x) [
+    elim (cases_Bool (lies_in r x)) [
       | inl inside ↦
-          (let low : x < run_end r = grind (arith, nat_tests) in
-          let nothing : value_at rs x ≡ None = none_below (run_end r) x rs runs.2 (rest_from r rs runs) low in
-          let none : lies_in_memory rs x ≡ false = sym rest ∙ ap is_memory nothing in
-          rw (inside, none) (sym (or-false (r.value == 1 || r.value == 128))))
-      | inr outside ↦ (rw outside rest)
+          let nothing = none_below (run_end r) x rs runs.2 (rest_from r rs runs) (grind (arith, nat_tests)) in
+          rw (inside, ← rest, nothing) (sym (or-false (r.value == 1 || r.value == 128)))
+      | inr outside ↦ rw outside rest
     ]
 
 -- the runs tell which frames are usable
@@ -149,13 +133,7 @@ types_told given made x ends low = rw (goes_on given made ends).map ((map_betwee
 pub frames_within : (n : ℕ) → (if n == 0 then Some reasons.NoRam else (if nat_lt (2 ^ 32) n then Some (reasons.TooMuchRam n) else
     None)) ≡ None
     → (0 < n) × (n ≤ 2 ^ 32)
-frames_within n fine = elim (cases_Bool (n == 0)) as (λ _. (0 < n) × (n ≤ 2 ^ 32)) [
-  | inl none ↦ (let clash : Some reasons.NoRam ≡ None = rw none at fine in absurd (cc))
-  | inr some ↦ (elim (cases_Bool (nat_lt (2 ^ 32) n)) as (λ _. (0 < n) × (n ≤ 2 ^ 32)) [
-    | inl many ↦ (let clash : Some (reasons.TooMuchRam n) ≡ None = rw (some, many) at fine in absurd (cc))
-    | inr few ↦ (grind (arith, nat_tests), grind (arith, nat_tests))
-  ])
-]
+frames_within n fine = grind (arith, nat_tests)
 
 -- a map that isn't refused has usable frames, and not too many
 pub frames_told : (given : Given) (made : BootSoFar) → boot given ≡ Ok made
@@ -164,6 +142,4 @@ frames_told given made ends = frames_within (usable_frames (types_in_reach given
 
 -- and it is in the table's room
 pub room_told : (given : Given) (made : BootSoFar) → boot given ≡ Ok made → length made.map ≤ E820_MAX_ENTRIES
-room_told given made ends =
-    let known : GoesOn given made = goes_on given made ends in
-    rw known.map (grind (arith, nat_tests, known.fits))
+room_told given made ends = let known = goes_on given made ends in rw known.map (grind (arith, nat_tests, known.fits))

@@ -1,5 +1,5 @@
 -- Memory and the limit of a boot that isn't stopped: those of its map. Each stage behind the one that makes them leaves them as they are.
-use Rattle.std.proofs.Common.{◌≡◌, ℕ, ◌/◌, ◌^◌, ◌<◌, ◌≤◌, ◌∙◌, sym, ap, refl, arith, inl, inr, Bool, true, false, nat_lt, if◌then◌else◌, is_some, Option, Some, None, List, [], ◌∷◌, drop, Ok}
+use Rattle.std.proofs.Common.{◌≡◌, ℕ, ◌/◌, ◌^◌, ◌<◌, ◌≤◌, ◌∙◌, ap, refl, arith, inl, inr, Bool, true, false, nat_lt, if◌then◌else◌, is_some, Option, Some, None, List, [], ◌∷◌, drop, Ok}
 use Rattle.std.specs.Option.{option_map}
 use Rattle.std.proofs.lemmas.Bool.{cases_Bool}
 use Rattle.std.proofs.lemmas.Bool.Decides.{nat_tests}
@@ -11,7 +11,10 @@ use Rattle.e820_model.specs.Map.{TypeAt, kinds, map_of}
 use Rattle.e820_model.specs.Usable.{is_usable, reachable}
 use Rattle.memblock_model.specs.Labels.{Label, Labels, plain_label, with_mirror}
 use Rattle.memblock_model.specs.Items.{limit_of, memory_of}
-use Rattle.growth_model.specs.Carried.{carried_out}
+use Rattle.memblock_model.specs.declared.item.Item.{Item}
+use Rattle.growth_model.specs.Carried.{AreQuiet, carried_out}
+use Rattle.growth_model.specs.Outcome.{Outcome, after}
+use Rattle.growth_model.proofs.QuietLaws.{quiet-limit, quiet-memory}
 use Rattle.growth_model.specs.Bytes.{byte}
 use Rattle.early_stages.specs.Early.{FrameRange}
 use Rattle.early_stages.specs.Memory.{is_mirrored, memory_end, mirrored_memory, usable_memory}
@@ -21,26 +24,20 @@ use Rattle.early_stages.proofs.EndLaws.{memory_end-same}
 use Rattle.script_reader.specs.declared.act.Line.{Line}
 use Rattle.early_script.specs.Acted.{answer_of, state_after}
 use Rattle.early_script.specs.Stage.{LineStage as Script, after_line, after_lines, before_sections, behind_sections, deed_at}
-use Rattle.early_script.proofs.QuietLaws.{acts-limit, acts-memory, deed-quiet}
+use Rattle.early_script.proofs.QuietLaws.{acts-keep, deed-quiet}
 use Rattle.boot_model.specs.Boot.{Given, BootSoFar, Stage, begin, boot, claims, early_of, has_crash_area, has_memory, has_nodes, has_sections, later_stages, map_judged, map_stages, mirrors_of, put_crash, put_nodes, put_sections, reach, runs_lines, script_at, types_in_reach}
-use Rattle.boot_model.specs.Sections.{SectionPlaces, places_of_sections, sections_placed}
+use Rattle.boot_model.specs.Sections.{places_of_sections}
 use Rattle.boot_model.specs.Stop.{cause_of_refusal, cause_of_stage}
 use Rattle.numa_nodes.specs.Assigned.{assigned}
 use Rattle.numa_nodes.proofs.MemoryLaws.{keeps-limit, keeps-memory}
 use Rattle.crash_kernel.specs.Reserved.{reserved}
 use Rattle.crash_kernel.proofs.QuietLaws.{quiet-reserved}
-use Rattle.memblock_grow.specs.declared.section.Section.{Section}
 use Rattle.stage_model.specs.Quiet.{IsQuietStep}
-use Rattle.stage_model.specs.Doing.{◌>>=◌, returns, listed}
 use Rattle.stage_model.proofs.QuietLaws.{quiet-appended_limit, quiet-appended_memory, quiet-bind, quiet-listed, quiet-returns}
-use Rattle.sparse_sections.specs.Present.{present}
-use Rattle.sparse_sections.specs.Roots.{RootsPlaced, roots}
 use Rattle.sparse_sections.proofs.QuietLaws.{quiet-roots}
-use Rattle.section_maps.specs.declared.placed.Placed.{Placed}
-use Rattle.section_maps.specs.Maps.{maps}
 use Rattle.section_maps.proofs.QuietLaws.{quiet-maps}
 use Rattle.boot_model.specs.Stages.{in_order}
-use Rattle.boot_model.proofs.BootLaws.{frames_passed, items_passed, lines_passed, map_between, map_keep, room_passed}
+use Rattle.boot_model.proofs.BootLaws.{items_passed, lines_passed, map_between, map_keep}
 use Rattle.boot_model.proofs.ReachLaws.{reach-small}
 use Rattle.boot_model.proofs.StageLaws.{AllKeep, Keeps, chain_keeps, goes_by, passes, steps_keep}
 
@@ -55,39 +52,23 @@ labels_by made = memory_of made.items
 abbrev pub bound_by : BootSoFar → ℕ
 bound_by made = limit_of made.items
 
--- what judges the map does nothing to memory
-items_keep : (given : Given) → AllKeep (λ (made : BootSoFar). made.items) (map_stages given)
-items_keep given = (
-  λ before after ends. ap (λ (m : BootSoFar). m.items) (sym (room_passed _ _ before after ends).1),
-  (
-    λ before after ends. ap (λ (m : BootSoFar). m.items) (sym (frames_passed _ before after ends).1),
-    tt,
-  ),
-)
-
--- so do lines of the script, each by itself
-lines_memory : (s : Script) (lines : List Line) → memory_of (after_lines s lines).state.items ≡ memory_of s.state.items
-lines_memory s [] = refl
-lines_memory s (line ∷ lines) =
-    lines_memory (after_line s line) lines
-    ∙ acts-memory (Ok (answer_of s.state (deed_at s line))) s.state (state_after s.state (deed_at s line)) (deed_at s line)
-    (deed-quiet s.state (byte s.state.kernel s.state.items s.fills) line.act) (refl, refl)
-
-lines_limit : (s : Script) (lines : List Line) → limit_of (after_lines s lines).state.items ≡ limit_of s.state.items
-lines_limit s [] = refl
-lines_limit s (line ∷ lines) =
-    lines_limit (after_line s line) lines
-    ∙ acts-limit (Ok (answer_of s.state (deed_at s line))) s.state (state_after s.state (deed_at s line)) (deed_at s line)
+-- lines of the script do nothing to memory, each by itself
+lines_keep : {X : Type 0} (f : List Item → X)
+    → ((items : List Item) (o : Outcome) → AreQuiet o.steps → f (after items o) ≡ f items) → (s : Script) (lines : List Line)
+    → f (after_lines s lines).state.items ≡ f s.state.items
+lines_keep f keeps s [] = refl
+lines_keep f keeps s (line ∷ lines) =
+    lines_keep f keeps (after_line s line) lines
+    ∙ acts-keep f keeps (Ok (answer_of s.state (deed_at s line))) s.state (state_after s.state (deed_at s line)) (deed_at s line)
     (deed-quiet s.state (byte s.state.kernel s.state.items s.fills) line.act) (refl, refl)
 
 pub lines_labels : (kernel : Extent) (lines : List Line) → Keeps labels_by (runs_lines kernel lines)
 lines_labels kernel lines before last ends =
-    ap labels_by (lines_passed kernel lines before last ends) ∙ lines_memory (script_at kernel before) lines
+    ap labels_by (lines_passed kernel lines before last ends) ∙ lines_keep memory_of quiet-memory (script_at kernel before) lines
 
 lines_bound : (kernel : Extent) (lines : List Line) → Keeps bound_by (runs_lines kernel lines)
 lines_bound kernel lines before last ends =
-    ap bound_by (lines_passed kernel lines before last ends)
-    ∙ lines_limit (script_at kernel before) lines
+    ap bound_by (lines_passed kernel lines before last ends) ∙ lines_keep limit_of quiet-limit (script_at kernel before) lines
 
 -- so do nodes, the crash area and the places of sections; and the last two leave the labels too
 nodes_hold : (given : Given) → Keeps held_by (has_nodes given)
@@ -112,18 +93,9 @@ crash_bound given =
     (λ before. quiet-appended_limit before.items (reserved given.options.crash before.items).steps
     ((quiet-reserved given.options.crash).each before.items))
 
-quiet_places : (width : Width) (sections : List Section) → IsQuietStep (sections_placed width sections)
-quiet_places width sections =
-    let told : RootsPlaced → List Placed → SectionPlaces = λ table placed. record { roots = table; placed = placed } in
-    quiet-bind (roots width sections) (λ table. maps sections >>= λ placed. returns (told table placed)) (quiet-roots width sections)
-    (λ table. quiet-bind (maps sections) (λ placed. returns (told table placed)) (quiet-maps sections)
-    (λ placed. quiet-returns (told table placed)))
-
 quiet_sections : (width : Width) → IsQuietStep (places_of_sections width)
 unfolding places_of_sections
-quiet_sections width =
-    quiet-bind (listed (λ items. present (memory_of items))) (sections_placed width) (quiet-listed (λ items. present (memory_of items)))
-    (quiet_places width)
+quiet_sections width = search (quiet-bind, quiet-listed, quiet-roots, quiet-maps, quiet-returns)
 
 pub section_labels : (given : Given) → Keeps labels_by (has_sections given)
 section_labels given =
@@ -141,40 +113,25 @@ section_bound given =
 by_labels : (stage : Stage) → Keeps labels_by stage → Keeps held_by stage
 by_labels stage keeps before last ends = let held : Labels → ℕ → Bool = λ f x. is_some (f x) in ap held (keeps before last ends)
 
--- the stages behind memory leave it as it is, and the limit: one fact a stage
+-- the stages behind the nodes leave the labels: one fact a stage
+pub labels_keep : (given : Given) → AllKeep labels_by (drop 2 (later_stages given))
+labels_keep given =
+    let before = lines_labels given.kernel (before_sections given.lines) in
+    let behind = lines_labels given.kernel (behind_sections given.lines) in
+    (crash_labels given, (before, (section_labels given, (behind, tt))))
+
+-- and those behind memory leave it as it is, and the limit
 memory_keep : (given : Given) → AllKeep held_by (drop 1 (later_stages given))
-memory_keep given = (
-  nodes_hold given,
-  (
-    by_labels (has_crash_area given) (crash_labels given),
-    (
-      by_labels _ (lines_labels given.kernel (before_sections given.lines)),
-      (by_labels (has_sections given) (section_labels given), (by_labels _ (lines_labels given.kernel (behind_sections given.lines)), tt)),
-    ),
-  ),
-)
+memory_keep given =
+    let keep = labels_keep given in
+    let rest = keep.1.1 in
+    (nodes_hold given, (by_labels _ keep.0, (by_labels _ keep.1.0, (by_labels _ rest.0, (by_labels _ rest.1.0, tt)))))
 
 limit_keep : (given : Given) → AllKeep bound_by (drop 1 (later_stages given))
-limit_keep given = (
-  nodes_bound given,
-  (
-    crash_bound given,
-    (
-      lines_bound given.kernel (before_sections given.lines),
-      (section_bound given, (lines_bound given.kernel (behind_sections given.lines), tt)),
-    ),
-  ),
-)
-
--- and those behind the nodes leave the labels
-pub labels_keep : (given : Given) → AllKeep labels_by (drop 2 (later_stages given))
-labels_keep given = (
-  crash_labels given,
-  (
-    lines_labels given.kernel (before_sections given.lines),
-    (section_labels given, (lines_labels given.kernel (behind_sections given.lines), tt)),
-  ),
-)
+limit_keep given =
+    let before = lines_bound given.kernel (before_sections given.lines) in
+    let behind = lines_bound given.kernel (behind_sections given.lines) in
+    (nodes_bound given, (crash_bound given, (before, (section_bound given, (behind, tt)))))
 
 -- what is known where memory was made
 pub record HasMemory (given : Given) (made : BootSoFar) : Type 0 where
@@ -189,27 +146,24 @@ memory_made given made ends =
     let judged = goes_by (map_judged given) (λ m. in_order (later_stages given) m) made ends in
     let behind = passes (has_memory given) (drop 1 (later_stages given)) judged.middle made judged.rest in
     let nothing : judged.middle.items ≡ [] =
-    chain_keeps (λ (m : BootSoFar). m.items) (map_stages given) (items_keep given) (begin given) judged.middle judged.first in
+    chain_keeps (λ (m : BootSoFar). m.items) (map_stages given) (map_keep _ given) (begin given) judged.middle judged.first in
     let map : judged.middle.map ≡ map_of (claims given) =
-    chain_keeps (λ (m : BootSoFar). m.map) (map_stages given) (map_keep given) (begin given) judged.middle judged.first in
+    chain_keeps (λ (m : BootSoFar). m.map) (map_stages given) (map_keep _ given) (begin given) judged.middle judged.first in
     let passed = items_passed (carried_out (first_items (early_of given) judged.middle.map) judged.middle.items)
     judged.middle behind.middle behind.first in
     record {
       first = behind.middle;
       carried = rw (nothing, map) at passed.0;
       memory = chain_keeps held_by (drop 1 (later_stages given)) (memory_keep given) behind.middle made behind.rest;
-      limit = chain_keeps (λ (m : BootSoFar). limit_of m.items) (drop 1 (later_stages given))
-          (limit_keep given) behind.middle made behind.rest;
+      limit = chain_keeps bound_by (drop 1 (later_stages given)) (limit_keep given) behind.middle made behind.rest;
     }
 
 -- the map gives the types within reach
 reached_same : (limit : ℕ) (c : Claims) (x : ℕ) → limit ≤ 2 ^ 52 → reachable limit (value_at (map_of c)) x ≡ reachable limit (kinds c) x
 reached_same limit c x small =
-    elim (cases_Bool (nat_lt x limit)) as
-    (λ _. reachable limit (value_at (map_of c)) x ≡ reachable limit (kinds c) x) [
+    elim (cases_Bool (nat_lt x limit)) [
       | inl within ↦
-          (let low : x < limit = grind (arith, nat_tests) in
-          rw within ((map_between c).within x (omega arith) (omega (arith, low, small))))
+          let low : x < limit = grind (arith, nat_tests) in rw within ((map_between c).within x (omega arith) (omega arith))
       | inr past ↦ rw past refl
     ]
 

@@ -1,6 +1,6 @@
 -- Memory behind the map, and behind its nodes: what each stage may rest on.
-use Rattle.std.proofs.Common.{◌≡◌, ℕ, ◌*◌, ◌/◌, ◌<◌, ◌≤◌, ◌^◌, ◌∙◌, false, Option, Some, None, if◌then◌else◌, List, [], drop, Ok, refl, ap, sym, subst, inl, inr, arith}
-use Rattle.std.proofs.lemmas.Bool.{cases_Bool, cases_lt}
+use Rattle.std.proofs.Common.{◌≡◌, ℕ, ◌*◌, ◌/◌, ◌<◌, ◌≤◌, ◌^◌, ◌∙◌, false, Option, Some, None, List, [], drop, Ok, refl, ap, sym, inl, inr, arith}
+use Rattle.std.proofs.lemmas.Bool.{cases_lt, false_from_ne_true}
 use Rattle.address_runs.specs.Runs.{RunOf, value_at}
 use Rattle.address_runs.specs.Edits.{NothingFrom}
 use Rattle.e820_model.specs.Map.{TypeAt, map_of}
@@ -49,25 +49,18 @@ mirrored_whole mirrors f whole x =
 
 -- a map with a usable frame ends above 0
 no_frame_low : (limit : ℕ) (f : TypeAt) (frame : ℕ) → memory_end limit f ≡ 0 → is_usable (reachable limit f) frame ≡ false
-no_frame_low limit f frame zero = elim (cases_Bool (is_usable (reachable limit f) frame)) as (λ _. is_usable (reachable limit f) frame
-    ≡ false) [
-      | inl usable ↦
-          (let number : (4096 * frame) / 4096 ≡ frame = omega arith in
-          let held : usable_memory limit f (4096 * frame) ≡ Some plain_label = rw (number, usable) refl in
-          let low : 4096 * frame < memory_end limit f = memory_below limit f (4096 * frame) plain_label held in
-          absurd (omega arith))
-      | inr other ↦ other
-    ]
+no_frame_low limit f frame zero = false_from_ne_true _ (λ usable.
+    let number : (4096 * frame) / 4096 ≡ frame = omega arith in
+    omega (arith, memory_below limit f (4096 * frame) plain_label (rw (number, usable) refl)))
 
 end_some : (limit : ℕ) (f : TypeAt) → 0 < usable_frames (reachable limit f) → 0 < memory_end limit f
 unfolding usable_frames
-end_some limit f some = elim (cases_lt 0 (memory_end limit f)) as (λ _. 0 < memory_end limit f) [
+end_some limit f some = elim (cases_lt 0 (memory_end limit f)) [
   | inl above ↦ above
   | inr below ↦
-      (let zero : memory_end limit f ≡ 0 = omega arith in
       let none : usable_frames (reachable limit f) ≡ 0 =
-      count_none _ (2 ^ 52) (λ frame low. no_frame_low limit f frame zero) in
-      absurd (omega (arith, none, some)))
+      count_none _ (2 ^ 52) (λ frame low. no_frame_low limit f frame (omega arith)) in
+      absurd (omega arith)
 ]
 
 -- what the map comes to, where the boot goes on with it
@@ -94,31 +87,23 @@ first_known given made items ends carried =
     first_limit (early_of given) map items from in
     let below : memory_end (reach given) (value_at map) ≤ reach given =
     (end_reached (reach given) (value_at map) _ (memory_end-is (reach given) (value_at map))).0 in
-    let some : 0 < usable_frames (reachable (reach given) (value_at map)) =
-    subst (λ (t : TypeAt). 0 < usable_frames t) (sym (types_same given)) (frames_within _ known.1).0 in
-    let FirstOf : Labels → ℕ → Type 0 = λ f at. (AreOfFrames f × NothingFrom (reach given) f × NothingFrom at f × (0 <
-    at)) in
+    let some : 0 < usable_frames (reachable (reach given) (value_at map)) = rw (types_same given) (frames_within _ known.1).0 in
     let whole : AreOfFrames (usable_memory (reach given) (value_at map)) = λ x.
-    (let same : (4096 * (x / 4096)) / 4096 ≡ x / 4096 = omega arith in
-    ap (λ (frame : ℕ). if is_usable (reachable (reach given) (value_at map)) frame then Some plain_label else None) (sym same)) in
-    let all : FirstOf (mirrored_memory (mirrors_of given) (usable_memory (reach given) (value_at map)))
-    (memory_end (reach given) (value_at map)) = (
-      mirrored_whole (mirrors_of given) (usable_memory (reach given) (value_at map)) whole,
-      past_end (reach given) (value_at map) (mirrors_of given) (reach given) below,
-      past_end (reach given) (value_at map) (mirrors_of given) (memory_end (reach given) (value_at map)) (omega arith),
-      end_some (reach given) (value_at map) some,
-    ) in
-    let told : FirstOf (memory_of items) (limit_of items) = rw (memory, limit) all in
-    record { frames = told.0; within = told.1; low = told.2; some = told.3 }
+    let same : (4096 * (x / 4096)) / 4096 ≡ x / 4096 = omega arith in rw same refl in
+    record {
+      frames = rw memory (mirrored_whole (mirrors_of given) (usable_memory (reach given) (value_at map)) whole);
+      within = rw memory (past_end (reach given) (value_at map) (mirrors_of given) (reach given) below);
+      low = rw memory (past_end (reach given) (value_at map) (mirrors_of given) (limit_of items) (omega (arith, limit)));
+      some = rw limit (end_some (reach given) (value_at map) some);
+    }
 
 -- behind its nodes
 pub nodes_known : (given : Given) (before last : BootSoFar) → IsFirstMemory (reach given) before.items → has_nodes given before ≡ Ok last
     → IsNoded (reach given) (labels_by last)
 nodes_known given before last first ends =
     let told = steps_answered cause_of_stage put_nodes (assigned given.domains given.options.numa_off) before last ends in
-    subst (λ (m : BootSoFar). IsNoded (reach given) (labels_by m)) (sym told.same)
-    (answer-noded (reach given) given.domains given.options.numa_off before.items told.value told.answer (reach-below given) first.frames
-    first.within first.low)
+    rw told.same (answer-noded (reach given) given.domains given.options.numa_off before.items told.value told.answer (reach-below given)
+    first.frames first.within first.low)
 
 -- and at the end of the boot
 pub noded_told : (given : Given) (made : BootSoFar) → boot given ≡ Ok made → IsNoded (reach given) (memory_of made.items)
@@ -128,9 +113,7 @@ noded_told given made ends =
     let behind = passes (has_memory given) (drop 1 (later_stages given)) judged_map.middle made judged_map.rest in
     let passed = items_passed (carried_out (first_items (early_of given) judged_map.middle.map)
     judged_map.middle.items) judged_map.middle behind.middle behind.first in
-    let first : IsFirstMemory (reach given) behind.middle.items =
-    first_known given judged_map.middle behind.middle.items judged_map.first passed.0 in
+    let first = first_known given judged_map.middle behind.middle.items judged_map.first passed.0 in
     let nodes = passes (has_nodes given) (drop 2 (later_stages given)) behind.middle made behind.rest in
-    let noded : IsNoded (reach given) (labels_by nodes.middle) = nodes_known given behind.middle nodes.middle first nodes.first in
-    subst (λ (f : Labels). IsNoded (reach given) f)
-    (sym (chain_keeps labels_by (drop 2 (later_stages given)) (labels_keep given) nodes.middle made nodes.rest)) noded
+    rw (chain_keeps labels_by (drop 2 (later_stages given)) (labels_keep given) nodes.middle made nodes.rest) (nodes_known given
+    behind.middle nodes.middle first nodes.first)

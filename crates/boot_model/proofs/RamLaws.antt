@@ -1,5 +1,5 @@
 -- A boot stops for want of usable frames only where there are none.
-use Rattle.std.proofs.Common.{◌≡◌, ◌≢◌, ℕ, ◌^◌, ◌==◌, Bool, true, false, nat_lt, if◌then◌else◌, List, [], ◌∷◌, length, Option, Some, None, Result, Ok, Err, refl, arith}
+use Rattle.std.proofs.Common.{◌≡◌, ◌≢◌, ℕ, ◌^◌, ◌==◌, Bool, true, false, nat_lt, if◌then◌else◌, List, [], ◌∷◌, length, Some, None, Result, Ok, Err, refl, arith}
 use Rattle.std.proofs.lemmas.Bool.Decides.{nat_tests}
 use Rattle.std.specs.Prelude.{IfErr}
 use Rattle.bm_base.specs.ResultSteps.{◌>>=◌}
@@ -12,7 +12,6 @@ use Rattle.growth_model.specs.declared.refusal.Refusal.TheVariants as refusal
 use Rattle.growth_model.specs.Outcome.{Refused}
 use Rattle.growth_model.specs.Carried.{carried_out}
 use Rattle.early_stages.specs.Wanted.{first_items}
-use Rattle.early_script.specs.Stage.{before_sections, behind_sections}
 use Rattle.memblock_grow.specs.declared.stop.StageStop.{StageStop}
 use Rattle.memblock_grow.specs.declared.stop.StageStop.TheVariants as stage
 use Rattle.stage_model.specs.Doing.{Doing, after}
@@ -20,7 +19,7 @@ use Rattle.numa_nodes.specs.Assigned.{assigned}
 use Rattle.crash_kernel.specs.Reserved.{reserved}
 use Rattle.boot_model.specs.declared.stop.Cause.{Cause}
 use Rattle.boot_model.specs.declared.stop.Cause.TheVariants as causes
-use Rattle.boot_model.specs.Boot.{Given, BootSoFar, Stage, begin, boot, by_steps, early_of, has_crash_area, has_frames, has_memory, has_nodes, has_room, has_sections, later_stages, map_judged, map_stages, put_crash, put_nodes, put_sections, reach, runs_lines, types_in_reach, unless_stopped, with_answer, with_items}
+use Rattle.boot_model.specs.Boot.{Given, BootSoFar, Stage, begin, boot, by_steps, early_of, later_stages, map_judged, map_stages, put_crash, put_nodes, put_sections, types_in_reach, unless_stopped, with_answer, with_items}
 use Rattle.boot_model.specs.Sections.{places_of_sections}
 use Rattle.boot_model.specs.Stages.{in_order}
 use Rattle.boot_model.specs.Stop.{cause_of_refusal, cause_of_stage}
@@ -102,24 +101,15 @@ map_errs given =
 later_errs : (given : Given) → AllErr (IsTold (usable_frames (types_in_reach given))) (later_stages given)
 unfolding AllErr
 later_errs given =
-    let frames : ℕ = usable_frames (types_in_reach given) in (
+    let frames : ℕ = usable_frames (types_in_reach given) in
+    let nodes = steps_errs frames (λ stop. stop ≢ stage.Memory) cause_of_stage put_nodes (assigned given.domains given.options.numa_off)
+    (stage_told frames) (nodes_errs given.domains given.options.numa_off) in
+    let crash = steps_errs frames (λ why. (why ≢ refusal.NoGap) × (why ≢ refusal.Memory)) cause_of_refusal put_crash
+    (reserved given.options.crash) (refusal_told frames) (crash_errs given.options.crash) in
+    let sections = steps_errs frames (λ stop. stop ≢ stage.Memory) cause_of_stage put_sections (places_of_sections given.width)
+    (stage_told frames) (sections_errs given.width) in (
       λ made. items_errs frames made (carried_out (first_items (early_of given) made.map) made.items),
-      (
-        steps_errs frames (λ stop. stop ≢ stage.Memory) cause_of_stage put_nodes (assigned given.domains given.options.numa_off)
-            (stage_told frames) (nodes_errs given.domains given.options.numa_off),
-        (
-          steps_errs frames (λ why. (why ≢ refusal.NoGap) × (why ≢ refusal.Memory)) cause_of_refusal put_crash
-              (reserved given.options.crash) (refusal_told frames) (crash_errs given.options.crash),
-          (
-            λ made. tt,
-            (
-              steps_errs frames (λ stop. stop ≢ stage.Memory) cause_of_stage put_sections (places_of_sections given.width)
-                  (stage_told frames) (sections_errs given.width),
-              ((λ made. tt), tt),
-            ),
-          ),
-        ),
-      ),
+      (nodes, (crash, ((λ made. tt), (sections, ((λ made. tt), tt))))),
     )
 
 told_of : (said : Result BootSoFar Cause) (frames : ℕ) → IfErr said (IsTold frames) → said ≡ Err causes.NoRam → frames ≡ 0
