@@ -1,6 +1,6 @@
 -- Small boots and their parts: what the definitions say of them. A map isn't computed, since `map_of` goes over all
 -- addresses; that of empty entries follows from laws.
-use Rattle.std.proofs.Common.{◌≡◌, ℕ, ◌*◌, ◌^◌, ◌==◌, nat_lt, if◌then◌else◌, Bool, true, false, List, [], ◌∷◌, length, map, Some, None, Ok, Err, refl, sym, arith}
+use Rattle.std.proofs.Common.{◌≡◌, ℕ, ◌*◌, ◌^◌, ◌==◌, if◌then◌else◌, Bool, true, false, List, [], ◌∷◌, length, map, Some, None, Ok, Err, refl, sym, arith}
 use Rattle.std.proofs.lemmas.Bool.Decides.{nat_tests}
 use Rattle.std.specs.Prelude.{Result}
 use Rattle.std.specs.Option.{option_map}
@@ -64,11 +64,8 @@ doubled n = Ok (n * 2)
 abbrev not_two : ℕ → Result ℕ ℕ
 not_two n = if n == 2 then Err 9 else Ok n
 
-both_pass : in_order (doubled ∷ not_two ∷ []) 3 ≡ Ok 6
-both_pass = refl
-
-first_stop_is_the_answer : in_order (not_two ∷ doubled ∷ not_two ∷ []) 2 ≡ Err 9
-first_stop_is_the_answer = refl
+first_stop_is_the_answer : (in_order (doubled ∷ not_two ∷ []) 3 ≡ Ok 6) × (in_order (not_two ∷ doubled ∷ not_two ∷ []) 2 ≡ Err 9)
+first_stop_is_the_answer = (refl, refl)
 
 -- a map of few runs is in the table's room, and what is judged of a map stops the boot
 abbrev two_runs : List (RunOf ℕ)
@@ -97,12 +94,9 @@ told_example = (refl, refl)
 
 -- nothing is given but the kernel's place and the width; and the tables reach 64 TiB, with page tables of five levels 4 PiB
 begun_example : (of_image.entries ≡ []) × (of_image.kernel ≡ image) × (of_image.options ≡ no_options) × (of_image.mirrors ≡ [])
-    × (of_image.upward ≡ false)
-begun_example = (refl, refl, refl, refl, refl)
-
-reach_examples : (reach of_image ≡ 0x400000000000) × (reach_told (told of_image made) ≡ 0x400000000000)
+    × (of_image.upward ≡ false) × (reach of_image ≡ 0x400000000000) × (reach_told (told of_image made) ≡ 0x400000000000)
     × (reach (begun Bits52 image) ≡ 0x10000000000000) × (reach_told (told (begun Bits52 image) made) ≡ 0x10000000000000)
-reach_examples = (refl, refl, refl, refl)
+begun_example = (refl, refl, refl, refl, refl, refl, refl, refl, refl)
 
 -- the first items are made of what is given
 early_example : (given : Given) → ((early_of given).limit ≡ reach given) × ((early_of given).kernel ≡ given.kernel)
@@ -135,14 +129,11 @@ mirror_examples : IsMirror (record { base = 0x4000000; size = 0x1000 })
     × (frames_in (record { base = 0x4000000; size = 0x1000000 }) ≡ record { first = 0x4000; count = 0x1000 })
 mirror_examples = (record { some = omega arith; at_frame = refl; of_frames = refl }, refl)
 
-no_mirror_of_a_part : IsMirror (record { base = 0x4000000; size = 0x1800 }) → ⊥
-no_mirror_of_a_part known = let wrong : 0x800 ≡ 0 = known.of_frames in absurd (omega (arith, wrong))
-
-no_mirror_amid_a_frame : IsMirror (record { base = 0x4000800; size = 0x1000 }) → ⊥
-no_mirror_amid_a_frame known = let wrong : 0x800 ≡ 0 = known.at_frame in absurd (omega (arith, wrong))
-
-no_mirror_of_nothing : IsMirror (record { base = 0x4000000; size = 0 }) → ⊥
-no_mirror_of_nothing known = omega (arith, known.some)
+-- none ends amid a frame, begins amid one, or is empty
+no_mirrors : (IsMirror (record { base = 0x4000000; size = 0x1800 }) → ⊥)
+    × (IsMirror (record { base = 0x4000800; size = 0x1000 }) → ⊥)
+    × (IsMirror (record { base = 0x4000000; size = 0 }) → ⊥)
+no_mirrors = (λ known. omega (arith, known.of_frames), λ known. omega (arith, known.at_frame), λ known. omega (arith, known.some))
 
 -- lists go by the table of distances, by the domains of nodes and by the spans of memory
 lists_example : (given : Given) (m : BootSoFar) → (told given m).lists ≡ known given.slit m.nodes.domains (told given m).spans
@@ -158,13 +149,9 @@ page_line m = refl
 
 -- at first nothing happened, no node has memory, no frame is uncovered, and nothing of sections is placed
 nothing_yet : (made.items ≡ []) × (made.crash ≡ crash.Nothing) × (made.ids ≡ []) × (made.fills ≡ []) × (made.answers ≡ [])
-nothing_yet = (refl, refl, refl, refl, refl)
-
-no_nodes_yet : (no_nodes.domains ≡ []) × (no_nodes.uncovered ≡ 0) × (no_nodes.with_memory ≡ [])
-no_nodes_yet = (refl, refl, refl)
-
-no_sections_yet : (no_sections.roots.table ≡ 0) × (no_sections.roots.roots ≡ []) × (no_sections.placed ≡ [])
-no_sections_yet = (refl, refl, refl)
+    × (no_nodes.domains ≡ []) × (no_nodes.uncovered ≡ 0) × (no_nodes.with_memory ≡ [])
+    × (no_sections.roots.table ≡ 0) × (no_sections.roots.roots ≡ []) × (no_sections.placed ≡ [])
+nothing_yet = (refl, refl, refl, refl, refl, refl, refl, refl, refl, refl, refl)
 
 -- lines begin where those before them ended, with what these filled and were answered
 lines_begin : (m : BootSoFar) → ((script_at image m).state.kernel ≡ image) × ((script_at image m).state.items ≡ m.items)
@@ -215,37 +202,26 @@ told_spans : (items : List Item) → (told of_image (record made { items = items
 told_spans items = refl
 
 -- 3,200 runs have room, 3,201 don't, and so many are told
-few_runs : has_room made ≡ Ok made
-few_runs = refl
-
 full_map : (runs : List (RunOf ℕ)) → length runs ≡ 3200 → has_room (record made { map = runs }) ≡ Ok (record made { map = runs })
 full_map runs many = rw many refl
 
 too_long_a_map : (runs : List (RunOf ℕ)) → length runs ≡ 3201 → has_room (record made { map = runs }) ≡ Err (causes.MapFull 3201)
 too_long_a_map runs many = rw many refl
 
-unless_examples : (unless_stopped None made ≡ Ok made) × (unless_stopped (Some reasons.NoRam) made ≡ Err causes.NoRam)
+unless_examples : (has_room made ≡ Ok made) × (unless_stopped None made ≡ Ok made) × (unless_stopped (Some reasons.NoRam) made ≡ Err causes.NoRam)
     × (unless_stopped (Some (reasons.TooMuchRam 4294967297)) made ≡ Err (causes.TooMuchRam 4294967297))
-unless_examples = (refl, refl, refl)
+unless_examples = (refl, refl, refl, refl)
 
 -- the cause of a stop, and the stop of a cause
 cause_examples : (cause_of (stops.MapFull 3201) ≡ Some (causes.MapFull 3201)) × (cause_of stops.Memory ≡ None)
     × (cause_of (stops.NoTablePlace which.Memory 256) ≡ Some (causes.NoTablePlace which.Memory 256))
-cause_examples = (refl, refl, refl)
-
-stop_examples : (stop_of causes.NoRam ≡ stops.NoRam) × (stop_of (causes.TooMuchRam 4294967297) ≡ stops.TooMuchRam 4294967297)
-stop_examples = (refl, refl)
-
-map_examples : (cause_of_map reasons.NoRam ≡ causes.NoRam) × (cause_of_map (reasons.TooMuchRam 4294967297) ≡ causes.TooMuchRam 4294967297)
-map_examples = (refl, refl)
-
-growth_example : cause_of_growth (record { which = which.Memory; room = 256 }) ≡ causes.NoTablePlace which.Memory 256
-growth_example = refl
-
-stage_examples : (cause_of_stage (stage.NoPlace (what.Root 3)) ≡ causes.NoPlace (what.Root 3))
+    × (stop_of causes.NoRam ≡ stops.NoRam) × (stop_of (causes.TooMuchRam 4294967297) ≡ stops.TooMuchRam 4294967297)
+    × (cause_of_map reasons.NoRam ≡ causes.NoRam) × (cause_of_map (reasons.TooMuchRam 4294967297) ≡ causes.TooMuchRam 4294967297)
+    × (cause_of_growth (record { which = which.Memory; room = 256 }) ≡ causes.NoTablePlace which.Memory 256)
+    × (cause_of_stage (stage.NoPlace (what.Root 3)) ≡ causes.NoPlace (what.Root 3))
     × (cause_of_stage (stage.NoTablePlace which.Reserved 128) ≡ causes.NoTablePlace which.Reserved 128)
     × (cause_of_refusal (refusal.NoGapForTable which.Memory 256) ≡ causes.NoTablePlace which.Memory 256)
-stage_examples = (refl, refl, refl)
+cause_examples = (refl, refl, refl, refl, refl, refl, refl, refl, refl, refl, refl)
 
 -- RAM and the kernel's own memory are memory; a reserved run isn't, nor is what lies in no run
 memory_examples : (lies_in_memory two_runs 0x1000 ≡ true) × (lies_in_memory two_runs 0x1FFF ≡ true)
@@ -264,50 +240,40 @@ kernel_tests : (is_kernel Bits46 (record { base = 0x100000; size = 8192 }) ≡ t
     × (is_kernel Bits52 (record { base = 0xFFFFFFFFFF000; size = 0x2000 }) ≡ false)
 kernel_tests = (refl, refl, refl, refl, refl, refl, refl)
 
+-- an image lies above the first MiB, has two frames at least, ends and begins where frames do, and ends in reach
 kernel_examples : IsKernel Bits46 (record { base = 0x1000000; size = 0x2000000 })
     × (IsKernel Bits46 (record { base = 0xFF000; size = 0x2000000 }) → ⊥)
+    × (IsKernel Bits46 (record { base = 0x1000000; size = 4096 }) → ⊥)
+    × (IsKernel Bits46 (record { base = 0x1000000; size = 0x2800 }) → ⊥)
+    × (IsKernel Bits46 (record { base = 0x1000800; size = 0x2000 }) → ⊥)
+    × (IsKernel Bits46 (record { base = 0x3FFFFFFFF000; size = 0x2000 }) → ⊥)
 kernel_examples = (
   record { above = omega arith; long = omega arith; at_frame = refl; of_frames = refl; in_reach = omega arith },
-  λ low. omega (arith, low.above),
+  λ known. omega (arith, known.above),
+  λ known. omega (arith, known.long),
+  λ known. omega (arith, known.of_frames),
+  λ known. omega (arith, known.at_frame),
+  λ known. omega (arith, known.in_reach),
 )
-
--- an image has two frames at least, begins and ends where frames do, and ends in reach
-one_frame : IsKernel Bits46 (record { base = 0x1000000; size = 4096 }) → ⊥
-one_frame known = omega (arith, known.long)
-
-ends_amid_a_frame : IsKernel Bits46 (record { base = 0x1000000; size = 0x2800 }) → ⊥
-ends_amid_a_frame known = let wrong : 0x800 ≡ 0 = known.of_frames in absurd (omega (arith, wrong))
-
-begins_amid_a_frame : IsKernel Bits46 (record { base = 0x1000800; size = 0x2000 }) → ⊥
-begins_amid_a_frame known = let wrong : 0x800 ≡ 0 = known.at_frame in absurd (omega (arith, wrong))
-
-ends_out_of_reach : IsKernel Bits46 (record { base = 0x3FFFFFFFF000; size = 0x2000 }) → ⊥
-ends_out_of_reach known = omega (arith, known.in_reach)
 
 -- the values of a boot as its definition has them
 inputs_are_items : (i : Inputs) → ((inputs_view i).entries ≡ i.zero.entries.items) × ((inputs_view i).extension ≡ i.ext.items)
     × ((inputs_view i).initrd ≡ i.zero.initrd) × ((inputs_view i).kernel ≡ i.kernel)
-inputs_are_items i = (refl, refl, refl, refl)
-
-inputs_are_all : (i : Inputs) → ((inputs_view i).options ≡ chosen i.options) × ((inputs_view i).domains ≡ option_map affinity i.srat)
+    × ((inputs_view i).options ≡ chosen i.options) × ((inputs_view i).domains ≡ option_map affinity i.srat)
     × ((inputs_view i).lines ≡ i.lines.items) × ((inputs_view i).page_lines ≡ i.page_lines.items)
-inputs_are_all i = (refl, refl, refl, refl)
-
-inputs_are_words : (i : Inputs) → ((inputs_view i).width ≡ i.width) × ((inputs_view i).mirrors ≡ map frames_in i.mirrors.items)
+    × ((inputs_view i).width ≡ i.width) × ((inputs_view i).mirrors ≡ map frames_in i.mirrors.items)
     × ((inputs_view i).upward ≡ i.upward) × ((inputs_view i).efi ≡ option_map efi_view i.efi)
     × ((inputs_view i).slit ≡ option_map matrix i.slit)
-inputs_are_words i = (refl, refl, refl, refl, refl)
+inputs_are_items i = (refl, refl, refl, refl, refl, refl, refl, refl, refl, refl, refl, refl, refl)
 
 booted_are_items : (b : Booted) → ((booted_view b).map ≡ b.map.items) × ((booted_view b).options ≡ chosen b.options)
     × ((booted_view b).items ≡ b.journal.items) × ((booted_view b).answers ≡ b.answers.items)
-booted_are_items b = (refl, refl, refl, refl)
-
-booted_is_all : (b : Booted) → ((booted_view b).heads ≡ b.heads) × ((booted_view b).nodes ≡ nodes_view b.nodes)
+    × ((booted_view b).heads ≡ b.heads) × ((booted_view b).nodes ≡ nodes_view b.nodes)
     × ((booted_view b).crash ≡ b.crash) × ((booted_view b).sections.roots ≡ roots_view b.roots)
     × ((booted_view b).sections.placed ≡ b.placed.items) × ((booted_view b).spans ≡ b.spans.items)
     × ((booted_view b).free ≡ free b.buddy) × ((booted_view b).width ≡ b.width)
     × ((booted_view b).page_answers ≡ b.page_answers.items) × ((booted_view b).after ≡ state_of b.after) × ((booted_view b).lists ≡ b.lists)
-booted_is_all b = (refl, refl, refl, refl, refl, refl, refl, refl, refl, refl, refl)
+booted_are_items b = (refl, refl, refl, refl, refl, refl, refl, refl, refl, refl, refl, refl, refl, refl, refl)
 
 -- two entries of size 0 claim nothing, so no frame is usable, and the boot stops
 Nothing : Claims → Type 0
@@ -333,12 +299,8 @@ no_runs c nothing =
     one_list (kinds c) (map_of c) [] (map_runs c (λ x far. no_kind c nothing x))
     (record { runs = tt; each = λ x. sym (no_kind c nothing x) })
 
-same_either : (within : Bool) → is_memory (if within then None else None) ≡ false
-same_either true = refl
-same_either false = refl
-
 no_type_in_reach : (limit : ℕ) (c : Claims) → Nothing c → (x : ℕ) → is_memory (reachable limit (kinds c) x) ≡ false
-no_type_in_reach limit c nothing x = rw (no_kind c nothing x) (same_either (nat_lt x limit))
+no_type_in_reach limit c nothing x = rw (no_kind c nothing x) (grind arith)
 
 no_frame : (limit : ℕ) (c : Claims) → Nothing c → usable_frames (reachable limit (kinds c)) ≡ 0
 unfolding usable_frames

@@ -123,9 +123,9 @@ labels_keep given =
 -- and those behind memory leave it as it is, and the limit
 memory_keep : (given : Given) → AllKeep held_by (drop 1 (later_stages given))
 memory_keep given =
-    let keep = labels_keep given in
-    let rest = keep.1.1 in
-    (nodes_hold given, (by_labels _ keep.0, (by_labels _ keep.1.0, (by_labels _ rest.0, (by_labels _ rest.1.0, tt)))))
+    let before = by_labels _ (lines_labels given.kernel (before_sections given.lines)) in
+    let behind = by_labels _ (lines_labels given.kernel (behind_sections given.lines)) in
+    (nodes_hold given, (by_labels _ (crash_labels given), (before, (by_labels _ (section_labels given), (behind, tt)))))
 
 limit_keep : (given : Given) → AllKeep bound_by (drop 1 (later_stages given))
 limit_keep given =

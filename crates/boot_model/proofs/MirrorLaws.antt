@@ -3,6 +3,7 @@ use Rattle.std.proofs.Common.{◌≡◌, ℕ, ◌-◌, ◌*◌, ◌/◌, ◌%◌
 use Rattle.std.specs.Int.{next_multiple_of}
 use Rattle.std.specs.List.{All}
 use Rattle.std.proofs.lemmas.Bool.Decides.{nat_tests}
+use Rattle.std.proofs.lemmas.Option.{cond_some}
 use Rattle.std.proofs.lemmas.List.Elements.{All-cons, All-nil}
 use Rattle.bm_base.specs.Extent.{Extent, end_of}
 use Rattle.bm_base.specs.Frames.{frames_within}
@@ -21,21 +22,12 @@ mirror-frames r mirror =
     rw (base, size) refl
 
 -- the whole frames of a range, where it has some
-whole : (from until : ℕ) (m : Extent) (some : Bool) → nat_lt from until ≡ some → from % 4096 ≡ 0 → until % 4096 ≡ 0
-    → (if some then Some (record { base = from; size = until - from }) else None) ≡ Some m → IsMirror m
-whole from until m true more first last is =
-    let same : record { base = from; size = until - from } ≡ m = cc is in
-    subst IsMirror same (record {
-      some = grind (arith, nat_tests, more);
-      at_frame = first;
-      of_frames = omega (arith, first, last);
-    })
-whole from until m false none first last is = absurd (cc is)
-
 whole-mirrors : (r m : Extent) → frames_within r ≡ Some m → IsMirror m
 whole-mirrors r m is =
-    whole (next_multiple_of r.base 4096) (end_of r - end_of r % 4096) m (nat_lt (next_multiple_of r.base 4096)
-    (end_of r - end_of r % 4096)) refl (omega arith) (omega arith) is
+    let from : ℕ = next_multiple_of r.base 4096 in
+    let until : ℕ = end_of r - end_of r % 4096 in
+    let same = cond_some (nat_lt from until) (record { base = from; size = until - from }) m is in
+    subst IsMirror same.1 (record { some = grind (arith, nat_tests, same.0); at_frame = omega arith; of_frames = omega arith })
 
 if_some : (o : Option Extent) → ((m : Extent) → o ≡ Some m → IsMirror m) → IfSome o IsMirror
 if_some None mirror = tt
@@ -64,14 +56,12 @@ descriptors-whole (d ∷ ds) =
 unless_whole : (ds : List Descriptor) (far : Option ℕ) (efi : Efi) → unless_far ds far ≡ Ok efi → All IsMirror efi.mirrors
 unless_whole ds (Some index) efi is = absurd (cc is)
 unless_whole ds None efi is =
-    let same : record { entries = map entry_of ds; mirrors = mirrors_of ds } ≡ efi = cc is in
-    subst (λ (m : Efi). All IsMirror m.mirrors) same (descriptors-whole ds)
+    let same : efi ≡ record { entries = map entry_of ds; mirrors = mirrors_of ds } = cc is in rw same (descriptors-whole ds)
 
 given_whole : (header fits : Bool) (bytes : List ℕ) (efi : Efi) → (if header then Err faults.Header else (if fits then Err faults.Length
     else unless_far (descriptors_of bytes) (far_among 0 (descriptors_of bytes)))) ≡ Ok efi → All IsMirror efi.mirrors
-given_whole true fits bytes efi is = absurd (cc is)
-given_whole false true bytes efi is = absurd (cc is)
 given_whole false false bytes efi is = unless_whole (descriptors_of bytes) (far_among 0 (descriptors_of bytes)) efi is
+given_whole header fits bytes efi is = absurd (cc is)
 
 if_ok : (said : Result Efi EfiFault) → ((efi : Efi) → said ≡ Ok efi → All IsMirror efi.mirrors)
     → IfOk said (λ efi. All IsMirror efi.mirrors)

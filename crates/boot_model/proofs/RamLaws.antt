@@ -80,23 +80,21 @@ steps_errs frames P cause put doing told errs made =
     (if_err (doing made.items).answer P (λ e. IsTold frames (cause e)) told (errs made.items))
 
 stage_told : (frames : ℕ) (stop : StageStop) → stop ≢ stage.Memory → IsTold frames (cause_of_stage stop)
-stage_told frames (stage.NoPlace thing) other = λ same. absurd (cc same)
-stage_told frames (stage.NoTablePlace w room) other = λ same. absurd (cc same)
-stage_told frames stage.Memory other = absurd (other (refl))
+stage_told frames stage.Memory other = absurd (other refl)
+stage_told frames stop other = λ same. absurd (cc same)
 
 refusal_told : (frames : ℕ) (why : Refusal) → (why ≢ refusal.NoGap) × (why ≢ refusal.Memory) → IsTold frames (cause_of_refusal why)
-refusal_told frames refusal.NoGap other = absurd (other.0 (refl))
+refusal_told frames refusal.NoGap other = absurd (other.0 refl)
 refusal_told frames (refusal.NoGapForTable w room) other = λ same. absurd (cc same)
-refusal_told frames refusal.Memory other = absurd (other.1 (refl))
+refusal_told frames refusal.Memory other = absurd (other.1 refl)
 
 -- the stages in their order: one fact a stage
 map_errs : (given : Given) → AllErr (IsTold (usable_frames (types_in_reach given))) (map_stages given)
 unfolding AllErr
 map_errs given =
-    let frames : ℕ = usable_frames (types_in_reach given) in (
-      λ made. room_errs frames (nat_lt E820_MAX_ENTRIES (length made.map)) (length made.map) made,
-      ((λ made. frames_errs frames (frames == 0) (nat_lt (2 ^ 32) frames) made refl), tt),
-    )
+    let frames : ℕ = usable_frames (types_in_reach given) in
+    let room = λ (made : BootSoFar). room_errs frames (nat_lt E820_MAX_ENTRIES (length made.map)) (length made.map) made in
+    (room, ((λ made. frames_errs frames (frames == 0) (nat_lt (2 ^ 32) frames) made refl), tt))
 
 later_errs : (given : Given) → AllErr (IsTold (usable_frames (types_in_reach given))) (later_stages given)
 unfolding AllErr
