@@ -208,7 +208,8 @@ full_map runs many = rw many refl
 too_long_a_map : (runs : List (RunOf ℕ)) → length runs ≡ 3201 → has_room (record made { map = runs }) ≡ Err (causes.MapFull 3201)
 too_long_a_map runs many = rw many refl
 
-unless_examples : (has_room made ≡ Ok made) × (unless_stopped None made ≡ Ok made) × (unless_stopped (Some reasons.NoRam) made ≡ Err causes.NoRam)
+unless_examples : (has_room made ≡ Ok made) × (unless_stopped None made ≡ Ok made)
+    × (unless_stopped (Some reasons.NoRam) made ≡ Err causes.NoRam)
     × (unless_stopped (Some (reasons.TooMuchRam 4294967297)) made ≡ Err (causes.TooMuchRam 4294967297))
 unless_examples = (refl, refl, refl, refl)
 

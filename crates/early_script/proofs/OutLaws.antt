@@ -64,11 +64,10 @@ lines-go s (line ∷ lines) =
 
 cut-goes-on : (old new : List Item) (o : growth.Outcome) → IsCut old new o.steps → Goes new (after old o)
 cut-goes-on old new o cut =
-    let done = take cut.count o.steps in
     let rest = drop cut.count o.steps in
     record {
       more = joined rest;
-      on = rw (cut.stands, append_assoc old (joined done) (joined rest), ← joined-append done rest, take-append-drop cut.count o.steps) refl;
+      on = rw (cut.stands, append_assoc, ← joined-append (take cut.count o.steps) rest, take-append-drop cut.count o.steps) refl;
     }
 
 after_lines-both : (s : LineStage) (a b : List Line) → after_lines s (a ++ b) ≡ after_lines (after_lines s a) b

@@ -27,12 +27,12 @@ ascend-push : (n node : ℕ) (ss : List Section) → Ascend n ss → Ascend (suc
 ascend-push n node ss so_far =
     let s : Section = record { number = n; node = node } in
     let long = length-append ss (s ∷ []) in
+    let before = λ (k : ℕ) (d : Section) (in_list : k < length ss). get_or_append_left ss (s ∷ []) d k in_list in
     record {
       ascend = λ i j d order in_list.
           elim (cases_lt j (length ss)) [
-            | inl lt ↦ rw (get_or_append_left ss (s ∷ []) d i (omega arith), get_or_append_left ss (s ∷ []) d j lt) (so_far.ascend i j d order lt)
-            | inr ge ↦
-                rw (get_or_append_left ss (s ∷ []) d i (omega arith), get_or_push ss s d j (omega arith)) (so_far.below i d (omega arith))
+            | inl lt ↦ rw (before i d (omega arith), before j d lt) (so_far.ascend i j d order lt)
+            | inr ge ↦ rw (before i d (omega arith), get_or_push ss s d j (omega arith)) (so_far.below i d (omega arith))
           ];
       below = All-append (λ t. t.number < suc n) ss (s ∷ []) (ascend-later n ss so_far).below
           (All-cons (λ t. t.number < suc n) s [] (omega arith) (All-nil (λ t. t.number < suc n)));

@@ -20,7 +20,8 @@ pub returns-then-at-frames-clause-claimed : goal.returns-then-at-frames-clause-c
 returns-then-at-frames-clause-claimed c = λ x from until low.
     let long = count_is c.args.store.now c.args.head.now in
     claimed_by _ (list_in c.args.store.now c.args.head.now) c.loop-i.i c.args.at x nobody c.frames_at-frames.result
-    c.requires.table.ascend (omega arith) (c.frames_at-frames.ensures nobody) c.loop-i.invariant.passed (omega arith) (omega arith) until
+    c.requires.table.ascend (omega arith) (c.frames_at-frames.ensures nobody) c.loop-i.invariant.passed (omega arith) (omega arith)
+    (omega arith)
 
 pub loop-i-preserved : goal.loop-i-preserved
 loop-i-preserved c =
