@@ -48,12 +48,17 @@ pub frames_passed : (reason : Option MapStop) (before after : BootSoFar) → unl
 frames_passed None before after ends = (refl, cc)
 frames_passed (Some reason) before after ends = absurd (cc)
 
--- so each of them leaves each part of it as it is: one fact a stage
-pub map_keep : {A : Type 0} (part : BootSoFar → A) (given : Given) → AllKeep part (map_stages given)
-map_keep part given = (
-  λ before after ends. ap part (sym (room_passed _ _ before after ends).1),
-  ((λ before after ends. ap part (sym (frames_passed _ before after ends).1)), tt),
-)
+-- so behind them stands what there was at first
+pub judged_first : (given : Given) (made : BootSoFar) → map_judged given ≡ Ok made
+    → (made ≡ begin given) × (judged (types_in_reach given) ≡ None)
+    × (nat_lt E820_MAX_ENTRIES (length (map_of (claims given))) ≡ false)
+judged_first given made ends =
+    let behind_room = passes has_room (drop 1 (map_stages given)) (begin given) made ends in
+    let behind_frames = passes (has_frames given) (drop 2 (map_stages given)) behind_room.middle made behind_room.rest in
+    let room = room_passed _ _ (begin given) behind_room.middle behind_room.first in
+    let frames = frames_passed _ behind_room.middle behind_frames.middle behind_frames.first in
+    let last : behind_frames.middle ≡ made = cc in
+    (sym (room.1 ∙ frames.1 ∙ last), frames.0, room.0)
 
 pub items_passed : (answer : Result (List Item) Refused) (before after : BootSoFar) → with_items before answer ≡ Ok after
     → (answer ≡ Ok after.items) × (after.map ≡ before.map)
@@ -84,13 +89,12 @@ pub goes_on : (given : Given) (made : BootSoFar) → boot given ≡ Ok made → 
 unfolding boot
 goes_on given made ends =
     let judged_map = goes_by (map_judged given) (λ m. in_order (later_stages given) m) made ends in
-    let behind_room = passes has_room (drop 1 (map_stages given)) (begin given) judged_map.middle judged_map.first in
-    let behind_frames = passes (has_frames given) (drop 2 (map_stages given)) behind_room.middle judged_map.middle behind_room.rest in
+    let known = judged_first given judged_map.middle judged_map.first in
     record {
       map = chain_keeps (λ (m : BootSoFar). m.map) (later_stages given) (later_keep given) judged_map.middle made judged_map.rest
-          ∙ chain_keeps (λ (m : BootSoFar). m.map) (map_stages given) (map_keep _ given) (begin given) judged_map.middle judged_map.first;
-      fits = (room_passed _ _ (begin given) behind_room.middle behind_room.first).0;
-      judged = (frames_passed _ behind_room.middle behind_frames.middle behind_frames.first).0;
+          ∙ ap (λ (m : BootSoFar). m.map) known.0;
+      fits = known.2;
+      judged = known.1;
     }
 
 -- the map has each address's type

@@ -1,5 +1,5 @@
 -- Memory and the limit of a boot that isn't stopped: those of its map. Each stage behind the one that makes them leaves them as they are.
-use Rattle.std.proofs.Common.{◌≡◌, ℕ, ◌/◌, ◌^◌, ◌<◌, ◌≤◌, ◌∙◌, ap, refl, arith, inl, inr, Bool, true, false, nat_lt, if◌then◌else◌, is_some, Option, Some, None, List, [], ◌∷◌, drop, Ok}
+use Rattle.std.proofs.Common.{◌≡◌, ℕ, ◌/◌, ◌^◌, ◌<◌, ◌≤◌, ◌∙◌, ap, refl, arith, inl, inr, Bool, true, false, nat_lt, if◌then◌else◌, is_some, Option, Some, None, List, [], ◌∷◌, drop, Ok, sym}
 use Rattle.std.specs.Option.{option_map}
 use Rattle.std.proofs.lemmas.Bool.{cases_Bool}
 use Rattle.std.proofs.lemmas.Bool.Decides.{nat_tests}
@@ -25,7 +25,7 @@ use Rattle.script_reader.specs.declared.act.Line.{Line}
 use Rattle.early_script.specs.Acted.{answer_of, state_after}
 use Rattle.early_script.specs.Stage.{LineStage as Script, after_line, after_lines, before_sections, behind_sections, deed_at}
 use Rattle.early_script.proofs.QuietLaws.{acts-keep, deed-quiet}
-use Rattle.boot_model.specs.Boot.{Given, BootSoFar, Stage, begin, boot, claims, early_of, has_crash_area, has_memory, has_nodes, has_sections, later_stages, map_judged, map_stages, mirrors_of, put_crash, put_nodes, put_sections, reach, runs_lines, script_at, types_in_reach}
+use Rattle.boot_model.specs.Boot.{Given, BootSoFar, Stage, boot, claims, early_of, has_crash_area, has_memory, has_nodes, has_sections, later_stages, map_judged, mirrors_of, put_crash, put_nodes, put_sections, reach, runs_lines, script_at, types_in_reach}
 use Rattle.boot_model.specs.Sections.{places_of_sections}
 use Rattle.boot_model.specs.Stop.{cause_of_refusal, cause_of_stage}
 use Rattle.numa_nodes.specs.Assigned.{assigned}
@@ -37,7 +37,7 @@ use Rattle.stage_model.proofs.QuietLaws.{quiet-appended_limit, quiet-appended_me
 use Rattle.sparse_sections.proofs.QuietLaws.{quiet-roots}
 use Rattle.section_maps.proofs.QuietLaws.{quiet-maps}
 use Rattle.boot_model.specs.Stages.{in_order}
-use Rattle.boot_model.proofs.BootLaws.{items_passed, lines_passed, map_between, map_keep}
+use Rattle.boot_model.proofs.BootLaws.{items_passed, judged_first, lines_passed, map_between}
 use Rattle.boot_model.proofs.ReachLaws.{reach-small}
 use Rattle.boot_model.proofs.StageLaws.{AllKeep, Keeps, chain_keeps, goes_by, passes, steps_keep}
 
@@ -145,15 +145,12 @@ unfolding boot
 memory_made given made ends =
     let judged = goes_by (map_judged given) (λ m. in_order (later_stages given) m) made ends in
     let behind = passes (has_memory given) (drop 1 (later_stages given)) judged.middle made judged.rest in
-    let nothing : judged.middle.items ≡ [] =
-    chain_keeps (λ (m : BootSoFar). m.items) (map_stages given) (map_keep _ given) (begin given) judged.middle judged.first in
-    let map : judged.middle.map ≡ map_of (claims given) =
-    chain_keeps (λ (m : BootSoFar). m.map) (map_stages given) (map_keep _ given) (begin given) judged.middle judged.first in
+    let known = judged_first given judged.middle judged.first in
     let passed = items_passed (carried_out (first_items (early_of given) judged.middle.map) judged.middle.items)
     judged.middle behind.middle behind.first in
     record {
       first = behind.middle;
-      carried = rw (nothing, map) at passed.0;
+      carried = ap (λ (m : BootSoFar). carried_out (first_items (early_of given) m.map) m.items) (sym known.0) ∙ passed.0;
       memory = chain_keeps held_by (drop 1 (later_stages given)) (memory_keep given) behind.middle made behind.rest;
       limit = chain_keeps bound_by (drop 1 (later_stages given)) (limit_keep given) behind.middle made behind.rest;
     }

@@ -6,7 +6,6 @@ use Rattle.address_runs.specs.Edits.{NothingFrom}
 use Rattle.e820_model.specs.Map.{TypeAt, map_of}
 use Rattle.e820_model.specs.Usable.{is_usable, reachable, usable_frames}
 use Rattle.e820_model.proofs.UsableLaws.{count_none}
-use Rattle.e820_usable.specs.Judged.{judged}
 use Rattle.memblock_model.specs.declared.item.Item.{Item}
 use Rattle.memblock_model.specs.Labels.{Label, Labels, plain_label}
 use Rattle.memblock_model.specs.Items.{limit_of, memory_of}
@@ -20,11 +19,11 @@ use Rattle.early_stages.proofs.MirrorLaws.{mirrored-alike}
 use Rattle.stage_model.specs.Noded.{AreOfFrames, IsNoded}
 use Rattle.numa_nodes.specs.Assigned.{assigned}
 use Rattle.numa_nodes.proofs.NodedLaws.{answer-noded}
-use Rattle.boot_model.specs.Boot.{Given, BootSoFar, begin, boot, claims, early_of, has_frames, has_memory, has_nodes, has_room, later_stages, map_judged, map_stages, mirrors_of, put_nodes, reach, types_in_reach}
+use Rattle.boot_model.specs.Boot.{Given, BootSoFar, boot, claims, early_of, has_memory, has_nodes, later_stages, map_judged, mirrors_of, put_nodes, reach}
 use Rattle.boot_model.specs.First.{IsFirstMemory}
 use Rattle.boot_model.specs.Stages.{in_order}
 use Rattle.boot_model.specs.Stop.{cause_of_stage}
-use Rattle.boot_model.proofs.BootLaws.{frames_passed, frames_within, items_passed, map_between, room_passed}
+use Rattle.boot_model.proofs.BootLaws.{frames_within, items_passed, judged_first, map_between}
 use Rattle.boot_model.proofs.MemoryLaws.{labels_by, labels_keep, types_same}
 use Rattle.boot_model.proofs.ReachLaws.{reach-below}
 use Rattle.boot_model.proofs.StageLaws.{chain_keeps, goes_by, passes, steps_answered}
@@ -64,16 +63,6 @@ end_some limit f some = elim (cases_lt 0 (memory_end limit f)) [
 ]
 
 -- what the map comes to, where the boot goes on with it
-pub judged_first : (given : Given) (made : BootSoFar) → map_judged given ≡ Ok made
-    → (made ≡ begin given) × (judged (types_in_reach given) ≡ None)
-judged_first given made ends =
-    let behind_room = passes has_room (drop 1 (map_stages given)) (begin given) made ends in
-    let behind_frames = passes (has_frames given) (drop 2 (map_stages given)) behind_room.middle made behind_room.rest in
-    let room = room_passed _ _ (begin given) behind_room.middle behind_room.first in
-    let frames = frames_passed _ behind_room.middle behind_frames.middle behind_frames.first in
-    let last : behind_frames.middle ≡ made = cc in
-    (sym (room.1 ∙ frames.1 ∙ last), frames.0)
-
 pub first_known : (given : Given) (made : BootSoFar) (items : List Item) → map_judged given ≡ Ok made
     → carried_out (first_items (early_of given) made.map) made.items ≡ Ok items → IsFirstMemory (reach given) items
 first_known given made items ends carried =
