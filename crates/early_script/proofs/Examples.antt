@@ -34,16 +34,12 @@ second = at_base 0x200 2
 abbrev ids : Ids
 ids = (1, first) ∷ (5, second) ∷ []
 
-ids_examples : (range_of ids 5 ≡ Some second) × (range_of ids 2 ≡ None) × (is_live ids 1 ≡ true) × (is_live ids 2 ≡ false)
-ids_examples = (refl, refl, refl, refl)
-
 -- a new ID goes to its place, a live one gets the new range
-with_examples : (with_range ids 3 second ≡ (1, first) ∷ (3, second) ∷ (5, second) ∷ [])
+ids_examples : (range_of ids 5 ≡ Some second) × (range_of ids 2 ≡ None) × (is_live ids 1 ≡ true) × (is_live ids 2 ≡ false)
+    × (with_range ids 3 second ≡ (1, first) ∷ (3, second) ∷ (5, second) ∷ [])
     × (with_range ids 1 second ≡ (1, second) ∷ (5, second) ∷ [])
-with_examples = (refl, refl)
-
-without_examples : (without ids 1 ≡ (5, second) ∷ []) × (without ids 2 ≡ ids)
-without_examples = (refl, refl)
+    × (without ids 1 ≡ (5, second) ∷ []) × (without ids 2 ≡ ids)
+ids_examples = (refl, refl, refl, refl, refl, refl, refl, refl)
 
 bytes_examples : HaveBytes ids × ¬ HaveBytes ((1, at_base 0x100 0) ∷ [])
 bytes_examples = ((lit< tt, (lit< tt, tt)), λ known. let clash : 0 < 0 = known.0 in absurd (omega (arith, clash)))
@@ -62,14 +58,11 @@ owned_examples : (is_owned (owner_of items) (owner.Script 1) first ≡ true) × 
 unfolding is_owned each_in each_from
 owned_examples = (refl, refl, refl)
 
-meets_examples : (meets first (at_base 0x103 9) ≡ true) × (meets first (at_base 0x104 9) ≡ false)
-meets_examples = (refl, refl)
-
 -- the memory table lies at 0x12000, the reserved one at 0x13000, with 3,072 bytes each
-touches_examples : (touches kernel items (at_base 0x11FFF 1) ≡ false) × (touches kernel items (at_base 0x12BFF 1) ≡ true)
-    × (touches kernel items (at_base 0x12C00 0x400) ≡ false)
-    × (touches kernel items (at_base 0x12C00 0x401) ≡ true)
-touches_examples = (refl, refl, refl, refl)
+touches_examples : (meets first (at_base 0x103 9) ≡ true) × (meets first (at_base 0x104 9) ≡ false)
+    × (touches kernel items (at_base 0x11FFF 1) ≡ false) × (touches kernel items (at_base 0x12BFF 1) ≡ true)
+    × (touches kernel items (at_base 0x12C00 0x400) ≡ false) × (touches kernel items (at_base 0x12C00 0x401) ≡ true)
+touches_examples = (refl, refl, refl, refl, refl, refl)
 
 abbrev found : State
 found = record { kernel = kernel; items = items; ids = ids }
@@ -78,29 +71,20 @@ found = record { kernel = kernel; items = items; ids = ids }
 alloc_examples : (alloc_at found 2 8 None ≡ answers found outcomes.NoGap)
     × ((alloc_at found 2 8 (Some 0x300)).answer ≡ outcomes.At 0x300)
     × ((alloc_at found 2 8 (Some 0x300)).ids ≡ (1, first) ∷ (2, at_base 0x300 8) ∷ (5, second) ∷ [])
-alloc_examples = (refl, refl, refl)
-
-reserve_examples : (reserve_deed found 1 second ≡ answers found outcomes.Taken)
+    × (reserve_deed found 1 second ≡ answers found outcomes.Taken)
     × (reserve_deed found 2 (at_base 0x12000 1) ≡ answers found outcomes.TableInUse)
     × ((reserve_deed found 2 first).answer ≡ outcomes.Done)
-reserve_examples = (refl, refl, refl)
+alloc_examples = (refl, refl, refl, refl, refl, refl)
 
-free_examples : (free_deed found 2 ≡ answers found outcomes.Unknown) × (free_deed found 5 ≡ answers found outcomes.NotWhole)
-    × (free_deed found 1 ≡ free_whole found 1 first)
-    × ((free_deed found 1).ids ≡ (5, second) ∷ [])
-unfolding is_owned each_in each_from
-free_examples = (refl, refl, refl, refl)
-
-trim_examples : (trim_deed found 1 4 ≡ answers found outcomes.TooLargeKeep) × (trim_deed found 5 9 ≡ answers found outcomes.NotWhole)
+whole_examples : (free_deed found 2 ≡ answers found outcomes.Unknown) × (free_deed found 5 ≡ answers found outcomes.NotWhole)
+    × (free_deed found 1 ≡ free_whole found 1 first) × ((free_deed found 1).ids ≡ (5, second) ∷ [])
+    × (trim_deed found 1 4 ≡ answers found outcomes.TooLargeKeep) × (trim_deed found 5 9 ≡ answers found outcomes.NotWhole)
     × ((trim_deed found 1 3).ids ≡ (1, at_base 0x100 3) ∷ (5, second) ∷ [])
-unfolding is_owned each_in each_from
-trim_examples = (refl, refl, refl)
-
-fill_examples : ((fill_deed found 1 7).fill ≡ Some (record { range = first; byte = 7; at = 4 }))
+    × ((fill_deed found 1 7).fill ≡ Some (record { range = first; byte = 7; at = 4 }))
     × (fill_whole found 7 (at_base 0 65537) ≡ answers found outcomes.TooLargeFill)
     × ((fill_whole found 7 (at_base 0 65536)).answer ≡ outcomes.Done)
 unfolding is_owned each_in each_from
-fill_examples = (refl, refl, refl)
+whole_examples = (refl, refl, refl, refl, refl, refl, refl, refl, refl, refl)
 
 peek_example : (peek_deed found (λ x. x) 9 2).answer ≡ outcomes.Bytes (record { items = 9 ∷ 10 ∷ [] })
 unfolding bytes_at
@@ -130,11 +114,9 @@ state_examples = (refl, refl, refl)
 abbrev sevens : Filled
 sevens = record { range = first; byte = 7; at = 4 }
 
-put_examples : (put_by (Some sevens) 0x103 1 ≡ 7) × (put_by (Some sevens) 0x104 1 ≡ 1) × (put_by None 0x103 1 ≡ 1)
-put_examples = (refl, refl, refl)
-
-fills_examples : (with_fill (sevens ∷ []) (Some sevens) ≡ sevens ∷ sevens ∷ []) × (with_fill [] None ≡ [])
-fills_examples = (refl, refl)
+fills_examples : (put_by (Some sevens) 0x103 1 ≡ 7) × (put_by (Some sevens) 0x104 1 ≡ 1) × (put_by None 0x103 1 ≡ 1)
+    × (with_fill (sevens ∷ []) (Some sevens) ≡ sevens ∷ sevens ∷ []) × (with_fill [] None ≡ [])
+fills_examples = (refl, refl, refl, refl, refl)
 
 -- two lines: one that fills, and one that finds no such ID
 abbrev fills_first : Line

@@ -81,19 +81,14 @@ whole : IsWholeNoded (record_at 0x1000 0x9E000 0)
 whole = record { node = 0; has = refl; base = refl; end = refl; reach = lit≤ tt }
 
 -- the last frame below 2^52, and the one behind it
-last_frame : IsWholeNoded (record_at 0xFFFFFFFFFF000 0x1000 0)
-last_frame = record { node = 0; has = refl; base = refl; end = refl; reach = lit≤ tt }
-
-first_beyond : IsWholeNoded (record_at 0x10000000000000 0x1000 0) → ⊥
-first_beyond w = let far = w.reach in omega (arith, far)
+last_frame : IsWholeNoded (record_at 0xFFFFFFFFFF000 0x1000 0) × (IsWholeNoded (record_at 0x10000000000000 0x1000 0) → ⊥)
+last_frame = (record { node = 0; has = refl; base = refl; end = refl; reach = lit≤ tt }, λ known. omega (arith, known.reach))
 
 -- a root has 256 sections, and gets its place with the first of them
 root_numbers : (root_of (section 255 0) ≡ 0) × (root_of (section 256 0) ≡ 1) × (root_of (section 524287 0) ≡ 2047)
     × (root_of (section 33554431 0) ≡ 131071)
-root_numbers = (refl, refl, refl, refl)
-
-last_root : (is_root None 0 ≡ false) × (is_root (Some 0) 0 ≡ true) × (is_root (Some 0) 1 ≡ false)
-last_root = (refl, refl, refl)
+    × (is_root None 0 ≡ false) × (is_root (Some 0) 0 ≡ true) × (is_root (Some 0) 1 ≡ false)
+root_numbers = (refl, refl, refl, refl, refl, refl, refl)
 
 roots_once : (firsts_behind None [] ≡ [])
     × (firsts_behind None (section 0 0 ∷ section 3 1 ∷ section 255 1 ∷ section 256 2 ∷ section 300 0 ∷ [])

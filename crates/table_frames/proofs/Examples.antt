@@ -1,5 +1,5 @@
 -- Small tables by frames.
-use Rattle.std.proofs.Common.{◌≡◌, ℕ, true, false, Some, None, [], ◌∷◌, if◌then◌else◌, refl, sym, ◌∙◌, arith}
+use Rattle.std.proofs.Common.{◌≡◌, ℕ, true, false, Some, None, [], ◌∷◌, refl, arith}
 use Rattle.address_runs.specs.Runs.{RunOf, value_at}
 use Rattle.memblock_model.specs.Labels.{Label, Labels, plain_label, with_node}
 use Rattle.table_frames.specs.Frames.{node_below, node_told, frames_of, node_of_frame, is_unclaimed, free_node_in, IsPassed}
@@ -17,18 +17,14 @@ forty = record { base = 0x4FC0; size = 0x28; value = plain_label }
 abbrev two : RunOf Label
 two = record { base = 0x1000; size = 0x2000; value = of_node 3 }
 
-below_examples : (node_below (Some 1023) ≡ Some 1023) × (node_below (Some 1024) ≡ None) × (node_below None ≡ None)
-below_examples = (refl, refl, refl)
-
-told_examples : (node_told (Some (of_node 3)) ≡ Some 3) × (node_told (Some plain_label) ≡ None) × (node_told None ≡ None)
-told_examples = (refl, refl, refl)
+told_examples : (node_below (Some 1023) ≡ Some 1023) × (node_below (Some 1024) ≡ None) × (node_below None ≡ None)
+    × (node_told (Some (of_node 3)) ≡ Some 3) × (node_told (Some plain_label) ≡ None) × (node_told None ≡ None)
+told_examples = (refl, refl, refl, refl, refl, refl)
 
 frames_examples : (frames_of forty ≡ record { first = 4; end = 5; node = None })
     × (frames_of two ≡ record { first = 1; end = 3; node = Some 3 })
-frames_examples = (refl, refl)
-
-node_examples : (node_of_frame (value_at (two ∷ [])) 2 ≡ Some 3) × (node_of_frame (value_at (two ∷ [])) 3 ≡ None)
-node_examples = (refl, refl)
+    × (node_of_frame (value_at (two ∷ [])) 2 ≡ Some 3) × (node_of_frame (value_at (two ∷ [])) 3 ≡ None)
+frames_examples = (refl, refl, refl, refl)
 
 -- one byte of the frame is enough
 claimed_example : is_unclaimed (value_at (forty ∷ [])) 4 ≡ false
@@ -43,9 +39,7 @@ unclaimed_example = unclaimed_bare nobody 4 (λ y above below. refl)
 -- frame 2 is free where nothing is reserved
 free_example : free_node_in (value_at (two ∷ [])) nobody 2 ≡ Some 3
 free_example =
-    let chosen : (if is_unclaimed nobody 2 then node_of_frame (value_at (two ∷ [])) 2 else None) ≡ Some 3 =
-    rw (unclaimed_bare nobody 2 (λ y above below. refl)) refl in
-    sym (free_by_first (two ∷ []) nobody 2 (refl, refl, tt)) ∙ chosen
+    rw (← free_by_first (two ∷ []) nobody 2 (refl, refl, tt), unclaimed_bare nobody 2 (λ y above below. refl)) refl
 
 passed_example : IsPassed (forty ∷ []) 0 7
 passed_example = passed_none (forty ∷ []) 7
@@ -53,8 +47,8 @@ passed_example = passed_none (forty ∷ []) 7
 ascend_examples : AscendBelow 0x5000 (two ∷ (forty ∷ [])) × (AscendBelow 0x5000 (forty ∷ (two ∷ [])) → ⊥)
 ascend_examples = (
   (omega arith, omega arith, omega arith, (omega arith, omega arith, tt, tt)),
-  λ ascend. let start = ascend.2 in absurd (omega (arith, start)),
+  λ ascend. omega (arith, ascend.2),
 )
 
 whole_examples : AreWholeFrames (two ∷ []) × (AreWholeFrames (forty ∷ []) → ⊥)
-whole_examples = ((refl, refl, tt), λ whole. let base = whole.0 in absurd (omega (arith, base)))
+whole_examples = ((refl, refl, tt), λ whole. omega (arith, whole.0))
