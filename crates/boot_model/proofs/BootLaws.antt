@@ -75,6 +75,7 @@ lines_passed kernel lines before after ends = cc
 pub lines_map : (kernel : Extent) (lines : List Line) → Keeps (λ (made : BootSoFar). made.map) (runs_lines kernel lines)
 lines_map kernel lines before after ends = ap (λ (m : BootSoFar). m.map) (lines_passed kernel lines before after ends)
 
+-- so does each stage behind those that judge it: one fact a stage
 pub later_keep : (given : Given) → AllKeep (λ (made : BootSoFar). made.map) (later_stages given)
 later_keep given =
     let map : BootSoFar → List (RunOf ℕ) = λ made. made.map in

@@ -16,6 +16,7 @@ record IsFirst (f : Labels) (a n : ℕ) (label : Label) : Type 0 where
   told : f (4096 * (a + behind)) ≡ Some label
   none : (j : ℕ) → j < behind → f (4096 * (a + j)) ≡ None
 
+-- a frame is memory or isn't
 cases_label : (o : Option Label) → (o ≡ None) ⊎ ((v : Label) × (o ≡ Some v))
 cases_label None = inl refl
 cases_label (Some v) = inr (v, refl)
