@@ -100,19 +100,15 @@ naming page ext line inputs.CommandLine = line
 naming page ext line other = None
 
 -- what bytes say
-page_is_said : page_said (page 2 ram_and_reserved) ≡ Ok (record { entries = ram ∷ reserved ∷ []; initrd = None })
+pages_are_said : (page_said (page 2 ram_and_reserved) ≡ Ok (record { entries = ram ∷ reserved ∷ []; initrd = None }))
+    × (page_said (replicate 4095 0) ≡ Err (faults.ZeroPage zero.WrongLength))
 unfolding entry_at initrd_of is_initrd_far
-page_is_said = refl
+pages_are_said = (refl, refl)
 
-short_page_said : page_said (replicate 4095 0) ≡ Err (faults.ZeroPage zero.WrongLength)
-short_page_said = refl
-
-extension_is_said : entries_said one_entry ≡ Ok (acpi ∷ [])
+extensions_are_said : (entries_said one_entry ≡ Ok (acpi ∷ []))
+    × (entries_said (replicate 15 0) ≡ Err (faults.Extension extension.ExtHeader))
 unfolding entry_at
-extension_is_said = refl
-
-bad_extension_said : entries_said (replicate 15 0) ≡ Err (faults.Extension extension.ExtHeader)
-bad_extension_said = refl
+extensions_are_said = (refl, refl)
 
 line_said : (options_said (codes "quiet numa=off\n") ≡ Ok (record { edits = []; crash = no_crash; numa_off = true; add_efi = false }))
     × (options_said (codes "numa=on") ≡ Err (faults.CommandLine (options.BadNuma 1)))
@@ -195,15 +191,12 @@ start = begun Bits46 image
 
 -- what is said is put where it belongs, and nothing else changes; a fault is handed on
 put_examples : (with_value put_lines start (Ok []) ≡ Ok start) × (with_value put_extension start (Err faults.TooLong) ≡ Err faults.TooLong)
-    × ((put_extension (acpi ∷ []) start).extension ≡ acpi ∷ []) × ((put_page (record { entries = ram ∷ []; initrd = None }) start).extension
-    ≡ [])
-    × ((put_options no_options start).entries ≡ []) × ((put_domains processor_alone start).domains ≡ Some processor_alone)
-put_examples = (refl, refl, refl, refl, refl, refl)
-
-put_more_examples : ((put_pages [] start).page_lines ≡ [])
+    × ((put_extension (acpi ∷ []) start).extension ≡ acpi ∷ [])
+    × ((put_page (record { entries = ram ∷ []; initrd = None }) start).extension ≡ []) × ((put_options no_options start).entries ≡ [])
+    × ((put_domains processor_alone start).domains ≡ Some processor_alone) × ((put_pages [] start).page_lines ≡ [])
     × ((put_distances (record { count = 0; cells = [] }) start).slit ≡ Some (record { count = 0; cells = [] }))
     × ((put_efi (record { entries = []; mirrors = [] }) start).efi ≡ Some (record { entries = []; mirrors = [] }))
-put_more_examples = (refl, refl, refl)
+put_examples = (refl, refl, refl, refl, refl, refl, refl, refl, refl)
 
 -- the step of one file: read, unread, too long, and not named
 step_examples : (named_step held command_line start (codes "cmd")
@@ -239,19 +232,13 @@ takes_examples : (zero_page.takes [] ≡ false) × (extension_file.takes one_ent
 unfolding entry_at
 takes_examples = (refl, refl, refl, refl, refl)
 
-options_take_examples : (options_take (Ok no_options) ≡ false) × (options_take (Err options.OpenQuote) ≡ false)
-options_take_examples = (refl, refl)
-
-table_takes_examples : (table_takes (Ok processor_alone) ≡ true) × (table_takes (Ok (record { processors = []; blocks = [] })) ≡ false)
-table_takes_examples = (refl, refl)
-
-pages_take_examples : (pages_take (Ok []) ≡ false) × (pages_take (Err pages.Memory) ≡ false)
-    × (pages_file.takes (codes "give 7") ≡ true)
-pages_take_examples = (refl, refl, refl)
-
-distances_take_examples : (distances_take (Ok (record { count = 1; cells = 10 ∷ [] })) ≡ true)
+parts_take_examples : (options_take (Ok no_options) ≡ false) × (options_take (Err options.OpenQuote) ≡ false)
+    × (table_takes (Ok processor_alone) ≡ true) × (table_takes (Ok (record { processors = []; blocks = [] })) ≡ false)
+    × (pages_take (Ok []) ≡ false) × (pages_take (Err pages.Memory) ≡ false) × (pages_file.takes (codes "give 7") ≡ true)
+    × (distances_take (Ok (record { count = 1; cells = 10 ∷ [] })) ≡ true)
     × (distances_take (Ok (record { count = 0; cells = [] })) ≡ false) × (distances_take (Err slit.Short) ≡ false)
-distances_take_examples = (refl, refl, refl)
+    × (lines_take (Ok []) ≡ false) × (lines_take (Err script.Memory) ≡ false)
+parts_take_examples = (refl, refl, refl, refl, refl, refl, refl, refl, refl, refl, refl, refl)
 
 -- a header alone, and one descriptor behind it
 abbrev header : List ℕ
@@ -260,9 +247,6 @@ header = 40 ∷ 0 ∷ 0 ∷ 0 ∷ 1 ∷ 0 ∷ 0 ∷ 0 ∷ []
 efi_take_examples : (efi_takes header ≡ false) × (efi_takes (header ++ replicate 40 0) ≡ true)
 unfolding descriptors_from
 efi_take_examples = (refl, refl)
-
-lines_take_examples : (lines_take (Ok []) ≡ false) × (lines_take (Err script.Memory) ≡ false)
-lines_take_examples = (refl, refl)
 
 -- and by a file that is named and held
 held_takes : (takes_held script_file (held (codes "free")) ≡ true) × (takes_held script_file None ≡ false)
@@ -295,19 +279,12 @@ all_inputs : inputs_of held (naming (codes "zp") (Some (codes "ext")) (Some (cod
 unfolding entry_at initrd_of is_initrd_far
 all_inputs = refl
 
-lines_are_given : inputs_of held (with_script (codes "free")) start
-    ≡ Ok (record start { entries = ram ∷ reserved ∷ []; lines = record { number = 2; act = acts.Free 7 } ∷ [] })
+scripts_are_given : (inputs_of held (with_script (codes "free")) start
+    ≡ Ok (record start { entries = ram ∷ reserved ∷ []; lines = record { number = 2; act = acts.Free 7 } ∷ [] }))
+    × (inputs_of held (with_script (codes "line")) start ≡ Err (refusals.Faulty inputs.Script (faults.Script (script.BadLine 1))))
+    × (inputs_of held (with_script (codes "no")) start ≡ Err (refusals.Unread inputs.Script))
 unfolding entry_at initrd_of is_initrd_far
-lines_are_given = refl
-
-script_is_faulty : inputs_of held (with_script (codes "line")) start
-    ≡ Err (refusals.Faulty inputs.Script (faults.Script (script.BadLine 1)))
-unfolding entry_at is_initrd_far
-script_is_faulty = refl
-
-script_goes_last : inputs_of held (with_script (codes "no")) start ≡ Err (refusals.Unread inputs.Script)
-unfolding entry_at is_initrd_far
-script_goes_last = refl
+scripts_are_given = (refl, refl, refl)
 
 -- a table of domains and a script beside the zero page: both are given, and the table goes first
 abbrev with_both : List ℕ → List ℕ → Named
@@ -330,23 +307,15 @@ srat_goes_before_the_script : inputs_of held (with_both (codes "bad") (codes "no
 unfolding entry_at is_initrd_far
 srat_goes_before_the_script = refl
 
-page_goes_first : inputs_of held (naming (codes "short") (Some (codes "bad")) (Some (codes "on"))) start
-    ≡ Err (refusals.Faulty inputs.ZeroPage (faults.ZeroPage zero.WrongLength))
-page_goes_first = refl
-
-fault_goes_before_a_missing_file : inputs_of held (naming (codes "short") (Some (codes "no")) None) start
-    ≡ Err (refusals.Faulty inputs.ZeroPage (faults.ZeroPage zero.WrongLength))
-fault_goes_before_a_missing_file = refl
-
-extension_goes_second : inputs_of held (naming (codes "zp") (Some (codes "bad")) (Some (codes "no"))) start
-    ≡ Err (refusals.Faulty inputs.Extension (faults.Extension extension.ExtHeader))
+first_refusals : (inputs_of held (naming (codes "short") (Some (codes "bad")) (Some (codes "on"))) start
+    ≡ Err (refusals.Faulty inputs.ZeroPage (faults.ZeroPage zero.WrongLength)))
+    × (inputs_of held (naming (codes "short") (Some (codes "no")) None) start
+    ≡ Err (refusals.Faulty inputs.ZeroPage (faults.ZeroPage zero.WrongLength)))
+    × (inputs_of held (naming (codes "zp") (Some (codes "bad")) (Some (codes "no"))) start
+    ≡ Err (refusals.Faulty inputs.Extension (faults.Extension extension.ExtHeader)))
+    × (inputs_of held (naming (codes "zp") (Some (codes "ext")) (Some (codes "no"))) start ≡ Err (refusals.Unread inputs.CommandLine))
 unfolding entry_at is_initrd_far
-extension_goes_second = refl
-
-line_goes_last : inputs_of held (naming (codes "zp") (Some (codes "ext")) (Some (codes "no"))) start
-    ≡ Err (refusals.Unread inputs.CommandLine)
-unfolding entry_at is_initrd_far
-line_goes_last = refl
+first_refusals = (refl, refl, refl, refl)
 
 -- the inputs' places and words, and whose refusal it is
 place_examples : (place inputs.ZeroPage ≡ 0) × (place inputs.CommandLine ≡ 2) × (place inputs.Srat ≡ 3) × (place inputs.Script ≡ 4)

@@ -1,8 +1,8 @@
 -- Bytes that were fetched are read, and no fault was counted for them; a failed fetch was counted.
-use Rattle.std.proofs.Common.{◌≤◌, Err, ap, inl, inr, length, rules}
+use Rattle.std.proofs.Common.{◌≤◌, Err, ap, inr, length}
 use Rattle.bm_io.specs.declared.reading.Fetch.{Fetch}
 use Rattle.boot_model.specs.View.{inputs_view}
-use Rattle.boot_inputs.proofs.FileLaws.{comes_to_own, on_ok, read_given, read_wanting}
+use Rattle.boot_inputs.proofs.FileLaws.{comes_to_own, read_given, read_wanting}
 use Rattle.boot_inputs.proofs.fetching.fetch.Goals as goal
 
 pub returns-in-Ok-clause-cause : goal.returns-in-Ok-clause-cause
@@ -16,35 +16,11 @@ returns-in-Err-Failed-clause-gives g c =
     comes_to_own (g.F.Files.holds c.args.files.now) _ g.R.Reader.file (inputs_view c.args.inputs.now) c.args.name.now
     c.input.ensures
 
-pub returns-in-Err-Failed-clause-none_missed : goal.returns-in-Err-Failed-clause-none_missed
-returns-in-Err-Failed-clause-none_missed g c = tt
-
-pub returns-in-Err-TooLong-clause-gives : goal.returns-in-Err-TooLong-clause-gives
-returns-in-Err-TooLong-clause-gives g c = search rules
-
 pub returns-in-Ok-clause-gives : goal.returns-in-Ok-clause-gives
 returns-in-Ok-clause-gives g c =
     let fits : length c.in-Ok.bytes.items ≤ g.R.Reader.file.limit = rw c.limit.ensures at c.in-Ok.ensures.bounded in
     read_given _ g.R.Reader.file (inputs_view c.args.inputs.now) _ c.args.name.now c.in-Ok.bytes.items _
     c.in-Ok.ensures.told fits (rw c.deref.ensures.value at c.read.ensures.gives)
-
-pub returns-in-Ok-clause-unfailed : goal.returns-in-Ok-clause-unfailed
-returns-in-Ok-clause-unfailed g c = λ wanting. elim c.in-Ok.ensures.no_miss [
-  | inl failed ↦ cc
-  | inr same ↦ same
-]
-
-pub returns-in-Ok-clause-none_missed : goal.returns-in-Ok-clause-none_missed
-returns-in-Ok-clause-none_missed g c = elim c.in-Ok.ensures.no_miss [
-  | inl failed ↦ cc
-  | inr same ↦ on_ok c.read.result _ same
-]
-
-pub returns-in-Ok-clause-unwanted : goal.returns-in-Ok-clause-unwanted
-returns-in-Ok-clause-unwanted g c = elim c.in-Ok.ensures.no_want [
-  | inl wanting ↦ cc
-  | inr same ↦ on_ok c.read.result _ same
-]
 
 pub returns-in-Ok-clause-memory : goal.returns-in-Ok-clause-memory
 returns-in-Ok-clause-memory g c = λ wanting.

@@ -1,4 +1,5 @@
 -- The first file is refused, or the others are read behind it.
+use Rattle.std.proofs.Common.{rules}
 use Rattle.boot_model.specs.View.{inputs_view}
 use Rattle.boot_inputs.proofs.ReadingLaws.{error_is, gone_on, stopped}
 use Rattle.boot_inputs.proofs.list.Tuple2Readers.add_files.Goals as goal
@@ -9,36 +10,11 @@ returns-in_err-add_file g c =
     rw (error_is _ _ c.from_residual.ensures.1)
     (stopped g.F.Files (g.N.Names.named c.args.names.now) g.R.Reader.file g.L.Readers.list c.args.files.now c.add_file.new.files
     (inputs_view c.args.inputs.now) (inputs_view c.add_file.new.inputs) (inputs_view c.add_file.new.inputs)
-    c.in_err-add_file.field-0.0 c.requires
-    (record {
-      gives = added.gives;
-      cause = added.cause;
-      memory = added.memory;
-      unfailed = added.unfailed;
-      unwanted = added.unwanted;
-      own = added.own;
-      unnamed = added.unnamed;
-      kept = added.kept;
-      none_missed = added.none_missed;
-      faults_stay = added.faults_stay;
-    }))
+    c.in_err-add_file.field-0.0 c.requires (search rules))
 
 pub returns : goal.returns
 returns g c =
     let added = c.in_ok-add_file.ensures in
     gone_on g.F.Files (g.N.Names.named c.args.names.now) g.R.Reader.file g.L.Readers.list c.args.files.now c.add_file.new.files
     c.add_files.new.files (inputs_view c.args.inputs.now) (inputs_view c.add_file.new.inputs) (inputs_view c.add_files.new.inputs)
-    c.add_files.result
-    (record {
-      gives = added.gives;
-      cause = added.cause;
-      memory = added.memory;
-      unfailed = added.unfailed;
-      unwanted = added.unwanted;
-      own = added.own;
-      unnamed = added.unnamed;
-      kept = added.kept;
-      none_missed = added.none_missed;
-      faults_stay = added.faults_stay;
-    })
-    c.add_files.ensures
+    c.add_files.result (search rules) c.add_files.ensures
