@@ -1,9 +1,10 @@
 -- What the command makes of arguments that no word uses: one that has a default gets it.
-use Rattle.std.proofs.Common.{◌≡◌, ℕ, ◌&&◌, ◌||◌, Bool, true, false, List, [], ◌∷◌, ◌++◌, Option, Some, None, codes, refl, ap, ◌∙◌, map, if◌then◌else◌, slice_get}
+use Rattle.std.proofs.Common.{◌≡◌, ℕ, ◌&&◌, ◌||◌, Bool, true, false, List, [], ◌∷◌, ◌++◌, Option, Some, None, codes, refl, ap, ◌∙◌, map, if◌then◌else◌, slice_get, arith, inl, inr}
 use Rattle.std.specs.Prelude.{fold, find, option_and_then}
 use Rattle.std.specs.List.{list_all, list_any}
 use Rattle.std.specs.Option.{option_or}
 use Rattle.std.specs.Str.{bytes_eq}
+use Rattle.std.proofs.lemmas.Bool.{cases_Bool}
 use Rattle.std.proofs.lemmas.List.Folds.{list_all-append}
 use Rattle.std.proofs.lemmas.Slice.Eq.{bytes_eq-Decides}
 use Rattle.clap.specs.Faults.{defaults_fault, given_default_fault}
@@ -26,14 +27,9 @@ has_some (value ∷ values) = true
 abbrev pub are_full : List Row → Bool
 are_full rows = list_all (λ row. has_some row.values) rows
 
--- the default that the argument gets by this rule
-abbrev first_value : Option Row → Option (List ℕ)
-first_value found = option_and_then (λ (r : Row). slice_get r.values 0) found
-
 some_value : (values : List (List ℕ)) → has_some values ≡ true → (other : Option (List ℕ))
     → slice_get values 0 ≡ option_or (slice_get values 0) other
-some_value [] none other = cc
-some_value (v ∷ vs) none other = refl
+some_value values none other = grind arith
 
 abbrev own_default : Rule → Values
 own_default rule argument = if bytes_eq rule.id argument then slice_get rule.defaults 0 else None
@@ -46,23 +42,10 @@ default_by (rule ∷ some) argument = option_or (own_default rule argument) (def
 -- what isn't found in some rows is found in one that is added
 found_more : (rows : List Row) (row : Row) (argument value : List ℕ) → are_full rows ≡ true → slice_get row.values 0 ≡ Some value
     → value_in (rows ++ row ∷ []) argument ≡ option_or (value_in rows argument) (if bytes_eq row.id argument then Some value else None)
-found_more [] row argument value full is = by_test (bytes_eq row.id argument)
-  where
-    by_test : (same : Bool) → first_value (if same then Some row else None)
-        ≡ (if same then Some value else None)
-    by_test true = is
-    by_test false = refl
+found_more [] row argument value full is = grind arith
 found_more (first ∷ rows) row argument value full is =
     let parts = both (has_some first.values) _ full in
-    by_test (bytes_eq first.id argument) (some_value first.values parts.0) (found_more rows row argument value parts.1 is)
-  where
-    by_test : (same : Bool) → ((other : Option (List ℕ)) → slice_get first.values 0 ≡ option_or (slice_get first.values 0) other)
-        → value_in (rows ++ row ∷ []) argument ≡ option_or (value_in rows argument) (if bytes_eq row.id argument then Some value else None)
-        → first_value (if same then Some first else find (λ (r : Row). bytes_eq r.id argument) (rows ++ row ∷ []))
-        ≡ option_or (first_value (if same then Some first else find (λ (r : Row). bytes_eq r.id argument) rows))
-        (if bytes_eq row.id argument then Some value else None)
-    by_test true value_of behind = value_of _
-    by_test false value_of behind = behind
+    grind (arith, some_value first.values parts.0, found_more rows row argument value parts.1 is)
 
 -- a row that is there keeps its value
 stands_in : (rows : List Row) (argument : List ℕ) → are_full rows ≡ true → has_row argument rows ≡ true → (other : Option (List ℕ))
@@ -70,20 +53,10 @@ stands_in : (rows : List Row) (argument : List ℕ) → are_full rows ≡ true �
 stands_in [] argument full some other = cc
 stands_in (first ∷ rows) argument full some other =
     let parts = both (has_some first.values) _ full in
-    by_test (bytes_eq first.id argument) (some_value first.values parts.0 other) some
-    (λ found. stands_in rows argument parts.1 found other)
-  where
-    by_test : (same : Bool) → slice_get first.values 0 ≡ option_or (slice_get first.values 0) other
-        → (same || has_row argument rows) ≡ true
-        → (has_row argument rows ≡ true → value_in rows argument ≡ option_or (value_in rows argument) other)
-        → first_value (if same then Some first else find (λ (r : Row). bytes_eq r.id argument) rows)
-        ≡ option_or (first_value (if same then Some first else find (λ (r : Row). bytes_eq r.id argument) rows)) other
-    by_test true value_of some behind = value_of
-    by_test false value_of some behind = behind some
+    grind (arith, some_value first.values parts.0 other, stands_in rows argument parts.1)
 
 or_none : (value : Option (List ℕ)) → value ≡ option_or value None
-or_none None = refl
-or_none (Some text) = refl
+or_none value = grind arith
 
 full_more : (rows : List Row) (row : Row) → are_full rows ≡ true → has_some row.values ≡ true → are_full (rows ++ row ∷ []) ≡ true
 full_more rows row full value =
@@ -108,12 +81,7 @@ adds rule rows full = by_row (has_row rule.id rows) refl
   where
     by_default : (defaults : List (List ℕ)) → has_row rule.id rows ≡ false → rule.defaults ≡ defaults
         → Adds rule rows (default_rows rule.id (reading_by rule) defaults rows)
-    by_default [] none is = record { full = full; values = λ argument. rw is (unset argument (bytes_eq rule.id argument)) }
-      where
-        unset : (argument : List ℕ) (same : Bool) → value_in rows argument ≡ option_or (value_in rows argument)
-            (if same then None else None)
-        unset argument true = or_none (value_in rows argument)
-        unset argument false = or_none (value_in rows argument)
+    by_default [] none is = record { full = full; values = λ argument. rw is (grind (arith, or_none (value_in rows argument))) }
     by_default (v ∷ vs) none is =
         let added : with_values rule.id (reading_by rule) DefaultValue (v ∷ vs) rows ≡ rows ++ default_row rule (v ∷ vs) ∷ [] =
         no_row_changed rule.id (more_values DefaultValue (v ∷ vs)) (default_row rule (v ∷ vs) ∷ []) rows none in
@@ -124,18 +92,17 @@ adds rule rows full = by_row (has_row rule.id rows) refl
 
     by_row : (there : Bool) → has_row rule.id rows ≡ there
         → Adds rule rows (if there then rows else default_rows rule.id (reading_by rule) rule.defaults rows)
-    by_row true there = record { full = full; values = λ argument. kept argument (bytes_eq rule.id argument) refl }
-      where
-        kept : (argument : List ℕ) (same : Bool) → bytes_eq rule.id argument ≡ same
-            → value_in rows argument ≡ option_or (value_in rows argument) (if same then slice_get rule.defaults 0 else None)
-        kept argument true same =
-            stands_in rows argument full (rw (← (bytes_eq-Decides rule.id argument).0 same) there) _
-        kept argument false same = or_none (value_in rows argument)
+    by_row true there = record {
+      full = full;
+      values = λ argument. elim (cases_Bool (bytes_eq rule.id argument)) [
+        | inl same ↦ stands_in rows argument full (rw (← (bytes_eq-Decides rule.id argument).0 same) there) _
+        | inr other ↦ rw other (or_none (value_in rows argument))
+      ];
+    }
     by_row false there = by_default rule.defaults there refl
 
 or_grouped : (a b c : Option (List ℕ)) → option_or (option_or a b) c ≡ option_or a (option_or b c)
-or_grouped None b c = refl
-or_grouped (Some text) b c = refl
+or_grouped a b c = grind arith
 
 pub defaulted : (some : List Rule) (rows : List Row) (argument : List ℕ) → are_full rows ≡ true
     → value_in (fold with_default rows some) argument ≡ option_or (value_in rows argument) (default_by some argument)
@@ -164,24 +131,10 @@ unspelled_by : (some : List Listed) (argument : List ℕ)
     → map (λ (option : Listed). slice_get (option_of option).defaults 0) some ≡ map (λ (option : Listed). off option.1) some
     → default_by (map option_of some ++ name_rule ∷ []) argument
     ≡ (if list_any (λ option. is_switch option.1 && bytes_eq option.0 argument) some then Some (codes "false") else None)
-unspelled_by [] argument are = by_test (bytes_eq zero_page argument)
-  where
-    by_test : (same : Bool) → option_or (if same then nothing else nothing) nothing ≡ nothing
-    by_test true = refl
-    by_test false = refl
+unspelled_by [] argument are = grind arith
 unspelled_by (first ∷ some) argument are =
     let one : slice_get (option_of first).defaults 0 ≡ off first.1 = ap (first_or None) are in
-    rw (one, unspelled_by some argument (ap behind_first are))
-    (by_test (is_switch first.1) (bytes_eq first.0 argument)
-    (list_any (λ option. is_switch option.1 && bytes_eq option.0 argument) some))
-  where
-    by_test : (flag same behind : Bool) → option_or (if same then (if flag then Some (codes "false") else None) else None)
-        (if behind then Some (codes "false") else None)
-        ≡ (if (flag && same) || behind then Some (codes "false") else None)
-    by_test true true behind = refl
-    by_test true false behind = refl
-    by_test false true behind = refl
-    by_test false false behind = refl
+    rw (one, unspelled_by some argument (ap behind_first are)) (grind arith)
 
 abbrev pass : Rule → List ErrorKind
 pass rule = given_default_fault rule rule.defaults
@@ -191,8 +144,7 @@ unfolding program
 all_pass = refl
 
 either_none : {X : Type 0} (test : Bool) (faults : List X) → faults ≡ [] → (if test then [] else faults) ≡ []
-either_none true faults none = refl
-either_none false faults none = none
+either_none test faults none = grind arith
 
 defaults_pass : (some : List Rule) (rows : List Row) → map pass some ≡ map (λ rule. []) some → defaults_fault rows some ≡ []
 unfolding defaults_fault

@@ -66,18 +66,12 @@ map_of_zp = record {
 }
 
 -- `bootmem --report map zp`, and the same with the name in front and the value behind `=`
-first_words : asked (codes "--report" ∷ codes "map" ∷ codes "zp" ∷ []) ≡ Some map_of_zp
-unfolding program clap_on_literals
-first_words = refl
-
-name_first : asked (codes "zp" ∷ codes "--report=map" ∷ []) ≡ Some map_of_zp
-unfolding program clap_on_literals
-name_first = refl
-
 -- the name alone: the report that is given where none is asked for
-name_alone : asked (codes "zp" ∷ []) ≡ Some (record map_of_zp { reports = reports.Buddyinfo ∷ [] })
+named_words : (asked (codes "--report" ∷ codes "map" ∷ codes "zp" ∷ []) ≡ Some map_of_zp)
+    × (asked (codes "zp" ∷ codes "--report=map" ∷ []) ≡ Some map_of_zp)
+    × (asked (codes "zp" ∷ []) ≡ Some (record map_of_zp { reports = reports.Buddyinfo ∷ [] }))
 unfolding program clap_on_literals
-name_alone = refl
+named_words = (refl, refl, refl)
 
 -- every option, in two forms
 all_words : asked (codes "--cmdline=-c" ∷ codes "--kernel" ∷ codes "16M,0x200000" ∷ codes "--script" ∷ codes "s" ∷ codes "zp" ∷
@@ -117,35 +111,26 @@ unfolding program clap_on_literals
 wide_kernel = (refl, refl)
 
 -- a made table in place of a zero page
-made_words : asked (codes "--make" ∷ codes "007" ∷ codes "--report" ∷ codes "map" ∷ [])
-    ≡ Some (record map_of_zp { zero_page = None; made = Some 7 })
-unfolding program clap_on_literals
-made_words = refl
-
 -- behind `--` a word is a name
-name_behind_the_end : asked (codes "--report=map" ∷ codes "--" ∷ codes "-zp" ∷ [])
-    ≡ Some (record map_of_zp { zero_page = Some (codes "-zp") })
+made_words : (asked (codes "--make" ∷ codes "007" ∷ codes "--report" ∷ codes "map" ∷ [])
+    ≡ Some (record map_of_zp { zero_page = None; made = Some 7 }))
+    × (asked (codes "--report=map" ∷ codes "--" ∷ codes "-zp" ∷ []) ≡ Some (record map_of_zp { zero_page = Some (codes "-zp") }))
 unfolding program clap_on_literals
-name_behind_the_end = refl
+made_words = (refl, refl)
 
 -- refused by the command: an option twice, an option without a value, a value with a hyphen in a word of its own, two names, an option
 -- that there isn't, one in short
-refused_by_the_command : (is_faultless (codes "--report=map" ∷ codes "--report=map" ∷ codes "zp" ∷ []) ≡ false)
-    × (is_faultless (codes "zp" ∷ codes "--report" ∷ []) ≡ false)
-    × (is_faultless (codes "--cmdline" ∷ codes "-c" ∷ codes "zp" ∷ []) ≡ false)
-    × (is_faultless (codes "zp" ∷ codes "zp" ∷ []) ≡ false)
-    × (is_faultless (codes "--help" ∷ []) ≡ false)
-    × (is_faultless (codes "--rep" ∷ codes "map" ∷ codes "zp" ∷ []) ≡ false)
-unfolding program clap_on_literals
-refused_by_the_command = (refl, refl, refl, refl, refl, refl)
-
 -- a flag twice, one with a value, in the next word or behind `=`, and one cut short
-flags_refused : (is_faultless (codes "--la57" ∷ codes "zp" ∷ codes "--la57" ∷ []) ≡ false)
+faults_of_words : (is_faultless (codes "--report=map" ∷ codes "--report=map" ∷ codes "zp" ∷ []) ≡ false)
+    × (is_faultless (codes "zp" ∷ codes "--report" ∷ []) ≡ false)
+    × (is_faultless (codes "--cmdline" ∷ codes "-c" ∷ codes "zp" ∷ []) ≡ false) × (is_faultless (codes "zp" ∷ codes "zp" ∷ []) ≡ false)
+    × (is_faultless (codes "--help" ∷ []) ≡ false) × (is_faultless (codes "--rep" ∷ codes "map" ∷ codes "zp" ∷ []) ≡ false)
+    × (is_faultless (codes "--la57" ∷ codes "zp" ∷ codes "--la57" ∷ []) ≡ false)
     × (is_faultless (codes "--bottom-up" ∷ codes "true" ∷ codes "zp" ∷ []) ≡ false)
-    × (is_faultless (codes "--la57=true" ∷ codes "zp" ∷ []) ≡ false)
-    × (is_faultless (codes "--bottom" ∷ codes "zp" ∷ []) ≡ false)
+    × (is_faultless (codes "--la57=true" ∷ codes "zp" ∷ []) ≡ false) × (is_faultless (codes "--bottom" ∷ codes "zp" ∷ []) ≡ false)
+    × (is_faultless (codes "--script" ∷ codes "" ∷ []) ≡ true) × (is_faultless (codes "--script" ∷ []) ≡ false)
 unfolding program clap_on_literals
-flags_refused = (refl, refl, refl, refl)
+faults_of_words = (refl, refl, refl, refl, refl, refl, refl, refl, refl, refl, refl, refl)
 
 -- the command takes these, and what they ask for is refused: neither a zero page nor a number, both, an extension beside a number, an
 -- empty list, a kernel below the first MiB
@@ -158,10 +143,6 @@ unfolding program clap_on_literals
 refused_for_what_they_ask = (refl, refl, refl, refl, refl, refl)
 
 -- ---- the parts
-
-faultless_examples : (is_faultless (codes "--script" ∷ codes "" ∷ []) ≡ true) × (is_faultless (codes "--script" ∷ []) ≡ false)
-unfolding program clap_on_literals
-faultless_examples = (refl, refl)
 
 argument_examples : (argument_of inputs.ZeroPage ≡ codes "ZEROPAGE") × (argument_of inputs.Extension ≡ codes "e820ext")
     × (argument_of inputs.Pages ≡ codes "pages") × (argument_of inputs.Slit ≡ codes "slit") × (argument_of inputs.Efi ≡ codes "efi")
@@ -195,47 +176,35 @@ by_examples : (option_map (λ wanted. wanted.named inputs.Extension) (asked_by w
     × (asked_by with_number ≡ None)
 by_examples = (refl, refl)
 
-begun_example : begun_by Bits52 default_kernel (record { base = 4096; size = 8192 } ∷ []) true
-    ≡ record (begun Bits52 default_kernel) { mirrors = record { first = 1; count = 2 } ∷ []; upward = true }
-begun_example = refl
-
-provided_examples : (provided true ≡ Some tt) × (provided false ≡ None)
-provided_examples = (refl, refl)
+begun_examples : (begun_by Bits52 default_kernel (record { base = 4096; size = 8192 } ∷ []) true
+    ≡ record (begun Bits52 default_kernel) { mirrors = record { first = 1; count = 2 } ∷ []; upward = true }) × (provided true ≡ Some tt)
+    × (provided false ≡ None)
+begun_examples = (refl, refl, refl)
 
 -- decimal digits alone, leading zeros among them, from 2 to 3,000
 digit_examples : (are_digits (codes "0123456789") ≡ true) × (are_digits [] ≡ true) × (are_digits (codes "+5") ≡ false)
-    × (are_digits (codes "0x5") ≡ false)
-digit_examples = (refl, refl, refl, refl)
-
-bound_examples : (are_entries 1 ≡ false) × (are_entries 2 ≡ true) × (are_entries 3000 ≡ true) × (are_entries 3001 ≡ false)
-bound_examples = (refl, refl, refl, refl)
+    × (are_digits (codes "0x5") ≡ false) × (are_entries 1 ≡ false) × (are_entries 2 ≡ true) × (are_entries 3000 ≡ true)
+    × (are_entries 3001 ≡ false)
+digit_examples = (refl, refl, refl, refl, refl, refl, refl, refl)
 
 entry_examples : (entries_in (codes "2") ≡ Some 2) × (entries_in (codes "0003000") ≡ Some 3000) × (entries_in (codes "3001") ≡ None)
-    × (entries_in (codes "4294967298") ≡ None) × (entries_in [] ≡ None) × (entries_in (codes "5 ") ≡ None)
-entry_examples = (refl, refl, refl, refl, refl, refl)
-
-made_examples : (entries_of None ≡ Some None) × (entries_of (Some (codes "5")) ≡ Some (Some 5)) × (entries_of (Some (codes "1")) ≡ None)
-made_examples = (refl, refl, refl)
+    × (entries_in (codes "4294967298") ≡ None) × (entries_in [] ≡ None) × (entries_in (codes "5 ") ≡ None) × (entries_of None ≡ Some None)
+    × (entries_of (Some (codes "5")) ≡ Some (Some 5)) × (entries_of (Some (codes "1")) ≡ None)
+entry_examples = (refl, refl, refl, refl, refl, refl, refl, refl, refl)
 
 -- the least image, and the last one; one frame too few, half a frame, and a frame too far, which isn't too far for 52 bits
-image_examples : (kernel_in Bits46 (codes "1M,8K") ≡ Some (record { base = 0x100000; size = 8192 }))
+-- one comma, and a size on each side of it that takes all that stands there
+kernel_examples : (kernel_in Bits46 (codes "1M,8K") ≡ Some (record { base = 0x100000; size = 8192 }))
     × (kernel_in Bits46 (codes "0x3FFFFFFFE000,8192") ≡ Some (record { base = 0x3FFFFFFFE000; size = 8192 }))
     × (kernel_in Bits46 (codes "1M,4K") ≡ None) × (kernel_in Bits46 (codes "0x100800,32M") ≡ None)
     × (kernel_in Bits46 (codes "0x3FFFFFFFF000,8192") ≡ None)
     × (kernel_in Bits52 (codes "0x3FFFFFFFF000,8192") ≡ Some (record { base = 0x3FFFFFFFF000; size = 8192 }))
-    × (kernel_in Bits52 (codes "0xFFFFFFFFFF000,8192") ≡ None)
-image_examples = (refl, refl, refl, refl, refl, refl, refl)
-
--- one comma, and a size on each side of it that takes all that stands there
-comma_examples : (kernel_in Bits46 (codes "16M") ≡ None) × (kernel_in Bits46 (codes "16M,32M,") ≡ None)
-    × (kernel_in Bits46 (codes " 16M,32M") ≡ None)
-    × (kernel_in Bits46 (codes "16M,") ≡ None) × (kernel_in Bits46 (codes "16E,32M") ≡ None)
-comma_examples = (refl, refl, refl, refl, refl)
-
-kernel_examples : (kernel_of Bits46 None ≡ Some default_kernel)
+    × (kernel_in Bits52 (codes "0xFFFFFFFFFF000,8192") ≡ None) × (kernel_in Bits46 (codes "16M") ≡ None)
+    × (kernel_in Bits46 (codes "16M,32M,") ≡ None) × (kernel_in Bits46 (codes " 16M,32M") ≡ None) × (kernel_in Bits46 (codes "16M,") ≡ None)
+    × (kernel_in Bits46 (codes "16E,32M") ≡ None) × (kernel_of Bits46 None ≡ Some default_kernel)
     × (kernel_of Bits46 (Some (codes "0x1000000,0x2000000")) ≡ Some default_kernel)
     × (if_kernel Bits46 (record { base = 0; size = 0x2000000 }) ≡ None)
-kernel_examples = (refl, refl, refl)
+kernel_examples = (refl, refl, refl, refl, refl, refl, refl, refl, refl, refl, refl, refl, refl, refl, refl)
 
 -- spelling
 abbrev three_spellings : List Spelling
@@ -271,15 +240,12 @@ range_examples : (range_in (codes "4K,0x1000") ≡ Some (record { base = 4096; s
 range_examples = (refl, refl, refl, refl, refl, refl)
 
 -- lists: one piece, two of which one has no whole frame, no piece, an empty one at the end
-list_of_ranges : (pieces_in (codes "1,2:3,4") ≡ codes "1,2" ∷ codes "3,4" ∷ []) × (are_pieces (codes "64M,16M") ≡ true)
+frames_of_lists : (pieces_in (codes "1,2:3,4") ≡ codes "1,2" ∷ codes "3,4" ∷ []) × (are_pieces (codes "64M,16M") ≡ true)
     × (are_pieces [] ≡ false) × (are_pieces (codes "64M,16M:") ≡ false)
-    × (frames_by (codes "64M,16M") ≡ Some (record { base = 0x4000000; size = 0x1000000 }))
-    × (mirrors_of None ≡ Some []) × (mirrors_of (Some (codes "64M")) ≡ None)
-list_of_ranges = (refl, refl, refl, refl, refl, refl, refl)
-
-frames_of_lists : (mirrors_in (codes "1,2:4K,4K") ≡ record { base = 4096; size = 4096 } ∷ [])
+    × (frames_by (codes "64M,16M") ≡ Some (record { base = 0x4000000; size = 0x1000000 })) × (mirrors_of None ≡ Some [])
+    × (mirrors_of (Some (codes "64M")) ≡ None) × (mirrors_in (codes "1,2:4K,4K") ≡ record { base = 4096; size = 4096 } ∷ [])
     × (mirrors_of (Some (codes "4K,4K")) ≡ Some (record { base = 4096; size = 4096 } ∷ []))
-frames_of_lists = (refl, refl)
+frames_of_lists = (refl, refl, refl, refl, refl, refl, refl, refl, refl)
 
 -- 64 pieces are few enough, 65 aren't
 abbrev some_pieces : ℕ → List ℕ

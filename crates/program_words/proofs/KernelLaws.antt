@@ -6,21 +6,10 @@ use Rattle.boot_model.specs.Kernel.{is_kernel}
 use Rattle.program_words.specs.Kernel.{if_kernel, kernel_in}
 use Rattle.program_words.specs.Range.{range_in}
 
-kernel_read : (width : Width) (text : List ℕ) (image : Extent) → Some image ≡ range_in text → if_kernel width image ≡ kernel_in width text
-kernel_read width text image is = rw (← is) refl
-
-taken : (b : Bool) (image : Extent) → true ≡ b → Some image ≡ (if b then Some image else None)
-taken true image is = refl
-taken false image is = cc
-
-refused : (b : Bool) (image : Extent) → false ≡ b → None ≡ (if b then Some image else None)
-refused true image is = cc
-refused false image is = refl
-
 pub kernel_taken : (width : Width) (text : List ℕ) (image : Extent) → Some image ≡ range_in text → true ≡ is_kernel width image
     → Some image ≡ kernel_in width text
-kernel_taken width text image is fits = taken (is_kernel width image) image fits ∙ kernel_read width text image is
+kernel_taken width text image is fits = rw (← is, ← fits) refl
 
 pub kernel_refused : (width : Width) (text : List ℕ) (image : Extent) → Some image ≡ range_in text → false ≡ is_kernel width image
     → None ≡ kernel_in width text
-kernel_refused width text image is fits = refused (is_kernel width image) image fits ∙ kernel_read width text image is
+kernel_refused width text image is fits = rw (← is, ← fits) refl

@@ -1,8 +1,9 @@
 -- What the command knows of its arguments, and what is known of plain words: the facts by which words that are spelled are walked
 -- over, without the command itself being opened again. Each is computed once for the whole table of options.
-use Rattle.std.proofs.Common.{◌≡◌, ℕ, ◌==◌, Bool, true, false, not, ◌&&◌, ◌||◌, List, [], ◌∷◌, ◌++◌, codes, Option, Some, None, map, refl, ap, subst}
+use Rattle.std.proofs.Common.{◌≡◌, ℕ, ◌==◌, Bool, true, false, not, ◌&&◌, ◌||◌, List, [], ◌∷◌, ◌++◌, codes, Option, Some, None, map, refl, ap, subst, arith, inl, inr}
 use Rattle.std.specs.List.{list_any}
 use Rattle.std.specs.Str.{bytes_eq}
+use Rattle.std.proofs.lemmas.Bool.{and_parts, or_cases}
 use Rattle.std.proofs.lemmas.Slice.Eq.{bytes_eq-Decides}
 use Rattle.clap.specs.Lexer.{long_of, short_of}
 use Rattle.clap.specs.Simple.{Shape, argument_words, built, filled, names_of, with_index}
@@ -102,30 +103,19 @@ known_in : (test : ArgAction → Bool) (action : ArgAction) → ((some : ArgActi
     → list_any (λ option. test option.1 && bytes_eq option.0 name) some ≡ true → Known (name, action)
 known_in test action only [] name are is = cc
 known_in test action only (first ∷ some) name are is =
-    by_test (test first.1) (bytes_eq first.0 name) refl refl (known_in test action only some name (ap behind_first are)) is
-  where
-    by_test : (fits same : Bool) → test first.1 ≡ fits → bytes_eq first.0 name ≡ same
-        → (list_any (λ option. test option.1 && bytes_eq option.0 name) some ≡ true → Known (name, action))
-        → ((fits && same) || list_any (λ option. test option.1 && bytes_eq option.0 name) some) ≡ true → Known (name, action)
-    by_test true true fits same behind found =
-        let equal : first ≡ (name, action) = rw (← (bytes_eq-Decides first.0 name).0 same, ← only first.1 fits) refl in
-        subst Known equal (known_by first (ap (first_or (hoped first)) are))
-    by_test true false fits same behind found = behind found
-    by_test false same fits is_same behind found = behind found
-
-only_set : (some : ArgAction) → has_value some ≡ true → some ≡ Set
-only_set Set is = refl
-only_set _ is = cc
-
-only_set_true : (some : ArgAction) → is_switch some ≡ true → some ≡ SetTrue
-only_set_true SetTrue is = refl
-only_set_true _ is = cc
+    elim (or_cases (test first.1 && bytes_eq first.0 name) _ is) [
+      | inl here ↦
+          let parts = and_parts (test first.1) (bytes_eq first.0 name) here in
+          let equal : first ≡ (name, action) = rw (← (bytes_eq-Decides first.0 name).0 parts.1, ← only first.1 parts.0) refl in
+          subst Known equal (known_by first (ap (first_or (hoped first)) are))
+      | inr later ↦ known_in test action only some name (ap behind_first are) later
+    ]
 
 pub known : (name : List ℕ) → is_option name ≡ true → Known (name, Set)
-known name is = known_in has_value Set only_set options name all_looked is
+known name is = known_in has_value Set (λ some is. grind arith) options name all_looked is
 
 pub flag_known : (name : List ℕ) → is_flag name ≡ true → Known (name, SetTrue)
-flag_known name is = known_in is_switch SetTrue only_set_true options name all_looked is
+flag_known name is = known_in is_switch SetTrue (λ some is. grind arith) options name all_looked is
 
 -- the name of the zero page, and the command as a whole
 pub name_by_index : arg_by_index rules 1 ≡ Some name_rule
@@ -161,9 +151,5 @@ pub record Plain (word : List ℕ) : Type 0 where
 pub plain : (word : List ℕ) → is_plain word ≡ true → Plain word
 plain [] is = record { not_end = refl; no_long = refl; no_short = refl }
 plain (b ∷ bs) is =
-    let other : (b == 45) ≡ false = no_hyphen (b == 45) is in
+    let other : (b == 45) ≡ false = grind arith in
     record { not_end = rw other refl; no_long = rw other refl; no_short = rw other refl }
-  where
-    no_hyphen : (hyphen : Bool) → not hyphen ≡ true → hyphen ≡ false
-    no_hyphen true is = cc
-    no_hyphen false is = refl

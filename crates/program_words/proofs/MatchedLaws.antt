@@ -1,5 +1,5 @@
 -- What the command makes of words that are spelled: it takes them, and finds the value of each spelling.
-use Rattle.std.proofs.Common.{◌≡◌, ℕ, Bool, true, false, List, [], ◌∷◌, refl, inl, ap, ◌∙◌, map}
+use Rattle.std.proofs.Common.{◌≡◌, ℕ, Bool, true, false, List, [], ◌∷◌, refl, inl, ap, ◌∙◌, map, arith}
 use Rattle.std.specs.Prelude.{fold}
 use Rattle.std.specs.Str.{bytes_eq}
 use Rattle.clap.specs.Faults.{check_fault}
@@ -19,21 +19,9 @@ check_passes rows = refl
 
 -- ---- the whole
 
-start : Stands [] 1 nothing_held
-start = record { rows = refl; settles = refl; first = λ fresh. refl }
-
-nothing_past : (ss : List Spelling) → Past [] ss
-nothing_past ss argument = inl refl
-
 found : (ss : List Spelling) (argument : List ℕ) → value_in (map row_of ss) argument ≡ spelled_for ss argument
 found [] argument = refl
-found (s ∷ ss) argument = by_test (bytes_eq (argument_in s) argument) refl (found ss argument)
-  where
-    by_test : (same : Bool) → bytes_eq (argument_in s) argument ≡ same
-        → value_in (map row_of ss) argument ≡ spelled_for ss argument
-        → value_in (row_of s ∷ map row_of ss) argument ≡ spelled_for (s ∷ ss) argument
-    by_test true is behind = rw is refl
-    by_test false is behind = rw is behind
+found (s ∷ ss) argument = grind (arith, found ss argument)
 
 full_rows : (ss : List Spelling) → are_full (map row_of ss) ≡ true
 full_rows [] = refl
@@ -49,7 +37,7 @@ same_values ss = λ i. λ argument. at argument i
 
 module _ (ss : List Spelling) (are : AreSpellings ss) where
   end : Walks [] ss 1 nothing_held
-  end = walks [] ss 1 nothing_held start (nothing_past ss) are
+  end = walks [] ss 1 nothing_held (record { rows = refl; settles = refl; first = λ fresh. refl }) (λ argument. inl refl) are
 
   rows_found : matches_of program (spelled ss) ≡ fold with_default (map row_of ss) rules
   rows_found = rw (no_names, all_words (spelled ss), end.walk, end.stands.rows) refl
@@ -57,16 +45,7 @@ module _ (ss : List Spelling) (are : AreSpellings ss) where
   faultless : is_faultless (spelled ss) ≡ true
   faultless =
       let whole = leaf_fault (built program) nothing_held (argument_words program (spelled ss)) no_subs in
-      rw (
-        whole,
-        all_words (spelled ss),
-        end.fault,
-        once,
-        end.walk,
-        end.stands.settles,
-        no_default_fault _,
-        check_passes _,
-      ) refl
+      rw (whole, all_words (spelled ss), end.fault, once, end.walk, end.stands.settles, no_default_fault _, check_passes _) refl
 
   pub accepted_as_given : accepted (spelled ss) ≡ asked_by (spelled_values ss)
   accepted_as_given = rw (faultless, rows_found) (ap asked_by (same_values ss))

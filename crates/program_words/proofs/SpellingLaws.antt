@@ -1,9 +1,10 @@
 -- The walk over words that are spelled as spellings: it stands between two spellings with one value waiting at most, settles it at the next
 -- word, and ends with a row for each spelling.
-use Rattle.std.proofs.Common.{◌≡◌, ℕ, Bool, true, false, ◌&&◌, ◌||◌, List, [], ◌∷◌, ◌++◌, codes, Some, None, refl, inl, inr, sym, ap, map, ◌∙◌, if◌then◌else◌}
+use Rattle.std.proofs.Common.{◌≡◌, ℕ, Bool, true, false, ◌&&◌, ◌||◌, List, [], ◌∷◌, ◌++◌, codes, Some, None, refl, inl, inr, sym, ap, map, ◌∙◌, if◌then◌else◌, arith}
 use Rattle.std.specs.Prelude.{◌⊎◌, fold}
 use Rattle.std.specs.Str.{bytes_eq}
-use Rattle.std.proofs.lemmas.List.{append-nil, append_assoc}
+use Rattle.std.proofs.lemmas.Bool.{cases_Bool}
+use Rattle.std.proofs.lemmas.List.{append-nil, append_assoc, map-append}
 use Rattle.std.proofs.lemmas.Slice.Eq.{bytes_eq-Decides}
 use Rattle.clap.specs.Faults.{settle_fault, turn_fault, walk_fault}
 use Rattle.clap.specs.Walk.{Held, Row, Walk, at_row, has_row, idle, is_pending, more_values, option, reading_by, settled, settled_rows, used, walked, with_values, without}
@@ -47,8 +48,7 @@ abbrev with_joined : List ℕ → List ℕ → Held → Held
 with_joined name value h = record h { rows = used (option_of (name, Set)) (value ∷ []) (settled rules h).rows; pending = None }
 
 and_false : (b : Bool) → (b && false) ≡ false
-and_false true = refl
-and_false false = refl
+and_false b = grind arith
 
 module _ (position : ℕ) (h : Held) where
   option_walks : (name : List ℕ) → Known (name, Set) → walked rules [] (resting position h) (dashed name) ≡ waiting_for position name h
@@ -118,74 +118,37 @@ pub record Stands (earlier : List Spelling) (position : ℕ) (h : Held) : Type 0
 
 no_row : (argument : List ℕ) (earlier : List Spelling) → IsNew argument earlier → has_row argument (map row_of earlier) ≡ false
 no_row argument [] new = refl
-no_row argument (s ∷ ss) new = by_test (bytes_eq (argument_in s) argument) new (no_row argument ss)
-  where
-    by_test : (same : Bool) → (if same then Some (text_in s) else spelled_for ss argument) ≡ None
-        → (spelled_for ss argument ≡ None → has_row argument (map row_of ss) ≡ false)
-        → (same || has_row argument (map row_of ss)) ≡ false
-    by_test true new behind = cc
-    by_test false new behind = behind new
+no_row argument (s ∷ ss) new = grind (arith, no_row argument ss)
 
 -- a spelling at the end
 new_before : (argument : List ℕ) (ss : List Spelling) (s : Spelling) → IsNew argument (ss ++ s ∷ []) → IsNew argument ss
 new_before argument [] s none = refl
-new_before argument (first ∷ ss) s none = by_test (bytes_eq (argument_in first) argument) none (new_before argument ss s)
-  where
-    by_test : (same : Bool) → (if same then Some (text_in first) else spelled_for (ss ++ s ∷ []) argument) ≡ None
-        → (IsNew argument (ss ++ s ∷ []) → IsNew argument ss)
-        → (if same then Some (text_in first) else spelled_for ss argument) ≡ None
-    by_test true none behind = cc
-    by_test false none behind = behind none
+new_before argument (first ∷ ss) s none = grind (arith, new_before argument ss s)
 
 new_end : (argument : List ℕ) (ss : List Spelling) (s : Spelling) → bytes_eq (argument_in s) argument ≡ false → IsNew argument ss
     → IsNew argument (ss ++ s ∷ [])
 new_end argument [] s other none = rw other refl
-new_end argument (first ∷ ss) s other none =
-    by_test (bytes_eq (argument_in first) argument) none (new_end argument ss s other)
-  where
-    by_test : (same : Bool) → (if same then Some (text_in first) else spelled_for ss argument) ≡ None
-        → (IsNew argument ss → IsNew argument (ss ++ s ∷ []))
-        → (if same then Some (text_in first) else spelled_for (ss ++ s ∷ []) argument) ≡ None
-    by_test true none behind = cc
-    by_test false none behind = behind none
+new_end argument (first ∷ ss) s other none = grind (arith, new_end argument ss s other)
 
 not_new : (ss : List Spelling) (name : List ℕ) → IsNew zero_page (ss ++ named name ∷ []) → ⊥
 not_new [] name none = cc
-not_new (first ∷ ss) name none = by_test (bytes_eq (argument_in first) zero_page) none (not_new ss name)
-  where
-    by_test : (same : Bool) → (if same then Some (text_in first) else spelled_for (ss ++ named name ∷ []) zero_page) ≡ None
-        → (IsNew zero_page (ss ++ named name ∷ []) → ⊥) → ⊥
-    by_test true none behind = cc
-    by_test false none behind = behind none
+not_new (first ∷ ss) name none = grind (arith, not_new ss name)
 
 -- what has no row gets one at the end
 pub no_row_changed : (id : List ℕ) (change : Row → List Row) (missing rows : List Row) → has_row id rows ≡ false
     → at_row id change missing rows ≡ rows ++ missing
 no_row_changed id change missing [] none = refl
-no_row_changed id change missing (first ∷ rows) none =
-    by_test (bytes_eq first.id id) none (no_row_changed id change missing rows)
-  where
-    by_test : (same : Bool) → (same || has_row id rows) ≡ false
-        → (has_row id rows ≡ false → at_row id change missing rows ≡ rows ++ missing)
-        → (if same then change first ++ rows else first ∷ at_row id change missing rows) ≡ first ∷ (rows ++ missing)
-    by_test true none behind = cc
-    by_test false none behind = ap (λ rest. first ∷ rest) (behind none)
+no_row_changed id change missing (first ∷ rows) none = grind (arith, no_row_changed id change missing rows)
 
-row_added : (argument value : List ℕ) (rows : List Row) → has_row argument rows ≡ false
-    → with_values argument (reading_by name_rule) CommandLine (value ∷ []) (without argument rows) ≡ rows ++ record {
-      id = argument;
-      values = value ∷ [];
-      count = None;
-      source = Some CommandLine;
-      reading = reading_by name_rule;
-    } ∷ []
-row_added argument value rows none =
-    let left : without argument rows ≡ rows = no_row_changed argument (λ _. []) [] rows none ∙ append-nil rows in
-    rw left (no_row_changed argument (more_values CommandLine (value ∷ [])) _ rows none)
-
-map_end : (ss : List Spelling) (s : Spelling) → map row_of (ss ++ s ∷ []) ≡ map row_of ss ++ row_of s ∷ []
-map_end [] s = refl
-map_end (first ∷ ss) s = ap (λ rows. row_of first ∷ rows) (map_end ss s)
+rows_more : (earlier : List Spelling) (s : Spelling) → IsNew (argument_in s) earlier
+    → with_values (argument_in s) (reading_by name_rule) CommandLine (text_in s ∷ []) (without (argument_in s) (map row_of earlier))
+    ≡ map row_of (earlier ++ s ∷ [])
+rows_more earlier s new =
+    let rows = map row_of earlier in
+    let none = no_row (argument_in s) earlier new in
+    let left : without (argument_in s) rows ≡ rows = no_row_changed (argument_in s) (λ _. []) [] rows none ∙ append-nil rows in
+    rw left (no_row_changed (argument_in s) (more_values CommandLine (text_in s ∷ [])) (row_of s ∷ []) rows none
+    ∙ sym (map-append row_of earlier (s ∷ [])))
 
 -- ---- one spelling on
 
@@ -211,8 +174,7 @@ goes earlier (apart name value) position h is new stands =
       now = with_value name value h;
       place = position;
       stands = record {
-        rows = rw (k.by_id, stands.rows, row_added name value (map row_of earlier) none)
-            (sym (map_end earlier (apart name value)));
+        rows = rw (k.by_id, stands.rows) (rows_more earlier (apart name value) new);
         settles = rw (k.by_id, stands.rows, none) refl;
         first = λ fresh. stands.first (new_before zero_page earlier (apart name value) fresh);
       };
@@ -227,8 +189,7 @@ goes earlier (joined name value) position h is new stands =
       now = with_joined name value h;
       place = position;
       stands = record {
-        rows = rw (stands.rows, row_added name value (map row_of earlier) none)
-            (sym (map_end earlier (joined name value)));
+        rows = rw stands.rows (rows_more earlier (joined name value) new);
         settles = refl;
         first = λ fresh. stands.first (new_before zero_page earlier (joined name value) fresh);
       };
@@ -243,8 +204,7 @@ goes earlier (flag name) position h is new stands =
       now = with_flag name h;
       place = position;
       stands = record {
-        rows = rw (stands.rows, row_added name (codes "true") (map row_of earlier) none)
-            (sym (map_end earlier (flag name)));
+        rows = rw stands.rows (rows_more earlier (flag name) new);
         settles = refl;
         first = λ fresh. stands.first (new_before zero_page earlier (flag name) fresh);
       };
@@ -260,8 +220,7 @@ goes earlier (named name) position h is new stands =
       now = with_value zero_page name h;
       place = 2;
       stands = record {
-        rows = rw (name_by_id, stands.rows, row_added zero_page name (map row_of earlier) none)
-            (sym (map_end earlier (named name)));
+        rows = rw (name_by_id, stands.rows) (rows_more earlier (named name) new);
         settles = rw (name_by_id, stands.rows, none) refl;
         first = λ fresh. absurd (not_new earlier name fresh);
       };
@@ -287,13 +246,13 @@ first_new earlier s ss past = elim (past (argument_in s)) [
 
 past_more : (earlier : List Spelling) (s : Spelling) (ss : List Spelling) → IsNew (argument_in s) ss → Past earlier (s ∷ ss)
     → Past (earlier ++ s ∷ []) ss
-past_more earlier s ss new past argument = by_test (bytes_eq (argument_in s) argument) refl (past argument)
-  where
-    by_test : (same : Bool) → bytes_eq (argument_in s) argument ≡ same → IsNew argument earlier ⊎ IsNew argument (s ∷ ss)
-        → IsNew argument (earlier ++ s ∷ []) ⊎ IsNew argument ss
-    by_test true is either = inr (ap (spelled_for ss) (sym ((bytes_eq-Decides (argument_in s) argument).0 is)) ∙ new)
-    by_test false is (inl none) = inl (new_end argument earlier s is none)
-    by_test false is (inr none) = inr (rw is at none)
+past_more earlier s ss new past argument = elim (cases_Bool (bytes_eq (argument_in s) argument)) [
+  | inl same ↦ inr (rw (← (bytes_eq-Decides (argument_in s) argument).0 same) new)
+  | inr other ↦ elim (past argument) [
+    | inl none ↦ inl (new_end argument earlier s other none)
+    | inr none ↦ inr (rw other at none)
+  ]
+]
 
 pub record Walks (earlier ss : List Spelling) (position : ℕ) (h : Held) : Type 0 where
   pub now : Held

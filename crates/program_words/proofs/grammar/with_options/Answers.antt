@@ -8,8 +8,7 @@ use Rattle.program_words.proofs.grammar.with_options.Goals as goal
 
 fold_first : {A B : Type 0} (f : B → A → B) (b : B) (xs : List A) (d : A) → 1 ≤ length xs
     → fold f (f b (get_or xs 0 d)) (take (length xs - 1) (drop 1 xs)) ≡ fold f b xs
-fold_first f b [] d some = absurd (omega (arith, some))
-fold_first f b (x ∷ xs) d some = ap (λ ys. fold f (f b x) ys) (take_all (length (x ∷ xs) - 1) xs (omega arith))
+fold_first f b xs d some = grind (arith, take_all)
 
 fold_none : {A B : Type 0} (f : B → A → B) (b : B) (xs : List A) → length xs < 1 → b ≡ fold f b xs
 fold_none f b [] none = refl
