@@ -1,6 +1,6 @@
 -- What the command makes of arguments that no word uses: one that has a default gets it.
 use Rattle.std.proofs.Common.{◌≡◌, ℕ, ◌&&◌, ◌||◌, Bool, true, false, List, [], ◌∷◌, ◌++◌, Option, Some, None, codes, refl, ap, ◌∙◌, map, if◌then◌else◌, slice_get, arith, inl, inr}
-use Rattle.std.specs.Prelude.{fold, find, option_and_then}
+use Rattle.std.specs.Prelude.{fold}
 use Rattle.std.specs.List.{list_all, list_any}
 use Rattle.std.specs.Option.{option_or}
 use Rattle.std.specs.Str.{bytes_eq}
@@ -16,7 +16,7 @@ use Rattle.clap.proofs.WalkLemmas.{both}
 use Rattle.program_words.specs.Grammar.{Listed, is_switch, options, program}
 use Rattle.program_words.specs.Spelling.{unspelled}
 use Rattle.program_words.specs.Words.{Values, value_in}
-use Rattle.program_words.proofs.KnownLaws.{behind_first, first_or, name_rule, option_of, rules, zero_page}
+use Rattle.program_words.proofs.KnownLaws.{behind_first, first_or, name_rule, option_of, rules}
 use Rattle.program_words.proofs.SpellingLaws.{no_row_changed}
 
 abbrev pub has_some : List (List ℕ) → Bool

@@ -1,10 +1,9 @@
 -- Small command lines and their parts, computed.
-use Rattle.std.proofs.Common.{◌≡◌, ℕ, zero, suc, ◌-◌, ◌^◌, ◌++◌, Bool, true, false, List, [], ◌∷◌, codes, Option, Some, None, refl, arith}
+use Rattle.std.proofs.Common.{◌≡◌, ℕ, zero, suc, ◌-◌, ◌^◌, ◌++◌, true, false, List, [], ◌∷◌, codes, Option, Some, None, refl}
 use Rattle.std.specs.Option.{option_map}
 use Rattle.clap.specs.Words.{matches_of}
 use Rattle.clap.specs.declared.builder.action.ArgAction.TheVariants.{Set, SetFalse, SetTrue}
 use Rattle.clap.proofs.OnLiterals.{clap_on_literals}
-use Rattle.bm_base.specs.Extent.{Extent}
 use Rattle.bm_base.specs.declared.width.Width.TheVariants.{Bits46, Bits52}
 use Rattle.boot_model.specs.Boot.{Given, begun}
 use Rattle.boot_inputs.specs.declared.input.Input.TheVariants as inputs

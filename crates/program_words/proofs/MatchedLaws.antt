@@ -1,17 +1,16 @@
 -- What the command makes of words that are spelled: it takes them, and finds the value of each spelling.
-use Rattle.std.proofs.Common.{◌≡◌, ℕ, Bool, true, false, List, [], ◌∷◌, refl, inl, ap, ◌∙◌, map, arith}
+use Rattle.std.proofs.Common.{◌≡◌, ℕ, true, false, List, [], ◌∷◌, refl, inl, ap, ◌∙◌, map, arith}
 use Rattle.std.specs.Prelude.{fold}
-use Rattle.std.specs.Str.{bytes_eq}
 use Rattle.clap.specs.Faults.{check_fault}
 use Rattle.clap.specs.Simple.{argument_words, built, matches_of}
 use Rattle.clap.specs.Walk.{Row, nothing_held, with_default}
 use Rattle.clap.proofs.FaultLemmas.{leaf_fault}
 use Rattle.program_words.specs.Grammar.{is_faultless, program}
 use Rattle.program_words.specs.Words.{accepted, asked_by, value_in}
-use Rattle.program_words.specs.Spelling.{AreSpellings, Spelling, argument_in, spelled_values, spelled, spelled_for}
+use Rattle.program_words.specs.Spelling.{AreSpellings, Spelling, spelled_values, spelled, spelled_for}
 use Rattle.program_words.proofs.KnownLaws.{all_words, no_names, no_subs, once, rules, shape}
 use Rattle.program_words.proofs.DefaultLaws.{are_full, as_unspelled, defaulted, no_default_fault}
-use Rattle.program_words.proofs.SpellingLaws.{Past, Stands, Walks, row_of, walks}
+use Rattle.program_words.proofs.SpellingLaws.{Walks, row_of, walks}
 
 check_passes : (rows : List Row) → check_fault shape rows false ≡ []
 unfolding program

@@ -1,5 +1,5 @@
 -- What the values that were found come to, step by step.
-use Rattle.std.proofs.Common.{◌≡◌, ◌∙◌, ℕ, Bool, true, false, ◌&&◌, not, is_some, List, codes, Option, Some, None, unwrap_or, if◌then◌else◌, Bor, refl, ap, sym, arith}
+use Rattle.std.proofs.Common.{◌≡◌, ℕ, Bool, true, false, ◌&&◌, not, is_some, List, codes, Option, Some, None, unwrap_or, Bor, refl, arith}
 use Rattle.std.specs.Option.{option_copied}
 use Rattle.debugfs_reports.specs.ReportList.{are_reports}
 use Rattle.program_words.specs.Words.{Values, default_list, has_source, list_asked, list_in}

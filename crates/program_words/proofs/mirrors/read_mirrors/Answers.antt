@@ -1,6 +1,5 @@
 -- The frames of one more piece stand behind the others; where no piece is left, the ranges so far are all.
-use Rattle.std.proofs.Common.{◌≡◌, ◌∙◌, ◌∷◌, [], sym, append-nil, rules}
-use Rattle.std.specs.List.{All}
+use Rattle.std.proofs.Common.{◌∙◌, [], sym, append-nil}
 use Rattle.std.proofs.lemmas.List.Elements.{All-append, All-cons, All-nil}
 use Rattle.boot_model.specs.Mirrors.{IsMirror}
 use Rattle.program_words.proofs.MirrorLaws.{frames_onward}
