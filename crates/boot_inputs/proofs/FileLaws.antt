@@ -1,6 +1,6 @@
 -- What the step of one file comes to, once its bytes are fetched or read.
 use Rattle.std.proofs.Common.{◌≡◌, ◌≢◌, ℕ, ◌≤◌, List, length, Option, Some, Ok, Err, false, nat_lt, refl, arith}
-use Rattle.std.specs.Prelude.{Result, IfSome, IsOk, IsTrue, OnOk}
+use Rattle.std.specs.Prelude.{Result, IfSome, IsOk, IsTrue}
 use Rattle.std.proofs.lemmas.Bool.{le-ltb}
 use Rattle.bm_base.specs.ResultSteps.{with_error}
 use Rattle.boot_model.specs.Boot.{Given}
@@ -13,10 +13,6 @@ use Rattle.boot_inputs.specs.declared.refusal.InputRefusal.TheVariants as refusa
 use Rattle.boot_inputs.specs.Answers.{ComesTo, Gives}
 use Rattle.boot_inputs.specs.File.{File}
 use Rattle.boot_inputs.specs.Inputs.{Held, named_step, or_faulty, takes_held}
-
--- what holds holds after Ok
-pub on_ok : {T E : Type 0} → (answer : Result T E) → (P : Type 0) → P → OnOk answer P
-on_ok answer P holds = grind arith
 
 -- bytes within the limit are read
 read_is : (held : Held) (file : File) (given : Given) (name bytes : List ℕ) → held name ≡ Some bytes → length bytes ≤ file.limit
