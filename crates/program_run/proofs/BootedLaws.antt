@@ -1,14 +1,13 @@
 -- What a boot answers, as the outcome has it: its stop is the reason for no report, and the texts of what it made are the text.
-use Rattle.std.proofs.Common.{◌≡◌, ◌≢◌, ℕ, List, Option, Some, None, Result, Ok, Err, refl, ap, ◌∙◌}
+use Rattle.std.proofs.Common.{◌≡◌, ◌≢◌, ℕ, List, Option, Some, None, Result, Ok, Err, refl, ap, ◌∙◌, arith}
 use Rattle.std.specs.Prelude.{IfSome}
 use Rattle.bm_base.specs.ResultSteps.{◌>>=◌, with_error}
 use Rattle.boot_inputs.specs.Inputs.{Held}
 use Rattle.boot_model.specs.declared.stop.Cause.{Cause}
-use Rattle.boot_model.specs.declared.stop.Cause.TheVariants as causes
 use Rattle.boot_model.specs.declared.stop.Stop.{Stop}
 use Rattle.boot_model.specs.declared.stop.Stop.TheVariants as stops
 use Rattle.boot_model.specs.Boot.{Given, Told, told_boot}
-use Rattle.boot_model.specs.Stop.{cause_of, stop_of}
+use Rattle.boot_model.specs.Stop.{stop_of}
 use Rattle.boot_model.specs.View.{booted_view}
 use Rattle.boot_model.specs.declared.booted.Booted.{Booted}
 use Rattle.boot_stages.specs.Boots.{TableStands}
@@ -18,39 +17,16 @@ use Rattle.debugfs_reports.specs.ReportList.{text_of}
 use Rattle.debugfs_reports.specs.Stand.{TablesStand}
 use Rattle.memblock_model.specs.declared.which.Which.TheVariants as which
 use Rattle.program_run.specs.declared.failure.Failure.{Failure}
-use Rattle.program_run.specs.declared.failure.Reason.TheVariants as reasons
 use Rattle.program_run.specs.Answers.{FitsFailure, Makes}
 use Rattle.program_run.specs.Outcome.{given_by, or_stopped, outcome, reported}
 use Rattle.program_run.specs.Status.{failure_of_stop}
 use Rattle.program_words.specs.Words.{Wanted}
 
 -- a stop of the boot has one cause
-cause_is : (cause : Cause) → cause_of (stop_of cause) ≡ Some cause
-cause_is causes.NoRam = refl
-cause_is (causes.TooMuchRam frames) = refl
-cause_is (causes.MapFull runs) = refl
-cause_is (causes.NoPlace thing) = refl
-cause_is (causes.NoTablePlace which room) = refl
-
-stopped : (cause : Cause) (answer : Result Told Cause) (shown : Told → List ℕ) → with_error stop_of answer ≡ Err (stop_of cause)
-    → (or_stopped answer >>= λ told. Ok (shown told)) ≡ Err (reasons.Stopped cause)
-stopped cause (Ok told) shown is = cc
-stopped cause (Err other) shown is =
-    let same : other ≡ cause = cc (cause_is other, cause_is cause) in ap (λ (c : Cause). Err (reasons.Stopped c)) same
-
 stop_fits : (stop : Stop) (failure : Failure) (answer : Result Told Cause) (shown : Told → List ℕ) → failure ≡ failure_of_stop stop
     → (stop ≢ stops.Memory → with_error stop_of answer ≡ Err stop)
     → FitsFailure failure (or_stopped answer >>= λ told. Ok (shown told))
-stop_fits stops.NoRam failure answer shown is stops_so = rw is (stopped causes.NoRam answer shown (stops_so (λ other. cc)))
-stop_fits (stops.TooMuchRam frames) failure answer shown is stops_so =
-    rw is (stopped (causes.TooMuchRam frames) answer shown (stops_so (λ other. cc)))
-stop_fits (stops.MapFull runs) failure answer shown is stops_so =
-    rw is (stopped (causes.MapFull runs) answer shown (stops_so (λ other. cc)))
-stop_fits (stops.NoPlace thing) failure answer shown is stops_so =
-    rw is (stopped (causes.NoPlace thing) answer shown (stops_so (λ other. cc)))
-stop_fits (stops.NoTablePlace which room) failure answer shown is stops_so =
-    rw is (stopped (causes.NoTablePlace which room) answer shown (stops_so (λ other. cc)))
-stop_fits stops.Memory failure answer shown is stops_so = rw is tt
+stop_fits stop failure answer shown is stops_so = grind arith
 
 pub boot_stopped : {X : Type 0} (view : X → List ℕ) (r : Result X Failure) (failure : Failure) (stop : Stop) (given : Given)
     (reports : List Report) → r ≡ Err failure → failure ≡ failure_of_stop stop
@@ -59,8 +35,7 @@ boot_stopped view r failure stop given reports is from stops_so =
     rw is (stop_fits stop failure (told_boot given) (text_of reports) from stops_so)
 
 pub told_is : (answer : Result Told Cause) (told : Told) → with_error stop_of answer ≡ Ok told → answer ≡ Ok told
-told_is (Ok some) told is = let same : some ≡ told = cc in ap (λ (t : Told). Ok t) same
-told_is (Err cause) told is = cc
+told_is answer told is = grind arith
 
 pub boot_told : (given : Given) (told : Told) (reports asked : List Report) (text : List ℕ) → with_error stop_of (told_boot given) ≡ Ok told
     → reports ≡ asked → text ≡ text_of reports told → reported asked given ≡ Ok text
@@ -75,14 +50,9 @@ items_stand b memory reserved = record {
 }
 
 -- what is made of the inputs is what the outcome has of them
-made_of : {X : Type 0} (view : X → List ℕ) (r : Result X Failure) (accepted : Option Wanted) (wanted : Wanted) (held : Held) (given : Given)
-    → accepted ≡ Some wanted → given_by held wanted ≡ Ok given → Makes view r (reported wanted.reports given)
-    → Makes view r (outcome accepted held)
-made_of view r accepted wanted held given some is makes = rw (some, is) makes
-
 pub texts_made : {X : Type 0} (view : X → List ℕ) (r : Result X Failure) (holds : Option Held) (accepted : Option Wanted) (wanted : Wanted)
     (given booted : Given) → accepted ≡ Some wanted → IfSome holds (λ held. given_by held wanted ≡ Ok given)
     → Makes view r (reported wanted.reports booted) → given ≡ booted → IfSome holds (λ held. Makes view r (outcome accepted held))
 texts_made view r None accepted wanted given booted some is makes same = tt
 texts_made view r (Some held) accepted wanted given booted some is makes same =
-    made_of view r accepted wanted held booted some (is ∙ ap (λ (g : Given). Ok g) same) makes
+    rw (some, is ∙ ap (λ (g : Given). Ok g) same) makes

@@ -3,7 +3,6 @@ use Rattle.std.proofs.Common.{◌≡◌, ℕ, List, Option, Some, None, IfSome, 
 use Rattle.std.specs.Io.KnownBytes.{Appends}
 use Rattle.bm_base.specs.ResultSteps.{◌>>=◌}
 use Rattle.boot_inputs.specs.declared.refusal.InputRefusal.{InputRefusal}
-use Rattle.boot_inputs.specs.declared.refusal.InputRefusal.TheVariants as refusals
 use Rattle.boot_inputs.specs.Inputs.{Held}
 use Rattle.boot_model.specs.declared.stop.Cause.{Cause}
 use Rattle.boot_model.specs.Boot.{Given, Told, told_boot}
@@ -11,8 +10,6 @@ use Rattle.conservation.proofs.HeadlineLaws.{all_touched_or_in_one, blocks_maxim
 use Rattle.debugfs_reports.specs.declared.report.Report.{Report}
 use Rattle.debugfs_reports.specs.ReportList.{text_of}
 use Rattle.program_run.specs.declared.failure.Failure.{Failure}
-use Rattle.program_run.specs.declared.failure.Failure.TheVariants as failures
-use Rattle.program_run.specs.declared.failure.Reason.TheVariants as reasons
 use Rattle.program_run.specs.Answers.{IsText, Writes}
 use Rattle.program_run.specs.Headline.{IsReported}
 use Rattle.program_run.specs.Outcome.{given_by, or_refused, or_stopped, outcome, reported}
@@ -54,12 +51,7 @@ is_reported (Some wanted) held old new is =
 
 -- no failure has status 0
 failed : (failure : Failure) → 0 ≡ status_of failure → ⊥
-failed (failures.NoReport reasons.Usage) is = absurd (omega (arith, is))
-failed (failures.NoReport (reasons.Refused (refusals.Unread input))) is = absurd (omega (arith, is))
-failed (failures.NoReport (reasons.Refused (refusals.Faulty input fault))) is = absurd (omega (arith, is))
-failed (failures.NoReport (reasons.Stopped cause)) is = absurd (omega (arith, is))
-failed failures.Unwritten is = absurd (omega (arith, is))
-failed failures.Memory is = absurd (omega (arith, is))
+failed failure is = grind arith
 
 -- after status 0 that was written
 pub ran_headline : (holds : Option Held) (accepted : Option Wanted) (end : End) (status : ℕ) (old new : Option (List ℕ))

@@ -19,89 +19,61 @@ use Rattle.program_run.specs.Line.{memory_line, diagnostic_line, fault_line, thi
 use Rattle.program_run.proofs.OutcomeExamples.{wanting}
 
 -- the status of each way to end
-refusal_examples : (refusal_status (refusals.Unread inputs.Extension) ≡ 3)
-    × (refusal_status (refusals.Faulty inputs.ZeroPage faults.TooLong) ≡ 5)
-refusal_examples = (refl, refl)
-
-reason_examples : (reason_status reasons.Usage ≡ 2) × (reason_status (reasons.Stopped (causes.MapFull 3201)) ≡ 6)
-reason_examples = (refl, refl)
-
-status_examples : (status_of (failures.NoReport (reasons.Stopped causes.NoRam)) ≡ 6) × (status_of failures.Unwritten ≡ 4)
-    × (status_of failures.Memory ≡ 7)
-status_examples = (refl, refl, refl)
-
-end_examples : (status_of_end (Ok tt) ≡ 0) × (status_of_end (Err failures.Unwritten) ≡ 4)
-end_examples = (refl, refl)
+status_examples : (refusal_status (refusals.Unread inputs.Extension) ≡ 3)
+    × (refusal_status (refusals.Faulty inputs.ZeroPage faults.TooLong) ≡ 5) × (reason_status reasons.Usage ≡ 2)
+    × (reason_status (reasons.Stopped (causes.MapFull 3201)) ≡ 6) × (status_of (failures.NoReport (reasons.Stopped causes.NoRam)) ≡ 6)
+    × (status_of failures.Unwritten ≡ 4) × (status_of failures.Memory ≡ 7) × (status_of_end (Ok tt) ≡ 0)
+    × (status_of_end (Err failures.Unwritten) ≡ 4)
+status_examples = (refl, refl, refl, refl, refl, refl, refl, refl, refl)
 
 -- want of memory is 7 wherever it comes from
-by_examples : (failure_by None ≡ failures.Memory) × (failure_by (Some causes.NoRam) ≡ failures.NoReport (reasons.Stopped causes.NoRam))
-by_examples = (refl, refl)
-
-stop_examples : (failure_of_stop (stops.TooMuchRam 4294967297) ≡ failures.NoReport (reasons.Stopped (causes.TooMuchRam 4294967297)))
+failure_examples : (failure_by None ≡ failures.Memory) × (failure_by (Some causes.NoRam) ≡ failures.NoReport (reasons.Stopped causes.NoRam))
+    × (failure_of_stop (stops.TooMuchRam 4294967297) ≡ failures.NoReport (reasons.Stopped (causes.TooMuchRam 4294967297)))
     × (failure_of_stop stops.Memory ≡ failures.Memory)
-stop_examples = (refl, refl)
-
-input_error_examples : (failure_of_input (errors.Refused (refusals.Unread inputs.Extension))
-    ≡ failures.NoReport (reasons.Refused (refusals.Unread inputs.Extension)))
-    × (failure_of_input errors.Memory ≡ failures.Memory)
-input_error_examples = (refl, refl)
+    × (failure_of_input (errors.Refused (refusals.Unread inputs.Extension))
+    ≡ failures.NoReport (reasons.Refused (refusals.Unread inputs.Extension))) × (failure_of_input errors.Memory ≡ failures.Memory)
+failure_examples = (refl, refl, refl, refl, refl, refl)
 
 -- what is told of a fault, in each form
 told_lines : (diagnostic_line (codes "zeropage") (Some (Diagnostic.Whole (codes "initrd too far")))
     ≡ codes "bootmem: zeropage: initrd too far\n")
     × (diagnostic_line (codes "efi") (Some (Diagnostic.Far (codes "descriptor") 3)) ≡ codes "bootmem: efi: descriptor 3 too far\n")
     × (diagnostic_line (codes "pages") None ≡ memory_line)
-unfolding digits
-told_lines = (refl, refl, refl)
-
-numbered_lines : (diagnostic_line (codes "cmdline") (Some (Diagnostic.Word 12 (codes "user map")))
-    ≡ codes "bootmem: cmdline: word 12: user map\n")
+    × (diagnostic_line (codes "cmdline") (Some (Diagnostic.Word 12 (codes "user map"))) ≡ codes "bootmem: cmdline: word 12: user map\n")
     × (diagnostic_line (codes "script") (Some (Diagnostic.Line 12 (codes "zero size"))) ≡ codes "bootmem: script: line 12: zero size\n")
     × (diagnostic_line (codes "srat") (Some (Diagnostic.Offset (codes "block too far") 1048))
     ≡ codes "bootmem: srat: block too far at 1048\n")
 unfolding digits
-numbered_lines = (refl, refl, refl)
+told_lines = (refl, refl, refl, refl, refl, refl)
 
 -- the line of each way to end
-entry_lines : (fault_line (codes "zeropage") (faults.ZeroPage (zero.EntryTooFar 3)) ≡ codes "bootmem: zeropage: entry 3 too far\n")
+fault_lines : (fault_line (codes "zeropage") (faults.ZeroPage (zero.EntryTooFar 3))
+    ≡ codes "bootmem: zeropage: entry 3 too far\n")
     × (fault_line (codes "e820ext") (faults.Extension (extension.EntryTooFar 3071)) ≡ codes "bootmem: e820ext: entry 3071 too far\n")
     × (fault_line (codes "e820ext") (faults.Extension extension.ExtHeader) ≡ codes "bootmem: e820ext: header\n")
-unfolding digits
-entry_lines = (refl, refl, refl)
-
-whole_lines : (refusal_line None (refusals.Faulty inputs.CommandLine faults.TooLong) ≡ codes "bootmem: cmdline: too long\n")
+    × (refusal_line None (refusals.Faulty inputs.CommandLine faults.TooLong) ≡ codes "bootmem: cmdline: too long\n")
     × (refusal_line None (refusals.Faulty inputs.ZeroPage (faults.ZeroPage zero.TooFew)) ≡ codes "bootmem: zeropage: too few entries\n")
-whole_lines = (refl, refl)
+unfolding digits
+fault_lines = (refl, refl, refl, refl, refl)
 
-cause_lines : (cause_line (causes.MapFull 3201) ≡ codes "bootmem: stopped: 3201 map runs\n")
+stop_lines : (cause_line (causes.MapFull 3201) ≡ codes "bootmem: stopped: 3201 map runs\n")
     × (cause_line causes.NoRam ≡ codes "bootmem: stopped: no usable frame\n")
     × (cause_line (causes.NoTablePlace which.Reserved 128) ≡ codes "bootmem: stopped: no place for table reserved room 128\n")
-unfolding digits
-cause_lines = (refl, refl, refl)
-
-place_lines : (cause_line (causes.NoPlace (what.NodeData 3)) ≡ codes "bootmem: stopped: no place for node-data 3\n")
+    × (cause_line (causes.NoPlace (what.NodeData 3)) ≡ codes "bootmem: stopped: no place for node-data 3\n")
     × (cause_line (causes.NoPlace what.Roots) ≡ codes "bootmem: stopped: no place for roots\n")
     × (place_line (what.Map 40) ≡ codes "bootmem: stopped: no place for map 40\n")
-    × (thing_line (codes "root") 0 ≡ codes "bootmem: stopped: no place for root 0\n")
-unfolding digits
-place_lines = (refl, refl, refl, refl)
-
-table_lines : (table_name which.Memory ≡ codes "memory")
+    × (thing_line (codes "root") 0 ≡ codes "bootmem: stopped: no place for root 0\n") × (table_name which.Memory ≡ codes "memory")
     × (table_line (codes "memory") 128 ≡ codes "bootmem: stopped: no place for table memory room 128\n")
 unfolding digits
-table_lines = (refl, refl)
+stop_lines = (refl, refl, refl, refl, refl, refl, refl, refl, refl)
 
-unread_line : refusal_line (Some (wanting (codes "zp"))) (refusals.Unread inputs.Extension) ≡ codes "bootmem: cannot read ext\n"
-unread_line = refl
+other_lines : (refusal_line (Some (wanting (codes "zp"))) (refusals.Unread inputs.Extension)
+    ≡ codes "bootmem: cannot read ext\n") × (reason_line None reasons.Usage ≡ codes "bootmem: usage\n")
+    × (failure_line None (failures.NoReport reasons.Usage) ≡ codes "bootmem: usage\n")
+    × (failure_line None failures.Unwritten ≡ codes "bootmem: cannot write\n")
+    × (failure_line None failures.Memory ≡ codes "bootmem: out of memory\n")
+other_lines = (refl, refl, refl, refl, refl)
 
 name_examples : (name_text (Some (wanting (codes "zp"))) inputs.Extension ≡ codes "ext")
     × (name_text (Some (wanting (codes "zp"))) inputs.CommandLine ≡ []) × (name_text None inputs.ZeroPage ≡ [])
 name_examples = (refl, refl, refl)
-
-usage_line : (reason_line None reasons.Usage ≡ codes "bootmem: usage\n")
-    × (failure_line None (failures.NoReport reasons.Usage) ≡ codes "bootmem: usage\n")
-usage_line = (refl, refl)
-
-outside_lines : (failure_line None failures.Unwritten ≡ codes "bootmem: cannot write\n")
-    × (failure_line None failures.Memory ≡ codes "bootmem: out of memory\n")
-outside_lines = (refl, refl)

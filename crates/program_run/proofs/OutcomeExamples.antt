@@ -43,12 +43,10 @@ held name = if bytes_eq name (codes "short") then Some (replicate 4095 0) else N
 refused_words : (h : Held) → outcome None h ≡ Err reasons.Usage
 refused_words h = refl
 
-without_a_page : outcome (Some (wanting (codes "no"))) held ≡ Err (reasons.Refused (refusals.Unread inputs.ZeroPage))
-without_a_page = refl
-
-with_a_short_page : outcome (Some (wanting (codes "short"))) held
-    ≡ Err (reasons.Refused (refusals.Faulty inputs.ZeroPage (faults.ZeroPage zero.WrongLength)))
-with_a_short_page = refl
+refused_pages : (outcome (Some (wanting (codes "no"))) held ≡ Err (reasons.Refused (refusals.Unread inputs.ZeroPage)))
+    × (outcome (Some (wanting (codes "short"))) held
+    ≡ Err (reasons.Refused (refusals.Faulty inputs.ZeroPage (faults.ZeroPage zero.WrongLength))))
+refused_pages = (refl, refl)
 
 -- a made table in place of the files' entries
 abbrev of_files : Given
@@ -74,15 +72,11 @@ unfolding entries_behind
 given_examples h = refl
 
 -- the parts of that definition
-usage_examples : (or_usage None ≡ Err reasons.Usage) × (or_usage (Some (wanting (codes "zp"))) ≡ Ok (wanting (codes "zp")))
-usage_examples = (refl, refl)
-
-refused_examples : (or_refused {A = ℕ} (Ok 7) ≡ Ok 7) × (or_refused {A = ℕ} (Err (refusals.Unread inputs.ZeroPage))
-    ≡ Err (reasons.Refused (refusals.Unread inputs.ZeroPage)))
-refused_examples = (refl, refl)
-
-stopped_examples : (or_stopped {A = ℕ} (Ok 7) ≡ Ok 7) × (or_stopped {A = ℕ} (Err causes.NoRam) ≡ Err (reasons.Stopped causes.NoRam))
-stopped_examples = (refl, refl)
+parts_examples : (or_usage None ≡ Err reasons.Usage) × (or_usage (Some (wanting (codes "zp"))) ≡ Ok (wanting (codes "zp")))
+    × (or_refused {A = ℕ} (Ok 7) ≡ Ok 7)
+    × (or_refused {A = ℕ} (Err (refusals.Unread inputs.ZeroPage)) ≡ Err (reasons.Refused (refusals.Unread inputs.ZeroPage)))
+    × (or_stopped {A = ℕ} (Ok 7) ≡ Ok 7) × (or_stopped {A = ℕ} (Err causes.NoRam) ≡ Err (reasons.Stopped causes.NoRam))
+parts_examples = (refl, refl, refl, refl, refl, refl)
 
 stop_is_reported : (given : Given) → boot given ≡ Err causes.NoRam → reported (reports.Map ∷ []) given ≡ Err (reasons.Stopped causes.NoRam)
 stop_is_reported given stops = rw stops refl
@@ -98,12 +92,10 @@ reaches_examples : ReachesFile inputs.Extension text × (ReachesFile inputs.Exte
     × (ReachesFile {Y = ℕ} inputs.Extension (Err reasons.Usage) → ⊥)
 reaches_examples = (tt, (λ comes. omega (arith, comes)), λ comes. comes)
 
-file_fits : FitsFile (refusals.Faulty inputs.ZeroPage (faults.ZeroPage zero.TooFew)) too_few
+reason_fits : FitsFile (refusals.Faulty inputs.ZeroPage (faults.ZeroPage zero.TooFew)) too_few
     × FitsFile (refusals.Unread inputs.CommandLine) text
-file_fits = (refl, tt)
-
-reason_fits : FitsReason {Y = ℕ} (reasons.Stopped causes.NoRam) (Err (reasons.Stopped causes.NoRam)) × (FitsReason reasons.Usage text → ⊥)
-reason_fits = (refl, λ same. cc same)
+    × FitsReason {Y = ℕ} (reasons.Stopped causes.NoRam) (Err (reasons.Stopped causes.NoRam)) × (FitsReason reasons.Usage text → ⊥)
+reason_fits = (refl, tt, refl, λ same. cc same)
 
 -- want of memory fits everything, a failed output nothing that comes before it
 failure_fits : FitsFailure failures.Memory text × (FitsFailure failures.Unwritten text → ⊥)
@@ -150,43 +142,30 @@ boot_examples : IsOfBoot {X = ℕ} (Err (failures.NoReport (reasons.Stopped caus
 boot_examples = (tt, λ of_boot. of_boot)
 
 -- an outcome is a text, a fault or a stop
-text_examples : IsText text (λ t. t ≡ codes "ab") × (IsText too_few (λ t. t ≡ codes "ab") → ⊥)
-text_examples = (refl, λ is. is)
-
-faulty_examples : IsFaulty too_few × (IsFaulty text → ⊥)
-faulty_examples = ((inputs.ZeroPage, (faults.ZeroPage zero.TooFew, refl)), λ is. cc is.1.1)
-
-stop_examples : IsStopped (Err (reasons.Stopped causes.NoRam)) × (IsStopped too_few → ⊥)
-stop_examples = ((causes.NoRam, refl), λ is. cc is.1)
+text_examples : IsText text (λ t. t ≡ codes "ab") × (IsText too_few (λ t. t ≡ codes "ab") → ⊥) × IsFaulty too_few × (IsFaulty text → ⊥)
+    × IsStopped (Err (reasons.Stopped causes.NoRam)) × (IsStopped too_few → ⊥)
+text_examples =
+    (refl, (λ is. is), (inputs.ZeroPage, (faults.ZeroPage zero.TooFew, refl)), (λ is. cc is.1.1), (causes.NoRam, refl), λ is. cc is.1)
 
 end_fits_examples : EndFits failures.Unwritten text × (EndFits failures.Unwritten too_few → ⊥)
 end_fits_examples = (tt, λ is. is)
 
 -- where the outcome is a text, the status is 0, 3, 4 or 7; refused words are status 2, or 7
-text_ends : MayEndWith text 0 × (MayEndWith text 5 → ⊥)
-text_ends = (inl refl, λ ends. grind arith)
-
-usage_ends : MayEndWith (Err reasons.Usage) 2 × MayEndWith (Err reasons.Usage) 7 × (MayEndWith (Err reasons.Usage) 3 → ⊥)
-usage_ends = (inl refl, inr refl, λ ends. grind arith)
-
-stop_ends : MayEndWith (Err (reasons.Stopped causes.NoRam)) 6 × (MayEndWith (Err (reasons.Stopped causes.NoRam)) 5 → ⊥)
-stop_ends = (inl refl, λ ends. grind arith)
+ends_examples : MayEndWith text 0 × (MayEndWith text 5 → ⊥) × MayEndWith (Err reasons.Usage) 2 × MayEndWith (Err reasons.Usage) 7
+    × (MayEndWith (Err reasons.Usage) 3 → ⊥) × MayEndWith (Err (reasons.Stopped causes.NoRam)) 6
+    × (MayEndWith (Err (reasons.Stopped causes.NoRam)) 5 → ⊥)
+ends_examples = (inl refl, (λ ends. grind arith), inl refl, inr refl, (λ ends. grind arith), inl refl, λ ends. grind arith)
 
 -- written whole, in part, and not at all
 writes_examples : Writes (Some []) (Some (codes "ab")) (Ok tt) text × Writes (Some []) (Some (codes "a")) (Err failures.Unwritten) text
-    × Writes (Some []) (Some []) (Err failures.Memory) text
-writes_examples = (refl, (1, omega arith, refl), inl refl)
-
-written_short : Writes (Some []) (Some (codes "a")) (Ok tt) text → ⊥
-written_short same = cc same
+    × Writes (Some []) (Some []) (Err failures.Memory) text × (Writes (Some []) (Some (codes "a")) (Ok tt) text → ⊥)
+writes_examples = (refl, (1, omega arith, refl), inl refl, λ same. cc same)
 
 -- an output object that is a count of faults: it rose where a put failed, and is as it was where nothing was put
 writing_examples : WritingHasCause {S = ℕ} (λ s. s) (λ s. 0) 3 4 (Err failures.Unwritten)
     × WritingHasCause {S = ℕ} (λ s. s) (λ s. 0) 3 3 (Err (failures.NoReport reasons.Usage))
-writing_examples = (omega arith, refl)
-
-writing_without_a_cause : WritingHasCause {S = ℕ} (λ s. s) (λ s. 0) 3 3 (Err failures.Unwritten) → ⊥
-writing_without_a_cause rose = omega (arith, rose)
+    × (WritingHasCause {S = ℕ} (λ s. s) (λ s. 0) 3 3 (Err failures.Unwritten) → ⊥)
+writing_examples = (omega arith, refl, λ rose. omega (arith, rose))
 
 -- after status 0 the error output is as it was
 told_examples : (errors : SinkOf ℕ) → IsTold errors wanted 3 3 (Ok tt) × (IsTold errors wanted 3 4 (Ok tt) → ⊥)

@@ -1,5 +1,6 @@
 -- Bytes that go out part by part: those that went out, and those that are left.
 use Rattle.std.proofs.Common.{◌≡◌, ℕ, ◌≤◌, List, [], ◌++◌, Result, Ok, Err, sym, ap, ◌∙◌, append_assoc, append-nil, arith, inr}
+use Rattle.std.specs.Prelude.{IsErrAnd}
 use Rattle.std.specs.Io.KnownBytes.{Appends}
 use Rattle.std.proofs.KnownBytes.{Appends-trans}
 use Rattle.bm_io.specs.Puts.{Puts}
@@ -28,10 +29,10 @@ more_out sink old mid new rest part left all before split puts = record {
 
 -- a part that is refused: that is the answer to all
 pub refused_out : {S : Type 0} (sink : SinkOf S) (old mid new : S) (answer : Result (Unit {0}) Put) (error : Put)
-    (rest part left all : List ℕ) → WentOut sink old mid rest all → rest ≡ part ++ left → answer ≡ Err error
+    (rest part left all : List ℕ) → WentOut sink old mid rest all → rest ≡ part ++ left → IsErrAnd answer (λ e. e ≡ error)
     → Puts sink mid new (Err error) part → Puts sink old new answer all
 refused_out sink old mid new answer error rest part left all before split is puts =
-    puts_refused sink old mid new answer error before.out part left all is
+    puts_refused sink old mid new answer error before.out part left all (grind (arith, is))
     (ap (λ t. before.out ++ t) (sym split) ∙ before.joined) before.written before.faults before.wants puts
 
 -- no rest

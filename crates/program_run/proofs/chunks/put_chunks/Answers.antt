@@ -1,7 +1,5 @@
 -- One more went out, or was refused.
-use Rattle.std.proofs.Common.{◌∙◌, Err, List, ap}
-use Rattle.std.proofs.lemmas.Result.{err_from_is_err_and}
-use Rattle.bm_io.specs.declared.writing.Put.{Put}
+use Rattle.std.proofs.Common.{List, ap}
 use Rattle.stage_texts.specs.declared.chunks.Chunk.{Chunk}
 use Rattle.stage_texts.specs.Chunks.{text_of_chunks}
 use Rattle.program_run.proofs.PutLaws.{more_out, refused_out}
@@ -14,7 +12,6 @@ loop-chunk-preserved g c =
 
 pub returns-in_err-put_chunk : goal.returns-in_err-put_chunk
 returns-in_err-put_chunk g c =
-    let p = err_from_is_err_and c.from_residual.result c.from_residual.ensures.1 in
     refused_out g.S.Sink _ c.loop-chunk.out c.put_chunk.new.out _ c.in_err-put_chunk.field-0.0 _ _ _ _ c.loop-chunk.invariant
-    (ap (λ (all : List Chunk). text_of_chunks all) c.in-Some.ensures.steps.0) (p.1 ∙ ap (λ (e : Put). Err e) p.2)
+    (ap (λ (all : List Chunk). text_of_chunks all) c.in-Some.ensures.steps.0) c.from_residual.ensures.1
     c.in_err-put_chunk.ensures

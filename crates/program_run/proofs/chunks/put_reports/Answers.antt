@@ -1,8 +1,6 @@
 -- One more went out, or was refused.
-use Rattle.std.proofs.Common.{◌∙◌, Err, List, ap, Global, Vec}
-use Rattle.std.proofs.lemmas.Result.{err_from_is_err_and}
+use Rattle.std.proofs.Common.{List, ap, Global, Vec}
 use Rattle.std.specs.List.{flat_map}
-use Rattle.bm_io.specs.declared.writing.Put.{Put}
 use Rattle.stage_texts.specs.declared.chunks.Chunk.{Chunk}
 use Rattle.stage_texts.specs.Chunks.{text_of_chunks}
 use Rattle.program_run.proofs.PutLaws.{more_out, refused_out}
@@ -16,8 +14,7 @@ loop-chunks-preserved g c =
 
 pub returns-in_err-put_chunks : goal.returns-in_err-put_chunks
 returns-in_err-put_chunks g c =
-    let p = err_from_is_err_and c.from_residual.result c.from_residual.ensures.1 in
     refused_out g.S.Sink _ c.loop-chunks.out c.put_chunks.new.out _ c.in_err-put_chunks.field-0.0 _ _ _ _ c.loop-chunks.invariant
     (ap (λ (all : List (Vec Chunk Global)). flat_map (λ chunks. text_of_chunks chunks.items) all) c.in-Some.ensures.steps.0)
-    (p.1 ∙ ap (λ (e : Put). Err e) p.2)
+    c.from_residual.ensures.1
     c.in_err-put_chunks.ensures

@@ -1,8 +1,6 @@
 -- A sheet more went out, or was refused.
-use Rattle.std.proofs.Common.{◌≡◌, ◌∙◌, ◌++◌, [], ◌==◌, true, Err, ap, sym, append-nil, arith}
+use Rattle.std.proofs.Common.{◌≡◌, ◌∙◌, ◌++◌, [], ◌==◌, true, ap, sym, append-nil, arith}
 use Rattle.std.proofs.lemmas.Bool.Decides.{nat_tests}
-use Rattle.std.proofs.lemmas.Result.{err_from_is_err_and}
-use Rattle.bm_io.specs.declared.writing.Put.{Put}
 use Rattle.stage_texts.specs.BlocksText.{row_text}
 use Rattle.stage_texts.specs.Sheets.{first_sheet}
 use Rattle.stage_texts.proofs.RowLaws.{no_lines}
@@ -11,10 +9,9 @@ use Rattle.program_run.proofs.chunks.put_sheets.Goals as goal
 
 pub returns-in_err-put_all : goal.returns-in_err-put_all
 returns-in_err-put_all g c =
-    let p = err_from_is_err_and c.from_residual.result c.from_residual.ensures.1 in
     let sheet : c.sheet.result.now ++ [] ≡ first_sheet c.loop-out.sheets = append-nil c.sheet.result.now ∙ c.sheet.ensures.lines in
     refused_out g.S.Sink _ c.loop-out.out c.put_all.new.out _ c.in_err-put_all.field-0.0 _ _ _ _ c.loop-out.invariant
-    (c.sheet.ensures.front.1 ∙ ap (λ t. t ++ c.sheet.ensures.front.0) (sym sheet)) (p.1 ∙ ap (λ (e : Put). Err e) p.2)
+    (c.sheet.ensures.front.1 ∙ ap (λ t. t ++ c.sheet.ensures.front.0) (sym sheet)) c.from_residual.ensures.1
     c.in_err-put_all.ensures.puts
 
 pub loop-out-preserved : goal.loop-out-preserved

@@ -1,5 +1,4 @@
 -- Files that are refused are refused whatever table is made; else it stands in what they give.
-use Rattle.std.proofs.lemmas.Result.{err_from_is_err_and}
 use Rattle.boot_model.specs.View.{inputs_view}
 use Rattle.program_words.specs.View.{wanted_view}
 use Rattle.program_run.proofs.GivenLaws.{given_none, given_some}
@@ -7,9 +6,8 @@ use Rattle.program_run.proofs.given.read_given.Goals as goal
 
 pub returns-in_err-inputs-clause-gives : goal.returns-in_err-inputs-clause-gives
 returns-in_err-inputs-clause-gives g c =
-    let p = err_from_is_err_and c.from_residual-in_err-inputs.result c.from_residual-in_err-inputs.ensures.1 in
-    given_none inputs_view c.from_residual-in_err-inputs.result p.0 c.in_err-inputs.field-0.0 (g.F.Files.holds c.args.files.now)
-    (wanted_view c.args.wanted.now) p.1 p.2 (rw c.in_ok-begun.ensures.begun at c.in_err-inputs.ensures.gives)
+    given_none inputs_view c.from_residual-in_err-inputs.result c.in_err-inputs.field-0.0 (g.F.Files.holds c.args.files.now)
+    (wanted_view c.args.wanted.now) c.from_residual-in_err-inputs.ensures.1 (rw c.in_ok-begun.ensures.begun at c.in_err-inputs.ensures.gives)
 
 pub returns-in-Ok-clause-gives : goal.returns-in-Ok-clause-gives
 returns-in-Ok-clause-gives g c =

@@ -1,6 +1,5 @@
 -- Inputs that are refused are the reason for no report, and else the boot of the inputs is reported.
 use Rattle.std.proofs.Common.{refl}
-use Rattle.std.proofs.lemmas.Result.{err_from_is_err_and}
 use Rattle.boot_model.specs.View.{inputs_view}
 use Rattle.program_words.specs.View.{wanted_view}
 use Rattle.program_run.proofs.BootedLaws.{texts_made}
@@ -9,9 +8,8 @@ use Rattle.program_run.proofs.program.make_texts.Goals as goal
 
 pub returns-in_err-inputs-clause-makes : goal.returns-in_err-inputs-clause-makes
 returns-in_err-inputs-clause-makes g c =
-    let p = err_from_is_err_and c.from_residual.result c.from_residual.ensures.1 in
-    makes_none _ c.from_residual.result p.0 (g.F.Files.holds c.args.files.now) _ (wanted_view c.args.wanted.now) c.in_err-inputs.field-0.0
-    p.1 p.2 refl c.in_err-inputs.ensures.gives
+    makes_none _ c.from_residual.result (g.F.Files.holds c.args.files.now) _ (wanted_view c.args.wanted.now) c.in_err-inputs.field-0.0
+    c.from_residual.ensures.1 refl c.in_err-inputs.ensures.gives
 
 pub returns-clause-makes : goal.returns-clause-makes
 returns-clause-makes g c =

@@ -1,22 +1,18 @@
 -- Before all texts are there nothing is put, and from then on it is what the output answers.
-use Rattle.std.proofs.Common.{◌∙◌, Some, Err, ap}
-use Rattle.std.proofs.lemmas.Result.{err_from_is_err_and}
+use Rattle.std.proofs.Common.{Some}
 use Rattle.program_words.specs.View.{wanted_view}
-use Rattle.program_run.specs.declared.failure.Failure.{Failure}
 use Rattle.program_run.proofs.WriteLaws.{on_ok, put_none, put_some, wrote, wrote_none}
 use Rattle.program_run.proofs.program.write_reports.Goals as goal
 
 pub returns-in_err-texts-clause-writes : goal.returns-in_err-texts-clause-writes
 returns-in_err-texts-clause-writes g c =
-    let p = err_from_is_err_and c.from_residual.result c.from_residual.ensures.1 in
     wrote_none (g.F.Files.holds c.args.files.now) (Some (wanted_view c.args.wanted.now)) c.in_err-texts.field-0.0
-    c.from_residual.result (g.S.Sink.written c.args.out.now) (p.1 ∙ ap (λ (f : Failure). Err f) p.2) c.in_err-texts.ensures.makes
+    c.from_residual.result (g.S.Sink.written c.args.out.now) c.from_residual.ensures.1 c.in_err-texts.ensures.makes
 
 pub returns-in_err-texts-clause-output : goal.returns-in_err-texts-clause-output
 returns-in_err-texts-clause-output g c =
-    let p = err_from_is_err_and c.from_residual.result c.from_residual.ensures.1 in
     put_none g.S.Sink.faults g.S.Sink.wants c.args.out.now _ _ (Some (wanted_view c.args.wanted.now)) c.in_err-texts.field-0.0
-    c.from_residual.result (p.1 ∙ ap (λ (f : Failure). Err f) p.2) c.in_err-texts.ensures.cause
+    c.from_residual.result c.from_residual.ensures.1 c.in_err-texts.ensures.cause
 
 pub returns-clause-writes : goal.returns-clause-writes
 returns-clause-writes g c =
