@@ -1,8 +1,6 @@
 -- What a boot answers, as the outcome has it: its stop is the reason for no report, and the texts of what it made are the text.
-use Rattle.std.proofs.Common.{◌≡◌, ◌≢◌, ℕ, List, Option, Some, None, Result, Ok, Err, refl, ap, ◌∙◌, arith}
-use Rattle.std.specs.Prelude.{IfSome}
-use Rattle.bm_base.specs.ResultSteps.{◌>>=◌, with_error}
-use Rattle.boot_inputs.specs.Inputs.{Held}
+use Rattle.std.proofs.Common.{◌≡◌, ◌≢◌, ℕ, List, Result, Ok, Err, refl, arith}
+use Rattle.bm_base.specs.ResultSteps.{with_error}
 use Rattle.boot_model.specs.declared.stop.Cause.{Cause}
 use Rattle.boot_model.specs.declared.stop.Stop.{Stop}
 use Rattle.boot_model.specs.declared.stop.Stop.TheVariants as stops
@@ -17,22 +15,15 @@ use Rattle.debugfs_reports.specs.ReportList.{text_of}
 use Rattle.debugfs_reports.specs.Stand.{TablesStand}
 use Rattle.memblock_model.specs.declared.which.Which.TheVariants as which
 use Rattle.program_run.specs.declared.failure.Failure.{Failure}
-use Rattle.program_run.specs.Answers.{FitsFailure, Makes}
-use Rattle.program_run.specs.Outcome.{given_by, or_stopped, outcome, reported}
+use Rattle.program_run.specs.Answers.{Makes}
+use Rattle.program_run.specs.Outcome.{reported}
 use Rattle.program_run.specs.Status.{failure_of_stop}
-use Rattle.program_words.specs.Words.{Wanted}
 
 -- a stop of the boot has one cause
-stop_fits : (stop : Stop) (failure : Failure) (answer : Result Told Cause) (shown : Told → List ℕ) → failure ≡ failure_of_stop stop
-    → (stop ≢ stops.Memory → with_error stop_of answer ≡ Err stop)
-    → FitsFailure failure (or_stopped answer >>= λ told. Ok (shown told))
-stop_fits stop failure answer shown is stops_so = grind arith
-
 pub boot_stopped : {X : Type 0} (view : X → List ℕ) (r : Result X Failure) (failure : Failure) (stop : Stop) (given : Given)
     (reports : List Report) → r ≡ Err failure → failure ≡ failure_of_stop stop
     → (stop ≢ stops.Memory → with_error stop_of (told_boot given) ≡ Err stop) → Makes view r (reported reports given)
-boot_stopped view r failure stop given reports is from stops_so =
-    rw is (stop_fits stop failure (told_boot given) (text_of reports) from stops_so)
+boot_stopped view r failure stop given reports is from stops_so = rw is (grind arith)
 
 pub told_is : (answer : Result Told Cause) (told : Told) → with_error stop_of answer ≡ Ok told → answer ≡ Ok told
 told_is answer told is = grind arith
@@ -48,11 +39,3 @@ items_stand b memory reserved = record {
   memory = record { table = memory.table; at = record { stands = memory.stands; told = memory.told }; told = memory.records };
   reserved = record { table = reserved.table; at = record { stands = reserved.stands; told = reserved.told }; told = reserved.records };
 }
-
--- what is made of the inputs is what the outcome has of them
-pub texts_made : {X : Type 0} (view : X → List ℕ) (r : Result X Failure) (holds : Option Held) (accepted : Option Wanted) (wanted : Wanted)
-    (given booted : Given) → accepted ≡ Some wanted → IfSome holds (λ held. given_by held wanted ≡ Ok given)
-    → Makes view r (reported wanted.reports booted) → given ≡ booted → IfSome holds (λ held. Makes view r (outcome accepted held))
-texts_made view r None accepted wanted given booted some is makes same = tt
-texts_made view r (Some held) accepted wanted given booted some is makes same =
-    rw (some, is ∙ ap (λ (g : Given). Ok g) same) makes

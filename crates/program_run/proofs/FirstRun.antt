@@ -98,12 +98,9 @@ only_claims =
 abbrev runs : List (RunOf ℕ)
 runs = record { base = 0x100000; size = 0x7EE0000; value = 1 } ∷ record { base = 0x7FE0000; size = 0x20000; value = 2 } ∷ []
 
-runs_give : (x : ℕ) → value_at runs x ≡ some_kind (kind_at x)
-unfolding kind_at
-runs_give x = grind (arith, nat_tests)
-
 kinds_are : (x : ℕ) → kinds (claims given) x ≡ value_at runs x
-kinds_are x = ap some_kind (only_gives (claims given) only_claims x) ∙ sym (runs_give x)
+unfolding kind_at
+kinds_are x = ap some_kind (only_gives (claims given) only_claims x) ∙ grind (arith, nat_tests)
 
 none_above : (x : ℕ) → 2 ^ 64 ≤ x → kinds (claims given) x ≡ None
 unfolding kind_at

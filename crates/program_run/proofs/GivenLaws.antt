@@ -1,10 +1,7 @@
 -- A made table behind the files: what was refused stays so, and its entries stand for those of the files.
-use Rattle.std.proofs.Common.{◌≡◌, ℕ, List, drop, take, Option, Some, None, Result, Ok, refl, arith}
+use Rattle.std.proofs.Common.{◌≡◌, Option, Some, None, Result, Ok, arith}
 use Rattle.std.specs.Prelude.{IfSome, IsErrAnd}
-use Rattle.bm_base.specs.Extent.{Extent}
 use Rattle.bm_base.specs.ResultSteps.{◌>>=◌}
-use Rattle.e820_model.specs.declared.entry.Entry.{Entry}
-use Rattle.e820_table.specs.Made.{made_entries}
 use Rattle.boot_inputs.specs.declared.refusal.InputError.{InputError}
 use Rattle.boot_inputs.specs.declared.refusal.InputRefusal.{InputRefusal}
 use Rattle.boot_inputs.specs.Answers.{FitsAnswer, Gives}
@@ -27,10 +24,4 @@ given_none view r error (Some held) wanted is fits =
 
 pub given_some : (told : Option Held) (wanted : Wanted) (given out : Given) → out ≡ with_made wanted.made given
     → IfSome told (λ held. inputs_of held wanted.named wanted.begun ≡ Ok given) → IfSome told (λ held. given_by held wanted ≡ Ok out)
-given_some None wanted given out made is = tt
-given_some (Some held) wanted given out made is = rw (is, made) refl
-
-pub made_given : (given : Given) (entries : Option ℕ) (count : ℕ) (page extension : List Entry) (initrd : Option Extent)
-    → entries ≡ Some count → page ≡ take 128 (made_entries count) → initrd ≡ None → extension ≡ drop 128 (made_entries count)
-    → ◌≡◌ {A = Given} (record given { entries = page; initrd = initrd; extension = extension }) (with_made entries given)
-made_given given entries count page extension initrd some first none rest = rw (some, first, none, rest) refl
+given_some told wanted given out made is = grind arith

@@ -1,5 +1,5 @@
 -- A text that is the outcome's is that of a boot.
-use Rattle.std.proofs.Common.{◌≡◌, ℕ, List, Option, Some, None, IfSome, Result, Ok, Err, refl, sym, ◌∙◌, arith}
+use Rattle.std.proofs.Common.{◌≡◌, ℕ, List, Option, Some, None, IfSome, Result, Ok, Err, refl, arith}
 use Rattle.std.specs.Io.KnownBytes.{Appends}
 use Rattle.bm_base.specs.ResultSteps.{◌>>=◌}
 use Rattle.boot_inputs.specs.declared.refusal.InputRefusal.{InputRefusal}
@@ -9,11 +9,10 @@ use Rattle.boot_model.specs.Boot.{Given, Told, told_boot}
 use Rattle.conservation.proofs.HeadlineLaws.{all_touched_or_in_one, blocks_maximal, blocks_whole, no_other_in_a_block}
 use Rattle.debugfs_reports.specs.declared.report.Report.{Report}
 use Rattle.debugfs_reports.specs.ReportList.{text_of}
-use Rattle.program_run.specs.declared.failure.Failure.{Failure}
 use Rattle.program_run.specs.Answers.{IsText, Writes}
 use Rattle.program_run.specs.Headline.{IsReported}
 use Rattle.program_run.specs.Outcome.{given_by, or_refused, or_stopped, outcome, reported}
-use Rattle.program_run.specs.Status.{End, status_of, status_of_end}
+use Rattle.program_run.specs.Status.{End, status_of_end}
 use Rattle.program_words.specs.Words.{Wanted}
 
 by_told : (reports : List Report) (answer : Result Told Cause) (P : List ℕ → Type 0)
@@ -49,14 +48,10 @@ is_reported (Some wanted) held old new is =
       maximal = blocks_maximal first.0 last.0 last.1;
     }
 
--- no failure has status 0
-failed : (failure : Failure) → 0 ≡ status_of failure → ⊥
-failed failure is = grind arith
-
--- after status 0 that was written
+-- after status 0 that was written, for no failure has status 0
 pub ran_headline : (holds : Option Held) (accepted : Option Wanted) (end : End) (status : ℕ) (old new : Option (List ℕ))
     → status ≡ status_of_end end → IfSome holds (λ held. Writes old new end (outcome accepted held)) → status ≡ 0
     → IfSome holds (λ held. IsReported accepted held old new)
 ran_headline None accepted end status old new is writes zero = tt
 ran_headline (Some held) accepted (Ok done) status old new is writes zero = is_reported accepted held old new writes
-ran_headline (Some held) accepted (Err failure) status old new is writes zero = absurd (failed failure (sym zero ∙ is))
+ran_headline (Some held) accepted (Err failure) status old new is writes zero = absurd (grind arith)

@@ -7,4 +7,3 @@ pub mod OutcomeExamples
 pub mod PutLaws
 pub mod RunLaws
 pub mod TellLaws
-pub mod WriteLaws

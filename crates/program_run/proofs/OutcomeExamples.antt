@@ -57,19 +57,16 @@ of_files = record (begun Bits46 (record { base = 0x1000000; size = 0x2000000 }))
 }
 
 -- two entries are the first two, and nothing is left for the extension; without a number the files' entries stay
-made_examples : (with_made (Some 2) of_files ≡ record of_files { entries = low_ram ∷ high_ram ∷ []; initrd = None; extension = [] })
+made_examples : (h : Held) → (with_made (Some 2) of_files ≡ record of_files { entries = low_ram ∷ high_ram ∷ []; initrd = None; extension = [] })
     × (with_made None of_files ≡ of_files)
+    × (given_by h (record {
+      named = λ input. None;
+      begun = begun Bits46 (record { base = 0x1000000; size = 0x2000000 });
+      reports = [];
+      made = Some 2;
+    }) ≡ Ok (record of_files { entries = low_ram ∷ high_ram ∷ []; initrd = None; extension = [] }))
 unfolding entries_behind
-made_examples = (refl, refl)
-
-given_examples : (h : Held) → given_by h (record {
-  named = λ input. None;
-  begun = begun Bits46 (record { base = 0x1000000; size = 0x2000000 });
-  reports = [];
-  made = Some 2;
-}) ≡ Ok (record of_files { entries = low_ram ∷ high_ram ∷ []; initrd = None; extension = [] })
-unfolding entries_behind
-given_examples h = refl
+made_examples h = (refl, refl, refl)
 
 -- the parts of that definition
 parts_examples : (or_usage None ≡ Err reasons.Usage) × (or_usage (Some (wanting (codes "zp"))) ≡ Ok (wanting (codes "zp")))
@@ -116,14 +113,12 @@ rose_examples : RoseFor before (λ name. 1) wanted inputs.Extension × (RoseFor 
     × (RoseFor before before wanted inputs.ZeroPage → ⊥)
 rose_examples = (omega arith, (λ rose. rose), λ rose. omega (arith, rose))
 
-file_causes : FileHasCause before (λ name. 1) wanted (refusals.Unread inputs.Extension)
-    × (FileHasCause before before None (refusals.Faulty inputs.ZeroPage (faults.ZeroPage zero.TooFew)) → ⊥)
-file_causes = (omega arith, λ some. cc some)
-
 -- refused words are the cause of status 2 alone
-reason_causes : ReasonHasCause before before None reasons.Usage
+reason_causes : FileHasCause before (λ name. 1) wanted (refusals.Unread inputs.Extension)
+    × (FileHasCause before before None (refusals.Faulty inputs.ZeroPage (faults.ZeroPage zero.TooFew)) → ⊥)
+    × ReasonHasCause before before None reasons.Usage
     × (ReasonHasCause before before wanted (reasons.Refused (refusals.Unread inputs.Extension)) → ⊥)
-reason_causes = (refl, λ rose. omega (arith, rose))
+reason_causes = (omega arith, (λ some. cc some), refl, λ rose. omega (arith, rose))
 
 report_causes : ReportHasCause {X = ℕ} before before wanted (Ok 7)
     × (ReportHasCause {X = ℕ} before before wanted (Err failures.Unwritten) → ⊥)
@@ -131,11 +126,9 @@ report_causes = (refl, λ cause. cause)
 
 -- memory may be wanting while the words are read, be they accepted or not
 failure_causes : FailureHasCause before before wanted failures.Unwritten × (FailureHasCause before before None failures.Unwritten → ⊥)
-    × FailureHasCause before before None failures.Memory
-failure_causes = (refl, (λ some. cc some), tt)
-
-end_causes : EndHasCause before before wanted (Ok tt) × (EndHasCause before before None (Ok tt) → ⊥)
-end_causes = (refl, λ some. cc some)
+    × FailureHasCause before before None failures.Memory × EndHasCause before before wanted (Ok tt)
+    × (EndHasCause before before None (Ok tt) → ⊥)
+failure_causes = (refl, (λ some. cc some), tt, refl, λ some. cc some)
 
 boot_examples : IsOfBoot {X = ℕ} (Err (failures.NoReport (reasons.Stopped causes.NoRam)))
     × (IsOfBoot {X = ℕ} (Err (failures.NoReport reasons.Usage)) → ⊥)

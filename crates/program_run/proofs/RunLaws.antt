@@ -11,7 +11,6 @@ use Rattle.boot_inputs.specs.Answers.{FitsAnswer}
 use Rattle.boot_inputs.specs.Inputs.{Held}
 use Rattle.boot_model.specs.Boot.{Given}
 use Rattle.debugfs_reports.specs.declared.report.Report.{Report}
-use Rattle.program_run.specs.declared.failure.Reason.{Reason}
 use Rattle.program_run.specs.declared.failure.Reason.TheVariants as reasons
 use Rattle.program_run.specs.declared.failure.Failure.{Failure}
 use Rattle.program_run.specs.declared.failure.Failure.TheVariants as failures
@@ -39,36 +38,11 @@ makes_none view r None accepted wanted error is some fits = tt
 makes_none view (Ok x) (Some held) accepted wanted error is some fits = absurd is
 makes_none view (Err failure) (Some held) accepted wanted error is some fits = rw some (inputs_fit held wanted error failure is fits)
 
--- the statuses, by the outcome
-ends_by : (said : Result (List ℕ) Reason) (end : End) (old new : Option (List ℕ)) → Writes old new end said
-    → MayEndWith said (status_of_end end)
-ends_by said end old new writes = grind arith
-
 -- the status is one that the outcome may end with, where the files tell what they hold
 pub ran_answers : (holds : Option Held) (accepted : Option Wanted) (end : End) (status : ℕ) (old new : Option (List ℕ))
     → status ≡ status_of_end end → IfSome holds (λ held. Writes old new end (outcome accepted held))
     → IfSome holds (λ held. MayEndWith (outcome accepted held) status)
-ran_answers holds accepted end status old new is writes = grind (arith, ends_by)
-
--- want of memory before anything was written fits every outcome
-pub wanting_fits : (holds : Option Held) (accepted : Option Wanted) (written : Option (List ℕ))
-    → IfSome holds (λ held. Writes written written (Err failures.Memory) (outcome accepted held))
-wanting_fits holds accepted written = grind arith
-
--- refused words fit the outcome, which is that they are refused
-pub usage_fits : (holds : Option Held) (accepted : Option Wanted) (written : Option (List ℕ)) → accepted ≡ None
-    → IfSome holds (λ held. Writes written written (Err (failures.NoReport reasons.Usage)) (outcome accepted held))
-usage_fits holds accepted written none = grind arith
-
--- a failure fits the outcome
-end_fits : (said : Result (List ℕ) Reason) (failure : Failure) (old new : Option (List ℕ)) → Writes old new (Err failure) said
-    → EndFits failure said
-end_fits said failure old new writes = grind arith
-
-fits_held : (holds : Option Held) (accepted : Option Wanted) (failure : Failure) (old new : Option (List ℕ))
-    → IfSome holds (λ held. Writes old new (Err failure) (outcome accepted held))
-    → IfSome holds (λ held. EndFits failure (outcome accepted held))
-fits_held holds accepted failure old new writes = grind (arith, end_fits)
+ran_answers holds accepted end status old new is writes = grind arith
 
 -- after any status but 0 the line is that of a failure that has the status and its cause, and fits the outcome
 pub ran_line : {E : Type 0} (errors : SinkOf E) (holds : Option Held) (before now : List ℕ → ℕ) (accepted : Option Wanted) (end : End)
@@ -80,7 +54,7 @@ pub ran_line : {E : Type 0} (errors : SinkOf E) (holds : Option Held) (before no
     × FailureHasCause before now accepted failure × IfSome holds (λ held. EndFits failure (outcome accepted held))
 ran_line errors holds before now accepted (Ok done) status err_old err_new old new is cause told writes other = absurd (other is)
 ran_line errors holds before now accepted (Err failure) status err_old err_new old new is cause told writes other =
-    (failure, is, told, cause, fits_held holds accepted failure old new writes)
+    (failure, is, told, cause, grind (arith, writes))
 
 -- a run that ends with 3 couldn't read a file that the words name
 abbrev pub NamesUnread : (before now : List ℕ → ℕ) → Option Wanted → Type 0

@@ -1,7 +1,6 @@
 -- What became of the chunks of a line, by the answer to them.
-use Rattle.std.proofs.Common.{ℕ, List, length, Result, Ok, Err, refl, inl, inr, arith, take_all}
+use Rattle.std.proofs.Common.{ℕ, List, length, Result, Ok, Err, inl, arith, take_all}
 use Rattle.bm_io.specs.declared.writing.Put.{Put}
-use Rattle.bm_io.specs.declared.writing.Put.TheVariants as put
 use Rattle.bm_io.specs.declared.writing.Sink.{Ghosts as SinkOf}
 use Rattle.bm_io.specs.Puts.{Puts}
 use Rattle.program_run.specs.Line.{PutsLine}
@@ -12,5 +11,4 @@ tells_by sink old new (Ok done) line puts = record {
   front = (length line, omega arith, rw (take_all (length line) line (omega arith)) puts.whole);
   whole = inl puts.whole;
 }
-tells_by sink old new (Err put.Failed) line puts = record { front = puts.front; whole = inr (inl (puts.failed refl)) }
-tells_by sink old new (Err put.Memory) line puts = record { front = puts.front; whole = inr (inr (puts.wanting refl)) }
+tells_by sink old new (Err error) line puts = record { front = puts.front; whole = grind (arith, puts.failed, puts.wanting) }

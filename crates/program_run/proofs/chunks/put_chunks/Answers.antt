@@ -13,5 +13,4 @@ loop-chunk-preserved g c =
 pub returns-in_err-put_chunk : goal.returns-in_err-put_chunk
 returns-in_err-put_chunk g c =
     refused_out g.S.Sink _ c.loop-chunk.out c.put_chunk.new.out _ c.in_err-put_chunk.field-0.0 _ _ _ _ c.loop-chunk.invariant
-    (ap (λ (all : List Chunk). text_of_chunks all) c.in-Some.ensures.steps.0) c.from_residual.ensures.1
-    c.in_err-put_chunk.ensures
+    (ap (λ (all : List Chunk). text_of_chunks all) c.in-Some.ensures.steps.0) c.from_residual.ensures.1 c.in_err-put_chunk.ensures

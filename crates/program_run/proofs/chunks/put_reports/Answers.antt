@@ -16,5 +16,4 @@ pub returns-in_err-put_chunks : goal.returns-in_err-put_chunks
 returns-in_err-put_chunks g c =
     refused_out g.S.Sink _ c.loop-chunks.out c.put_chunks.new.out _ c.in_err-put_chunks.field-0.0 _ _ _ _ c.loop-chunks.invariant
     (ap (λ (all : List (Vec Chunk Global)). flat_map (λ chunks. text_of_chunks chunks.items) all) c.in-Some.ensures.steps.0)
-    c.from_residual.ensures.1
-    c.in_err-put_chunks.ensures
+    c.from_residual.ensures.1 c.in_err-put_chunks.ensures

@@ -5,8 +5,7 @@ use Rattle.program_run.proofs.clauses.run_by_clauses.Goals as goal
 
 pub returns-clause-answers : goal.returns-clause-answers
 returns-clause-answers g c =
-    let ran = c.run.ensures.ran.2 in
-    ran_answers _ (accepted (texts c.args.words.now)) c.run.ensures.ran.0 _ _ _ c.run.ensures.ran.1 ran.said
+    ran_answers _ (accepted (texts c.args.words.now)) c.run.ensures.ran.0 _ _ _ c.run.ensures.ran.1 c.run.ensures.ran.2.said
 
 pub returns-clause-line : goal.returns-clause-line
 returns-clause-line g c =

@@ -7,7 +7,8 @@ use Rattle.program_run.proofs.given.read_given.Goals as goal
 pub returns-in_err-inputs-clause-gives : goal.returns-in_err-inputs-clause-gives
 returns-in_err-inputs-clause-gives g c =
     given_none inputs_view c.from_residual-in_err-inputs.result c.in_err-inputs.field-0.0 (g.F.Files.holds c.args.files.now)
-    (wanted_view c.args.wanted.now) c.from_residual-in_err-inputs.ensures.1 (rw c.in_ok-begun.ensures.begun at c.in_err-inputs.ensures.gives)
+    (wanted_view c.args.wanted.now) c.from_residual-in_err-inputs.ensures.1
+    (rw c.in_ok-begun.ensures.begun at c.in_err-inputs.ensures.gives)
 
 pub returns-in-Ok-clause-gives : goal.returns-in-Ok-clause-gives
 returns-in-Ok-clause-gives g c =

@@ -1,8 +1,6 @@
 -- Inputs that are refused are the reason for no report, and else the boot of the inputs is reported.
-use Rattle.std.proofs.Common.{refl}
-use Rattle.boot_model.specs.View.{inputs_view}
+use Rattle.std.proofs.Common.{refl, arith}
 use Rattle.program_words.specs.View.{wanted_view}
-use Rattle.program_run.proofs.BootedLaws.{texts_made}
 use Rattle.program_run.proofs.RunLaws.{makes_none}
 use Rattle.program_run.proofs.program.make_texts.Goals as goal
 
@@ -13,6 +11,4 @@ returns-in_err-inputs-clause-makes g c =
 
 pub returns-clause-makes : goal.returns-clause-makes
 returns-clause-makes g c =
-    texts_made _ c.boot_texts.result (g.F.Files.holds c.args.files.now) _ (wanted_view c.args.wanted.now)
-    (inputs_view c.in_ok-inputs.inputs) _ refl c.in_ok-inputs.ensures.gives
-    c.boot_texts.ensures.makes refl
+    grind (arith, c.in_ok-inputs.ensures.gives, c.boot_texts.ensures.makes)

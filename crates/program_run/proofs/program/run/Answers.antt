@@ -1,10 +1,9 @@
 -- Refused words, and want of memory to read them, are told before anything is fetched or put; else it is the run of what they ask for.
-use Rattle.std.proofs.Common.{◌≡◌, None, Err, refl, inl}
+use Rattle.std.proofs.Common.{◌≡◌, None, Err, refl, inl, arith}
 use Rattle.program_words.specs.Words.{accepted, texts}
 use Rattle.program_run.specs.declared.failure.Failure.TheVariants as failures
 use Rattle.program_run.specs.declared.failure.Reason.TheVariants as reasons
 use Rattle.program_run.proofs.HeadlineLaws.{ran_headline}
-use Rattle.program_run.proofs.RunLaws.{usage_fits, wanting_fits}
 use Rattle.program_run.proofs.program.run.Goals as goal
 
 pub returns-in-Ok-clause-ran : goal.returns-in-Ok-clause-ran
@@ -22,8 +21,7 @@ returns-in-Err-Usage-clause-ran g c =
         output = refl;
         none_missed = tt;
         unfailed = λ wanting. refl;
-        said = usage_fits (g.F.Files.holds c.args.files.now) (accepted (texts c.args.words.now)) (g.S.Sink.written c.args.out.now)
-            none;
+        said = grind (arith, none);
       },
       c.tell_usage.ensures,
     )
@@ -39,7 +37,7 @@ returns-in-Err-Memory-clause-ran g c = (
     output = inl refl;
     none_missed = tt;
     unfailed = λ wanting. refl;
-    said = wanting_fits (g.F.Files.holds c.args.files.now) (accepted (texts c.args.words.now)) (g.S.Sink.written c.args.out.now);
+    said = grind arith;
   },
   c.tell_memory.ensures,
 )
