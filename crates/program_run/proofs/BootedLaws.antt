@@ -1,5 +1,5 @@
 -- What a boot answers, as the outcome has it: its stop is the reason for no report, and the texts of what it made are the text.
-use Rattle.std.proofs.Common.{◌≡◌, ◌≢◌, ℕ, List, Result, Ok, Err, refl, arith}
+use Rattle.std.proofs.Common.{◌≡◌, ◌≢◌, ℕ, List, Result, Ok, Err, arith}
 use Rattle.bm_base.specs.ResultSteps.{with_error}
 use Rattle.boot_model.specs.declared.stop.Cause.{Cause}
 use Rattle.boot_model.specs.declared.stop.Stop.{Stop}
@@ -11,7 +11,6 @@ use Rattle.boot_model.specs.declared.booted.Booted.{Booted}
 use Rattle.boot_stages.specs.Boots.{TableStands}
 use Rattle.debugfs_reports.specs.declared.report.Report.{Report}
 use Rattle.debugfs_reports.specs.Report.{records_told}
-use Rattle.debugfs_reports.specs.ReportList.{text_of}
 use Rattle.debugfs_reports.specs.Stand.{TablesStand}
 use Rattle.memblock_model.specs.declared.which.Which.TheVariants as which
 use Rattle.program_run.specs.declared.failure.Failure.{Failure}
@@ -27,10 +26,6 @@ boot_stopped view r failure stop given reports is from stops_so = rw is (grind a
 
 pub told_is : (answer : Result Told Cause) (told : Told) → with_error stop_of answer ≡ Ok told → answer ≡ Ok told
 told_is answer told is = grind arith
-
-pub boot_told : (given : Given) (told : Told) (reports asked : List Report) (text : List ℕ) → with_error stop_of (told_boot given) ≡ Ok told
-    → reports ≡ asked → text ≡ text_of reports told → reported asked given ≡ Ok text
-boot_told given told reports asked text boots same whole = rw (told_is (told_boot given) told boots, whole, same) refl
 
 -- what the items of a boot come to stands at the heads of its tables
 pub items_stand : (b : Booted) → TableStands which.Memory b.journal.items b.store b.heads.memory

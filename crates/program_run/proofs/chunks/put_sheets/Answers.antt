@@ -1,24 +1,22 @@
 -- A sheet more went out, or was refused.
-use Rattle.std.proofs.Common.{◌≡◌, ◌∙◌, ◌++◌, [], ◌==◌, true, ap, sym, append-nil, arith}
+use Rattle.std.proofs.Common.{◌≡◌, ◌∙◌, ◌++◌, ◌==◌, true, ap, sym, append-nil, arith}
 use Rattle.std.proofs.lemmas.Bool.Decides.{nat_tests}
 use Rattle.stage_texts.specs.BlocksText.{row_text}
-use Rattle.stage_texts.specs.Sheets.{first_sheet}
 use Rattle.stage_texts.proofs.RowLaws.{no_lines}
 use Rattle.program_run.proofs.PutLaws.{all_out, more_out, refused_out}
 use Rattle.program_run.proofs.chunks.put_sheets.Goals as goal
 
 pub returns-in_err-put_all : goal.returns-in_err-put_all
 returns-in_err-put_all g c =
-    let sheet : c.sheet.result.now ++ [] ≡ first_sheet c.loop-out.sheets = append-nil c.sheet.result.now ∙ c.sheet.ensures.lines in
     refused_out g.S.Sink _ c.loop-out.out c.put_all.new.out _ c.in_err-put_all.field-0.0 _ _ _ _ c.loop-out.invariant
-    (c.sheet.ensures.front.1 ∙ ap (λ t. t ++ c.sheet.ensures.front.0) (sym sheet)) c.from_residual.ensures.1
-    c.in_err-put_all.ensures.puts
+    (c.sheet.ensures.front.1 ∙ ap (λ t. t ++ c.sheet.ensures.front.0) (sym (append-nil c.sheet.result.now ∙ c.sheet.ensures.lines)))
+    c.from_residual.ensures.1 c.in_err-put_all.ensures.puts
 
 pub loop-out-preserved : goal.loop-out-preserved
 loop-out-preserved g c =
-    let sheet : c.sheet.result.now ++ [] ≡ first_sheet c.loop-out.sheets = append-nil c.sheet.result.now ∙ c.sheet.ensures.lines in
     more_out g.S.Sink _ c.loop-out.out c.put_all.new.out _ _ _ _ c.loop-out.invariant
-    (c.turn.ensures.text ∙ ap (λ t. t ++ row_text c.turn.new.self) (sym sheet)) c.in_ok-put_all.ensures.puts
+    (c.turn.ensures.text ∙ ap (λ t. t ++ row_text c.turn.new.self) (sym (append-nil c.sheet.result.now ∙ c.sheet.ensures.lines)))
+    c.in_ok-put_all.ensures.puts
 
 pub returns : goal.returns
 returns g c =

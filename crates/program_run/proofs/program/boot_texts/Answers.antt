@@ -1,11 +1,11 @@
 -- A stop is the boot's, and the texts are those of what the boot made.
-use Rattle.std.proofs.Common.{◌∙◌, ap}
+use Rattle.std.proofs.Common.{refl}
 use Rattle.std.proofs.lemmas.Result.{err_from_is_err_and}
 use Rattle.boot_model.specs.View.{booted_view, inputs_view}
 use Rattle.debugfs_reports.specs.Report.{records_told}
 use Rattle.debugfs_reports.specs.ReportList.{reports_in}
 use Rattle.e820_usable.proofs.FramesLaws.{runs_ascend}
-use Rattle.program_run.proofs.BootedLaws.{boot_stopped, boot_told, items_stand}
+use Rattle.program_run.proofs.BootedLaws.{boot_stopped, items_stand, told_is}
 use Rattle.program_run.proofs.program.boot_texts.Goals as goal
 
 pub returns-in_err-booted-clause-makes : goal.returns-in_err-booted-clause-makes
@@ -24,8 +24,7 @@ render_all-requires-clause-map c = runs_ascend c.in_ok-booted.booted.map.items c
 
 pub returns-clause-makes : goal.returns-clause-makes
 returns-clause-makes c =
-    boot_told (inputs_view c.args.inputs) (booted_view c.in_ok-booted.booted) c.deref.result.now (reports_in c.args.list.now) _
-    c.in_ok-booted.ensures.boots
-    (c.deref.ensures.value ∙ c.in_ok-reports.ensures ∙ ap reports_in c.as_bytes.ensures.value)
-    (c.in_ok-render_all.ensures.whole (records_told (booted_view c.in_ok-booted.booted))
-    (items_stand c.in_ok-booted.booted c.in_ok-booted.ensures.memory c.in_ok-booted.ensures.reserved))
+    let booted = c.in_ok-booted.booted in
+    let whole = c.in_ok-render_all.ensures.whole (records_told (booted_view booted))
+    (items_stand booted c.in_ok-booted.ensures.memory c.in_ok-booted.ensures.reserved) in
+    rw (told_is _ _ c.in_ok-booted.ensures.boots, whole, c.deref.ensures.value, c.in_ok-reports.ensures, c.as_bytes.ensures.value) refl

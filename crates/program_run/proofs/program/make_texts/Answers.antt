@@ -10,5 +10,4 @@ returns-in_err-inputs-clause-makes g c =
     c.from_residual.ensures.1 refl c.in_err-inputs.ensures.gives
 
 pub returns-clause-makes : goal.returns-clause-makes
-returns-clause-makes g c =
-    grind (arith, c.in_ok-inputs.ensures.gives, c.boot_texts.ensures.makes)
+returns-clause-makes g c = grind (arith, c.in_ok-inputs.ensures.gives, c.boot_texts.ensures.makes)
