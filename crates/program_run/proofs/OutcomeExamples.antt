@@ -57,7 +57,8 @@ of_files = record (begun Bits46 (record { base = 0x1000000; size = 0x2000000 }))
 }
 
 -- two entries are the first two, and nothing is left for the extension; without a number the files' entries stay
-made_examples : (h : Held) → (with_made (Some 2) of_files ≡ record of_files { entries = low_ram ∷ high_ram ∷ []; initrd = None; extension = [] })
+made_examples : (h : Held)
+    → (with_made (Some 2) of_files ≡ record of_files { entries = low_ram ∷ high_ram ∷ []; initrd = None; extension = [] })
     × (with_made None of_files ≡ of_files)
     × (given_by h (record {
       named = λ input. None;

@@ -37,7 +37,8 @@ returns-clause-carries c =
     let map = c.args.map.now in
     let first : carried_out (beginning e ++ mapping e map) [] ≡ Ok mid =
     ap (carried_out (beginning e ++ mapping e map)) (sym c.requires.first)
-    ∙ carries-second (Ok tt) (beginning e) (mapping e map) _ _ mid c.in_ok-begin_memory.ensures.carries c.in_ok-map_memory.ensures.carries in
+    ∙ carries-second (Ok tt) (beginning e) (mapping e map) _ _ mid c.in_ok-begin_memory.ensures.carries
+    c.in_ok-map_memory.ensures.carries in
     let end : c.end_of_memory-end.result ≡ memory_end e.limit (value_at map) =
     c.end_of_memory-end.ensures ∙ ap (λ (t : Table). end_of_runs t.records) c.tables.ensures.memory
     ∙ table_end e map mid c.requires.runs first c.tables.ensures.within in
