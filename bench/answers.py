@@ -1,5 +1,5 @@
 #!/usr/bin/env python3
-"""answers.py CRATE..: takes away the answers that no proof needs, and what is cited by nothing then.
+"""answers.py [--over GATE] CRATE..: takes away the answers that no proof needs, and what is cited by nothing then.
 
 For each CRATE in turn, in this checkout: all answers (`pub GOAL : goal.GOAL` in the files Answers.antt) are taken away, and `rt check --margin`, which
 searches with half of the usual limits, tells which goals are open then. Their answers come back, with those that these name, until no goal is open
@@ -9,7 +9,8 @@ Invariants.antt stays. Then `rt tidy` drops imports, and the crate is checked fr
 
 It prints the lines of answers and of all files of proofs/, and the seconds of a processor that a check from nothing takes, before and after. A crate
 that isn't proved as it stands, or at the end, is left as it was, and the status is 1. By hand, where nothing is changed since the last commit; some six
-checks of each crate, two of them from nothing.
+checks of each crate, two of them from nothing. With --over it checks by `prove.py`, over the libraries that `rt ci` proved in the checkout GATE, in place
+of proving here what lies below.
 """
 
 import glob
@@ -21,7 +22,8 @@ import subprocess
 import sys
 import time
 
-TOP = os.path.abspath(os.path.join(os.path.dirname(os.path.abspath(__file__)), ".."))
+BENCH = os.path.dirname(os.path.abspath(__file__))
+TOP = os.path.abspath(os.path.join(BENCH, ".."))
 SLOWER = 20
 CHECK = ("check", "--jobs", "1")
 NAME = re.compile(r"(?:(?:abbrev|unfoldable|pub) )*(?:ruleset |record |data )?([^\s:]+)(?= |$)")
@@ -78,8 +80,9 @@ def repository():
 class Crate:
     """A crate: its files of proofs/ as they stood, the parts of its Answers.antt, and which answers are kept."""
 
-    def __init__(self, name):
+    def __init__(self, name, gate):
         self.name = name
+        self.gate = gate
         self.folder = f"{TOP}/crates/{name}"
         self.before = self.proofs()
         self.parts = {path: parts_of(text) for path, text in self.before.items() if path.endswith("/Answers.antt")}
@@ -99,12 +102,19 @@ class Crate:
         for path, text in self.before.items():
             write(path, text)
 
+    def command(self, words):
+        """`rt` with these words, or what does the same over the libraries of the gate."""
+        if not self.gate:
+            return ["rt", *words]
+        flags = ["--fix-imports"] if words[0] == "tidy" else [word for word in words[1:] if word not in CHECK]
+        return [f"{BENCH}/prove.py", self.gate, self.name, "--progress", *flags]
+
     def run(self, *words):
         """The status of `rt` in the crate's folder, what it says, the seconds until it was done with each function after the one before, and those of a
         processor in all."""
         last, began = time.time(), resource.getrusage(resource.RUSAGE_CHILDREN)
         said, seconds = [], {}
-        with subprocess.Popen(["rt", *words], cwd=self.folder, stdin=subprocess.DEVNULL, stdout=subprocess.PIPE, stderr=subprocess.STDOUT, text=True,
+        with subprocess.Popen(self.command(words), cwd=self.folder, stdin=subprocess.DEVNULL, stdout=subprocess.PIPE, stderr=subprocess.STDOUT, text=True,
                               errors="replace") as ran:
             for line in ran.stdout:
                 said.append(line)
@@ -117,6 +127,8 @@ class Crate:
 
     def run_anew(self):
         """As `run`, of a check from nothing: a line that says nothing keeps it from another checkout's work on the same text."""
+        if self.gate:
+            return self.run(*CHECK, "--anew")
         root = f"{self.folder}/src/lib.rt"
         text = read(root)
         shutil.rmtree(f"{self.folder}/out", ignore_errors=True)
@@ -253,6 +265,7 @@ class Crate:
                 print(f"{self.name}: {len(self.kept)} of {len(self.answers)} answers are back", flush=True)
             self.prune()
             self.run("tidy", "--jobs", "1")
+            subprocess.run(["rt", "fmt"], cwd=self.folder, check=False, capture_output=True)
             status, said, after, last = self.run_anew()
             more = self.wanted(said) if status else self.slower(before, after)
             if not self.keep(more):
@@ -265,12 +278,15 @@ class Crate:
 
 
 def main():
-    if not sys.argv[1:] or sys.argv[1] in ("-h", "--help"):
+    words = sys.argv[1:]
+    gate = os.path.abspath(words[1]) if words[:1] == ["--over"] and words[2:] else None
+    names = words[2:] if gate else words
+    if not names or names[0].startswith("-"):
         print(__doc__)
         return 0
     failed = 0
-    for name in sys.argv[1:]:
-        crate = Crate(name)
+    for name in names:
+        crate = Crate(name, gate)
         told = crate.reduce()
         if told.startswith("not proved"):
             crate.restore()

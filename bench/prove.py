@@ -1,0 +1,71 @@
+#!/usr/bin/env python3
+"""prove.py GATE CRATE [FLAG..]: proves a crate as it stands here over the libraries that `rt ci` proved in another checkout.
+
+GATE is the top of a checkout in which `rt ci` ran, or runs: the library of a crate lies there as soon as it is proved, the lowest ones within minutes.
+So the proofs of a crate can be changed here without a check of all that lies below it. Of this checkout the files of CRATE alone are read; what lies
+below it is taken as it stands in GATE. What was checked is kept in the crate's out/over-gate, and a further run checks what changed; --anew checks all.
+FLAGS are those of the compiler's `check`: with --only FUNCTION it checks one function, with --allow-holes it prints the goals that are left.
+
+The status is that of the compiler, 0 where the crate is proved, or 3 where a library isn't there yet. It is a help for whoever writes proofs, and no
+verdict: that is `rt check`'s, and the gate's.
+"""
+
+import os
+import shutil
+import subprocess
+import sys
+
+TOP = os.path.abspath(os.path.join(os.path.dirname(os.path.abspath(__file__)), ".."))
+
+
+def crates():
+    """The libraries that each crate of crates.txt uses, by its name."""
+    with open(f"{TOP}/crates.txt", encoding="utf-8") as file:
+        lines = [line.split("#")[0].strip() for line in file]
+    return {line.split(":")[0].split()[0]: line.split(":")[1].split() for line in lines if line}
+
+
+def below(names, used):
+    """These crates of the repository, and all that they stand on."""
+    found, left = set(), list(names)
+    while left:
+        name = left.pop()
+        if name in used and name not in found:
+            found.add(name)
+            left += used[name]
+    return sorted(found)
+
+
+def command(gate, crate, flags):
+    """The compiler's call, as `rt ci` makes it, with what the flags add; it ends where a library isn't there yet."""
+    used = crates()
+    kit = os.path.dirname(subprocess.run(["rt", "doc"], check=True, capture_output=True, text=True).stdout.strip())
+    places = {name: f"{gate}/crates/{name}/out/rlib" for name in below(used[crate], used)}
+    missing = [name for name, place in places.items() if not os.path.isdir(f"{place}/{name}.rlib")]
+    if missing:
+        print(f"prove.py: not proved yet in {gate}: {' '.join(missing)}", file=sys.stderr)
+        sys.exit(3)
+    words = [f"{kit}/bin/rattle", "check", "--crate-name", crate, "src/main.rt" if os.path.exists("src/main.rt") else "src/lib.rt"]
+    words += ["--extern", f"std={kit}/rlibs/std.rlib", "-L", f"dependency={kit}/rlibs"]
+    for name in used[crate]:
+        words += ["--extern", f"{name}={places.get(name, f'{kit}/rlibs')}/{name}.rlib"]
+    for place in places.values():
+        words += ["-L", f"dependency={place}"]
+    words += ["--antt-project", f"{kit}/rattle/logic/antt-project.json", "--logic-built", f"{kit}/logic_built", "--incremental", "out/over-gate"]
+    return words + ([] if "--jobs" in flags else ["--jobs", "1"]) + flags
+
+
+def main():
+    if len(sys.argv) < 3 or sys.argv[2] not in crates():
+        sys.exit(__doc__)
+    gate, crate, flags = os.path.abspath(sys.argv[1]), sys.argv[2], sys.argv[3:]
+    os.chdir(f"{TOP}/crates/{crate}")
+    if "--anew" in flags:
+        flags.remove("--anew")
+        shutil.rmtree("out/over-gate", ignore_errors=True)
+    os.makedirs("out/over-gate", exist_ok=True)
+    sys.exit(subprocess.run(command(gate, crate, flags), check=False).returncode)
+
+
+if __name__ == "__main__":
+    main()
