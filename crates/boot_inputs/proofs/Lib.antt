@@ -1,5 +1,10 @@
+mod CommandLineLaws
+mod EfiLaws
 mod Examples
 mod FileLaws
+mod PagesLaws
 mod ReadingLaws
-mod TakeLaws
+mod ScriptLaws
+mod SlitLaws
+mod SratLaws
 mod WantLaws

@@ -1,11 +1,13 @@
 -- What is told of the faults of files.
-use Rattle.std.specs.Prelude.{codes, Option, Some, IsSome}
+use Rattle.std.specs.Prelude.{ℕ, List, codes, Option, Some, IfErr, IsSome}
+use Rattle.boot_model.specs.Boot.{Given}
 use Rattle.boot_inputs.specs.declared.fault.Fault.{Fault}
 use Rattle.boot_inputs.specs.declared.fault.Fault.TheVariants as faults
 use Rattle.boot_inputs.specs.CommandLine.{command_line_diagnostic}
 use Rattle.boot_inputs.specs.Diagnostic.{Diagnostic}
 use Rattle.boot_inputs.specs.Efi.{efi_diagnostic}
 use Rattle.boot_inputs.specs.Extension.{extension_diagnostic}
+use Rattle.boot_inputs.specs.File.{File}
 use Rattle.boot_inputs.specs.Pages.{pages_diagnostic}
 use Rattle.boot_inputs.specs.Script.{script_diagnostic}
 use Rattle.boot_inputs.specs.Slit.{slit_diagnostic}
@@ -27,3 +29,7 @@ diagnostic_of (faults.Efi fault) = efi_diagnostic fault
 -- something is told of the fault: it isn't a reader's want of memory, which no bytes are judged to have
 abbrev pub IsOfBytes : Fault → Type 0
 IsOfBytes fault = IsSome (diagnostic_of fault)
+
+-- whatever is given before the file, each fault that it says of bytes is such a one
+abbrev pub SaysOfBytes : File → Type 0
+SaysOfBytes file = (bytes : List ℕ) (given : Given) → IfErr (file.says bytes given) IsOfBytes

@@ -1,12 +1,14 @@
 //! The firmware's own map of memory as an input.
 
-ghost use Rattle.std.specs.Prelude.{◌≡◌, ◌≤◌, length, IsErrOf, IsOk, IsTrue};
+ghost use Rattle.std.specs.Prelude.{◌≡◌, ◌≤◌, ℕ, length, IsErrOf, IsOk, IsTrue, List};
 ghost use Rattle.std.specs.Option.{option_map};
 ghost use Rattle.bm_base.specs.Answers.{Answers};
 ghost use Rattle.bm_base.specs.ResultSteps.{with_error};
 ghost use Rattle.boot_model.specs.View.{inputs_view};
+ghost use Rattle.boot_inputs.specs.Faults.{SaysOfBytes};
 ghost use Rattle.boot_inputs.specs.Diagnostic.{diagnostic_view};
 ghost use Rattle.boot_inputs.specs.Efi.{efi_diagnostic, efi_file};
+ghost use Rattle.efi_map.specs.Map.{efi_of};
 
 use crate::diagnostic::Diagnostic;
 use crate::fault::{Fault, Misread};
@@ -41,7 +43,16 @@ impl Reader for EfiMaps {
             Err(fault) => Err(Misread::Fault(Fault::Efi(fault))),
         }
     }
+
+    fn wants_no_memory() {
+        efi_wants_no_memory();
+    }
 }
+
+/// A law: no bytes are judged to want memory. So where the reader answers that it isn't what the bytes say.
+pub fn efi_wants_no_memory()
+    ensures { (bytes : List ℕ) → ¬ IsErrOf (efi_of bytes) EfiFault.Memory }
+{}
 
 /// What is told of a fault: nothing of want of memory, which is no fault of the bytes.
 pub(crate) fn efi_diagnostic(fault: EfiFault) -> Option<Diagnostic>

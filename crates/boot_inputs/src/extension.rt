@@ -1,13 +1,15 @@
 //! The E820 extension as an input. The boot loader hands it over apart from the zero page, whose entries it goes
 //! on with (`setup_data`); so it is a file of its own, with its own limit and its own faults.
 
-ghost use Rattle.std.specs.Prelude.{◌≡◌, ◌≤◌, length, IsErrOf, IsOk, IsTrue};
+ghost use Rattle.std.specs.Prelude.{◌≡◌, ◌≢◌, ◌≤◌, ℕ, length, IsErrOf, IsOk, IsTrue, List, Some};
 ghost use Rattle.std.specs.Option.{option_map};
 ghost use Rattle.bm_base.specs.Answers.{Answers};
 ghost use Rattle.bm_base.specs.ResultSteps.{with_error};
 ghost use Rattle.boot_model.specs.View.{inputs_view};
+ghost use Rattle.boot_inputs.specs.Faults.{SaysOfBytes};
 ghost use Rattle.boot_inputs.specs.Diagnostic.{diagnostic_view};
 ghost use Rattle.boot_inputs.specs.Extension.{extension_diagnostic, extension_file};
+ghost use Rattle.e820_table.specs.Extension.{ext_fault};
 
 use crate::diagnostic::Diagnostic;
 use crate::fault::{Fault, Misread};
@@ -43,7 +45,16 @@ impl Reader for Extensions {
             Err(fault) => Err(Misread::Fault(Fault::Extension(fault))),
         }
     }
+
+    fn wants_no_memory() {
+        extension_wants_no_memory();
+    }
 }
+
+/// A law: no bytes are judged to want memory. So where the reader answers that it isn't what the bytes say.
+pub fn extension_wants_no_memory()
+    ensures { (bytes : List ℕ) → ext_fault bytes ≢ Some ExtFault.Memory }
+{}
 
 /// What is told of a fault: nothing of want of memory, which is no fault of the bytes.
 pub(crate) fn extension_diagnostic(fault: ExtFault) -> Option<Diagnostic>

@@ -24,7 +24,7 @@ use boot_model::Inputs;
 use std::alloc::Global;
 
 /// The input files in the order of work.
-type FromZeroPage = (ZeroPages, FromExtension);
+pub(crate) type FromZeroPage = (ZeroPages, FromExtension);
 
 type FromExtension = (Extensions, FromCommandLine);
 

@@ -1,8 +1,9 @@
 //! A list of input files, as a type: a file and the list behind it. What is said of files that are read one after another is
 //! proved here once, for any list.
 
-ghost use Rattle.std.specs.Prelude.{◌≡◌, IsTrue, List, [], ◌∷◌};
+ghost use Rattle.std.specs.Prelude.{◌≡◌, All, IsTrue, List, [], ◌∷◌};
 ghost use Rattle.boot_model.specs.View.{inputs_view};
+ghost use Rattle.boot_inputs.specs.Faults.{SaysOfBytes};
 ghost use Rattle.boot_inputs.specs.File.{File};
 ghost use Rattle.boot_inputs.specs.Reading.{AreRead, ascend};
 
@@ -28,6 +29,10 @@ pub trait Readers {
     ) -> Result<(), InputError>
         requires { IsTrue (ascend list) }
         ensures { AreRead F.Files (N.named names.now) list files.old files.new (inputs_view inputs.old) (inputs_view inputs.new) result };
+
+    /// A law: no bytes of these files are judged to want memory.
+    fn want_no_memory()
+        ensures { All SaysOfBytes list };
 }
 
 impl Readers for () {
@@ -41,6 +46,8 @@ impl Readers for () {
     ) -> Result<(), InputError> {
         Ok(())
     }
+
+    fn want_no_memory() {}
 }
 
 impl<R: Reader, L: Readers> Readers for (R, L) {
@@ -54,5 +61,10 @@ impl<R: Reader, L: Readers> Readers for (R, L) {
     ) -> Result<(), InputError> {
         add_file::<R, F, N>(alloc, files, names, inputs)?;
         L::add_files::<F, N>(alloc, files, names, inputs)
+    }
+
+    fn want_no_memory() {
+        R::wants_no_memory();
+        L::want_no_memory();
     }
 }

@@ -1,12 +1,14 @@
 //! The page script as an input: what is asked of the page allocator behind the boot.
 
-ghost use Rattle.std.specs.Prelude.{◌≡◌, ◌≤◌, length, IsErrOf, IsOk, IsTrue};
+ghost use Rattle.std.specs.Prelude.{◌≡◌, ◌≤◌, ℕ, length, IsErrOf, IsOk, IsTrue, List};
 ghost use Rattle.std.specs.Option.{option_map};
 ghost use Rattle.bm_base.specs.Answers.{Answers};
 ghost use Rattle.bm_base.specs.ResultSteps.{with_error};
 ghost use Rattle.boot_model.specs.View.{inputs_view};
+ghost use Rattle.boot_inputs.specs.Faults.{SaysOfBytes};
 ghost use Rattle.boot_inputs.specs.Diagnostic.{diagnostic_view};
 ghost use Rattle.boot_inputs.specs.Pages.{pages_diagnostic, pages_file};
+ghost use Rattle.page_alloc.specs.Reading.{pages_of};
 
 use crate::diagnostic::Diagnostic;
 use crate::fault::{Fault, Misread};
@@ -40,7 +42,16 @@ impl Reader for PageScripts {
             Err(fault) => Err(Misread::Fault(Fault::Pages(fault))),
         }
     }
+
+    fn wants_no_memory() {
+        pages_wants_no_memory();
+    }
 }
+
+/// A law: no bytes are judged to want memory. So where the reader answers that it isn't what the bytes say.
+pub fn pages_wants_no_memory()
+    ensures { (bytes : List ℕ) → ¬ IsErrOf (pages_of bytes) PageFault.Memory }
+{}
 
 /// What is told of a fault: nothing of want of memory, which is no fault of the bytes.
 pub(crate) fn pages_diagnostic(fault: PageFault) -> Option<Diagnostic>

@@ -5,6 +5,7 @@ ghost use Rattle.bm_base.specs.Answers.{Answers};
 ghost use Rattle.bm_base.specs.ResultSteps.{with_error};
 ghost use Rattle.boot_model.specs.View.{inputs_view};
 ghost use Rattle.boot_inputs.specs.declared.fault.Misread.TheVariants as misreads;
+ghost use Rattle.boot_inputs.specs.Faults.{SaysOfBytes};
 ghost use Rattle.boot_inputs.specs.File.{File};
 
 use crate::fault::Misread;
@@ -33,4 +34,8 @@ pub trait Reader {
             (with_error misreads.Fault (file.says bytes.now (inputs_view inputs.old))) }
         ensures memory { IsErrOf result misreads.Memory →
             IsTrue (file.takes bytes.now) × IsOk (file.says bytes.now (inputs_view inputs.old)) };
+
+    /// A law: no bytes are judged to want memory, so what the definition has in place of that fault is of no account.
+    fn wants_no_memory()
+        ensures { SaysOfBytes file };
 }

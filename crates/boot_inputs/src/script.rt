@@ -1,13 +1,15 @@
 //! The script of early allocations as an input. The boot asks that the sections are placed once at most, which
 //! the reader doesn't promise: a law of `early_script` is called here that tells it.
 
-ghost use Rattle.std.specs.Prelude.{◌≡◌, ◌≤◌, length, IsErrOf, IsOk, IsTrue};
+ghost use Rattle.std.specs.Prelude.{◌≡◌, ◌≤◌, ℕ, length, IsErrOf, IsOk, IsTrue, List};
 ghost use Rattle.std.specs.Option.{option_map};
 ghost use Rattle.bm_base.specs.Answers.{Answers};
 ghost use Rattle.bm_base.specs.ResultSteps.{with_error};
 ghost use Rattle.boot_model.specs.View.{inputs_view};
+ghost use Rattle.boot_inputs.specs.Faults.{SaysOfBytes};
 ghost use Rattle.boot_inputs.specs.Diagnostic.{diagnostic_view};
 ghost use Rattle.boot_inputs.specs.Script.{script_diagnostic, script_file};
+ghost use Rattle.script_reader.specs.Script.{script_of};
 
 use crate::diagnostic::Diagnostic;
 use crate::fault::{Fault, Misread};
@@ -43,7 +45,16 @@ impl Reader for Scripts {
             Err(fault) => Err(Misread::Fault(Fault::Script(fault))),
         }
     }
+
+    fn wants_no_memory() {
+        script_wants_no_memory();
+    }
 }
+
+/// A law: no bytes are judged to want memory. So where the reader answers that it isn't what the bytes say.
+pub fn script_wants_no_memory()
+    ensures { (bytes : List ℕ) → ¬ IsErrOf (script_of bytes) ScriptFault.Memory }
+{}
 
 /// What is told of a fault: nothing of want of memory, which is no fault of the bytes.
 pub(crate) fn script_diagnostic(fault: ScriptFault) -> Option<Diagnostic>

@@ -1,13 +1,15 @@
 //! The firmware's table of domains as an input. A boot tells a table without entries from none, as `no blocks` and
 //! `absent`.
 
-ghost use Rattle.std.specs.Prelude.{◌≡◌, ◌≤◌, length, IsErrOf, IsOk, IsTrue};
+ghost use Rattle.std.specs.Prelude.{◌≡◌, ◌≤◌, ℕ, length, IsErrOf, IsOk, IsTrue, List};
 ghost use Rattle.std.specs.Option.{option_map};
 ghost use Rattle.bm_base.specs.Answers.{Answers};
 ghost use Rattle.bm_base.specs.ResultSteps.{with_error};
 ghost use Rattle.boot_model.specs.View.{inputs_view};
+ghost use Rattle.boot_inputs.specs.Faults.{SaysOfBytes};
 ghost use Rattle.boot_inputs.specs.Diagnostic.{diagnostic_view};
 ghost use Rattle.boot_inputs.specs.Srat.{srat_diagnostic, srat_file};
+ghost use Rattle.srat_reader.specs.Table.{srat_of};
 
 use crate::diagnostic::Diagnostic;
 use crate::fault::{Fault, Misread};
@@ -41,7 +43,16 @@ impl Reader for Srats {
             Err(fault) => Err(Misread::Fault(Fault::Srat(fault))),
         }
     }
+
+    fn wants_no_memory() {
+        srat_wants_no_memory();
+    }
 }
+
+/// A law: no bytes are judged to want memory. So where the reader answers that it isn't what the bytes say.
+pub fn srat_wants_no_memory()
+    ensures { (bytes : List ℕ) → ¬ IsErrOf (srat_of bytes) SratFault.Memory }
+{}
 
 /// What is told of a fault: nothing of want of memory, which is no fault of the bytes.
 pub(crate) fn srat_diagnostic(fault: SratFault) -> Option<Diagnostic>

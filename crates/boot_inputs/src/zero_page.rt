@@ -6,6 +6,7 @@ ghost use Rattle.bm_base.specs.Answers.{Answers};
 ghost use Rattle.bm_base.specs.ResultSteps.{with_error};
 ghost use Rattle.boot_model.specs.View.{inputs_view};
 ghost use Rattle.boot_inputs.specs.Diagnostic.{diagnostic_view};
+ghost use Rattle.boot_inputs.specs.Faults.{SaysOfBytes};
 ghost use Rattle.boot_inputs.specs.ZeroPage.{zero_page, zero_page_diagnostic};
 
 use crate::diagnostic::Diagnostic;
@@ -39,6 +40,8 @@ impl Reader for ZeroPages {
             Err(fault) => Err(Misread::Fault(Fault::ZeroPage(fault))),
         }
     }
+
+    fn wants_no_memory() {}
 }
 
 /// What is told of a fault.

@@ -1,7 +1,7 @@
 -- The mirrors of a map are whole frames, and where memory is wanting the map has no fault.
 use Rattle.std.proofs.Common.{rules}
 use Rattle.boot_model.specs.View.{inputs_view}
-use Rattle.boot_inputs.proofs.TakeLaws.{efi-taken}
+use Rattle.boot_inputs.proofs.EfiLaws.{efi-taken}
 use Rattle.boot_inputs.proofs.efi.EfiMapsReader.read.Goals as goal
 
 pub invariant_of-inputs-clause-efi_mirrors_fit : goal.invariant_of-inputs-clause-efi_mirrors_fit
