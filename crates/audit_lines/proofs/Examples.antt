@@ -1,13 +1,12 @@
 -- Worked examples of the definitions.
-use Rattle.std.proofs.Common.{◌≡◌, ℕ, ◌+◌, ◌*◌, ◌^◌, ◌≤◌, true, false, List, [], ◌∷◌, codes, Some, None, Ok, Err, Result, Option, refl, arith}
+use Rattle.std.proofs.Common.{◌≡◌, ℕ, ◌≤◌, true, false, List, [], ◌∷◌, codes, Some, None, Ok, Err, Option, refl, arith}
 use Rattle.bm_base.specs.Extent.{Extent}
 use Rattle.bm_base.specs.declared.zone.Zone.TheVariants as zones
-use Rattle.audit_lines.specs.Blocks.{Block, IsBlock, bytes_of_block}
-use Rattle.audit_lines.specs.Fields.{behind, ends, is_lower_hex, number_in, range_of}
-use Rattle.audit_lines.specs.Forms.{bounded, guard, is_just, is_numbered, is_owner, kind_name, zone_in}
-use Rattle.audit_lines.specs.Lines.{AscendApart, StartFrom}
+use Rattle.audit_lines.specs.Blocks.{Block, bytes_of_block}
+use Rattle.audit_lines.specs.Fields.{behind, is_lower_hex, number_in, range_of}
+use Rattle.audit_lines.specs.Forms.{is_just, kind_name, zone_in}
+use Rattle.audit_lines.specs.Lines.{AscendApart}
 use Rattle.audit_lines.specs.Reports.{report_of, split_lines}
-use Rattle.audit_lines.specs.declared.report.LineFault.{LineFault}
 use Rattle.audit_lines.specs.declared.report.LineFault.TheVariants as faults
 
 -- a block of two frames at 8 KiB

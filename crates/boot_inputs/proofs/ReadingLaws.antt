@@ -1,6 +1,6 @@
 -- What is said of a list of files, from what is said of its first and of those behind it. The work behind a file goes beyond it,
 -- whatever it comes to, since the files ascend.
-use Rattle.std.proofs.Common.{◌≡◌, ℕ, ◌<◌, ◌≤◌, ◌⊎◌, inl, inr, nat_lt, List, [], ◌∷◌, Option, Result, Ok, Err, refl, ◌∙◌, arith}
+use Rattle.std.proofs.Common.{◌≡◌, ℕ, ◌<◌, ◌≤◌, ◌⊎◌, inl, inr, nat_lt, List, [], ◌∷◌, Option, Some, None, Result, Ok, Err, refl, ◌∙◌, arith}
 use Rattle.std.specs.Prelude.{IfSome, IsErrOf, IsErrAnd, IsNone, IsOk, IsTrue, OnOk}
 use Rattle.std.proofs.lemmas.Bool.{and_parts, ltb-true}
 use Rattle.std.proofs.lemmas.Result.{on_ok_weaker}
@@ -8,6 +8,7 @@ use Rattle.bm_base.specs.ResultSteps.{◌>>=◌}
 use Rattle.bm_io.specs.Counts.{Rose}
 use Rattle.bm_io.specs.declared.reading.Files.{Ghosts as FilesOf}
 use Rattle.boot_model.specs.Boot.{Given}
+use Rattle.boot_inputs.specs.declared.fault.Fault.{Fault}
 use Rattle.boot_inputs.specs.declared.input.Input.{Input}
 use Rattle.boot_inputs.specs.declared.refusal.InputRefusal.{InputRefusal}
 use Rattle.boot_inputs.specs.declared.refusal.InputError.{InputError}
@@ -15,13 +16,23 @@ use Rattle.boot_inputs.specs.declared.refusal.InputError.TheVariants as errors
 use Rattle.boot_inputs.specs.Answers.{FitsAnswer, Gives, HasCause, IsOf, Passes}
 use Rattle.boot_inputs.specs.File.{File}
 use Rattle.boot_inputs.specs.Input.{place}
-use Rattle.boot_inputs.specs.Inputs.{Held, Named, file_step, given_in, step_if, takes_memory}
+use Rattle.boot_inputs.specs.Inputs.{Held, Named, file_step, given_in, or_faulty, or_unread, step_if, takes_memory, within}
 use Rattle.boot_inputs.specs.Reading.{AreRead, are_behind, ascend}
 
 -- a file is refused, and what comes behind it
+faulty_passes : (input other : Input) (x : Result Given Fault) → place input < place other → Passes input (or_faulty other x)
+faulty_passes input other (Ok given) below = tt
+faulty_passes input other (Err fault) below = below
+
+read_passes : (input : Input) (file : File) (given : Given) (held : Option (List ℕ)) → place input < place file.input
+    → Passes input (or_unread file.input held (λ bytes. or_faulty file.input (within file.limit bytes >>= λ read. file.says read given)))
+read_passes input file given None below = below
+read_passes input file given (Some bytes) below = faulty_passes input file.input _ below
+
 step_passes : (input : Input) (held : Held) (file : File) (given : Given) (name : Option (List ℕ)) → place input < place file.input
     → Passes input (step_if held file given name)
-step_passes input held file given name below = grind arith
+step_passes input held file given None below = tt
+step_passes input held file given (Some name) below = read_passes input file given (held name) below
 
 then_passes : (input : Input) (x : Result Given InputRefusal) (f : Given → Result Given InputRefusal) → Passes input x
     → ((a : Given) → Passes input (f a)) → Passes input (x >>= f)
