@@ -24,6 +24,11 @@ none_below at x (r ∷ (s ∷ ss)) runs start h =
     let from : r.base ≤ s.base = omega arith in
     rw (below r x lt) (none_below r.base x (s ∷ ss) runs.2 from lt)
 
+-- no run begins before address 0
+pub start_zero : {X : Type 0} (rs : List (RunOf X)) → StartFrom 0 rs
+start_zero [] = tt
+start_zero (r ∷ rs) = omega arith
+
 -- the runs behind the first one begin behind its base, and at its end or behind it
 pub rest_from : {X : Type 0} (r : RunOf X) (rs : List (RunOf X)) → AreRuns (r ∷ rs) → StartFrom (run_end r) rs
 rest_from r [] runs = tt

@@ -6,7 +6,7 @@ use Rattle.std.proofs.lemmas.List.Sums.{sum_by-cons}
 use Rattle.address_runs.specs.Runs.{RunOf, run_end, lies_in, value_at, AreRuns}
 use Rattle.address_runs.specs.Edits.{NothingFrom}
 use Rattle.address_runs.specs.Sweep.{StartFrom}
-use Rattle.address_runs.proofs.RunsLaws.{inside, behind, none_below, rest_from}
+use Rattle.address_runs.proofs.RunsLaws.{inside, behind, none_below, rest_from, start_zero}
 use Rattle.e820_model.specs.Usable.{count_below}
 use Rattle.e820_model.proofs.UsableLaws.{count_same, count_none, count_either, count_interval}
 use Rattle.memblock_model.specs.declared.which.Which.TheVariants as which
@@ -31,12 +31,8 @@ module _ {X : Type 0} where
       let rest = sizes_below (run_end r) i rs d (rest_from r rs runs) runs.2 (omega arith) in
       omega (arith, start, rest, sum_by-cons (λ (s : RunOf X). s.size) r (take i rs))
 
-  start_first : (rs : List (RunOf X)) → StartFrom 0 rs
-  start_first [] = tt
-  start_first (r ∷ rs) = omega arith
-
   pub sizes-before : (i : ℕ) (rs : List (RunOf X)) (d : RunOf X) → AreRuns rs → i < length rs → sizes (take i rs) ≤ (get_or rs i d).base
-  sizes-before i rs d runs lt = let from = sizes_below 0 i rs d (start_first rs) runs lt in omega (arith, from)
+  sizes-before i rs d runs lt = let from = sizes_below 0 i rs d (start_zero rs) runs lt in omega (arith, from)
 
   -- runs below an address end there at most
   ends_by : (n : ℕ) (r : RunOf X) (rs : List (RunOf X)) → 0 < r.size → NothingFrom n (value_at (r ∷ rs)) → run_end r ≤ n

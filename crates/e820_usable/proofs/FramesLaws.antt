@@ -4,7 +4,7 @@ use Rattle.std.proofs.lemmas.Bool.{cases_Bool, cases_eq}
 use Rattle.std.proofs.lemmas.Bool.Decides.{nat_tests}
 use Rattle.address_runs.specs.Runs.{RunOf, run_end, lies_in, value_at, AreRuns}
 use Rattle.address_runs.specs.Sweep.{StartFrom}
-use Rattle.address_runs.proofs.RunsLaws.{below, rest_from}
+use Rattle.address_runs.proofs.RunsLaws.{below, rest_from, start_zero}
 use Rattle.e820_model.specs.Usable.{is_memory, count_below, reachable, usable_frames}
 use Rattle.e820_model.proofs.UsableLaws.{all_bytes, count_same, count_interval, count_frames_between, IsGap, count_split, usable_count, memory_reached}
 use Rattle.e820_usable.specs.Ascend.{Ascend}
@@ -42,11 +42,6 @@ memory_after from until rs x = (nat_le from x && nat_lt x until) || is_memory (v
 pub start_earlier : (x y : ℕ) (rs : List (RunOf ℕ)) → x ≤ y → StartFrom y rs → StartFrom x rs
 start_earlier x y [] le start = tt
 start_earlier x y (r ∷ rs) le start = omega arith
-
--- no run begins before address 0
-pub start_first : (rs : List (RunOf ℕ)) → StartFrom 0 rs
-start_first [] = tt
-start_first (r ∷ rs) = omega arith
 
 -- a canonical list ascends
 pub runs_ascend : {X : Type 0} (rs : List (RunOf X)) → AreRuns rs → Ascend rs
@@ -183,7 +178,7 @@ pub frames_usable : (limit : ℕ) → limit < 2 ^ 64 → (rs : List (RunOf ℕ))
 frames_usable limit space rs runs =
     let reached : (x : ℕ) → (is_memory (value_at rs x) && nat_lt x limit) ≡ is_memory (reachable limit (value_at rs) x) =
     λ x. sym (memory_reached limit (value_at rs) x) in
-    frames_counted limit space rs 0 0 (omega arith) (start_first rs) runs
+    frames_counted limit space rs 0 0 (omega arith) (start_zero rs) runs
     ∙ frames_same limit (memory_after 0 0 rs) (λ x. is_memory (value_at rs x)) (memory_first rs)
     ∙ ap (λ p. count_below (all_bytes p) (2 ^ 52)) (λ i x. reached x i)
     ∙ sym (usable_count (reachable limit (value_at rs)))

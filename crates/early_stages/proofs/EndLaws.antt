@@ -5,7 +5,7 @@ use Rattle.std.proofs.Math.Nat.{le_antisymm}
 use Rattle.std.proofs.lemmas.Bool.{cases_lt, true≢false}
 use Rattle.address_runs.specs.Runs.{RunOf, run_end, value_at, AreRuns, IsRunsOf}
 use Rattle.address_runs.specs.Sweep.{StartFrom}
-use Rattle.address_runs.proofs.RunsLaws.{inside, behind, rest_from}
+use Rattle.address_runs.proofs.RunsLaws.{inside, behind, rest_from, start_zero}
 use Rattle.e820_model.specs.Map.{TypeAt}
 use Rattle.e820_model.specs.Usable.{is_usable, reachable}
 use Rattle.e820_model.proofs.UsableLaws.{memory_reached, usable_each}
@@ -97,16 +97,12 @@ ends_at {X} from (r ∷ rs) runs start =
       ];
     }
 
-starts : {X : Type 0} (rs : List (RunOf X)) → StartFrom 0 rs
-starts [] = tt
-starts (r ∷ rs) = omega arith
-
 -- so the runs of memory end where memory does
 runs_are_end : (limit : ℕ) (f : TypeAt) (mirrors : List FrameRange) (rs : List (RunOf Label))
     → IsRunsOf (mirrored_memory mirrors (usable_memory limit f)) rs → IsEnd limit f (end_of_runs rs)
 runs_are_end limit f mirrors rs are =
     let at : ℕ = end_of_runs rs in
-    let ends = ends_at 0 rs are.runs (starts rs) in
+    let ends = ends_at 0 rs are.runs (start_zero rs) in
     let is : (x : ℕ) → is_some (value_at rs x) ≡ is_usable (reachable limit f) (x / 4096) =
     λ x. ap is_some (are.each x) ∙ mirrored-usable limit f mirrors x in
     let by : (frame : ℕ) → is_usable (reachable limit f) frame ≡ true → 4096 * frame + 4096 ≤ at =

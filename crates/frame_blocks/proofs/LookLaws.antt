@@ -7,7 +7,7 @@ use Rattle.bm_base.specs.Zones.{zone_of}
 use Rattle.address_runs.specs.Runs.{RunOf, run_end, value_at, AreRuns}
 use Rattle.address_runs.specs.Sweep.{StartFrom, EndsBehind, IsRestFrom}
 use Rattle.address_runs.specs.Edits.{NothingFrom}
-use Rattle.address_runs.proofs.RunsLaws.{inside, behind, none_below, rest_from, other_behind}
+use Rattle.address_runs.proofs.RunsLaws.{inside, behind, none_below, rest_from, other_behind, start_zero}
 use Rattle.frame_blocks.specs.declared.block.Block.{Block}
 use Rattle.frame_blocks.specs.Frames.{Frames}
 use Rattle.frame_blocks.specs.Listed.{block_of, block_for, block_around, blocks_from, blocks_of}
@@ -123,10 +123,6 @@ listed_from f b at (r ∷ rs) runs start none low same =
     ∙ ap (λ (bs : List Block). bs ++ blocks_from f (at + gap) (r.size + left)) bare
     ∙ ap (λ y. blocks_from f y (r.size + left)) there ∙ from-append f r.base r.size left
     ∙ ap (λ (bs : List Block). blocks_from f r.base r.size ++ bs) rest
-
-start_zero : (rs : List (RunOf ℕ)) → StartFrom 0 rs
-start_zero [] = tt
-start_zero (r ∷ rs) = omega arith
 
 pub listed_all : (rs : List (RunOf ℕ)) → AreRuns rs → NothingFrom MAX_FRAMES (value_at rs)
     → listed (value_at rs) rs ≡ blocks_of (value_at rs)

@@ -4,7 +4,7 @@ use Rattle.std.proofs.lemmas.Bool.{cases_lt}
 use Rattle.std.proofs.lemmas.Bool.Decides.{nat_tests}
 use Rattle.address_runs.specs.Runs.{RunOf, run_end, value_at, AreRuns, IsRunsOf}
 use Rattle.address_runs.specs.Sweep.{StartFrom, IsSweptTo}
-use Rattle.address_runs.proofs.RunsLaws.{inside, behind, none_below, rest_from, other_behind}
+use Rattle.address_runs.proofs.RunsLaws.{inside, behind, none_below, rest_from, other_behind, start_zero}
 use Rattle.address_runs.proofs.SweepLaws.{swept_over, swept_all}
 use Rattle.run_edits.specs.Records.{stretch}
 use Rattle.run_edits.proofs.JoinLaws.{swept_stretch}
@@ -19,12 +19,8 @@ pub record Turns (f : Labels) (at : ℕ) (rs : List (RunOf Label)) : Type 0 wher
   pub each : (x : ℕ) → at ≤ x → value_at rs x ≡ f x
   pub turn : 0 < at → f (at - 1) ≢ f at
 
-starts_all : (rs : List (RunOf Label)) → StartFrom 0 rs
-starts_all [] = tt
-starts_all (r ∷ rs) = omega arith
-
 pub turns_all : (rs : List (RunOf Label)) → AreRuns rs → Turns (value_at rs) 0 rs
-turns_all rs runs = record { runs = runs; starts = starts_all rs; each = λ x le. refl; turn = λ some. absurd (omega arith) }
+turns_all rs runs = record { runs = runs; starts = start_zero rs; each = λ x le. refl; turn = λ some. absurd (omega arith) }
 
 -- where nothing is, a trim leaves nothing
 trimmed_none : (f : Labels) (x : ℕ) → f x ≡ None → trimmed f x ≡ None
