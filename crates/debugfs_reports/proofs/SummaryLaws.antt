@@ -2,21 +2,15 @@
 use Rattle.std.proofs.Common.{◌≡◌, ◌∙◌, ℕ, zero, suc, ◌+◌, ◌*◌, ◌^◌, ◌<◌, ◌≤◌, List, [], ◌∷◌, ◌++◌, get_or, length, drop, drop-cons, refl, ap, length-append, add-one, lt_of_not-le, arith}
 use Rattle.std.proofs.Math.Nat.{suc-mul}
 use Rattle.std.proofs.Math.Pow.{pow_mono}
-use Rattle.std.proofs.lemmas.List.{drop_all}
 use Rattle.std.proofs.lemmas.List.Sums.{sum_by-append, sum_by-cons}
-use Rattle.address_runs.specs.Runs.{RunOf, value_at}
 use Rattle.bm_base.specs.declared.zone.Zone.{Zone}
-use Rattle.boot_model.specs.Boot.{Told, reach_told}
-use Rattle.e820_model.specs.Usable.{reachable, usable_frames}
 use Rattle.frame_blocks.specs.declared.block.Block.{Block}
 use Rattle.frame_blocks.specs.declared.block.BlockRow.{BlockRow}
 use Rattle.frame_blocks.specs.Frames.{Frames}
 use Rattle.frame_blocks.specs.Listed.{blocks_of}
 use Rattle.frame_blocks.specs.Rows.{blocks_of_row, blocks_of_rows, row_from}
-use Rattle.stage_texts.specs.declared.summary.Fullness.{Fullness}
-use Rattle.stage_texts.specs.declared.summary.Summary.{Summary}
 use Rattle.stage_texts.proofs.BlockLaws.{AreInBounds, listed_few, listed_in_bounds}
-use Rattle.debugfs_reports.specs.Summary.{frames_in, fullness_of, summary_of}
+use Rattle.debugfs_reports.specs.Summary.{frames_in}
 
 few_in : (bs : List Block) → AreInBounds bs → frames_in bs ≤ 1024 * length bs
 few_in [] all = omega arith
@@ -67,22 +61,6 @@ pub counted_few : (rs : List BlockRow) (i free blocks : ℕ) (f : Frames) → bl
     → (free + frames_in (blocks_of_rows (drop i rs)) ≤ 2 ^ 50) × (blocks + length (blocks_of_rows (drop i rs)) ≤ 2 ^ 40)
 counted_few rs i free blocks f is so_far =
     (omega (arith, listed_frames f, rw is at so_far.all_frames), omega (arith, listed_few f, rw is at so_far.all_blocks))
-
--- where no row is left, they are all
-pub counted_all : (rs : List BlockRow) (i free blocks : ℕ) (f : Frames) → length rs ≤ i → blocks_of_rows rs ≡ blocks_of f
-    → Counted rs i free blocks → (free ≡ frames_in (blocks_of f)) × (blocks ≡ length (blocks_of f))
-counted_all rs i free blocks f end is so_far =
-    let none : drop i rs ≡ [] = drop_all i rs end in
-    (omega (arith, rw (none, is) at so_far.all_frames), omega (arith, rw (none, is) at so_far.all_blocks))
-
--- the summary, number by number
-pub summary_is : (told : Told) (rs : List (RunOf ℕ)) (limit runs usable free blocks : ℕ) (memory reserved : Fullness)
-    → runs ≡ length told.map → usable ≡ usable_frames (reachable limit (value_at rs)) → rs ≡ told.map → limit ≡ reach_told told
-    → free ≡ frames_in (blocks_of told.free) → memory ≡ fullness_of told.heads.memory → reserved ≡ fullness_of told.heads.reserved
-    → blocks ≡ length (blocks_of told.free)
-    → ◌≡◌ {A = Summary} (record { runs = runs; usable = usable; free = free; memory = memory; reserved = reserved; blocks = blocks })
-    (summary_of told)
-summary_is told rs limit runs usable free blocks memory reserved a b same most c d e f = rw (a, b, same, most, c, d, e, f) refl
 
 -- where a product with a power is small and isn't 0, the power is small
 pub shift_small : (k o : ℕ) → 0 < k → k * 2 ^ o < 2 ^ 64 → o < 64

@@ -6,4 +6,3 @@ mod LineExamples
 pub mod OutcomeExamples
 pub mod PutLaws
 pub mod RunLaws
-pub mod TellLaws

@@ -2,9 +2,7 @@ pub mod DefaultLaws
 pub mod EntryLaws
 mod Examples
 pub mod GrammarLaws
-pub mod KernelLaws
 pub mod KnownLaws
 pub mod MatchedLaws
 pub mod MirrorLaws
 pub mod SpellingLaws
-pub mod ValueLaws

@@ -1,10 +1,9 @@
 -- The blocks of the rows are those of the free frames, so the frames of one more row fit; and behind the last row all are counted.
-use Rattle.std.proofs.Common.{◌≡◌, arith, length}
+use Rattle.std.proofs.Common.{arith}
 use Rattle.bm_base.specs.declared.zone.Zone.TheVariants as zone
-use Rattle.boot_model.specs.View.{booted_view}
 use Rattle.frame_blocks.specs.declared.block.BlockRow.{BlockRow}
 use Rattle.buddy_handover.specs.Contents.{free}
-use Rattle.debugfs_reports.proofs.SummaryLaws.{counted_all, counted_few, row_left, row_more, summary_is}
+use Rattle.debugfs_reports.proofs.SummaryLaws.{counted_few, row_left, row_more}
 use Rattle.debugfs_reports.proofs.summary.summary_of.Goals as goal
 
 -- what stands for a row behind the last one
@@ -36,13 +35,3 @@ pub loop-row-preserved : goal.loop-row-preserved
 loop-row-preserved c =
     row_more c.deref-row-items.result.now c.loop-row.row-index _ _ _ no_row c.loop-row-test.true c.frames_in_row-free.ensures
     c.loop-row.invariant
-
-pub returns : goal.returns
-returns c =
-    let rows = c.deref-row-items.result.now in
-    let l = c.loop-row in
-    let is = rw (← c.deref-row-items.ensures.value) at c.in_ok-rows.ensures.blocks in
-    let all = counted_all rows l.row-index l.free l.blocks (free c.args.booted.now.buddy) (omega arith) is l.invariant in
-    let runs : c.len.result ≡ length c.args.booted.now.map.items = omega arith in
-    summary_is (booted_view c.args.booted.now) _ _ _ _ _ _ _ _ runs c.usable_frames.ensures c.deref.ensures.value c.reach.ensures all.0
-    c.fullness_of.ensures c.fullness_of-2.ensures all.1

@@ -12,9 +12,6 @@ returns-clause-line g c =
     let ran = c.run.ensures.ran.2 in
     ran_line g.E.Sink _ _ _ _ c.run.ensures.ran.0 _ _ _ _ _ c.run.ensures.ran.1 ran.cause c.run.ensures.ran.3 ran.said
 
-pub returns-clause-usage : goal.returns-clause-usage
-returns-clause-usage g c = (ran_usage _ _ _ c.run.ensures.ran.0 _ c.run.ensures.ran.1 c.run.ensures.ran.2.cause).0
-
 pub returns-clause-refused : goal.returns-clause-refused
 returns-clause-refused g c = (ran_usage _ _ _ c.run.ensures.ran.0 _ c.run.ensures.ran.1 c.run.ensures.ran.2.cause).1
 

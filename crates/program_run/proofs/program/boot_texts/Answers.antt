@@ -1,18 +1,10 @@
 -- A stop is the boot's, and the texts are those of what the boot made.
 use Rattle.std.proofs.Common.{refl}
-use Rattle.std.proofs.lemmas.Result.{err_from_is_err_and}
-use Rattle.boot_model.specs.View.{booted_view, inputs_view}
+use Rattle.boot_model.specs.View.{booted_view}
 use Rattle.debugfs_reports.specs.Report.{records_told}
-use Rattle.debugfs_reports.specs.ReportList.{reports_in}
 use Rattle.e820_usable.proofs.FramesLaws.{runs_ascend}
-use Rattle.program_run.proofs.BootedLaws.{boot_stopped, items_stand, told_is}
+use Rattle.program_run.proofs.BootedLaws.{items_stand, told_is}
 use Rattle.program_run.proofs.program.boot_texts.Goals as goal
-
-pub returns-in_err-booted-clause-makes : goal.returns-in_err-booted-clause-makes
-returns-in_err-booted-clause-makes c =
-    let p = err_from_is_err_and c.from_residual.result c.from_residual.ensures.1 in
-    boot_stopped _ c.from_residual.result p.0 c.in_err-booted.field-0.0 (inputs_view c.args.inputs) (reports_in c.args.list.now) p.1 p.2
-    c.in_err-booted.ensures.boots
 
 pub render_all-requires-clause-tables : goal.render_all-requires-clause-tables
 render_all-requires-clause-tables c =

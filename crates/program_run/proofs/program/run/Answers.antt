@@ -45,11 +45,3 @@ returns-in-Err-Memory-clause-ran g c = (
 pub returns-in-Ok-clause-headline : goal.returns-in-Ok-clause-headline
 returns-in-Ok-clause-headline g c =
     let ran = returns-in-Ok-clause-ran g c in ran_headline _ _ ran.0 _ _ _ ran.1 ran.2.said
-
-pub returns-in-Err-Usage-clause-headline : goal.returns-in-Err-Usage-clause-headline
-returns-in-Err-Usage-clause-headline g c =
-    let ran = returns-in-Err-Usage-clause-ran g c in ran_headline _ _ ran.0 _ _ _ ran.1 ran.2.said
-
-pub returns-in-Err-Memory-clause-headline : goal.returns-in-Err-Memory-clause-headline
-returns-in-Err-Memory-clause-headline g c =
-    let ran = returns-in-Err-Memory-clause-ran g c in ran_headline _ _ ran.0 _ _ _ ran.1 ran.2.said

@@ -3,6 +3,3 @@ use Rattle.program_run.proofs.tell.tell_refusal.Goals as goal
 
 pub returns-in-Unread : goal.returns-in-Unread
 returns-in-Unread g c = rw (c.in-Unread.is, ← c.name_text.ensures) c.put_line.ensures
-
-pub returns-in-Faulty : goal.returns-in-Faulty
-returns-in-Faulty g c = rw (c.in-Faulty.is, ← c.word.ensures) c.tell_fault.ensures

@@ -5,9 +5,3 @@ use Rattle.program_words.proofs.entries.read_entries.Goals as goal
 
 pub returns-in_default-clause-value : goal.returns-in_default-clause-value
 returns-in_default-clause-value c = not_parsed c.args.text.now c.in_default.ensures.value.0 (search rules)
-
-pub returns-then-contains-clause-value : goal.returns-then-contains-clause-value
-returns-then-contains-clause-value c = search rules
-
-pub returns-then-contains-clause-facts : goal.returns-then-contains-clause-facts
-returns-then-contains-clause-facts c = search rules

@@ -1,5 +1,5 @@
 -- The command with the first of the options that are left goes on with the others.
-use Rattle.std.proofs.Common.{◌≡◌, ◌∙◌, ℕ, ◌-◌, ◌<◌, ◌≤◌, List, [], ◌∷◌, Bor, fold, get_or, length, take, drop, refl, ap, arith}
+use Rattle.std.proofs.Common.{◌≡◌, ◌∙◌, ℕ, ◌-◌, ◌≤◌, List, Bor, fold, get_or, length, take, drop, ap, arith}
 use Rattle.std.proofs.lemmas.List.{take_all}
 use Rattle.clap.specs.Words.{App, app_of}
 use Rattle.clap.specs.declared.builder.action.ArgAction.{ArgAction}
@@ -10,10 +10,6 @@ fold_first : {A B : Type 0} (f : B → A → B) (b : B) (xs : List A) (d : A) �
     → fold f (f b (get_or xs 0 d)) (take (length xs - 1) (drop 1 xs)) ≡ fold f b xs
 fold_first f b xs d some = grind (arith, take_all)
 
-fold_none : {A B : Type 0} (f : B → A → B) (b : B) (xs : List A) → length xs < 1 → b ≡ fold f b xs
-fold_none f b [] none = refl
-fold_none f b (x ∷ xs) none = absurd (omega (arith, none))
-
 abbrev adds : App → Bor (List ℕ) × ArgAction → App
 adds app option = with_option app (option.0.now, option.1)
 
@@ -22,6 +18,3 @@ loop-rest-preserved c =
     let rest = c.loop-rest.rest.now in
     ap (λ (app : App). fold adds app (take (length rest - 1) (drop 1 rest))) c.in_ok-made.ensures
     ∙ fold_first adds (app_of c.loop-rest.made) rest _ c.in-len1-up.len_at_least ∙ c.loop-rest.invariant
-
-pub returns : goal.returns
-returns c = fold_none adds (app_of c.loop-rest.made) c.loop-rest.rest.now c.in_default.len_below ∙ c.loop-rest.invariant

@@ -1,5 +1,5 @@
 -- The frames of one more piece stand behind the others; where no piece is left, the ranges so far are all.
-use Rattle.std.proofs.Common.{◌∙◌, [], sym, append-nil}
+use Rattle.std.proofs.Common.{◌∙◌, []}
 use Rattle.std.proofs.lemmas.List.Elements.{All-append, All-cons, All-nil}
 use Rattle.boot_model.specs.Mirrors.{IsMirror}
 use Rattle.program_words.proofs.MirrorLaws.{frames_onward}
@@ -14,6 +14,3 @@ loop-rest-preserved-in_ok-push c = record {
       (frames_onward c.loop-rest.mirrors.items c.in-Some-read_frames.frames _ _ _ c.next_part.ensures.parts
       c.in-Some-read_frames.ensures.value ∙ (rw c.in-Some.is at c.loop-rest.invariant.same));
 }
-
-pub returns-clause-value : goal.returns-clause-value
-returns-clause-value c = sym (append-nil c.loop-rest.mirrors.items) ∙ (rw c.in_default.is at c.loop-rest.invariant.same)
