@@ -1,7 +1,7 @@
 -- Calls that carry out what is wanted, one after another.
-use Rattle.std.proofs.Common.{◌≡◌, ◌≢◌, ◌<◌, length, Bool, true, false, Option, Some, None, List, [], ◌∷◌, ◌++◌, Result, Ok, Err, refl, sym, ◌∙◌, ap, subst}
+use Rattle.std.proofs.Common.{◌≡◌, ◌<◌, length, Bool, true, false, Option, Some, None, List, [], ◌∷◌, ◌++◌, Result, Ok, Err, refl, sym, ◌∙◌, ap, subst}
 use Rattle.std.proofs.lemmas.List.{append-nil, append_assoc}
-use Rattle.std.specs.Prelude.{OnErr, OnOk}
+use Rattle.std.specs.Prelude.{OnOk}
 use Rattle.bm_base.specs.ResultSteps.{◌>>=◌}
 use Rattle.bm_base.specs.Extent.{Extent}
 use Rattle.memblock_model.specs.declared.which.Which.TheVariants as which
@@ -18,9 +18,7 @@ use Rattle.growth_model.specs.Carried.{carried_out, change, ended, unless_refuse
 use Rattle.growth_model.proofs.CarriedLaws.{carried-append}
 use Rattle.growth_model.proofs.EndLaws.{joined-append}
 use Rattle.early_stages.specs.Wanted.{direction_items}
-use Rattle.boot_model.specs.declared.stop.Stop.{Stop}
-use Rattle.boot_model.specs.declared.stop.Stop.TheVariants as stops
-use Rattle.boot_stages.specs.Carries.{AreCutShort, Carries, or_refused_growth, stop_of_refusal}
+use Rattle.boot_stages.specs.Carries.{AreCutShort, Carries}
 
 -- one item is what its change comes to
 pub answered : {A E : Type 0} (said : Result A E) → (said >>= λ x. Ok x) ≡ said
@@ -124,10 +122,6 @@ pub on_ok : (r : Result (Unit {0}) Refusal) (P : Type 0) → P → OnOk r P
 on_ok (Ok x) P holds = holds
 on_ok (Err e) P holds = tt
 
-pub on_err : {E : Type 0} (r : Result (Unit {0}) E) (P : Type 0) → P → OnErr r P
-on_err (Ok x) P holds = tt
-on_err (Err e) P holds = holds
-
 -- something happened behind a claim
 last_begun : (items : List Item) (i : Item) → HasBegun (items ++ i ∷ [])
 last_begun [] i = tt
@@ -177,22 +171,3 @@ pub carries-left : (r : Result (Unit {0}) Refusal) (all left old here new : List
     → Carries r all old new
 carries-left r all left old here new before ends =
     subst (λ (is : List Item). Carries r is old new) (sym before.parts) (carries-second r before.done left old here new before.carried ends)
-
--- an item behind others
-pub written-begun : (old new : List Item) (i : Item) → new ≡ old ++ i ∷ [] → HasBegun new
-written-begun old new i same = subst HasBegun (sym same) (last_begun old i)
-
--- the stop of a refused growth
-pub carries-stop : (e : Refusal) (wanted old new : List Item) (stop : Stop) → stop ≡ stop_of_refusal e
-    → Carries {T = Unit {0}} (Err e) wanted old new → stop ≢ stops.Memory → or_refused_growth (carried_out wanted old) ≡ Err stop
-carries-stop refusal.NoGap wanted old new stop is ends other = absurd ends
-carries-stop (refusal.NoGapForTable w room) wanted old new stop is ends other =
-    ap or_refused_growth ends ∙ ap (λ (s : Stop). Err s) (sym is)
-carries-stop refusal.Memory wanted old new stop is ends other = absurd (other is)
-
--- and where it is that memory is wanting, it was
-pub carries-short : (e : Refusal) (wanted old new : List Item) → stop_of_refusal e ≡ stops.Memory
-    → Carries {T = Unit {0}} (Err e) wanted old new → AreCutShort wanted old new
-carries-short refusal.NoGap wanted old new is ends = absurd ends
-carries-short (refusal.NoGapForTable w room) wanted old new is ends = absurd (cc)
-carries-short refusal.Memory wanted old new is ends = ends

@@ -1,5 +1,5 @@
 -- Each range's item is the first of those that are left.
-use Rattle.std.proofs.Common.{List, ◌∷◌, [], Ok, map, sym, subst, ◌∙◌, arith}
+use Rattle.std.proofs.Common.{List, ◌∷◌, [], Ok, map, ◌∙◌, arith}
 use Rattle.std.proofs.lemmas.List.{at_drop_all}
 use Rattle.bm_base.specs.Extent.{Extent}
 use Rattle.memblock_model.specs.declared.item.Item.TheVariants as item
@@ -8,17 +8,12 @@ use Rattle.growth_model.specs.Growth.{mirrored}
 use Rattle.growth_model.proofs.SoundLaws.{ends-begun}
 use Rattle.stage_model.proofs.LentLaws.{goes-then}
 use Rattle.early_stages.specs.Wanted.{mirror_items}
-use Rattle.boot_model.specs.Mirrors.{IsMirror, frames_in}
+use Rattle.boot_model.specs.Mirrors.{frames_in}
 use Rattle.boot_stages.proofs.BytesLaws.{goes-once}
 use Rattle.boot_stages.proofs.CarriesLaws.{carries-change, carries-left, carries-nothing, change-exit, leaves-all, leaves-next}
 use Rattle.boot_stages.proofs.ExitLaws.{exit}
 use Rattle.boot_stages.proofs.MemoryLaws.{mirrors_next}
 use Rattle.boot_stages.proofs.memory.add_mirrors.Goals as goal
-
-pub set_mirror-requires-clause-some : goal.set_mirror-requires-clause-some
-set_mirror-requires-clause-some c =
-    (subst IsMirror (sym c.mirror-item.is) (c.requires.whole c.loop-mirror.mirror-index c.mirror-item.result
-    (omega (arith, c.loop-mirror-test.true)))).some
 
 pub returns-in_err-set_mirror-clause-carries : goal.returns-in_err-set_mirror-clause-carries
 returns-in_err-set_mirror-clause-carries c =

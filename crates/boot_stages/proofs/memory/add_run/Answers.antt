@@ -7,7 +7,6 @@ use Rattle.memblock_model.specs.declared.owner.Owner.TheVariants as owner
 use Rattle.memblock_model.specs.declared.item.Item.TheVariants as item
 use Rattle.growth_model.specs.Carried.{carried_out}
 use Rattle.early_stages.specs.Wanted.{items_of_run}
-use Rattle.boot_stages.proofs.BytesLaws.{goes-once}
 use Rattle.boot_stages.proofs.CarriesLaws.{carries-change, carries-nothing}
 use Rattle.boot_stages.proofs.MemoryLaws.{high_run, memory_run, other_run, soft_run}
 use Rattle.boot_stages.proofs.memory.add_run.Goals as goal
@@ -38,9 +37,3 @@ returns-clause-carries c =
     let memory : is_memory (Some run.value) ≡ true = sym c.is_memory.ensures ∙ c.if-not-is_memory.false in
     rw (← c.run.view_is, memory_run c.args.reach run c.if-run.false memory low, ← c.below_limit.ensures)
     (carries-change _ (item.Mem c.below_limit.result) _ _ c.add_memory.ensures.ends)
-
-pub returns-then-run-clause-lent : goal.returns-then-run-clause-lent
-returns-then-run-clause-lent c = goes-once _ _ c.claim.ensures.kernel c.claim.ensures.bytes c.claim.ensures.still_ready
-
-pub returns-clause-lent : goal.returns-clause-lent
-returns-clause-lent c = goes-once _ _ c.add_memory.ensures.kernel c.add_memory.ensures.bytes c.add_memory.ensures.still_ready

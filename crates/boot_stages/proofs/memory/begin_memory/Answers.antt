@@ -10,7 +10,7 @@ use Rattle.stage_model.proofs.LentLaws.{goes-then}
 use Rattle.boot_model.specs.Boot.{early_of}
 use Rattle.boot_model.specs.View.{inputs_view}
 use Rattle.boot_stages.proofs.BytesLaws.{goes-once}
-use Rattle.boot_stages.proofs.CarriesLaws.{carries-alone, carries-direction, carries-exit, carries-second, carries-wanting, written-begun}
+use Rattle.boot_stages.proofs.CarriesLaws.{carries-alone, carries-direction, carries-exit, carries-second, carries-wanting}
 use Rattle.boot_stages.proofs.ExitLaws.{exit}
 use Rattle.boot_stages.proofs.memory.begin_memory.Goals as goal
 use Rattle.boot_stages.proofs.memory.begin_memory.Goals.{After-set_limit}
@@ -33,9 +33,6 @@ returns-in_err-set_limit-clause-carries c =
     c.in_ok-claim_early.ensures.carries (carries-wanting _ _ _ _ _ (exit _ _ c.from_residual-in_err-set_limit.ensures.1) (omega arith)
     (ap (λ (m : Memblock). m.journal.items) c.in_err-set_limit.ensures.err))
 
-pub turn_upward-requires : goal.turn_upward-requires
-turn_upward-requires c = written-begun _ _ (item.Limit ISA_END_ADDRESS) c.in_ok-set_limit.ensures.ok
-
 pub returns-in_err-turn_upward-clause-carries : goal.returns-in_err-turn_upward-clause-carries
 returns-in_err-turn_upward-clause-carries c =
     let e : Early = early_of (inputs_view c.args.inputs.now) in
@@ -54,9 +51,6 @@ returns-clause-carries c =
     c.in_ok-claim_early.ensures.carries (carries-second (Ok tt) (item.Limit ISA_END_ADDRESS ∷ []) (direction_items e.upward) _ _ _
     (carries-alone (item.Limit ISA_END_ADDRESS) _ _ refl c.in_ok-set_limit.ensures.ok)
     (carries-direction e.upward _ _ c.in_ok-turn_upward.ensures.ok))
-
-pub returns-in_err-set_limit-clause-lent : goal.returns-in_err-set_limit-clause-lent
-returns-in_err-set_limit-clause-lent c = limited (goal.at.returns-in_err-set_limit-clause-lent c).After-set_limit
 
 pub returns-in_err-turn_upward-clause-lent : goal.returns-in_err-turn_upward-clause-lent
 returns-in_err-turn_upward-clause-lent c =

@@ -60,9 +60,6 @@ returns-in-None-clause-carries c =
 pub returns-in-None-clause-begun : goal.returns-in-None-clause-begun
 returns-in-None-clause-begun c = both_begun (goal.at.returns-in-None-clause-begun c).In_ok-claim-2
 
-pub returns-in_err-claim-clause-lent : goal.returns-in_err-claim-clause-lent
-returns-in_err-claim-clause-lent c = goes-once _ _ c.claim.ensures.kernel c.claim.ensures.bytes c.claim.ensures.still_ready
-
 pub returns-in_err-claim-2-clause-lent : goal.returns-in_err-claim-2-clause-lent
 returns-in_err-claim-2-clause-lent c = claimed_both (goal.at.returns-in_err-claim-2-clause-lent c).After-claim-2
 

@@ -20,10 +20,6 @@ returns-clause-carries c =
     (carries-alone (item.Limit c.args.end) _ _ refl c.in_ok-set_limit.ensures.ok)
     (carries-change _ (item.Claim c.up_to.result owner.Low1M) _ _ c.claim.ensures.ends))
 
-pub returns-in_err-set_limit-clause-lent : goal.returns-in_err-set_limit-clause-lent
-returns-in_err-set_limit-clause-lent c =
-    goes-once _ _ c.set_limit.ensures.kernel c.set_limit.ensures.bytes c.set_limit.ensures.still_ready
-
 pub returns-clause-lent : goal.returns-clause-lent
 returns-clause-lent c =
     goes-then _ c.set_limit.new.self _ (goes-once _ _ c.set_limit.ensures.kernel c.set_limit.ensures.bytes c.set_limit.ensures.still_ready)

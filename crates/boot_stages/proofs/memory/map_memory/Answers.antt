@@ -9,7 +9,7 @@ use Rattle.early_stages.specs.Wanted.{items_of_map, mirror_items}
 use Rattle.boot_model.specs.Boot.{early_of}
 use Rattle.boot_model.specs.View.{inputs_view}
 use Rattle.boot_stages.proofs.BytesLaws.{goes-once}
-use Rattle.boot_stages.proofs.CarriesLaws.{carries-alone, carries-exit, carries-second, carries-wanting, written-begun}
+use Rattle.boot_stages.proofs.CarriesLaws.{carries-alone, carries-exit, carries-second, carries-wanting}
 use Rattle.boot_stages.proofs.ExitLaws.{exit}
 use Rattle.boot_stages.proofs.memory.map_memory.Goals as goal
 use Rattle.boot_stages.proofs.memory.map_memory.Goals.{After-trim}
@@ -31,18 +31,12 @@ returns-in_err-trim-clause-carries c =
     c.in_ok-add_map.ensures.carries (carries-wanting _ _ _ _ _ (exit _ _ c.from_residual-in_err-trim.ensures.1) (omega arith)
     (ap (λ (m : Memblock). m.journal.items) c.in_err-trim.ensures.err)))
 
-pub mirror_memory-requires : goal.mirror_memory-requires
-mirror_memory-requires c = written-begun _ _ item.Trim c.in_ok-trim.ensures.ok
-
 pub returns-clause-carries : goal.returns-clause-carries
 returns-clause-carries c =
     let e : Early = early_of (inputs_view c.args.inputs.now) in
     rw (← c.reach.ensures) (carries-second _ (items_of_map c.reach.result c.args.map.now) (item.Trim ∷ mirror_items e.mirrors) _ _ _
     c.in_ok-add_map.ensures.carries (carries-second _ (item.Trim ∷ []) (mirror_items e.mirrors) _ _ _
     (carries-alone item.Trim _ _ refl c.in_ok-trim.ensures.ok) c.mirror_memory.ensures.carries))
-
-pub returns-in_err-trim-clause-lent : goal.returns-in_err-trim-clause-lent
-returns-in_err-trim-clause-lent c = trimmed (goal.at.returns-in_err-trim-clause-lent c).After-trim
 
 pub returns-clause-lent : goal.returns-clause-lent
 returns-clause-lent c = goes-then _ _ _ (trimmed (goal.at.returns-clause-lent c).After-trim) c.mirror_memory.ensures.lent

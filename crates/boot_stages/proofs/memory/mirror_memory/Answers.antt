@@ -1,5 +1,5 @@
 -- The mirrors of the words, and then those of the firmware's map, if there is one.
-use Rattle.std.proofs.Common.{◌≡◌, ◌++◌, [], List, Result, Ok, map, sym, subst}
+use Rattle.std.proofs.Common.{◌≡◌, ◌++◌, List, Result, Ok, map, sym, subst}
 use Rattle.memblock_model.specs.declared.item.Item.{Item}
 use Rattle.growth_model.specs.declared.refusal.Refusal.{Refusal}
 use Rattle.growth_model.specs.Carried.{carried_out}
@@ -10,7 +10,7 @@ use Rattle.boot_model.specs.Boot.{efi_mirrors}
 use Rattle.boot_model.specs.Mirrors.{frames_in}
 use Rattle.boot_model.specs.View.{inputs_view}
 use Rattle.boot_stages.specs.Carries.{Carries}
-use Rattle.boot_stages.proofs.CarriesLaws.{carries-exit, carries-nothing, carries-second}
+use Rattle.boot_stages.proofs.CarriesLaws.{carries-exit, carries-second}
 use Rattle.boot_stages.proofs.ExitLaws.{exit}
 use Rattle.boot_stages.proofs.MemoryLaws.{mirrors-append}
 use Rattle.boot_stages.proofs.memory.mirror_memory.Goals as goal
@@ -33,11 +33,6 @@ returns-in-Some-clause-carries c =
     rw c.in-Some.is (both _ (map frames_in c.args.inputs.now.mirrors.items) (map frames_in c.in-Some.efi.mirrors.items) _ _ _
     (rw c.deref.ensures.value at c.in_ok-add_mirrors.ensures.carries)
     (rw c.deref-in-Some.ensures.value at c.add_mirrors-in-Some.ensures.carries))
-
-pub returns-in-None-clause-carries : goal.returns-in-None-clause-carries
-returns-in-None-clause-carries c =
-    rw c.in-None.is (both (Ok tt) (map frames_in c.args.inputs.now.mirrors.items) [] _ _ _
-    (rw c.deref.ensures.value at c.in_ok-add_mirrors.ensures.carries) (carries-nothing _))
 
 pub returns-in-Some-clause-lent : goal.returns-in-Some-clause-lent
 returns-in-Some-clause-lent c = goes-then _ _ _ c.in_ok-add_mirrors.ensures.lent c.add_mirrors-in-Some.ensures.lent

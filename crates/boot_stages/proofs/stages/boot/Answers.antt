@@ -65,9 +65,6 @@ memory_is_made c =
       first = first_made given made c.make_memory.new.memblock.journal.items c.in_ok-map.ensures.answers told;
     }
 
-pub run_stages-requires-clause-kernel : goal.run_stages-requires-clause-kernel
-run_stages-requires-clause-kernel c = c.in_ok-make_memory.ensures.lent.kernel ∙ c.in_ok-memblock.ensures.kernel
-
 pub run_stages-requires-clause-bytes : goal.run_stages-requires-clause-bytes
 run_stages-requires-clause-bytes c =
     let m : Memblock = c.in_ok-memblock.memblock in
