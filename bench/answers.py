@@ -33,7 +33,8 @@ HEAD = re.compile(r"use |mod |pub mod |module |infix|--|\s")
 CHECKED = re.compile(r"checked (\S+), \d+ of \d+")
 GOAL = re.compile(r"\(`([^`\s]+)`\)")
 TRIED = re.compile(r"`search` did not prove ((?:`[^`]+`(?:, )?)+)")
-ENDED = re.compile(r"(?:fn|impl|struct|enum) (\S+): ")
+UNFOUND = re.compile(r"src/\S+: error: `([^`]+)`: `search`: no proof")
+ENDED = re.compile(r"(fn|impl|struct|enum) (\S+): ")
 
 
 def read(path):
@@ -65,6 +66,13 @@ def answer_of(part):
     """The goal that a part answers, if it does."""
     match = ANSWER.match(head_of(part))
     return match.group(1) if match else None
+
+
+def faults_in(said):
+    """The first lines of what a check said that tell why it isn't proved, or the last ones where none does."""
+    lines = said.strip().split("\n")
+    told = [line for line in lines if ": error: " in line or ": not proved" in line or "not proved yet" in line]
+    return "\n".join(told[:10] or lines[-10:])
 
 
 def has_word(word, text):
@@ -150,11 +158,14 @@ class Crate:
         found, goals = {}, set()
         for line in said.split("\n"):
             ended = ENDED.match(line)
+            goals |= set(UNFOUND.findall(line))
             if line.startswith("note: "):
                 goals |= set(GOAL.findall(line))
             elif ended:
                 goals |= {goal.strip("`") for tried in TRIED.findall(line) for goal in tried.rstrip(", ").split(", ")}
-                found.setdefault(self.answers_file(ended.group(1)), set()).update(goals)
+                # what an impl has to show of its trait stands in a folder of its own
+                place = f"{ended.group(2)}::TheImpl" if ended.group(1) == "impl" else ended.group(2)
+                found.setdefault(self.answers_file(place), set()).update(goals)
                 goals = set()
         return found
 
@@ -253,7 +264,7 @@ class Crate:
         self.run(*CHECK, "--only", "")
         status, said, before, first = self.run_anew()
         if status:
-            return f"not proved as it stands: {said[-2000:]}"
+            return f"not proved as it stands: {faults_in(said)}"
         self.near = self.open_goals(self.run(*CHECK, "--margin", "--allow-holes")[1])
         lines = self.lines()
         while True:
@@ -271,7 +282,7 @@ class Crate:
             if not self.keep(more):
                 break
         if status:
-            return f"not proved at the end: {said[-2000:]}"
+            return f"not proved at the end: {faults_in(said)}"
         now = self.lines()
         return (f"answers {len(self.answers)} to {len(self.kept)}, their lines {lines[0]} to {now[0]}, lines of proofs {lines[1]} to {now[1]}, "
                 f"seconds {first:.0f} to {last:.0f}")

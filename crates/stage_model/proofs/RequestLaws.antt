@@ -37,10 +37,6 @@ pub carried-table : (T : Type 0) (w : Which) (room : ℕ) (old new : List Item) 
     → EndsAs {A = Unit {0}} stop.Memory (Err (stop.NoTablePlace w room)) old new (carried change old)
 carried-table T w room old new change h = inl (ap refused_growth h.0, h.1 ∙ sym (appended-joined old (change old).steps))
 
-pub carried-wanting : (T : Type 0) (old new : List Item) (change : Change) → Ends {T = T} (Err refusal.Memory) old new change
-    → EndsAs {A = Unit {0}} stop.Memory (Err stop.Memory) old new (carried change old)
-carried-wanting T old new change cut = inr (refl, cut)
-
 -- an allocation
 allocation_by : (place : Option ℕ) (r : Result ℕ Refusal) (old new : List Item) (size : ℕ) (who : Owner)
     → Allocates r old new place size who → EndsAs refusal.Memory r old new (claimed_at place size who old)

@@ -1,9 +1,6 @@
 -- The live ranges have no byte in common, so each shows its own spelling.
-use Rattle.growth_model.proofs.StandLaws.{journal-stands, list-stands}
+use Rattle.growth_model.proofs.StandLaws.{list-stands}
 use Rattle.growth_model.proofs.byte_laws.tables_are_spelled.Goals as goal
-
-pub returns-clause-each : goal.returns-clause-each
-returns-clause-each c = journal-stands
 
 pub returns-clause-list : goal.returns-clause-list
 returns-clause-list c = list-stands

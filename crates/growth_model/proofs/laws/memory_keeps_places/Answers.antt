@@ -1,7 +1,6 @@
 use Rattle.growth_model.specs.Growth.{added, noded, mirrored}
 use Rattle.growth_model.specs.Sound.{Seated}
 use Rattle.growth_model.proofs.CutLaws.{cuts-ends}
-use Rattle.growth_model.proofs.PlacedLaws.{trim-placed, limit-placed, upward-placed}
 use Rattle.growth_model.proofs.PlacedMemoryLaws.{added-cuts, noded-cuts, mirrored-cuts}
 use Rattle.growth_model.proofs.laws.memory_keeps_places.Goals as goal
 
@@ -16,12 +15,3 @@ returns-clause-noded c = λ kernel result old new range node placed ends.
 pub returns-clause-mirrored : goal.returns-clause-mirrored
 returns-clause-mirrored c = λ kernel result old new range placed ends.
     cuts-ends (Seated kernel) result old new (mirrored range old) (mirrored-cuts kernel old range placed) ends
-
-pub returns-clause-trim : goal.returns-clause-trim
-returns-clause-trim c = λ kernel items placed. trim-placed kernel items placed
-
-pub returns-clause-limit : goal.returns-clause-limit
-returns-clause-limit c = λ kernel items at placed. limit-placed kernel items at placed
-
-pub returns-clause-upward : goal.returns-clause-upward
-returns-clause-upward c = λ kernel items on placed. upward-placed kernel items on placed

@@ -1,8 +1,7 @@
 -- The next section's map is the next step.
-use Rattle.std.proofs.Common.{Ok, false, get_or, arith}
+use Rattle.std.proofs.Common.{Ok, get_or, arith}
 use Rattle.std.proofs.lemmas.Result.{err_from_is_err_and}
 use Rattle.memblock_grow.specs.declared.stop.StageStop.TheVariants as stop
-use Rattle.stage_model.specs.Requests.{placed}
 use Rattle.stage_model.proofs.DoingLaws.{ends-begun}
 use Rattle.stage_model.proofs.LentLaws.{goes-then}
 use Rattle.section_maps.proofs.MapLaws.{no_section, one_map, goes-next, goes-stops, goes-all}
