@@ -1,10 +1,8 @@
 mod CommandLineLaws
-mod EfiLaws
 mod Examples
 mod FileLaws
 mod PagesLaws
 mod ReadingLaws
 mod ScriptLaws
-mod SlitLaws
 mod SratLaws
 mod WantLaws

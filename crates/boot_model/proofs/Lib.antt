@@ -1,5 +1,4 @@
 pub mod BootLaws
-mod EfiLaws
 mod Examples
 pub mod MemoryLaws
 pub mod MirrorLaws
