@@ -33,8 +33,9 @@ HEAD = re.compile(r"use |mod |pub mod |module |infix|--|\s")
 CHECKED = re.compile(r"checked (\S+), \d+ of \d+")
 GOAL = re.compile(r"\(`([^`\s]+)`\)")
 TRIED = re.compile(r"`search` did not prove ((?:`[^`]+`(?:, )?)+)")
-UNFOUND = re.compile(r"src/\S+: error: `([^`]+)`: `search`: no proof")
-ENDED = re.compile(r"(fn|impl|struct|enum) (\S+): ")
+# a goal that it tells at the body, apart from what it says of the function
+AT_BODY = re.compile(r"^src/\S+: error: `([^`]+)`: `search`: no proof", re.M)
+ENDED = re.compile(r"(?:fn|impl|struct|enum) (\S+): ")
 
 
 def read(path):
@@ -158,14 +159,11 @@ class Crate:
         found, goals = {}, set()
         for line in said.split("\n"):
             ended = ENDED.match(line)
-            goals |= set(UNFOUND.findall(line))
             if line.startswith("note: "):
                 goals |= set(GOAL.findall(line))
             elif ended:
                 goals |= {goal.strip("`") for tried in TRIED.findall(line) for goal in tried.rstrip(", ").split(", ")}
-                # what an impl has to show of its trait stands in a folder of its own
-                place = f"{ended.group(2)}::TheImpl" if ended.group(1) == "impl" else ended.group(2)
-                found.setdefault(self.answers_file(place), set()).update(goals)
+                found.setdefault(self.answers_file(ended.group(1)), set()).update(goals)
                 goals = set()
         return found
 
@@ -189,7 +187,8 @@ class Crate:
 
     def wanted(self, said):
         """The answers of the goals that are open without them; where no answer goes by such a goal's name, all of that function."""
-        found = set()
+        at_body = set(AT_BODY.findall(said))
+        found = {answer for answer in self.answers if answer[1] in at_body}
         for path, goals in self.open_goals(said).items():
             mine = {answer for answer in self.answers if answer[0] == path}
             for goal in goals - self.near.get(path, set()):
