@@ -5,7 +5,6 @@ use Rattle.bm_base.specs.ResultSteps.{◌>>=◌}
 use Rattle.bm_io.specs.HeldFiles.{bytes_of}
 use Rattle.boot_inputs.specs.declared.fault.Fault.{Fault}
 use Rattle.boot_inputs.specs.declared.input.Input.{Input}
-use Rattle.boot_inputs.specs.declared.input.Input.TheVariants as inputs
 use Rattle.boot_inputs.specs.declared.refusal.InputRefusal.{InputRefusal}
 use Rattle.boot_inputs.specs.declared.refusal.InputRefusal.TheVariants as refusals
 use Rattle.boot_inputs.specs.Answers.{ComesTo, RoseAt, input_of}

@@ -1,5 +1,5 @@
 -- One more word, or the first that isn't UTF-8; behind the last one all are taken.
-use Rattle.std.proofs.Common.{◌≡◌, ◌∙◌, ap, arith, subst, Err}
+use Rattle.std.proofs.Common.{◌≡◌, ap, arith, subst, Err}
 use Rattle.std.specs.List.{All}
 use Rattle.std.specs.Str.{IsUtf8}
 use Rattle.std.proofs.lemmas.List.{length-map, take_all}
@@ -22,10 +22,6 @@ loop-word-preserved c = record {
       c.loop-word.invariant.texts;
   utf8 = utf8_more c.args.words.now _ _ c.loop-word-test.true c.in_ok-text_in.ensures.utf8 c.loop-word.invariant.utf8;
 }
-
-pub returns-clause-texts : goal.returns-clause-texts
-returns-clause-texts c =
-    c.loop-word.invariant.texts ∙ take_all _ _ (omega (arith, c.loop-word-test.false, length-map c.args.words.now lent_word))
 
 pub returns-clause-utf8 : goal.returns-clause-utf8
 returns-clause-utf8 c =
