@@ -8,6 +8,7 @@
 #   make lib                  proves and builds the library: libbootmem.a and libbootmem.so, for C and whatever calls C
 #   make try ARGS="..."       runs the program on these words without proof, within a minute
 #   make test                 the whole gate: every proof, every test, the real machines
+#   make check                compares the documents with the sources, in some seconds; the gate does so too
 #   make install PREFIX=DIR   installs both programs as they are, tools, manual pages, documents and examples, and the
 #                             library where it is there, and proves nothing: without a program it stops, unless PROVE=1
 #                             (DESTDIR and MANDIR are honoured)
@@ -41,7 +42,7 @@ PROGRAMS := bootmem bootaudit
 
 LIBRARY := libbootmem.a
 
-.PHONY: all lib run try test install uninstall deb clean help
+.PHONY: all lib run try test check install uninstall deb clean help
 
 all: $(PROGRAMS)
 
@@ -66,6 +67,9 @@ try:
 test:
 	@PATH="$(if $(findstring /,$(RT)),$(abspath $(dir $(RT))):)$$PATH" .ci/run
 
+check:
+	@tests/sources.sh
+
 # a program that is there is installed as it is: an installation proves nothing, but where PROVE=1 asks for it
 install:
 	@for program in $(PROGRAMS); do \
@@ -89,4 +93,4 @@ clean:
 	rm -rf crates/*/out
 
 help:
-	@sed -n '3,19s/^# *//p' Makefile | sed '/^$$/d; s/^/  /'
+	@sed -n '3,20s/^# *//p' Makefile | sed '/^$$/d; s/^/  /'
