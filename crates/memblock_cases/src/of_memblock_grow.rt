@@ -305,6 +305,26 @@ fn reads(memblock: &Memblock, base: u64, bytes: &[u8]) -> bool {
     *read == *bytes
 }
 
+// A boot as far as its nodes: the memory table starts with the memory below 640 KiB, and holds zeros after its second record.
+#[test]
+fn first_record_after_the_nodes(rt: HostRuntime) -> Result<(), Fail> {
+    let mut memblock = started(rt.alloc(), KERNEL)?;
+    let steps = [
+        Step::Claim(0, 0x10000),
+        Step::Limit(0x100000),
+        Step::Add(0x1000, 0x9EC00),
+        Step::Add(0x100000, 0x7EE0000),
+        Step::Trim,
+        Step::Limit(0x7FE0000),
+        Step::Claim(0, 0x100000),
+        Step::Node(0, 0x7FE0000, 0),
+    ];
+    carry_out(&mut memblock, &steps)?;
+    assert!(rt; reads(&memblock, 0x2FFE000, &FIRST_RECORD));
+    assert!(rt; reads(&memblock, 0x2FFE030, &[0; 24]));
+    Ok(())
+}
+
 // The places that the tables moved to belong to them.
 fn owns_places(journal: &Journal) -> bool {
     journal.owner_at(0x7FDBFFF) == Some(Owner::Table(Which::Reserved))

@@ -37,6 +37,19 @@ fn expect(rt: &impl Abort, table: &Table, runs: &[Run]) {
     }
 }
 
+// ACPI data comes before the RAM round it, and wins since its type is greater
+#[test]
+fn greatest_type_wins(rt: HostRuntime) {
+    let entries = [entry(0x10_0000, 0x8_0000, 3), entry(0, 0x20_0000, 1)];
+    let table = settled(&rt, rt.alloc(), &entries);
+    let runs = [
+        run(0, 0x10_0000, 1),
+        run(0x10_0000, 0x8_0000, 3),
+        run(0x18_0000, 0x8_0000, 1),
+    ];
+    expect(&rt, &table, &runs);
+}
+
 #[test]
 fn edits_in_their_order(rt: HostRuntime) {
     let page = Range {
