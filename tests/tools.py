@@ -928,21 +928,15 @@ def test_hull(work):
 
 
 def test_installed(work):
-    """The tools as they are installed: beside the program in bin, with the shared module in share/bootmem."""
-    for folder in ("bin", "share/bootmem"):
-        os.makedirs(os.path.join(work, folder))
-    for name in ("bootmem-draw", "bootmem-where", "bootmem-diff", "bootmem-live", "zp-from-log"):
-        shutil.copy(os.path.join(TOP, "tools", name), os.path.join(work, "bin"))
-    shutil.copy(os.path.join(TOP, "tools", "collect.sh"), os.path.join(work, "bin", "bootmem-collect"))
-    for name in ("bootmem_reports.py", "bootmem_cmdline.py", "bootmem_machine.py"):
-        shutil.copy(os.path.join(TOP, "tools", name), os.path.join(work, "share/bootmem"))
+    """The tools as they are installed: beside the program in bin, with their package in lib."""
+    subprocess.run([os.path.join(TOP, "tools", "install.sh"), "tools", "", work, os.path.join(work, "man")], check=True)
     os.symlink(PROGRAM, os.path.join(work, "bin", "bootmem"))
     path = {"BOOTMEM": "", "PATH": os.path.join(work, "bin") + os.pathsep + os.environ["PATH"]}
     status, out, err = tool(os.path.join(work, "bin", "bootmem-where"), "0x17be00040", "--", *words_of("q35-8g-numa2"),
                             folder=example("q35-8g-numa2"), variables={"BOOTMEM": ""})
     check("installed: beside", (status, out, err), (0, WHERE, ""))
     os.rename(os.path.join(work, "bin", "bootmem-diff"), os.path.join(work, "bootmem-diff"))
-    shutil.copy(os.path.join(TOP, "tools", "bootmem_reports.py"), work)
+    shutil.copytree(os.path.join(TOP, "tools", "bootmem_tools"), os.path.join(work, "bootmem_tools"))
     for variables, wanted in ((path, 0), ({**path, "BOOTMEM": "/nowhere/bootmem"}, 2)):
         check("installed: on the PATH", tool(os.path.join(work, "bootmem-diff"), "--a", "zp.bin", "--b", "zp.bin",
                                              folder=example("q35-1g"), variables=variables)[:2], (wanted, ""))

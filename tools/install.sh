@@ -1,11 +1,13 @@
 #!/bin/sh
-# install.sh install|uninstall DESTDIR PREFIX MANDIR: puts the built program, the tools, the manual pages, the documents and the
-# examples under DESTDIR, or removes what it put there. 'make install' and 'make uninstall' call it.
+# install.sh install|tools|uninstall DESTDIR PREFIX MANDIR: puts the built program, the tools, the manual pages, the documents and the
+# examples under DESTDIR, or the tools alone, or removes what it put there. 'make install' and 'make uninstall' call it.
 #
 #   PREFIX/bin                bootmem, bootaudit, the tools that are there, and tools/collect.sh as bootmem-collect
 #   MANDIR/man1, MANDIR/man5  the manual pages; those of the tools are made of their --help, where they run
 #   PREFIX/share/doc/bootmem  the documents
-#   PREFIX/share/bootmem      the machines of examples/, and what the tools share
+#   PREFIX/lib/python3*/*-packages/bootmem_tools  the Python package of the tools: in the folder there that python3 looks into, if it
+#                             looks into one, else in lib/python3/dist-packages, which the installed tools name
+#   PREFIX/share/bootmem      the machines of examples/
 #   PREFIX/share/bash-completion/completions/bootmem, bootaudit
 #   PREFIX/lib, PREFIX/include  where libbootmem.a is there: the library, its header and lib/pkgconfig/bootmem.pc, and in
 #                             PREFIX/share/bootmem/bindings what calls it; VERSION is that of the library
@@ -32,7 +34,28 @@ uninstall() {
 	rm -f "$man/man1/bootmem.1" "$man/man1/bootaudit.1" "$man/man5/bootmem.5"
 	rm -f "$share/bash-completion/completions/bootmem" "$share/bash-completion/completions/bootaudit"
 	rm -f "$lib"/libbootmem.a "$lib"/libbootmem.so* "$lib/pkgconfig/bootmem.pc" "$include/bootmem.h"
-	rm -rf "$share/doc/bootmem" "$share/bootmem"
+	rm -rf "$share/doc/bootmem" "$share/bootmem" "$lib"/python3*/*-packages/bootmem_tools
+}
+
+# packages PREFIX: the folder for Python packages under PREFIX/lib, seen from PREFIX
+packages() {
+	found=$(python3 -I -c 'import sys
+folder = sys.argv[1] + "/lib/"
+print(next((path for path in sys.path if path.startswith(folder) and path.endswith("-packages")), ""))' "$1" 2>/dev/null) || found=
+	[ -n "$found" ] || found=$1/lib/python3/dist-packages
+	echo "${found#"$1"/}"
+}
+
+# tools PREFIX: the tools, and the package that they are made of
+tools() {
+	packages=$(packages "$1")
+	install -d "$bin" "$bin/../$packages/bootmem_tools"
+	install -m 755 tools/collect.sh "$bin/bootmem-collect"
+	for tool in $tools; do
+		sed "s|^sys.dont_write_bytecode = True\$|&\nsys.path.insert(0, sys.path[0] + \"/../$packages\")|" "tools/$tool" >"$bin/$tool"
+		chmod 755 "$bin/$tool"
+	done
+	install -m 644 tools/bootmem_tools/*.py "$bin/../$packages/bootmem_tools"
 }
 
 # library: what a program needs that calls the library
@@ -62,13 +85,7 @@ examples() {
 install_all() {
 	install -d "$bin" "$man/man1" "$man/man5" "$share/doc/bootmem" "$share/bootmem/examples"
 	install -m 755 bootmem bootaudit "$bin"
-	install -m 755 tools/collect.sh "$bin/bootmem-collect"
-	for tool in $tools; do
-		[ ! -f "tools/$tool" ] || install -m 755 "tools/$tool" "$bin/$tool"
-	done
-	for module in tools/*.py; do
-		[ ! -f "$module" ] || install -m 644 "$module" "$share/bootmem/$(basename "$module")"
-	done
+	tools "$1"
 	for program in bootmem bootaudit; do
 		[ -f "tools/$program.bash-completion" ] || continue
 		install -d "$share/bash-completion/completions"
@@ -94,9 +111,10 @@ install_all() {
 
 case $deed in
 install) install_all "$3" ;;
+tools) tools "$3" ;;
 uninstall) uninstall ;;
 *)
-	echo "usage: install.sh install|uninstall DESTDIR PREFIX MANDIR" >&2
+	echo "usage: install.sh install|tools|uninstall DESTDIR PREFIX MANDIR" >&2
 	exit 2
 	;;
 esac

@@ -7,8 +7,7 @@ import re
 import struct
 import subprocess
 
-import bootmem_cmdline as cmdline
-import bootmem_reports as reports
+from bootmem_tools import command_line as cmdline, reports
 
 FILES = (("--e820ext", "e820ext.bin"), ("--srat", "srat.bin"), ("--efi", "efi.bin"))
 REACH = 1 << 46  # of page tables of four levels

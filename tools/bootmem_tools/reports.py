@@ -125,7 +125,7 @@ def split_words(words):
 
 def find_program(named):
     """The path of the program: the named one, else $BOOTMEM, else the one beside the tools or above them in a clone, else on the PATH."""
-    folder = os.path.dirname(os.path.realpath(__file__))
+    folder = os.path.dirname(os.path.dirname(os.path.realpath(__file__)))
     tool = os.path.dirname(os.path.realpath(sys.argv[0]))
     chosen = named or os.environ.get("BOOTMEM")
     if chosen:

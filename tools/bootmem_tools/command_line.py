@@ -13,7 +13,7 @@ import re
 import sys
 import tempfile
 
-import bootmem_reports as reports
+from bootmem_tools import reports
 
 LONGEST = 2047  # bytes of a line (COMMAND_LINE_SIZE without its end)
 ROUND = 128 << 20  # total memory is rounded up to this (parse_crashkernel_mem)

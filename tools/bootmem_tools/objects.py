@@ -6,7 +6,7 @@ reports, since many readers of JSON cut numbers above 2^53; whatever is counted 
 
 import re
 
-import bootmem_reports as reports
+from bootmem_tools import reports
 
 # Names that have a number behind them in the reports owners and journal.
 NUMBERED = ("node-data", "root", "usage", "map", "script")

@@ -1,0 +1,69 @@
+"""bootmem-json: reports of bootmem as one JSON object."""
+
+import json
+
+from bootmem_tools import objects, reports
+
+NAME = "bootmem-json"
+USAGE = """bootmem-json [--compact] [--report NAME] [FILE]
+       bootmem-json [--compact] [--report LIST] [--program P] -- WORDS"""
+ABOUT = """Turns reports of bootmem into one JSON object with a member for each report, by its name, in the order in which they
+stand there. FORMATS.md of the documents has the form ("Reports as JSON"). An address or a size in bytes is a string,
+as in the reports, since many readers of JSON cut numbers above 2^53; frames, records and the like are numbers."""
+EPILOG = f"""Behind -- stand the words of the program but --report, which is LIST, or else all reports but script, blocks, pages and pagesinfo.
+
+Else the text of reports is read from FILE, or from standard input where there is none or it is -. A text of one report
+without its line `== NAME` is known by its first line; --report NAME tells it where that may be another's (reserved, which
+looks like memory, pages like script, pagesinfo like buddyinfo, or a text without a line).
+
+{reports.FINDING}
+
+exit status: 0; 1 where the reports couldn't be had; 2 for words that aren't those above.
+
+examples:
+  bootmem-json --report crash,zones -- --kernel 16M,52M zp.bin
+  bootmem --report summary zp.bin | bootmem-json --compact"""
+
+WANTED = [name for name in objects.REPORTS if name not in ("script", "blocks", "pages", "pagesinfo")]
+
+
+def read_words(words):
+    """Whether the text is to be one line, and the reports."""
+    own, program_words = reports.split_words(words)
+    parser = reports.new_parser(NAME, USAGE, ABOUT, EPILOG)
+    parser.add_argument("file", metavar="FILE", nargs="?", help="a text of reports; - is standard input")
+    parser.add_argument("--report", metavar="LIST", help="the reports to ask for, or the name of the one in FILE")
+    parser.add_argument("--compact", action="store_true", help="one line, without blanks")
+    reports.add_program(parser)
+    given = parser.parse_args(own)
+    names = given.report.split(",") if given.report is not None else None
+    for name in names or []:
+        if name not in objects.REPORTS:
+            parser.error(f"{name}: no report: one of {', '.join(objects.REPORTS)}")
+    if program_words is not None:
+        if given.file is not None:
+            parser.error("a FILE and words behind -- at once")
+        return given.compact, reports.run_for(NAME, reports.find_program(given.program), names or WANTED, program_words)
+    if names is None:
+        return given.compact, reports.read_reports(given.file or "-", behind=True)
+    lines = reports.read_text(given.file or "-").splitlines()
+    if len(names) > 1 or any(line.startswith("== ") for line in lines):
+        parser.error("--report names one report whose text has no line `== NAME`")
+    return given.compact, {names[0]: lines}
+
+
+def main(words):
+    """Prints the object."""
+    compact, texts = read_words(words)
+    found = objects.as_object(texts)
+    print(json.dumps(found, separators=(",", ":")) if compact else json.dumps(found, indent=2))
+    return 0
+
+
+def command():
+    """Runs the tool as a command."""
+    reports.run_tool(NAME, main)
+
+
+if __name__ == "__main__":
+    command()

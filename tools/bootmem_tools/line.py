@@ -1,0 +1,82 @@
+"""bootmem-line: a kernel's command line, said so that bootmem reads it as that kernel does."""
+
+import sys
+
+from bootmem_tools import command_line as cmdline, reports
+
+NAME = "bootmem-line"
+USAGE = """bootmem-line [--e820ext FILE] [--total SIZE] [--program P]
+                    [CMDLINE [ZEROPAGE]]"""
+ABOUT = """Reads a command line as Linux 6.1 reads it and prints one that bootmem reads alike. What it changed goes to standard
+error, a line each. bootmem refuses a malformed option and reads crashkernel= by rules of its own; the kernel warns and
+goes on, looks for crashkernel= in the raw line, and rounds total memory up before it picks a range."""
+EPILOG = f"""CMDLINE is a file, or standard input where there is none or it is -. Where crashkernel= has ranges, as in
+1G-4G:192M,4G-:256M, the size depends on total memory: that of ZEROPAGE (and --e820ext) under the line's own mem= and
+memmap=, by the program's report map, or --total.
+
+What is changed:
+  crashkernel=      the last value of each form in the raw line counts, also
+                    behind -- and inside other words; ranges become the size
+                    that the kernel picks; malformed ones are left out
+  mem=, memmap=     read as far as the kernel reads them (mem=4GB is 4G, and
+                    memmap=64MG is 64M), or left out
+  numa=             off stays; fake= and the like are left out
+  swiotlb=          where it asks for more than 248 MiB, the low part is larger
+  the line          cut behind 2,047 bytes; an open quotation mark is closed
+
+Words that bootmem passes over though the kernel acts on them (movable_node, kernelcore=, cma=, log_buf_len=, ..), and
+names that are nearly one of bootmem's own, are told as passed over; they stay, and aren't a change. A line with which
+the kernel stops, or never settles its map, is trouble.
+
+{reports.FINDING}
+
+exit status: 0 where nothing had to be changed, 1 where something was, 2 for trouble.
+
+examples:
+  bootmem-line cmdline zp.bin > line
+  echo 'quiet mem=4GB crashkernel=auto' | bootmem-line
+  echo 'crashkernel=1G-4G:192M,4G-:256M' | bootmem-line --total 4095M"""
+
+
+def read_words(words):
+    """The tool's words."""
+    parser = reports.new_parser(NAME, USAGE, ABOUT, EPILOG)
+    parser.add_argument("cmdline", metavar="CMDLINE", nargs="?", default="-", help="the file with the line")
+    parser.add_argument("zeropage", metavar="ZEROPAGE", nargs="?", help="the machine's zero page")
+    parser.add_argument("--e820ext", metavar="FILE", help="the machine's E820 extension")
+    parser.add_argument("--total", metavar="SIZE", help="total memory, in place of ZEROPAGE")
+    reports.add_program(parser)
+    given = parser.parse_args(words)
+    if given.total is not None and reports.parse_size(given.total) is None:
+        parser.error(f"--total {given.total}: no size")
+    return given
+
+
+def total_of(given):
+    """What tells total memory, or None."""
+    if given.total is not None:
+        size = reports.parse_size(given.total)
+        return lambda _: cmdline.Total(size, size)
+    if given.zeropage is None:
+        return None
+    words = ["--e820ext", given.e820ext] if given.e820ext else []
+    return cmdline.total_by(given.program, words + [given.zeropage])
+
+
+def main(words):
+    """Prints the line, and tells what was changed; the status says whether anything was."""
+    given = read_words(words)
+    reading = cmdline.read_line(cmdline.read_bytes(given.cmdline), total_of(given))
+    for said in reading.changes + reading.notes:
+        reports.complain(NAME, said)
+    sys.stdout.buffer.write(reading.line.encode("latin-1") + b"\n")
+    return 1 if reading.changes else 0
+
+
+def command():
+    """Runs the tool as a command."""
+    reports.run_tool(NAME, main, failure=2)
+
+
+if __name__ == "__main__":
+    command()

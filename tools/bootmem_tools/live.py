@@ -1,0 +1,302 @@
+"""bootmem-live: does bootmem's account of memory hold on the kernel that runs here?"""
+
+import collections
+import os
+import re
+import shutil
+import subprocess
+import sys
+import tempfile
+
+from bootmem_tools import command_line as cmdline, machine, reports
+
+NAME = "bootmem-live"
+USAGE = """bootmem-live [--kernel BASE,SIZE] [--program P] FOLDER
+       bootmem-live [--kernel BASE,SIZE] [--program P] [--keep FOLDER]
+                    [--sys DIR] [--proc DIR]"""
+ABOUT = """Compares what bootmem tells of a machine with what its kernel shows: the map's usable ranges with the System RAM of
+/proc/iomem, the crash area with its Crash kernel, and start, spanned and present frames of each zone with
+/proc/zoneinfo. Each difference is one line, with what may explain it."""
+EPILOG = f"""The machine is the one that this runs on, or that of FOLDER, as bootmem-collect (collect.sh) gathered it. Root sees
+more: the addresses of /proc/iomem are 0 for others, and ACPI's SRAT can't be read by them. Where the kernel's image
+lies is taken from /proc/iomem, or from FOLDER, where --kernel isn't there. What is gathered is removed at the end, or
+kept by --keep, with all that it is compared with.
+
+The command line is read as the kernel reads it, by what bootmem-line does. A zone is compared by the kernel's own rule:
+the hull of its node's memory, cut by the zone's borders.
+
+A line begins with
+  noted    what the kernel reads otherwise, or what bootmem passes over
+  panics   why Linux 6.1 is known to panic on this boot
+  agrees   the kernel has what bootmem tells
+  known    it differs as a row of docs/KERNEL.md says, which is named
+  differs  it differs in another way
+  passed   it can't be compared, and why
+
+{reports.FINDING}
+
+exit status: 0 where nothing differs but in a known way, 1 where something does, 2 where nothing could be compared, and
+for words that aren't those above.
+
+examples:
+  bootmem-live
+  bootmem-live --keep here
+  bootmem-live here"""
+
+# The first frame of each zone and the one behind its last (zone_sizes_init).
+BORDERS = {"DMA": (0, 4096), "DMA32": (4096, 1 << 20), "Normal": (1 << 20, 1 << 52)}
+GIVEN = "the boot loader's command line isn't /proc/cmdline (built-in words, bootconfig)"
+HOTPLUG = "hotplug, or nodes that bootmem wasn't told of (an SRAT that root alone reads, numa=fake)"
+
+# A zone of /proc/zoneinfo or of the report, in frames.
+Zone = collections.namedtuple("Zone", "start spanned present")
+Finding = collections.namedtuple("Finding", "kind text")
+
+
+def row(*functions):
+    """A row of the table in KERNEL.md, by the functions that it begins with."""
+    return "docs/KERNEL.md, row " + ", ".join(functions)
+
+
+def read_words(words):
+    """The tool's words."""
+    parser = reports.new_parser(NAME, USAGE, ABOUT, EPILOG)
+    parser.add_argument("folder", metavar="FOLDER", nargs="?", help="what bootmem-collect gathered of a machine")
+    parser.add_argument("--kernel", metavar="BASE,SIZE", help="where the kernel's image lies, as bootmem reads it")
+    parser.add_argument("--keep", metavar="FOLDER", help="gather into FOLDER and leave it there")
+    parser.add_argument("--sys", metavar="DIR", help="what stands for /sys")
+    parser.add_argument("--proc", metavar="DIR", help="what stands for /proc")
+    reports.add_program(parser)
+    given = parser.parse_args(words)
+    if given.folder and (given.keep or given.sys or given.proc):
+        parser.error("a FOLDER is gathered already: --keep, --sys and --proc don't stand beside it")
+    return given
+
+
+def collect(given, folder):
+    """Gathers the machine's inputs into the folder, by the script beside this tool, else by the one on the PATH."""
+    folders = [os.path.dirname(os.path.realpath(sys.argv[0])), os.path.dirname(os.path.dirname(os.path.realpath(__file__)))]
+    scripts = [os.path.join(beside, name) for beside in folders for name in ("collect.sh", "bootmem-collect")]
+    script = next((path for path in scripts if os.path.isfile(path)), None) or shutil.which("bootmem-collect")
+    if script is None:
+        raise reports.Trouble(f"there is no collect.sh and no bootmem-collect in {folders[0]}, and none on the PATH")
+    done = subprocess.run(["sh", script, "--sys", given.sys or "/sys", "--proc", given.proc or "/proc", folder],
+                          stdin=subprocess.DEVNULL, stdout=subprocess.PIPE, stderr=subprocess.PIPE, check=False)
+    if done.returncode != 0:
+        sys.stderr.write(done.stderr.decode("utf-8", "replace"))
+        raise reports.Trouble("this machine's inputs couldn't be gathered")
+
+
+def read_zoneinfo(text):
+    """The zones of /proc/zoneinfo that have frames, by node and name; a start that isn't shown is None."""
+    found = {}
+    for part in re.split(r"^(?=Node \d+, zone)", text, flags=re.MULTILINE):
+        head = re.match(r"Node (\d+), zone +(\S+)", part)
+        if head is None:
+            continue
+        values = [re.search(form, part, re.MULTILINE)
+                  for form in (r"^\s*start_pfn: +(\d+)", r"^\s*spanned +(\d+)", r"^\s*present +(\d+)")]
+        zone = Zone(*(int(value.group(1)) if value else None for value in values))
+        if zone.spanned:
+            found[int(head.group(1)), head.group(2)] = zone
+    return found
+
+
+def ram_finding(first, last, here, image):
+    """The finding for a range that is RAM on one side alone; `here` says that the kernel has it as System RAM."""
+    where = f"iomem {reports.range_text(first, last)} ({reports.size_text(last + 1 - first)}): "
+    if not here:
+        return Finding("differs", f"{where}usable by bootmem, no System RAM here: taken back later (see 'e820: update' and "
+                                  "'e820: remove' in the log; " + row("early_gart_iommu_check", "mtrr_trim_uncached_memory")
+                                  + f"), removed, or {GIVEN}")
+    if image and image[0] <= first and last <= image[1]:
+        return Finding("known", f"{where}System RAM here, not usable by bootmem: the kernel makes its own image usable again: "
+                                + row("e820_add_kernel_range"))
+    return Finding("differs", f"{where}System RAM here, not usable by bootmem: added after boot (hotplug), by add_efi_memmap ("
+                              + row("efi_memblock_x86_reserve_range", "do_add_efi_memmap") + f"), or {GIVEN}")
+
+
+def compare_ram(resources, entries):
+    """The findings for System RAM."""
+    ram = [one for one in resources if one.name == "System RAM"]
+    for one in resources:
+        if one.name.startswith("System RAM ("):
+            yield Finding("passed", f"iomem {reports.range_text(one.first, one.last)}: {one.name}, added after boot by a driver")
+    code = [one for one in resources if one.name.startswith("Kernel ")]
+    image = (min(one.first for one in code), max(one.last for one in code)) if code else None
+    usable = [entry for entry in entries if entry.name in ("usable", "usable kernel")]
+    agreed, run = 0, None
+    for first, last, (here, told) in reports.sweep(ram, usable):
+        if bool(here) == bool(told):
+            agreed += last + 1 - first if here else 0
+            continue
+        if run and run[1] + 1 == first and run[2] == bool(here):
+            first = run[0]
+        elif run:
+            yield ram_finding(*run, image)
+        run = (first, last, bool(here))
+    if run:
+        yield ram_finding(*run, image)
+    if agreed:
+        yield Finding("agrees", f"iomem: {reports.size_text(agreed)} of System RAM are usable by bootmem")
+
+
+def area_text(ranges):
+    """The crash area and its low part."""
+    return " and ".join(f"{reports.range_text(first, last)} ({reports.size_text(last + 1 - first)})" for first, last in ranges) or "none"
+
+
+def compare_crash(resources, lines, uefi):
+    """The finding for the crash area."""
+    here = sorted((one.first, one.last) for one in resources if one.name == "Crash kernel")
+    told = machine.crash_ranges(lines)
+    if here == told:
+        return Finding("agrees", f"crash area: {area_text(here)}" + ("" if told or "crash none" in lines else f", and {lines[0]}"))
+    where = f"crash area: {area_text(here)} here, {area_text(told)} by bootmem: "
+    before = row("efi_init", "efi_reserve_boot_services") if uefi else row("init_mem_mapping", "setup_log_buf") + " and those behind it"
+    lower = [own[0] <= other[0] and own[1] - own[0] == other[1] - other[0] for own, other in zip(here, told)]
+    if len(here) == len(told) and all(lower):
+        return Finding("known", f"{where}the kernel claims more before it: {before}")
+    if uefi and told and not here:
+        return Finding("known", f"{where}what the kernel claims before it may have left no place: {before}")
+    return Finding("differs", f"{where}given back (/sys/kernel/kexec_crash_size), a kernel other than 6.1, more claimed before it "
+                              f"({before}), or {GIVEN}")
+
+
+def told_zones(spans):
+    """The zones of the report, by node and name, by the kernel's rule: the node's hull cut by the zone's borders, with the same
+    present frames (zone_spanned_pages_in_node)."""
+    own = {(int(one.fields["node"]), one.fields["zone"]): {key: int(one.fields[key]) for key in ("start", "end", "present")}
+           for one in spans}
+    found = {}
+    for node in {node for node, _ in own}:
+        hull = [zone for (number, _), zone in own.items() if number == node]
+        for name, (low, high) in BORDERS.items():
+            start, end = max(low, min(zone["start"] for zone in hull)), min(high, max(zone["end"] for zone in hull))
+            if start < end:
+                found[node, name] = Zone(start, end - start, own.get((node, name), {"present": 0})["present"])
+    return found
+
+
+def zone_text(zone):
+    """Start, spanned and present frames of a zone."""
+    return f"start {'unknown' if zone.start is None else zone.start} spanned {zone.spanned} present {zone.present}"
+
+
+def why_untold(name):
+    """What may explain a zone of the kernel that bootmem doesn't tell of."""
+    return {"Movable": "kernelcore=, movablecore=, movable_node or hotplug", "Device": "memory of a driver"}.get(name, HOTPLUG)
+
+
+def why_other(node, name, here, told):
+    """What may explain a zone of the kernel that is another than bootmem's."""
+    zone, below = told[node, name], told.get((node, "DMA"))
+    if name == "DMA32" and below and here.present == zone.present + below.present:
+        return "a kernel without the zone DMA (CONFIG_ZONE_DMA)"
+    if here.present < zone.present:
+        return "frames were taken back, went offline or to zone Movable"
+    if here.present > zone.present:
+        return HOTPLUG
+    return f"the node's hull is another: {HOTPLUG}"
+
+
+def zone_finding(node, name, here, told):
+    """The finding for a zone that the kernel shows, by the zones that bootmem tells."""
+    where = f"zoneinfo node {node} {name}: {zone_text(here)}"
+    zone = told.get((node, name))
+    if zone is None:
+        if here.present == 0:
+            return Finding("passed", f"{where}: it has no frame")
+        return Finding("differs", f"{where} here, no such zone by bootmem: {why_untold(name)}")
+    if here.start is None:
+        zone = zone._replace(start=None)
+    if here == zone:
+        return Finding("agrees", where)
+    return Finding("differs", f"{where} here, {zone_text(zone)} by bootmem: {why_other(node, name, here, told)}")
+
+
+def compare_zones(shown, told):
+    """The findings for the zones that the kernel shows and for those that bootmem alone tells of."""
+    for node, name in sorted(shown):
+        yield zone_finding(node, name, shown[node, name], told)
+    for node, name in sorted(set(told) - set(shown)):
+        zone = told[node, name]
+        if zone.present:
+            yield Finding("differs", f"zoneinfo node {node} {name}: none here, {zone_text(zone)} by bootmem: a kernel without this "
+                                     "zone, memory offline, or fewer nodes here")
+
+
+def run(given, folder, reading):
+    """The words of the program for the inputs in the folder, as they are told, and its reports for them."""
+    kernel = given.kernel or machine.kernel_in(folder)
+    words = machine.files_in(folder) + (["--kernel", kernel] if kernel else []) + ["zp.bin"]
+    if not os.path.exists(os.path.join(folder, "cmdline")):
+        return words, reports.run_program(given.program, ["map", "zones", "nodes", "crash"], words, folder)
+    with tempfile.TemporaryDirectory() as work:
+        path = os.path.join(work, "line")
+        cmdline.write_line(path, reading.line)
+        texts = reports.run_program(given.program, ["map", "zones", "nodes", "crash"], ["--cmdline", path] + words, folder)
+    return ["--cmdline", "line" if reading.changes else "cmdline"] + words, texts
+
+
+def compare(given, folder, words, texts):
+    """All findings, by what the kernel shows."""
+    for why in machine.panics(texts):
+        yield Finding("panics", why)
+    if "--kernel" not in words:
+        yield Finding("passed", f"kernel: {reports.ASSUMED}")
+    srat = os.path.join(given.sys or "/sys", "firmware", "acpi", "tables", "SRAT")
+    if not given.folder and "--srat" not in words and os.path.exists(srat):
+        yield Finding("passed", "srat: this machine has an SRAT that root alone can read; bootmem takes all memory for node 0")
+    iomem, zoneinfo = machine.text_in(folder, "iomem"), machine.text_in(folder, "zoneinfo")
+    if iomem is None:
+        yield Finding("passed", "iomem: it isn't there, or its addresses are hidden; root sees them")
+    else:
+        resources = machine.read_iomem(iomem)
+        yield from compare_ram(resources, reports.spans("map", texts["map"]))
+        yield compare_crash(resources, texts["crash"], machine.is_uefi(cmdline.read_bytes(os.path.join(folder, "zp.bin"))))
+    if zoneinfo is None:
+        yield Finding("passed", "zoneinfo: it isn't there")
+    else:
+        yield from compare_zones(read_zoneinfo(zoneinfo), told_zones(reports.spans("zones", texts["zones"])))
+
+
+def tell(given, folder):
+    """Prints the commands and the findings for a folder; how many there are of each kind."""
+    reading = machine.line_in(given.program, folder)
+    words, texts = run(given, folder, reading)
+    if reading.changes:
+        extension = words[words.index("--e820ext"):][:2] if "--e820ext" in words else []
+        print(" ".join(["bootmem-line", *extension, "cmdline", "zp.bin > line"]))
+    print(f"bootmem {' '.join(words)}")
+    counts = collections.Counter()
+    findings = [Finding("noted", said) for said in reading.changes + reading.notes]
+    for finding in findings + list(compare(given, folder, words, texts)):
+        counts[finding.kind] += 1
+        print(f"{finding.kind:<8} {finding.text}")
+    return counts
+
+
+def main(words):
+    """Prints the findings and their numbers; the status says whether the kernel differs in a way that isn't known."""
+    given = read_words(words)
+    given.program = os.path.abspath(reports.find_program(given.program))
+    with tempfile.TemporaryDirectory() as temporary:
+        folder = given.folder or given.keep or temporary
+        if not given.folder:
+            collect(given, folder)
+        counts = tell(given, folder)
+    print(f"{counts['agrees']} agree, {counts['known']} differ as docs/KERNEL.md says, {counts['differs']} differ, "
+          f"{counts['passed']} can't be compared")
+    if counts["agrees"] + counts["known"] + counts["differs"] == 0:
+        raise reports.Trouble("nothing could be compared")
+    return 1 if counts["differs"] else 0
+
+
+def command():
+    """Runs the tool as a command."""
+    reports.run_tool(NAME, main, failure=2)
+
+
+if __name__ == "__main__":
+    command()
