@@ -1,11 +1,13 @@
 #!/usr/bin/env python3
-"""pins.py [--table]: whether each wrong body says which clause refuses it, and whether there is such a clause.
+"""pins.py [--table]: whether each wrong body says which clause refuses it, whether there is such a
+clause, and whether none is missing that a promise names.
 
-The first line of each crates/NAME/must-fail/*.edit is `# pins: FUNCTION clause CLAUSE` or `# pins: law LAW`, where `: ` and a reason may
-follow. FUNCTION stands in the crate's src/ and has an ensures of that name (1: its one ensures without a name; invariant: that of a type;
-from_gives: that of an impl of From); a method's may stand in a trait, also of another crate. LAW is a function of src/ or a lemma or an example
-of proofs/. The text that an edit replaces stands once in its file. It says nothing of whether the prover refuses the edit: `rt must-fail` does.
---table prints crate, wrong body, clause and reason of all of them, a line each.
+The first line of each crates/NAME/must-fail/*.edit is `# pins: FUNCTION clause CLAUSE`, where `: `
+and a reason may follow. FUNCTION stands in the crate's src/ and has an ensures of that name (1: its
+one ensures without a name; invariant: that of a type; from_gives: that of an impl of From); a
+method's may stand in a trait, also of another crate. An edit changes files of src/ alone, and the
+text that it replaces stands once in its file. Whether the prover refuses it is what `rt must-fail`
+tries. --table prints crate, wrong body, clause and reason of all of them, a line each.
 """
 
 import glob
@@ -17,19 +19,59 @@ sys.dont_write_bytecode = True
 
 from documents import TOP, read
 
-FORM = re.compile(r"# pins: (?:(?:(\w+)::)?(\w+) clause (\w+)|law (\w+))(?:: (.+))?$")
-CONTRACT = re.compile(r"^([ \t]*)(?:pub(?:\(crate\))? )?(?:const )?(?:unsafe )?(?:extern \"C\" )?fn (\w+)", re.M)
+# the wrong bodies that a promise names, in the order of the boot: these never go
+PROMISED = {
+    # the firmware's map
+    "e820_model/run-join-later_entry_wins",
+    "boot_stages/map-append_settled-edits_act_on_unsettled_claims",
+    # memory, searches and the tables' growth
+    "memblock_ranges/trim-frames-frame_with_a_byte_that_isnt_memory_is_kept",
+    "memblock_find/down-bottom-place_over_the_border_of_two_nodes",
+    "memblock_find/search-last_between-lowest_place_of_the_gap",
+    "memblock_grow/request-allocate-always_no_gap",
+    "memblock_grow/places-place_beside-new_place_meets_the_claimed_range",
+    "memblock_grow/reserved-grow_reserved-new_place_is_never_claimed",
+    "memblock_grow/more-is_full-table_doubles_one_record_early",
+    "memblock_grow/places-left_place-old_place_stays_claimed",
+    "boot_stages/memory-limit_memory-all_memory_is_claimed_for_the_kernel",
+    # nodes and the early script
+    "srat_reader/table-find_header_fault-checksum_isnt_tested",
+    "srat_reader/table-find_header_fault-checksum_is_named_before_the_length",
+    "early_script/live-fill-byte_past_the_id_is_written",
+    # free frames and pages
+    "buddy_handover/buddy-note-last_frame_of_a_free_range_is_dropped",
+    "frame_blocks/run-is_same-runs_of_two_nodes_are_one",
+    "frame_blocks/run-is_same-ranges_that_meet_stay_apart",
+    "buddy_handover/buddy-take-always_no_block",
+    "buddy_handover/buddy-put_back-frames_are_not_merged",
+    # the program's statuses
+    "program_run/program-run_wanted-always_2",
+    "program_run/program-run_wanted-always_3",
+    "program_run/program-run_wanted-always_4",
+    "program_run/program-run_wanted-always_5",
+    "program_run/program-run_wanted-always_6",
+    # the audit
+    "boot_audit/judgement-judge-always_sound",
+    "boot_audit/judgement-judge-always_lost",
+    "boot_audit/fetching-fetch_lines-name_that_the_words_dont_give",
+}
+
+FORM = re.compile(r"# pins: (?:(\w+)::)?(\w+) clause (\w+)(?:: (.+))?$")
+CONTRACT = re.compile(
+    r"^([ \t]*)(?:pub(?:\(crate\))? )?(?:const )?(?:unsafe )?(?:extern \"C\" )?fn (\w+)", re.M
+)
 CLAUSE = re.compile(r"^\s*ensures\*?\s+(?:([a-z_]\w*)\s+)?\{", re.M)
 COMMENT = re.compile(r"^[ \t]*//.*$", re.M)
 
 
 def text_of(crate, folder):
     """All files of a folder of a crate, as one text."""
-    return "\n".join(read(p) for p in sorted(glob.glob(f"{TOP}/crates/{crate}/{folder}/**/*", recursive=True)) if os.path.isfile(p))
+    paths = sorted(glob.glob(f"{TOP}/crates/{crate}/{folder}/**/*", recursive=True))
+    return "\n".join(read(path) for path in paths if os.path.isfile(path))
 
 
 def contract_end(source, match):
-    """Where the contract of a function ends: at the brace of its body, or at a semicolon outside of all clauses."""
+    """Where a contract ends: at the brace of its body, or at a semicolon outside of all clauses."""
     body = source.find("\n" + match.group(1) + "{", match.end())
     depth = 0
     for at in range(match.end(), len(source) if body < 0 else body):
@@ -40,57 +82,75 @@ def contract_end(source, match):
 
 
 def clauses(source):
-    """The names of the clauses of each function of a text. A comment between them may have a semicolon or a brace."""
-    source = COMMENT.sub("", source)
+    """The names of the clauses of each function of a text."""
+    source = COMMENT.sub("", source)  # which may have a semicolon or a brace
     found = {}
     for match in CONTRACT.finditer(source):
-        names = [name or "1" for name in CLAUSE.findall(source[match.start():contract_end(source, match)])]
+        contract = source[match.start() : contract_end(source, match)]
+        names = [name or "1" for name in CLAUSE.findall(contract)]
         found.setdefault(match.group(2), set()).update(names)
     return found
+
+
+def has_clause(match, source, own, anywhere):
+    """Whether there is the clause that a first line pins: in its crate, or a method's anywhere."""
+    of_type, function, clause, _ = match.groups()
+    if clause == "invariant":
+        model = rf"impl(?:<[^{{]*>)? Model for {function}\b"
+        return re.search(rf"{model}|struct {function}\b[^}}]*ghost [^}}]*by", source)
+    if clause == "from_gives":
+        return of_type and re.search(rf"impl From<\w+> for {of_type}\b", source)
+    if clause in own.get(function, set()):
+        return True
+    return of_type and clause in anywhere.get(function, set())
+
+
+def faults_of_text(crate, lines):
+    """What is wrong with the files of an edit, and with the first text that it replaces."""
+    text = ""
+    for line in lines:
+        if line.startswith("file: "):
+            if not line.startswith("file: src/"):
+                yield f"it changes {line[6:]}, which has no body"
+                return
+            text = read(f"{TOP}/crates/{crate}/{line[6:]}")
+        if line.startswith("old: "):
+            if text.count(line[5:]) != 1:
+                yield f"what it replaces stands {text.count(line[5:])} times in its file"
+            return
 
 
 def main():
     crates = sorted(os.path.basename(p) for p in glob.glob(f"{TOP}/crates/*"))
     sources = {crate: text_of(crate, "src") for crate in crates}
+    own = {crate: clauses(sources[crate]) for crate in crates}
     anywhere = {}
-    for crate in crates:
-        for function, names in clauses(sources[crate]).items():
+    for functions in own.values():
+        for function, names in functions.items():
             anywhere.setdefault(function, set()).update(names)
-    wrong = []
-    count = 0
+    wrong, names = [], set()
     for path in sorted(glob.glob(f"{TOP}/crates/*/must-fail/*.edit")):
-        crate = path.split("/")[-3]
-        edit = os.path.basename(path)[: -len(".edit")]
+        crate, edit = path.split("/")[-3], os.path.basename(path)[: -len(".edit")]
+        names.add(f"{crate}/{edit}")
         lines = read(path).split("\n")
-        count += 1
         match = FORM.match(lines[0])
         if not match:
-            wrong.append(f"{crate}/{edit}: its first line isn't `# pins: FUNCTION clause CLAUSE` or `# pins: law LAW`")
+            wrong.append(f"{crate}/{edit}: its first line isn't `# pins: FUNCTION clause CLAUSE`")
             continue
-        of_type, function, clause, law, reason = match.groups()
-        own = clauses(sources[crate])
-        if law:
-            known = re.search(rf"^\s*(?:pub )?(?:fn )?{law}\b", text_of(crate, "proofs") + sources[crate], re.M) or law in own
-        elif clause == "invariant":
-            known = re.search(rf"impl(?:<[^{{]*>)? Model for {function}\b|struct {function}\b[^}}]*ghost [^}}]*by", sources[crate])
-        elif clause == "from_gives":
-            known = of_type and re.search(rf"impl From<\w+> for {of_type}\b", sources[crate])
-        else:
-            known = clause in own.get(function, set()) or (of_type and clause in anywhere.get(function, set()))
-        if not known:
-            wrong.append(f"{crate}/{edit}: there is no {law or f'{function} clause {clause}'}")
-        for at, line in enumerate(lines):
-            if line.startswith("file: "):
-                body = read(f"{TOP}/crates/{crate}/{line[6:]}")
-            if line.startswith("old: ") and at == next(i for i, l in enumerate(lines) if l.startswith("old: ")) and body.count(line[5:]) != 1:
-                wrong.append(f"{crate}/{edit}: what it replaces stands {body.count(line[5:])} times in its file")
+        of_type, function, clause, reason = match.groups()
+        if not has_clause(match, sources[crate], own[crate], anywhere):
+            wrong.append(f"{crate}/{edit}: there is no {function} clause {clause}")
+        wrong += [f"{crate}/{edit}: {fault}" for fault in faults_of_text(crate, lines)]
         if "--table" in sys.argv[1:]:
-            name = f"law {law}" if law else f"{of_type + '::' if of_type else ''}{function} clause {clause}"
-            print(f"{crate}\t{edit}\t{name}\t{reason or ''}")
+            name = f"{of_type}::{function}" if of_type else function
+            print(f"{crate}\t{edit}\t{name} clause {clause}\t{reason or ''}")
+    missing = sorted(PROMISED - names)
+    wrong += [f"{name}: a promise names this wrong body, and it isn't there" for name in missing]
     for line in wrong:
         print(line, file=sys.stderr)
     if "--table" not in sys.argv[1:]:
-        print(f"pins: {count} wrong bodies, {len(wrong)} faults")
+        count = f"{len(names)} wrong bodies, of which promises name {len(PROMISED)}"
+        print(f"pins: {count}, {len(wrong)} faults")
     return 1 if wrong else 0
 
 
