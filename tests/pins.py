@@ -45,11 +45,11 @@ PROMISED = {
     "buddy_handover/buddy-take-always_no_block",
     "buddy_handover/buddy-put_back-frames_are_not_merged",
     # the program's statuses
-    "program_run/program-run_wanted-always_2",
-    "program_run/program-run_wanted-always_3",
-    "program_run/program-run_wanted-always_4",
-    "program_run/program-run_wanted-always_5",
-    "program_run/program-run_wanted-always_6",
+    "program_run/program-run-always_2",
+    "program_run/program-run-always_3_after_another_name",
+    "program_run/program-run-always_4",
+    "program_run/program-run-always_5",
+    "program_run/program-run-always_6",
     # the audit
     "boot_audit/judgement-judge-always_sound",
     "boot_audit/judgement-judge-always_lost",
