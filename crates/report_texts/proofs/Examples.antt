@@ -2,7 +2,6 @@
 use Rattle.std.proofs.Common.{◌≡◌, ℕ, true, false, List, [], ◌∷◌, ◌++◌, codes, None, Some, decimal, refl, ap, arith}
 use Rattle.std.specs.Fmt.{digits}
 use Rattle.bm_base.specs.Extent.{Extent}
-use Rattle.phys_store.specs.Bytes.{Stored}
 use Rattle.address_runs.specs.Runs.{RunOf}
 use Rattle.e820_model.specs.declared.edit.Edit.TheVariants as edits
 use Rattle.boot_options.specs.declared.crash.CrashRange.{CrashRange}
@@ -13,13 +12,12 @@ use Rattle.memblock_model.specs.declared.owner.Owner.TheVariants as owner
 use Rattle.memblock_model.specs.declared.which.Which.TheVariants as which
 use Rattle.memblock_model.specs.Labels.{Label, plain_label, with_node}
 use Rattle.memblock_ranges.specs.declared.region.Head.{Head}
-use Rattle.memblock_ranges.specs.Tables.{Table, StandsIn, head_of}
 use Rattle.report_texts.specs.Lines.{index_text, lines_from, range_text}
 use Rattle.report_texts.specs.JournalText.{switch_text, item_line, item_text, journal_text}
 use Rattle.report_texts.specs.MapText.{kind_name, map_line, map_text}
 use Rattle.report_texts.specs.OptionsText.{crash_lines, crash_range_line, crash_range_text, edit_line, edit_text, end_text, kind_text, numa_line, options_text, plain_lines, size_line}
 use Rattle.report_texts.specs.OwnersText.{owner_line, owner_text, owners_text, which_name}
-use Rattle.report_texts.specs.RecordsText.{IsTableAt, extent_line, record_line, records_text, region_line}
+use Rattle.report_texts.specs.RecordsText.{extent_line, record_line, records_text, region_line}
 use Rattle.report_texts.specs.TablesText.{table_line, tables_text}
 
 -- elements are numbered one by one; a range of one byte, and of none at all; an index has four places, and as many as it takes
@@ -148,15 +146,6 @@ record_examples : (extent_line 0 first_MiB ≡ codes "   0: 0x0000000000000000..
     × (records_text [] ≡ [])
 unfolding first_MiB of_node_1 of_no_node digits
 record_examples = (refl, refl, refl, refl, refl, refl, refl, refl)
-
--- the head is the table's
-head_is_told : (table : Table) (store : List Stored) → StandsIn table store → IsTableAt table store (head_of table)
-head_is_told table store stands = record { stands = stands; told = refl }
-
-other_place : (table : Table) (store : List Stored) → table.place ≡ 7
-    → IsTableAt table store (record { place = 8; room = 128; count = 0 }) → ⊥
-other_place table store at_7 at =
-    omega (arith, at_7, ap (λ (h : Head). h.place) at.told)
 
 -- the heads
 table_lines : (table_line which.Memory (record { place = 0x9D000; room = 256; count = 129 })

@@ -1,24 +1,16 @@
 -- The records of a table, as lines: the form is that of `/sys/kernel/debug/memblock` (`memblock_debug_show`).
-use Rattle.std.specs.Prelude.{◌≡◌, ℕ, List, ◌++◌, codes}
+use Rattle.std.specs.Prelude.{ℕ, List, ◌++◌, codes}
 use Rattle.bm_base.specs.Extent.{Extent}
-use Rattle.phys_store.specs.Bytes.{Stored}
 use Rattle.address_runs.specs.Runs.{RunOf, extent_of}
 use Rattle.memblock_model.specs.Labels.{Label}
-use Rattle.memblock_ranges.specs.declared.region.Head.{Head}
 use Rattle.memblock_ranges.specs.declared.region.Region.{Region}
-use Rattle.memblock_ranges.specs.Tables.{Table, StandsIn, head_of}
 use Rattle.report_texts.specs.Lines.{index_text, lines_from, range_text}
-
--- the table lies in the store, where the head tells
-pub record IsTableAt (table : Table) (store : List Stored) (head : Head) : Type 0 where
-  pub stands : StandsIn table store
-  pub told : head ≡ head_of table
 
 -- the line of a range with its index
 abbrev pub extent_line : ℕ → Extent → List ℕ
 extent_line n r = index_text n ++ range_text r ++ codes "\n"
 
--- the line of a record: its index and its range, whatever its node is; and of a record as its bytes have it
+-- the line of a record: its index and its range, whatever its flags and its node are; and of a record as its bytes have it
 abbrev pub record_line : ℕ → RunOf Label → List ℕ
 record_line n r = extent_line n (extent_of r)
 

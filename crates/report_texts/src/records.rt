@@ -3,20 +3,20 @@
 
 ghost use Rattle.std.specs.Prelude.{◌+◌, ◌^◌, ◌<◌, ◌≤◌};
 ghost use Rattle.bm_base.specs.PutsText.{PutsText};
-ghost use Rattle.memblock_ranges.specs.Tables.{Table};
-ghost use Rattle.report_texts.specs.RecordsText.{IsTableAt, region_line, records_text};
+ghost use Rattle.memblock_ranges.specs.Tables.{list_in};
+ghost use Rattle.report_texts.specs.RecordsText.{region_line, records_text};
+ghost use Rattle.table_frames.specs.Tables.{HasRecords};
 
 use crate::ranges::put_index;
 use bm_base::{Memory, put_hex, put_text};
 use memblock_ranges::{Head, Region, region_at};
 use phys_store::Store;
 
-/// Appends the text of the table that the head tells of: a line for each record. A table stands there
-/// in the store.
+/// Appends a line for each record of the table that the head names. The head's bytes in the store are an
+/// ascending list of records; their flags and nodes may be any.
 pub fn put_records(text: &mut Vec<u8>, store: &Store, head: &Head) -> Result<(), Memory>
-    requires { (table : Table) × IsTableAt table store.now head.now }
-    ensures { (table : Table) → IsTableAt table store.now head.now
-        → PutsText text.old text.new result (records_text table.records) }
+    requires { HasRecords store.now head.now (2 ^ 64) }
+    ensures { PutsText text.old text.new result (records_text (list_in store.now head.now)) }
 {
     for index in 0..head.count {
         put_record_line(text, index, &region_at(store, head, index))?;

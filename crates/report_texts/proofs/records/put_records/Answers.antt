@@ -1,29 +1,39 @@
--- Each record is read where the table has it, and its line is the next one.
+-- Each record has an address, and its line is the next one.
 use Rattle.std.proofs.Common.{arith}
 use Rattle.std.proofs.lemmas.Result.{err_from_is_err_and}
-use Rattle.report_texts.proofs.PutLaws.{text_more, too_small}
-use Rattle.report_texts.proofs.RecordLaws.{next_line, region_in_space}
+use Rattle.memblock_ranges.specs.Tables.{list_in}
+use Rattle.memblock_ranges.proofs.LentLaws.{count_is}
+use Rattle.table_frames.proofs.RecordLaws.{region_fits}
+use Rattle.report_texts.specs.RecordsText.{record_line}
+use Rattle.report_texts.proofs.LineLaws.{lines_end}
+use Rattle.report_texts.proofs.PutLaws.{text_end, text_more, too_small}
+use Rattle.report_texts.proofs.RecordLaws.{next_line}
 use Rattle.report_texts.proofs.records.put_records.Goals as goal
 
 pub put_record_line-requires-clause-some : goal.put_record_line-requires-clause-some
-put_record_line-requires-clause-some c =
-    (region_in_space c.requires.0 _ _ c.loop-index.index _ c.requires.1 (omega arith) c.region_at.ensures).some
+put_record_line-requires-clause-some c = (region_fits c.args.store.now c.args.head.now c.loop-index.index _ c.requires (omega arith) c.region_at.ensures).0
 
 pub put_record_line-requires-clause-within : goal.put_record_line-requires-clause-within
-put_record_line-requires-clause-within c =
-    (region_in_space c.requires.0 _ _ c.loop-index.index _ c.requires.1 (omega arith) c.region_at.ensures).within
+put_record_line-requires-clause-within c = (region_fits c.args.store.now c.args.head.now c.loop-index.index _ c.requires (omega arith) c.region_at.ensures).1
 
 pub returns-in_err-put_record_line : goal.returns-in_err-put_record_line
-returns-in_err-put_record_line c = λ table at.
+returns-in_err-put_record_line c =
     rw (err_from_is_err_and c.from_residual.result c.from_residual.ensures.1).1
-    (too_small _ _ _ _ _ _ _ _ (next_line table _ _ c.loop-index.index _ at (omega arith) c.region_at.ensures)
-    (c.loop-index.invariant.lines table at) c.loop-index.invariant.room c.in_err-put_record_line.ensures)
+    (too_small _ _ _ _ _ _ _ _ (next_line c.args.store.now c.args.head.now c.loop-index.index _ (omega arith) c.region_at.ensures)
+    c.loop-index.invariant.lines c.loop-index.invariant.room c.in_err-put_record_line.ensures)
 
 pub loop-index-preserved : goal.loop-index-preserved
 loop-index-preserved c =
     let put = c.in_ok-put_record_line.ensures in
     record {
-      lines = λ table at. text_more _ _ _ _ _ _ (next_line table _ _ c.loop-index.index _ at (omega arith) c.region_at.ensures)
-          (c.loop-index.invariant.lines table at) put.0;
+      lines = text_more _ _ _ _ _ _ (next_line c.args.store.now c.args.head.now c.loop-index.index _ (omega arith) c.region_at.ensures)
+          c.loop-index.invariant.lines put.0;
       room = omega (arith, put.1);
     }
+
+pub returns : goal.returns
+returns c =
+    let rs = list_in c.args.store.now c.args.head.now in
+    let long = count_is c.args.store.now c.args.head.now in
+    let none = lines_end record_line rs c.loop-index.index (omega (arith, long)) in
+    (text_end _ _ _ none c.loop-index.invariant.lines, c.loop-index.invariant.room)

@@ -1,14 +1,13 @@
--- The text so far and the lines of the records that are left are the text of all, whatever table stands there; and the text
--- has no less room than before.
+-- The text so far and the lines of the records that are left are the text of all; and the text has no less room than before.
 use Rattle.std.proofs.Common.{◌≡◌, ◌≤◌, ◌++◌, drop, vec_capacity}
-use Rattle.memblock_ranges.specs.Tables.{Table}
+use Rattle.memblock_ranges.specs.Tables.{list_in}
 use Rattle.report_texts.specs.Lines.{lines_from}
-use Rattle.report_texts.specs.RecordsText.{IsTableAt, record_line, records_text}
+use Rattle.report_texts.specs.RecordsText.{record_line, records_text}
 use Rattle.report_texts.proofs.records.put_records.Given as goal
 
 abbrev pub invariant-loop-index : goal.invariant-loop-index
 invariant-loop-index l = record {
-  lines : (table : Table) → IsTableAt table l.store l.head
-      → l.text.items ++ lines_from record_line l.index (drop l.index table.records) ≡ l.fn.text.items ++ records_text table.records;
+  lines : l.text.items ++ lines_from record_line l.index (drop l.index (list_in l.store l.head))
+      ≡ l.fn.text.items ++ records_text (list_in l.store l.head);
   room : vec_capacity l.fn.text ≤ vec_capacity l.text;
 }
