@@ -19,7 +19,7 @@ use Rattle.audit_lines.specs.Fields.{address_in, at_most, behind, is_address, is
 use Rattle.audit_lines.proofs.FieldLaws.{behind_front}
 use Rattle.report_texts.specs.Lines.{range_text}
 use Rattle.audit_texts.proofs.SplitLaws.{IsOneLine, one_line-append}
-use Rattle.stage_texts.proofs.SheetLaws.{hex_length}
+use Rattle.stage_texts.proofs.BatchLaws.{hex_length}
 
 -- a hexadecimal digit in lower case
 abbrev pub IsGlyph : ℕ → Type 0

@@ -1,6 +1,6 @@
 mod Examples
+pub mod BatchLaws
 pub mod BlockLaws
-pub mod ChunkLaws
+pub mod GreatRowLaws
 pub mod RowLaws
-pub mod SheetLaws
 pub mod ZoneLaws

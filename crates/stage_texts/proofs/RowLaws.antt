@@ -1,5 +1,5 @@
 -- The lines of blocks that follow one another in rows, and where such blocks lie.
-use Rattle.std.proofs.Common.{◌≡◌, ℕ, zero, suc, ◌+◌, ◌-◌, ◌*◌, ◌%◌, ◌^◌, ◌<◌, ◌≤◌, List, [], ◌∷◌, ◌++◌, length, drop, refl, sym, ap, ◌∙◌, append_assoc, drop-cons, get_or, arith, zero-add, suc-add, add-one}
+use Rattle.std.proofs.Common.{◌≡◌, ℕ, zero, suc, ◌+◌, ◌-◌, ◌*◌, ◌%◌, ◌^◌, ◌<◌, ◌≤◌, List, [], ◌∷◌, ◌++◌, length, drop, refl, sym, ap, ◌∙◌, append_assoc, drop-cons, get_or, length-append, arith, zero-add, suc-add, add-one}
 use Rattle.std.proofs.Math.Nat.{suc-mul, pow-le-pow_right}
 use Rattle.bm_base.specs.declared.zone.Zone.{Zone}
 use Rattle.frame_blocks.specs.declared.block.Block.{Block}
@@ -7,8 +7,7 @@ use Rattle.frame_blocks.specs.declared.block.BlockRow.{BlockRow}
 use Rattle.frame_blocks.specs.Rows.{row_from, blocks_of_row, blocks_of_rows}
 use Rattle.report_texts.specs.Lines.{lines_from}
 use Rattle.report_texts.proofs.PutLaws.{text_end}
-use Rattle.stage_texts.specs.BlocksText.{block_line}
-use Rattle.stage_texts.specs.Sheets.{ArePlaced}
+use Rattle.stage_texts.specs.BlocksText.{ArePlaced, block_line}
 use Rattle.stage_texts.proofs.BlockLaws.{AreInBounds}
 
 -- the lines of blocks
@@ -28,7 +27,7 @@ lines_append [] cs = refl
 lines_append (b ∷ bs) cs =
     rw (lines_any 1 0 (bs ++ cs), lines_any 1 0 bs, lines_append bs cs) (sym (append_assoc (block_line 0 b) (lines bs) (lines cs)))
 
--- two rows, one behind the other
+-- two rows, one after the other
 pub row_parts : (k m o x n : ℕ) (z : Zone) → row_from o x n z (k + m) ≡ row_from o x n z k ++ row_from o (x + k * 2 ^ o) n z m
 unfolding row_from
 row_parts zero m o x n z = let here : x + 0 * 2 ^ o ≡ x = omega arith in rw (zero-add, here) refl
@@ -41,6 +40,21 @@ pub some_first : (o x n k : ℕ) (z : Zone) → 0 < k
 unfolding row_from
 some_first o x n zero z some = absurd (omega arith)
 some_first o x n (suc k) z some = let less : suc k - 1 ≡ k = omega arith in rw less refl
+
+-- a row has as many blocks as it says, and the rows that are left are one row and the others
+row_length : (o x n k : ℕ) (z : Zone) → length (row_from o x n z k) ≡ k
+unfolding row_from
+row_length o x n zero z = refl
+row_length o x n (suc k) z = let rest = row_length o (x + 2 ^ o) n k z in omega (arith, rest)
+
+pub rows_left : (rs : List BlockRow) (i : ℕ) (d : BlockRow) → i < length rs
+    → length (blocks_of_rows (drop i rs)) ≡ (get_or rs i d).count + length (blocks_of_rows (drop (i + 1) rs))
+rows_left rs i d within =
+    let r : BlockRow = get_or rs i d in
+    let rest : List Block = blocks_of_rows (drop (i + 1) rs) in
+    let whole : blocks_of_rows (drop i rs) ≡ blocks_of_row r ++ rest = rw (drop-cons rs i d within, add-one) refl in
+    ap (λ (bs : List Block). length bs) whole ∙ length-append (blocks_of_row r) rest
+    ∙ ap (λ n. n + length rest) (row_length r.order r.first r.node r.count r.zone)
 
 -- blocks in bounds are placed
 pub bounds_placed : (bs : List Block) → AreInBounds bs → ArePlaced bs

@@ -1,9 +1,11 @@
 -- The free blocks, as lines of this project's own.
-use Rattle.std.specs.Prelude.{ℕ, List, ◌++◌, codes, decimal}
+use Rattle.std.specs.Prelude.{◌≡◌, ℕ, ◌%◌, ◌^◌, ◌<◌, ◌≤◌, List, [], ◌∷◌, ◌++◌, codes, decimal}
 use Rattle.bm_base.specs.Frames.{bytes_of_frame}
 use Rattle.bm_base.specs.Text.{hex_text}
 use Rattle.frame_blocks.specs.declared.block.Block.{Block}
 use Rattle.frame_blocks.specs.declared.block.BlockRow.{BlockRow}
+use Rattle.frame_blocks.specs.declared.block.TheConstants.{MAX_ORDER}
+use Rattle.frame_blocks.specs.declared.run.TheConstants.{MAX_FRAMES}
 use Rattle.frame_blocks.specs.Frames.{Frames}
 use Rattle.frame_blocks.specs.Listed.{blocks_of}
 use Rattle.frame_blocks.specs.Rows.{blocks_of_row}
@@ -23,3 +25,8 @@ blocks_text f = lines_from block_line 0 (blocks_of f)
 -- those of a row
 abbrev pub row_text : BlockRow → List ℕ
 row_text row = lines_from block_line 0 (blocks_of_row row)
+
+-- each block is of an order up to 10, its first frame has an address, and the number of that is a multiple of how many it has
+abbrev pub ArePlaced : List Block → Type 0
+ArePlaced [] = Unit {0}
+ArePlaced (b ∷ bs) = (b.order ≤ MAX_ORDER) × (b.first < MAX_FRAMES) × (b.first % 2 ^ b.order ≡ 0) × ArePlaced bs

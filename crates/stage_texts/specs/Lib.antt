@@ -1,11 +1,10 @@
+pub mod Batches
 pub mod BlocksText
 pub mod CrashText
-pub mod NodesText
-pub mod Chunks
 pub mod ListsText
+pub mod NodesText
 pub mod PagesText
 pub mod ScriptText
 pub mod SectionsText
-pub mod Sheets
 pub mod SummaryText
 pub mod ZonesText

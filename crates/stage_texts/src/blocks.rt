@@ -1,73 +1,84 @@
 //! The text of the blocks: each of them, where it lies and how large it is.
 //!
-//! There may be millions, nearly all of the greatest order and one behind another. The lines of those go by sheets
-//! and are never all in memory ([`Sheets`]); the others, and those at the ends of great rows, are text.
+//! There may be millions, nearly all of the greatest order and next to each other. Room for the whole text is taken once.
+//! The lines of great rows are put batch by batch ([`put_batches`]); the others, and those at the ends of great rows, one by one.
 
-ghost use Rattle.std.specs.Prelude.{◌≡◌, ◌+◌, ◌*◌, ◌<◌, ◌≤◌, ◌%◌, ◌++◌, OnOk};
+ghost use Rattle.std.specs.Prelude.{◌≡◌, ◌+◌, ◌*◌, ◌^◌, ◌<◌, ◌≤◌, ◌++◌, OnOk, length};
 ghost use Rattle.bm_base.specs.PutsText.{PutsText};
 ghost use Rattle.frame_blocks.specs.declared.run.TheConstants.{MAX_FRAMES};
 ghost use Rattle.frame_blocks.specs.Rows.{blocks_of_row, blocks_of_rows};
 ghost use Rattle.buddy_handover.specs.Contents.{free};
 ghost use Rattle.report_texts.specs.Lines.{lines_from};
-ghost use Rattle.stage_texts.specs.BlocksText.{block_line, blocks_text, row_text};
-ghost use Rattle.stage_texts.specs.Chunks.{draft_text};
-ghost use Rattle.stage_texts.specs.Sheets.{ArePlaced, FillSheets};
+ghost use Rattle.stage_texts.specs.BlocksText.{ArePlaced, block_line, blocks_text, row_text};
 
-use crate::chunks::{Chunk, Draft};
-use crate::sheets::{SHEET_BLOCKS, SHEET_FRAMES, Sheets};
+use crate::batches::{BATCH_BLOCKS, BATCH_FRAMES, put_batches};
 use crate::words::{put_word_dec, put_word_hex};
 use crate::zones::zone_name;
 use bm_base::{FRAME_SIZE, Memory, put_text};
 use buddy_handover::{Block, BlockRow, Buddy, MAX_ORDER};
-use std::mem;
 
-/// Appends the text of the free blocks: a line for each, ascending. Those of great rows are chunks that take the memory
-/// of one sheet each.
-pub fn put_blocks(draft: &mut Draft, buddy: &Buddy) -> Result<(), Memory>
-    ensures { OnOk result (draft_text draft.new ≡ draft_text draft.old ++ blocks_text (free buddy.now)) }
+/// A line has no more bytes: `node 4294967295 zone Normal order 10 0x0123456789abcdef` and its end.
+const LONGEST_LINE: usize = 56;
+
+/// Appends the text of the free blocks: a line for each, ascending. Takes the memory of the whole text at once.
+pub fn put_blocks(text: &mut Vec<u8>, buddy: &Buddy) -> Result<(), Memory>
+    ensures { OnOk result (text.new.items ≡ text.old.items ++ blocks_text (free buddy.now)) }
 {
     let rows = buddy.rows()?;
-    put_rows(draft, &rows)
+    text.reserve(count_blocks(&rows) as usize * LONGEST_LINE)?;
+    put_rows(text, &rows)
+}
+
+/// Returns the number of blocks in all rows.
+fn count_blocks(rows: &[BlockRow]) -> u64
+    requires { length (blocks_of_rows rows.now) < 2 ^ 64 }
+    ensures { result ≡ length (blocks_of_rows rows.now) }
+{
+    let mut count = 0;
+    for row in rows {
+        count += row.count;
+    }
+    count
 }
 
 /// Appends the line of each block of all rows.
-fn put_rows(draft: &mut Draft, rows: &[BlockRow]) -> Result<(), Memory>
+fn put_rows(text: &mut Vec<u8>, rows: &[BlockRow]) -> Result<(), Memory>
     requires { ArePlaced (blocks_of_rows rows.now) }
-    ensures { OnOk result (draft_text draft.new ≡ draft_text draft.old ++ lines_from block_line 0 (blocks_of_rows rows.now)) }
+    ensures { OnOk result (text.new.items ≡ text.old.items ++ lines_from block_line 0 (blocks_of_rows rows.now)) }
 {
     for row in rows {
-        put_row(draft, row)?;
+        put_row(text, row)?;
     }
     Ok(())
 }
 
 /// Appends the line of each block of a row.
-fn put_row(draft: &mut Draft, row: &BlockRow) -> Result<(), Memory>
+fn put_row(text: &mut Vec<u8>, row: &BlockRow) -> Result<(), Memory>
     requires { ArePlaced (blocks_of_row row.now) }
-    ensures { OnOk result (draft_text draft.new ≡ draft_text draft.old ++ row_text row.now) }
+    ensures { OnOk result (text.new.items ≡ text.old.items ++ row_text row.now) }
 {
-    if row.order == MAX_ORDER && row.count >= 2 * SHEET_BLOCKS {
-        return put_great_row(draft, row);
+    if row.order == MAX_ORDER && row.count >= 2 * BATCH_BLOCKS {
+        return put_great_row(text, row);
     }
-    put_each(&mut draft.text, row)
+    put_each(text, row)
 }
 
-/// The same for two sheets or more of blocks of the greatest order: by sheets from the first multiple of 4 GiB to the
-/// last.
-fn put_great_row(draft: &mut Draft, row: &BlockRow) -> Result<(), Memory>
+/// Appends the line of each block of a row of the greatest order: batch by batch from the first multiple of 4 GiB to the
+/// last, and one by one before and after.
+fn put_great_row(text: &mut Vec<u8>, row: &BlockRow) -> Result<(), Memory>
     requires great { row.now.order ≡ MAX_ORDER }
     requires many { 2 * 1024 ≤ row.now.count }
     requires placed { ArePlaced (blocks_of_row row.now) }
-    ensures { OnOk result (draft_text draft.new ≡ draft_text draft.old ++ row_text row.now) }
+    ensures { OnOk result (text.new.items ≡ text.old.items ++ row_text row.now) }
 {
-    let before = (SHEET_FRAMES - row.first % SHEET_FRAMES) % SHEET_FRAMES >> MAX_ORDER;
-    let behind = (row.count - before) % SHEET_BLOCKS;
-    put_each(&mut draft.text, &part_of(row, 0, before))?;
-    put_sheets(draft, &part_of(row, before, row.count - before - behind))?;
-    put_each(&mut draft.text, &part_of(row, row.count - behind, behind))
+    let before = (BATCH_FRAMES - row.first % BATCH_FRAMES) % BATCH_FRAMES >> MAX_ORDER;
+    let after = (row.count - before) % BATCH_BLOCKS;
+    put_each(text, &part_of(row, 0, before))?;
+    put_batches(text, &part_of(row, before, row.count - before - after))?;
+    put_each(text, &part_of(row, row.count - after, after))
 }
 
-/// So many blocks of a row of blocks of the greatest order, from the given one on.
+/// Returns so many blocks of a row of the greatest order, from the given one on.
 fn part_of(row: &BlockRow, skipped: u64, count: u64) -> BlockRow
     requires { row.now.first + skipped * 1024 ≤ MAX_FRAMES }
     ensures { result ≡ record row.now { first = row.now.first + skipped * 1024; count = count } }
@@ -77,20 +88,6 @@ fn part_of(row: &BlockRow, skipped: u64, count: u64) -> BlockRow
         count,
         ..*row
     }
-}
-
-/// Appends the lines of a row that fills sheets, as a chunk of its own.
-fn put_sheets(draft: &mut Draft, row: &BlockRow) -> Result<(), Memory>
-    requires fill { FillSheets row.now }
-    requires some { 0 < row.now.count }
-    ensures { OnOk result (draft_text draft.new ≡ draft_text draft.old ++ row_text row.now) }
-{
-    let alloc = *draft.text.allocator();
-    let sheets = Sheets::new(alloc, row)?;
-    let text = mem::replace(&mut draft.text, Vec::new(alloc));
-    draft.chunks.push(Chunk::Text(text))?;
-    draft.chunks.push(Chunk::Sheets(sheets))?;
-    Ok(())
 }
 
 /// Appends the line of each block of a row, one after another.

@@ -13,35 +13,31 @@
 //! [`put_zonelists`] of the zones in the order in which a request near a node asks them, [`put_summary`] of how much there is
 //! of everything.
 //!
-//! A text stands in a `Vec<u8>`, but that of the blocks, which may have millions of lines: it goes to a [`Draft`], whose
-//! chunks are texts and [`Sheets`], the lines of great rows, of which no more than some thousand are ever in memory.
+//! The text of the blocks may have millions of lines: [`put_blocks`] takes the room for all of them at once.
 //!
-//! Nothing but want of memory comes in a text's place, and that only where its room is too small (`PutsText` of
-//! `bm_base`): [`put_blocks`] and [`put_zonelists`] alone take other memory, for lists and sheets. The text is then of no
-//! use, and whoever asked for it drops it.
+//! A call fails for want of memory alone, and only if the text's room is too small (`PutsText` of `bm_base`).
+//! [`put_blocks`] and [`put_zonelists`] alone take other memory, for lists. The text is then of no use, and whoever asked
+//! for it drops it.
 #![tactic(auto)]
 
+mod batches;
 mod blocks;
-mod chunks;
 mod crash;
 mod lists;
 mod nodes;
 mod pages;
 mod script;
 mod sections;
-mod sheets;
 mod summary;
 mod words;
 mod zones;
 
 pub use blocks::put_blocks;
-pub use chunks::{Chunk, Draft};
 pub use crash::put_crash;
 pub use lists::put_zonelists;
 pub use nodes::put_nodes;
 pub use pages::put_pages;
 pub use script::put_script;
 pub use sections::put_sections;
-pub use sheets::Sheets;
 pub use summary::{Fullness, Summary, put_summary};
 pub use zones::{put_buddyinfo, put_zones};

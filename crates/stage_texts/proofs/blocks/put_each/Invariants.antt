@@ -1,7 +1,7 @@
 -- The text so far and the lines of the blocks that are left are those of all blocks, and the text has no less room than before.
 use Rattle.std.proofs.Common.{◌≡◌, ◌≤◌, ◌++◌, vec_capacity}
 use Rattle.frame_blocks.specs.Rows.{row_from, blocks_of_row}
-use Rattle.stage_texts.specs.Sheets.{ArePlaced}
+use Rattle.stage_texts.specs.BlocksText.{ArePlaced}
 use Rattle.stage_texts.proofs.RowLaws.{lines}
 use Rattle.stage_texts.proofs.blocks.put_each.Given as goal
 

@@ -1,8 +1,8 @@
 -- The row in three parts.
 use Rattle.std.proofs.Common.{arith}
 use Rattle.stage_texts.specs.BlocksText.{row_text}
-use Rattle.stage_texts.proofs.ChunkLaws.{great_parts, on_ok, parts_put, text_more}
 use Rattle.report_texts.proofs.PutLaws.{puts_ok}
+use Rattle.stage_texts.proofs.GreatRowLaws.{great_parts, parts_put}
 use Rattle.stage_texts.proofs.blocks.put_great_row.Goals as goal
 
 pub part_of-requires : goal.part_of-requires
@@ -18,8 +18,8 @@ part_of-requires-2 c =
     let parts = great_parts c.args.row.now c.requires.great c.requires.many c.requires.placed in
     omega arith
 
-pub put_sheets-requires-clause-fill : goal.put_sheets-requires-clause-fill
-put_sheets-requires-clause-fill c =
+pub put_batches-requires-clause-fill : goal.put_batches-requires-clause-fill
+put_batches-requires-clause-fill c =
     rw c.part_of-2.ensures (great_parts c.args.row.now c.requires.great c.requires.many c.requires.placed).fill
 
 pub part_of-requires-3 : goal.part_of-requires-3
@@ -28,15 +28,13 @@ part_of-requires-3 c =
 
 pub put_each-requires-2 : goal.put_each-requires-2
 put_each-requires-2 c =
-    rw c.part_of-3.ensures (great_parts c.args.row.now c.requires.great c.requires.many c.requires.placed).behind
+    rw c.part_of-3.ensures (great_parts c.args.row.now c.requires.great c.requires.many c.requires.placed).after
 
 pub returns : goal.returns
 returns c =
     let row = c.args.row.now in
     let parts = great_parts row c.requires.great c.requires.many c.requires.placed in
-    on_ok c.put_each-2.result
-    (λ third. parts_put row _ _ _ _ _ _ parts
-    (text_more c.args.draft.now.chunks.items _ _ _ (rw c.part_of.ensures at c.in_ok-put_each.ensures.0))
-    (rw c.part_of-2.ensures at c.in_ok-put_sheets.ensures)
-    (text_more c.put_sheets.new.draft.chunks.items _ _ _ (rw c.part_of-3.ensures at third)))
-    (puts_ok c.put_sheets.new.draft.text c.put_each-2.new.text c.put_each-2.result (row_text c.part_of-3.result) c.put_each-2.ensures)
+    parts_put row _ _ c.put_each-2.result _ _ _ _ parts (rw c.part_of.ensures at c.in_ok-put_each.ensures.0)
+    (rw c.part_of-2.ensures at c.in_ok-put_batches.ensures)
+    (rw c.part_of-3.ensures at
+    (puts_ok c.put_batches.new.text c.put_each-2.new.text c.put_each-2.result (row_text c.part_of-3.result) c.put_each-2.ensures))

@@ -1,7 +1,7 @@
 use Rattle.std.proofs.Common.{◌-◌, ◌∙◌, arith}
 use Rattle.std.proofs.lemmas.List.{length-set}
-use Rattle.stage_texts.proofs.SheetLaws.{digit_step, digits_end}
-use Rattle.stage_texts.proofs.sheets.digits_of.Goals as goal
+use Rattle.stage_texts.proofs.BatchLaws.{digit_step, digits_end}
+use Rattle.stage_texts.proofs.batches.digits_of.Goals as goal
 
 pub loop-i-preserved : goal.loop-i-preserved
 loop-i-preserved c =

@@ -1,39 +1,28 @@
--- The text of a draft: what is appended to its text, and chunks behind it.
-use Rattle.std.proofs.Common.{◌≡◌, ℕ, ◌+◌, ◌-◌, ◌*◌, ◌/◌, ◌%◌, ◌^◌, ◌<◌, ◌≤◌, List, ◌++◌, sym, ap, ◌∙◌, append_assoc, Result, Ok, Err, arith}
+-- A great row in three parts, of which the middle one fills batches.
+use Rattle.std.proofs.Common.{◌≡◌, ℕ, ◌+◌, ◌-◌, ◌*◌, ◌/◌, ◌%◌, ◌^◌, ◌<◌, ◌≤◌, List, ◌++◌, ap, ◌∙◌, append_assoc, Result, Ok, Err, arith}
 use Rattle.std.specs.Prelude.{OnOk}
+use Rattle.bm_base.specs.declared.memory.Memory.{Memory}
 use Rattle.frame_blocks.specs.declared.block.BlockRow.{BlockRow}
 use Rattle.frame_blocks.specs.declared.block.Block.{Block}
 use Rattle.frame_blocks.specs.Rows.{blocks_of_row}
-use Rattle.stage_texts.specs.declared.chunks.Chunk.{Chunk}
-use Rattle.stage_texts.specs.BlocksText.{row_text}
-use Rattle.stage_texts.specs.Chunks.{text_of_chunks}
-use Rattle.stage_texts.specs.Sheets.{ArePlaced, FillSheets}
+use Rattle.stage_texts.specs.BlocksText.{ArePlaced, row_text}
+use Rattle.stage_texts.specs.Batches.{FillBatches}
 use Rattle.stage_texts.proofs.RowLaws.{first_placed, lines, lines_append, part, placed_before, placed_behind, row_end, three_parts}
 
--- what follows of a fact that holds after Ok
-pub on_ok : {E A B : Type 0} (answer : Result (Unit {0}) E) → (A → B) → OnOk answer A → OnOk answer B
-on_ok (Ok done) step holds = step holds
-on_ok (Err error) step holds = tt
-
--- text behind the text that is begun
-pub text_more : (chunks : List Chunk) (old new more : List ℕ) → new ≡ old ++ more
-    → text_of_chunks chunks ++ new ≡ (text_of_chunks chunks ++ old) ++ more
-text_more chunks old new more is = ap (λ t. text_of_chunks chunks ++ t) is ∙ sym (append_assoc (text_of_chunks chunks) old more)
-
--- how many blocks stand before the first multiple of 4 GiB
+-- how many blocks come before the first multiple of 4 GiB
 abbrev pub before : ℕ → ℕ
 before x = (1048576 - x % 1048576) % 1048576 / 1024
 
 before_is : (x : ℕ) → x % 1024 ≡ 0 → (before x < 1024) × ((x + before x * 1024) % 1048576 ≡ 0)
 before_is x aligned = (omega arith, omega (arith, aligned))
 
--- a great row in three parts, of which the middle one fills sheets: b blocks before it, and e behind it
+-- the middle part with b blocks before it and e after it
 pub record InParts (row : BlockRow) (b e : ℕ) : Type 0 where
   pub few : b + e < row.count
   pub end : row.first + row.count * 1024 ≤ 2 ^ 40
   pub before : ArePlaced (blocks_of_row (part row 0 b))
-  pub fill : FillSheets (part row b (row.count - b - e))
-  pub behind : ArePlaced (blocks_of_row (part row (row.count - e) e))
+  pub fill : FillBatches (part row b (row.count - b - e))
+  pub after : ArePlaced (blocks_of_row (part row (row.count - e) e))
   pub text : row_text row ≡ row_text (part row 0 b) ++ (row_text (part row b (row.count - b - e)) ++ row_text (part row (row.count - e) e))
 
 in_parts : (row : BlockRow) (b m e : ℕ) → row.order ≡ 10 → row.count ≡ b + (m + e) → 0 < m → m % 1024 ≡ 0 → m ≡ row.count - b - e
@@ -53,7 +42,7 @@ in_parts row b m e great count some whole middle aligned end placed =
         count = rw middle at whole;
         end = omega (arith, count, end);
       };
-      behind = placed_behind (blocks_of_row (part row b (row.count - b - e))) back (placed_behind front _ parts);
+      after = placed_behind (blocks_of_row (part row b (row.count - b - e))) back (placed_behind front _ parts);
       text = ap lines all ∙ simp lines_append;
     }
 
@@ -69,10 +58,11 @@ great_parts row great many placed =
     in_parts row b ((row.count - b) / 1024 * 1024) ((row.count - b) % 1024) great (omega (arith, many, few)) (omega (arith, many, few))
     (omega arith) (omega (arith, many, few)) front.1 (row_end row.count row.first row.node row.zone here (omega (arith, many))) placed
 
--- the text of the three parts, one behind another
-pub parts_put : (row : BlockRow) (b e : ℕ) (old first second third : List ℕ) → InParts row b e
+-- the text of the three parts, one after another
+pub parts_put : (row : BlockRow) (b e : ℕ) (answer : Result (Unit {0}) Memory) (old first second third : List ℕ) → InParts row b e
     → first ≡ old ++ row_text (part row 0 b)
     → second ≡ first ++ row_text (part row b (row.count - b - e))
-    → third ≡ second ++ row_text (part row (row.count - e) e)
-    → third ≡ old ++ row_text row
-parts_put row b e old first second third parts one two three = rw (three, two, one, parts.text) (simp append_assoc)
+    → OnOk answer (third ≡ second ++ row_text (part row (row.count - e) e))
+    → OnOk answer (third ≡ old ++ row_text row)
+parts_put row b e (Ok done) old first second third parts one two three = rw (three, two, one, parts.text) (simp append_assoc)
+parts_put row b e (Err error) old first second third parts one two three = tt

@@ -1,4 +1,4 @@
--- The lines of a sheet: their digits, and how those are written anew.
+-- The lines of a batch: their digits, and how those are written anew.
 use Rattle.std.proofs.Common.{◌≡◌, ℕ, zero, suc, ◌+◌, ◌-◌, ◌*◌, ◌/◌, ◌%◌, ◌^◌, ◌<◌, ◌≤◌, false, List, [], ◌∷◌, ◌++◌, length, drop, set, codes, refl, sym, ap, ◌∙◌, append_assoc, append-nil, arith, add-zero, zero-add, suc-add, add-mul}
 use Rattle.std.proofs.Math.Nat.{suc-mul, pow-suc, mul_assoc}
 use Rattle.std.proofs.lemmas.List.{take_at, drop_at, drop-set, length-append}
@@ -10,8 +10,8 @@ use Rattle.bm_base.proofs.TextLaws.{hex_onto, hex_sixteen}
 use Rattle.frame_blocks.specs.declared.block.Block.{Block}
 use Rattle.frame_blocks.specs.declared.block.BlockRow.{BlockRow}
 use Rattle.frame_blocks.specs.Rows.{row_from}
-use Rattle.stage_texts.specs.BlocksText.{block_line, row_text}
-use Rattle.stage_texts.specs.Sheets.{ArePlaced, FillSheets, first_sheet, last_digits, low_digits, sheet_from, sheet_line, sheet_text}
+use Rattle.stage_texts.specs.BlocksText.{ArePlaced, block_line, row_text}
+use Rattle.stage_texts.specs.Batches.{FillBatches, first_batch, last_digits, low_digits, batch_from, batch_line, batch_text}
 use Rattle.stage_texts.specs.ZonesText.{zone_name}
 use Rattle.stage_texts.proofs.RowLaws.{lines, lines_append, lines_first, row_low, row_parts}
 
@@ -83,7 +83,7 @@ around a b c d e = simp append_assoc
 
 line_is : (q j n : ℕ) (z : Zone) → q < 2 ^ 32 → j < 1024
     → block_line 0 (record { order = 10; first = q * 2 ^ 20 + j * 1024; node = n; zone = z })
-    ≡ sheet_line (front_of n z) (last_digits q) j
+    ≡ batch_line (front_of n z) (last_digits q) j
 line_is q j n z high low =
     let r : ℕ = j * 2 ^ 22 in
     let before : List ℕ = codes "node " ++ decimal n ++ codes " zone " ++ zone_name z ++ codes " order " ++ decimal 10 ++ codes " " in
@@ -91,110 +91,110 @@ line_is q j n z high low =
     ap (λ t. (before ++ t) ++ codes "\n") (ap hex_text place ∙ address_is q r high (omega (arith, low)))
     ∙ around before (codes "0x") (last_digits q) (last_digits r) (codes "\n")
 
--- a sheet is the lines of its blocks
-pub sheet_lines : (k j q n : ℕ) (z : Zone) → q < 2 ^ 32 → j + k ≤ 1024
-    → sheet_from (front_of n z) (last_digits q) j k ≡ lines (row_from 10 (q * 2 ^ 20 + j * 1024) n z k)
-unfolding sheet_from row_from
-sheet_lines zero j q n z high few = refl
-sheet_lines (suc k) j q n z high few =
+-- a batch is the lines of its blocks
+pub batch_lines : (k j q n : ℕ) (z : Zone) → q < 2 ^ 32 → j + k ≤ 1024
+    → batch_from (front_of n z) (last_digits q) j k ≡ lines (row_from 10 (q * 2 ^ 20 + j * 1024) n z k)
+unfolding batch_from row_from
+batch_lines zero j q n z high few = refl
+batch_lines (suc k) j q n z high few =
     let next : q * 2 ^ 20 + (j + 1) * 1024 ≡ q * 2 ^ 20 + j * 1024 + 2 ^ 10 = omega arith in
     let b : Block = record { order = 10; first = q * 2 ^ 20 + j * 1024; node = n; zone = z } in
-    let rest = rw next at (sheet_lines k (j + 1) q n z high (omega (arith, few))) in
-    ap (λ t. t ++ sheet_from (front_of n z) (last_digits q) (j + 1) k) (sym (line_is q j n z high (omega (arith, few))))
+    let rest = rw next at (batch_lines k (j + 1) q n z high (omega (arith, few))) in
+    ap (λ t. t ++ batch_from (front_of n z) (last_digits q) (j + 1) k) (sym (line_is q j n z high (omega (arith, few))))
     ∙ ap (λ t. block_line 0 b ++ t) rest
     ∙ sym (lines_first b (row_from 10 (q * 2 ^ 20 + j * 1024 + 2 ^ 10) n z k))
 
-pub sheet_none : (j : ℕ) (front digits : List ℕ) → sheet_from front digits j 0 ≡ []
-unfolding sheet_from
-sheet_none j front digits = refl
+pub batch_none : (j : ℕ) (front digits : List ℕ) → batch_from front digits j 0 ≡ []
+unfolding batch_from
+batch_none j front digits = refl
 
 -- a line more
-sheet_more : (k j : ℕ) (front digits : List ℕ)
-    → sheet_from front digits j (k + 1) ≡ sheet_from front digits j k ++ sheet_line front digits (j + k)
-unfolding sheet_from
-sheet_more zero j front digits = rw (add-zero, append-nil) refl
-sheet_more (suc k) j front digits =
+batch_more : (k j : ℕ) (front digits : List ℕ)
+    → batch_from front digits j (k + 1) ≡ batch_from front digits j k ++ batch_line front digits (j + k)
+unfolding batch_from
+batch_more zero j front digits = rw (add-zero, append-nil) refl
+batch_more (suc k) j front digits =
     let more : suc k + 1 ≡ suc (k + 1) = omega arith in
     let there : j + 1 + k ≡ j + suc k = omega arith in
-    rw (more, sheet_more k (j + 1) front digits, there) (simp append_assoc)
+    rw (more, batch_more k (j + 1) front digits, there) (simp append_assoc)
 
-pub sheet_length : (k j : ℕ) (front digits : List ℕ) → length digits ≡ 8 → j + k ≤ 1024
-    → length (sheet_from front digits j k) ≡ k * (length front + 17)
-unfolding sheet_from
-sheet_length zero j front digits eight few = omega arith
-sheet_length (suc k) j front digits eight few =
+pub batch_length : (k j : ℕ) (front digits : List ℕ) → length digits ≡ 8 → j + k ≤ 1024
+    → length (batch_from front digits j k) ≡ k * (length front + 17)
+unfolding batch_from
+batch_length zero j front digits eight few = omega arith
+batch_length (suc k) j front digits eight few =
     let low = last_length (j * 2 ^ 22) (omega (arith, few)) in
-    let rest = sheet_length k (j + 1) front digits eight (omega (arith, few)) in
+    let rest = batch_length k (j + 1) front digits eight (omega (arith, few)) in
     simp length-append (omega (arith, low, rest, suc-mul k (length front + 17), eight))
 
 -- the digits of one line anew
-pub sheet_put : (front new old : List ℕ) (i line : ℕ) (xs : List ℕ) → i < 1024 → line ≡ length front + 17 → length new ≡ 8 → length old ≡ 8
-    → xs ≡ sheet_from front new 0 i ++ sheet_from front old i (1024 - i)
-    → put_mid ((i + 1) * line - 17) 8 xs new ≡ sheet_from front new 0 (i + 1) ++ sheet_from front old (i + 1) (1024 - (i + 1))
-unfolding sheet_from
-sheet_put front new old i line xs below long eight eight_too is =
-    let done : List ℕ = sheet_from front new 0 i in
-    let rest : List ℕ = low_digits i ++ sheet_from front old (i + 1) (1024 - (i + 1)) in
+pub batch_put : (front new old : List ℕ) (i line : ℕ) (xs : List ℕ) → i < 1024 → line ≡ length front + 17 → length new ≡ 8 → length old ≡ 8
+    → xs ≡ batch_from front new 0 i ++ batch_from front old i (1024 - i)
+    → put_mid ((i + 1) * line - 17) 8 xs new ≡ batch_from front new 0 (i + 1) ++ batch_from front old (i + 1) (1024 - (i + 1))
+unfolding batch_from
+batch_put front new old i line xs below long eight eight_too is =
+    let done : List ℕ = batch_from front new 0 i in
+    let rest : List ℕ = low_digits i ++ batch_from front old (i + 1) (1024 - (i + 1)) in
     let count : 1024 - i ≡ suc (1024 - (i + 1)) = omega (arith, below) in
     let parts : xs ≡ (done ++ front) ++ (old ++ rest) = rw (is, count) (simp append_assoc) in
-    let before = rw (← long) at (sheet_length i 0 front new eight (omega (arith, below))) in
+    let before = rw (← long) at (batch_length i 0 front new eight (omega (arith, below))) in
     let size : length (done ++ front) ≡ (i + 1) * line - 17 = omega (arith, length-append done front, before, add-mul i 1 line, long) in
     rw (parts, take_at (done ++ front) (old ++ rest) _ size, drop_at (done ++ front) (old ++ rest) _ size, drop_at old rest 8 eight_too)
-    (rw (sheet_more i 0 front new, zero-add) (simp append_assoc))
+    (rw (batch_more i 0 front new, zero-add) (simp append_assoc))
 
 -- the same, as code says it
-pub renumbered : (front new old held : List ℕ) (i size : ℕ) (xs : List ℕ) → i < 1024 → size ≡ length (sheet_from front old 0 1024)
-    → length new ≡ 8 → length old ≡ 8 → held ≡ new → xs ≡ sheet_from front new 0 i ++ sheet_from front old i (1024 - i)
+pub renumbered : (front new old held : List ℕ) (i size : ℕ) (xs : List ℕ) → i < 1024 → size ≡ length (batch_from front old 0 1024)
+    → length new ≡ 8 → length old ≡ 8 → held ≡ new → xs ≡ batch_from front new 0 i ++ batch_from front old i (1024 - i)
     → put_mid ((i + 1) * (size / 1024) - 9 - 8) ((i + 1) * (size / 1024) - 9 - ((i + 1) * (size / 1024) - 9 - 8)) xs held
-    ≡ sheet_from front new 0 (i + 1) ++ sheet_from front old (i + 1) (1024 - (i + 1))
+    ≡ batch_from front new 0 (i + 1) ++ batch_from front old (i + 1) (1024 - (i + 1))
 renumbered front new old held i size xs below all eight eight_too same is =
-    let sizes = sheet_length 1024 0 front old eight_too (omega arith) in
+    let sizes = batch_length 1024 0 front old eight_too (omega arith) in
     let line : size / 1024 ≡ length front + 17 = omega (arith, all, sizes) in
     let product : (i + 1) * (size / 1024) ≡ i * (size / 1024) + size / 1024 = (let h = suc-mul i (size / 1024) in omega (arith, h)) in
     let place : (i + 1) * (size / 1024) - 9 - 8 ≡ (i + 1) * (size / 1024) - 17 = omega arith in
     let width : (i + 1) * (size / 1024) - 9 - ((i + 1) * (size / 1024) - 9 - 8) ≡ 8 = omega (arith, product, line) in
-    rw (width, place, same) (sheet_put front new old i (size / 1024) xs below line eight eight_too is)
+    rw (width, place, same) (batch_put front new old i (size / 1024) xs below line eight eight_too is)
 
--- the lengths of a sheet
-pub sheet_size : (front digits text : List ℕ) → length digits ≡ 8 → text ≡ sheet_text front digits
+-- the lengths of a batch
+pub batch_size : (front digits text : List ℕ) → length digits ≡ 8 → text ≡ batch_text front digits
     → (length text % 1024 ≡ 0) × (17408 ≤ length text)
-sheet_size front digits text eight is =
-    let size = rw (← is) at (sheet_length 1024 0 front digits eight (omega arith)) in (omega (arith, size), omega (arith, size))
+batch_size front digits text eight is =
+    let size = rw (← is) at (batch_length 1024 0 front digits eight (omega arith)) in (omega (arith, size), omega (arith, size))
 
--- the sheet of a row's first blocks
-pub sheet_of : (row : BlockRow) → FillSheets row
-    → sheet_text (front_of row.node row.zone) (last_digits (row.first / 2 ^ 20)) ≡ first_sheet row
-sheet_of row fill =
+-- the batch of a row's first blocks
+pub batch_of : (row : BlockRow) → FillBatches row
+    → batch_text (front_of row.node row.zone) (last_digits (row.first / 2 ^ 20)) ≡ first_batch row
+batch_of row fill =
     let place : row.first / 2 ^ 20 * 2 ^ 20 + 0 * 1024 ≡ row.first = omega arith in
-    rw fill.order (rw place at (sheet_lines 1024 0 (row.first / 2 ^ 20) row.node row.zone (omega arith) (omega arith)))
+    rw fill.order (rw place at (batch_lines 1024 0 (row.first / 2 ^ 20) row.node row.zone (omega arith) (omega arith)))
 
-pub sheet_size_of : (row : BlockRow) (text : List ℕ) → FillSheets row → text ≡ first_sheet row
+pub batch_size_of : (row : BlockRow) (text : List ℕ) → FillBatches row → text ≡ first_batch row
     → (length text % 1024 ≡ 0) × (17408 ≤ length text)
-sheet_size_of row text fill is =
-    sheet_size (front_of row.node row.zone) _ text (last_length (row.first / 2 ^ 20) (omega arith)) (is ∙ sym (sheet_of row fill))
+batch_size_of row text fill is =
+    batch_size (front_of row.node row.zone) _ text (last_length (row.first / 2 ^ 20) (omega arith)) (is ∙ sym (batch_of row fill))
 
 -- these blocks are placed
-pub sheet_placed : (row : BlockRow) → FillSheets row → 0 < row.count → ArePlaced (row_from row.order row.first row.node row.zone 1024)
-sheet_placed row fill some =
+pub batch_placed : (row : BlockRow) → FillBatches row → 0 < row.count → ArePlaced (row_from row.order row.first row.node row.zone 1024)
+batch_placed row fill some =
     rw fill.order (row_low 1024 row.first row.node row.zone (omega arith) (omega arith))
 
--- the row behind a sheet, the sheet of that, and what its lines are
-pub rest_fill : (row : BlockRow) → FillSheets row → 0 < row.count
-    → FillSheets (record row { first = row.first + 1048576; count = row.count - 1024 })
+-- the row behind a batch, the batch of that, and what its lines are
+pub rest_fill : (row : BlockRow) → FillBatches row → 0 < row.count
+    → FillBatches (record row { first = row.first + 1048576; count = row.count - 1024 })
 rest_fill row fill some = record { order = fill.order; first = omega arith; count = omega arith; end = omega arith }
 
-pub rest_sheet : (row : BlockRow) (old new : List ℕ) → FillSheets row → 0 < row.count → old ≡ first_sheet row
-    → ((front digits : List ℕ) → length digits ≡ 8 → old ≡ sheet_text front digits
-    → new ≡ sheet_text front (last_digits ((row.first + 1048576) / 1048576)))
-    → new ≡ first_sheet (record row { first = row.first + 1048576; count = row.count - 1024 })
-rest_sheet row old new fill some is put =
+pub rest_batch : (row : BlockRow) (old new : List ℕ) → FillBatches row → 0 < row.count → old ≡ first_batch row
+    → ((front digits : List ℕ) → length digits ≡ 8 → old ≡ batch_text front digits
+    → new ≡ batch_text front (last_digits ((row.first + 1048576) / 1048576)))
+    → new ≡ first_batch (record row { first = row.first + 1048576; count = row.count - 1024 })
+rest_batch row old new fill some is put =
     put (front_of row.node row.zone) (last_digits (row.first / 2 ^ 20)) (last_length (row.first / 2 ^ 20) (omega arith))
-    (is ∙ sym (sheet_of row fill))
-    ∙ sheet_of (record row { first = row.first + 1048576; count = row.count - 1024 }) (rest_fill row fill some)
+    (is ∙ sym (batch_of row fill))
+    ∙ batch_of (record row { first = row.first + 1048576; count = row.count - 1024 }) (rest_fill row fill some)
 
-pub sheet_then : (row : BlockRow) → FillSheets row → 0 < row.count
-    → row_text row ≡ first_sheet row ++ row_text (record row { first = row.first + 1048576; count = row.count - 1024 })
-sheet_then row fill some =
+pub batch_then : (row : BlockRow) → FillBatches row → 0 < row.count
+    → row_text row ≡ first_batch row ++ row_text (record row { first = row.first + 1048576; count = row.count - 1024 })
+batch_then row fill some =
     let count : row.count ≡ 1024 + (row.count - 1024) = omega arith in
     ap (λ k. lines (row_from row.order row.first row.node row.zone k)) count
     ∙ rw (fill.order, row_parts 1024 (row.count - 1024) 10 row.first row.node row.zone, lines_append) refl

@@ -1,7 +1,7 @@
 -- The digits so far stand at the end, and those that are left are of the quotient.
 use Rattle.std.proofs.Common.{◌≡◌, ◌-◌, length, drop, []}
 use Rattle.bm_base.proofs.TextLaws.{hex_onto}
-use Rattle.stage_texts.proofs.sheets.digits_of.Given as goal
+use Rattle.stage_texts.proofs.batches.digits_of.Given as goal
 
 abbrev pub invariant-loop-i : goal.invariant-loop-i
 invariant-loop-i l = record {

@@ -1,0 +1,42 @@
+-- A batch is the lines of the 1,024 blocks of the greatest order that lie in 4 GiB, at a multiple of that. The last eight digits of their
+-- addresses are the same in each batch, and the eight before them are the same in each line of one.
+use Rattle.std.specs.Prelude.{◌≡◌, ℕ, zero, suc, ◌+◌, ◌*◌, ◌%◌, ◌^◌, ◌≤◌, List, [], ◌++◌, drop, codes}
+use Rattle.bm_base.specs.Text.{hex_text}
+use Rattle.frame_blocks.specs.declared.block.BlockRow.{BlockRow}
+use Rattle.frame_blocks.specs.declared.block.TheConstants.{MAX_ORDER}
+use Rattle.frame_blocks.specs.declared.run.TheConstants.{MAX_FRAMES}
+use Rattle.frame_blocks.specs.Rows.{row_from}
+use Rattle.report_texts.specs.Lines.{lines_from}
+use Rattle.stage_texts.specs.BlocksText.{block_line}
+
+-- the last eight digits of a number
+abbrev pub last_digits : ℕ → List ℕ
+last_digits n = drop 10 (hex_text n)
+
+-- those of the address of the j-th block of such memory, and the end of its line
+abbrev pub low_digits : ℕ → List ℕ
+low_digits j = last_digits (j * 2 ^ 22) ++ codes "\n"
+
+-- its line, by what comes before the digits and by the higher ones
+abbrev pub batch_line : List ℕ → List ℕ → ℕ → List ℕ
+batch_line front digits j = front ++ (digits ++ low_digits j)
+
+-- n lines from the j-th on
+unfoldable pub batch_from : List ℕ → List ℕ → ℕ → ℕ → List ℕ
+batch_from front digits j zero = []
+batch_from front digits j (suc n) = batch_line front digits j ++ batch_from front digits (j + 1) n
+
+-- a whole batch
+abbrev pub batch_text : List ℕ → List ℕ → List ℕ
+batch_text front digits = batch_from front digits 0 1024
+
+-- the blocks of the row are of the greatest order, and lie from a multiple of 4 GiB to another; all their frames have addresses
+pub record FillBatches (row : BlockRow) : Type 0 where
+  pub order : row.order ≡ MAX_ORDER
+  pub first : row.first % 2 ^ 20 ≡ 0
+  pub count : row.count % 1024 ≡ 0
+  pub end : row.first + row.count * 1024 ≤ MAX_FRAMES
+
+-- the lines of 1,024 of them, from the first on
+abbrev pub first_batch : BlockRow → List ℕ
+first_batch row = lines_from block_line 0 (row_from row.order row.first row.node row.zone 1024)
