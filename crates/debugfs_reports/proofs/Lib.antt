@@ -1,4 +1,4 @@
 mod Examples
 pub mod ListLaws
+pub mod StandLaws
 pub mod SummaryLaws
-mod WholeLaws

@@ -1,5 +1,5 @@
 -- The frames of the listed blocks are few: there are at most 2^40 blocks, of at most 2^10 frames. And they are those of rows.
-use Rattle.std.proofs.Common.{◌≡◌, ◌∙◌, ℕ, zero, suc, ◌+◌, ◌*◌, ◌^◌, ◌<◌, ◌≤◌, List, [], ◌∷◌, ◌++◌, get_or, length, drop, drop-cons, refl, ap, length-append, add-one, lt_of_not-le, arith}
+use Rattle.std.proofs.Common.{◌≡◌, ◌∙◌, ℕ, zero, suc, ◌+◌, ◌*◌, ◌^◌, ◌<◌, ◌≤◌, List, [], ◌∷◌, ◌++◌, get_or, length, drop, drop-cons, refl, add-one, lt_of_not-le, arith}
 use Rattle.std.proofs.Math.Nat.{suc-mul}
 use Rattle.std.proofs.Math.Pow.{pow_mono}
 use Rattle.std.proofs.lemmas.List.Sums.{sum_by-append, sum_by-cons}
@@ -10,6 +10,7 @@ use Rattle.frame_blocks.specs.Frames.{Frames}
 use Rattle.frame_blocks.specs.Listed.{blocks_of}
 use Rattle.frame_blocks.specs.Rows.{blocks_of_row, blocks_of_rows, row_from}
 use Rattle.stage_texts.proofs.BlockLaws.{AreInBounds, listed_few, listed_in_bounds}
+use Rattle.stage_texts.proofs.RowLaws.{rows_left}
 use Rattle.debugfs_reports.specs.Summary.{frames_in}
 
 few_in : (bs : List Block) → AreInBounds bs → frames_in bs ≤ 1024 * length bs
@@ -21,15 +22,15 @@ few_in (b ∷ bs) all =
 pub listed_frames : (f : Frames) → frames_in (blocks_of f) ≤ 2 ^ 50
 listed_frames f = omega (arith, few_in (blocks_of f) (listed_in_bounds f), listed_few f)
 
--- a row has as many blocks as it says, and so many frames
-row_frames : (o x n k : ℕ) (z : Zone) → (frames_in (row_from o x n z k) ≡ k * 2 ^ o) × (length (row_from o x n z k) ≡ k)
+-- a row has so many frames
+row_frames : (o x n k : ℕ) (z : Zone) → frames_in (row_from o x n z k) ≡ k * 2 ^ o
 unfolding row_from
-row_frames o x n zero z = (omega arith, refl)
+row_frames o x n zero z = omega arith
 row_frames o x n (suc k) z =
     let b : Block = record { order = o; first = x; node = n; zone = z } in
     let rest = row_frames o (x + 2 ^ o) n k z in
     let total = sum_by-cons (λ (c : Block). 2 ^ c.order) b (row_from o (x + 2 ^ o) n z k) in
-    (omega (arith, rest.0, total, suc-mul k (2 ^ o)), omega (arith, rest.1))
+    omega (arith, rest, total, suc-mul k (2 ^ o))
 
 -- the rows that are left are one row and the others
 pub row_left : (rs : List BlockRow) (i : ℕ) (d : BlockRow) → i < length rs
@@ -41,8 +42,8 @@ row_left rs i d within =
     let rest : List Block = blocks_of_rows (drop (i + 1) rs) in
     let whole : blocks_of_rows (drop i rs) ≡ blocks_of_row r ++ rest = rw (drop-cons rs i d within, add-one) refl in
     let one = row_frames r.order r.first r.node r.count r.zone in (
-      rw (whole, ← one.0) (sum_by-append (λ (c : Block). 2 ^ c.order) (blocks_of_row r) rest),
-      ap (λ (bs : List Block). length bs) whole ∙ length-append (blocks_of_row r) rest ∙ ap (λ n. n + length rest) one.1,
+      rw (whole, ← one) (sum_by-append (λ (c : Block). 2 ^ c.order) (blocks_of_row r) rest),
+      rows_left rs i d within,
     )
 
 -- and what was counted before it, with it

@@ -1,10 +1,11 @@
 //! The reports of a boot: their names, their texts, and lists of them.
 //!
 //! A report is a text of lines, in the manner of the files below `/sys/kernel/debug`. [`Report`] names
-//! those that there are, [`report_named`] finds one by its name, and [`render`] gives its text, or [`render_chunks`] in chunks. It
-//! is that of the definition (`shown_text` of `specs/Report.antt`): `memory` and `reserved` are told from the records at the heads of
-//! the two tables, each other report from what is told of the boot. Where the boot's items come to those records it is `report_text`.
-//! A report asks for two tables at the heads, and for a map whose runs ascend (`specs/Stand.antt`), which may touch and be of one type.
+//! those that there are, [`report_named`] finds one by its name, and [`render`] gives its text. It is that of the definition
+//! (`shown_text` of `specs/Report.antt`): `memory` and `reserved` show the records in the bytes at the heads of the two tables, each other
+//! report what is told of the boot. If the boot's items come to those records it is `report_text`.
+//! A report asks for two ascending lists of records at the heads (`specs/Stand.antt`), whose flags and nodes may be any, and for a map
+//! whose runs ascend; records and runs may touch and say the same.
 //! The lines are those of
 //! `report_texts` and `stage_texts`, so a report is here a name and one call. The summary alone is counted here: [`summary_of`] makes its
 //! numbers of what the boot made (`specs/Summary.antt`).
@@ -22,9 +23,8 @@
 mod list;
 mod report;
 mod summary;
-mod whole;
 
 pub use boot_model::Booted;
 pub use list::{are_reports, render_all, reports_in};
-pub use report::{Report, render, render_chunks, report_named};
+pub use report::{Report, render, report_named};
 pub use summary::summary_of;

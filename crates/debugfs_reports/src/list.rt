@@ -4,16 +4,13 @@ ghost use Rattle.std.specs.Prelude.{◌≡◌, IfOk, length, map, nat_lt};
 ghost use Rattle.std.specs.List.{flat_map};
 ghost use Rattle.bm_base.specs.PutsText.{PutsText};
 ghost use Rattle.boot_model.specs.View.{booted_view};
-ghost use Rattle.debugfs_reports.specs.Report.{TableRecords};
 ghost use Rattle.debugfs_reports.specs.ReportList.{are_reports, reports_in, shown_list, shown_part, title};
-ghost use Rattle.debugfs_reports.specs.Stand.{TablesStand};
+ghost use Rattle.debugfs_reports.specs.Stand.{TablesStand, records_at_heads};
 ghost use Rattle.e820_usable.specs.Ascend.{Ascend};
-ghost use Rattle.stage_texts.specs.Chunks.{text_of_chunks};
 
 use crate::report::{Report, put_report, report_named};
 use bm_base::{Memory, put_text};
 use boot_model::Booted;
-use stage_texts::{Chunk, Draft};
 use std::alloc::Global;
 use text_words::{Separators, next_part};
 
@@ -48,21 +45,19 @@ pub fn reports_in(alloc: Global, list: &[u8]) -> Result<Vec<Report>, Memory>
     Ok(reports)
 }
 
-/// The texts of all reports of a list in chunks, each with the line that says whose it is where there are two or
-/// more. Together they are the whole text: `text_of`, where what the boot's items come to stands at the heads.
+/// Returns the texts of all reports of a list, in its order; each begins with its `== NAME` line if there are two or
+/// more. Together they are the whole text of the list.
 pub fn render_all(
     alloc: Global,
     reports: &[Report],
     booted: &Booted,
-) -> Result<Vec<Vec<Chunk>>, Memory>
-    requires tables { (records : TableRecords) × TablesStand records booted.now }
+) -> Result<Vec<Vec<u8>>, Memory>
+    requires tables { TablesStand booted.now }
     requires map { Ascend booted.now.map.items }
-    ensures each { (records : TableRecords) → TablesStand records booted.now
-        → IfOk result (λ texts. map (λ chunks. text_of_chunks chunks.items) texts.items
-        ≡ map (shown_part (nat_lt 1 (length reports.now)) (booted_view booted.now) records) reports.now) }
-    ensures whole { (records : TableRecords) → TablesStand records booted.now
-        → IfOk result (λ texts. flat_map (λ chunks. text_of_chunks chunks.items) texts.items
-        ≡ shown_list reports.now (booted_view booted.now) records) }
+    ensures each { IfOk result (λ texts. map (λ text. text.items) texts.items
+        ≡ map (shown_part (nat_lt 1 (length reports.now)) (booted_view booted.now) (records_at_heads booted.now)) reports.now) }
+    ensures whole { IfOk result (λ texts. flat_map (λ text. text.items) texts.items
+        ≡ shown_list reports.now (booted_view booted.now) (records_at_heads booted.now)) }
 {
     let several = reports.len() > 1;
     let mut texts = Vec::new(alloc);
@@ -72,25 +67,25 @@ pub fn render_all(
     Ok(texts)
 }
 
-/// A report's part of the whole text.
+/// Returns a report's part of the whole text.
 fn render_part(
     alloc: Global,
     report: Report,
     several: bool,
     booted: &Booted,
-) -> Result<Vec<Chunk>, Memory>
-    requires tables { (records : TableRecords) × TablesStand records booted.now }
+) -> Result<Vec<u8>, Memory>
+    requires tables { TablesStand booted.now }
     requires map { Ascend booted.now.map.items }
-    ensures { (records : TableRecords) → TablesStand records booted.now
-        → IfOk result (λ chunks. text_of_chunks chunks.items ≡ shown_part several (booted_view booted.now) records report) }
+    ensures { IfOk result (λ text. text.items
+        ≡ shown_part several (booted_view booted.now) (records_at_heads booted.now) report) }
 {
-    let mut draft = Draft::new(alloc);
-    put_title(&mut draft.text, several, report)?;
-    put_report(&mut draft, report, booted)?;
-    draft.into_chunks()
+    let mut text = Vec::new(alloc);
+    put_title(&mut text, several, report)?;
+    put_report(&mut text, report, booted)?;
+    Ok(text)
 }
 
-/// Appends the line that says whose the text behind it is, where there are several.
+/// Appends the `== NAME` line of a report, if there are several.
 fn put_title(text: &mut Vec<u8>, several: bool, report: Report) -> Result<(), Memory>
     ensures { PutsText text.old text.new result (title several report) }
 {

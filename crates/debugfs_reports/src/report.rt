@@ -4,19 +4,17 @@
 ghost use Rattle.std.specs.Prelude.{◌≡◌, ◌++◌, IfOk, OnOk};
 ghost use Rattle.std.specs.Str.{bytes_eq};
 ghost use Rattle.boot_model.specs.View.{booted_view};
-ghost use Rattle.debugfs_reports.specs.Report.{TableRecords, name_of, report_named, report_text, shown_text};
-ghost use Rattle.debugfs_reports.specs.Stand.{TablesStand};
+ghost use Rattle.debugfs_reports.specs.Report.{name_of, report_named, report_text, shown_text};
+ghost use Rattle.debugfs_reports.specs.Stand.{TablesStand, records_at_heads};
 ghost use Rattle.e820_usable.specs.Ascend.{Ascend};
-ghost use Rattle.stage_texts.specs.Chunks.{draft_text, text_of_chunks};
 
 use crate::summary::summary_of;
-use crate::whole::whole_text;
 use bm_base::Memory;
 use boot_model::Booted;
 use report_texts::{put_journal, put_map, put_options, put_owners, put_records, put_tables};
 use stage_texts::{
-    Chunk, Draft, put_blocks, put_buddyinfo, put_crash, put_nodes, put_pages, put_script,
-    put_sections, put_summary, put_zonelists, put_zones,
+    put_blocks, put_buddyinfo, put_crash, put_nodes, put_pages, put_script, put_sections,
+    put_summary, put_zonelists, put_zones,
 };
 use std::alloc::Global;
 
@@ -132,41 +130,26 @@ pub fn report_named(name: &[u8]) -> Option<Report>
     None
 }
 
-/// The text of a report. `memory` and `reserved` are told from the records that stand at the heads of the two tables,
-/// whatever the boot's items say. Takes the memory of the whole text, which for `blocks` may be hundreds of MB:
-/// [`render_chunks`] takes that of a sheet.
+/// Returns the text of a report. `memory` and `reserved` show the records in the bytes at the heads of the two tables,
+/// whatever the boot's items come to. Takes the memory of the whole text.
 pub fn render(alloc: Global, report: Report, booted: &Booted) -> Result<Vec<u8>, Memory>
-    requires tables { (records : TableRecords) × TablesStand records booted.now }
+    requires tables { TablesStand booted.now }
     requires map { Ascend booted.now.map.items }
-    ensures { (records : TableRecords) → TablesStand records booted.now
-        → IfOk result (λ text. text.items ≡ shown_text report (booted_view booted.now) records) }
+    ensures { IfOk result (λ text. text.items
+        ≡ shown_text report (booted_view booted.now) (records_at_heads booted.now)) }
 {
-    let mut draft = Draft::new(alloc);
-    put_report(&mut draft, report, booted)?;
-    whole_text(draft)
-}
-
-/// The same text in chunks, to be put one after another.
-pub fn render_chunks(alloc: Global, report: Report, booted: &Booted) -> Result<Vec<Chunk>, Memory>
-    requires tables { (records : TableRecords) × TablesStand records booted.now }
-    requires map { Ascend booted.now.map.items }
-    ensures { (records : TableRecords) → TablesStand records booted.now
-        → IfOk result (λ chunks. text_of_chunks chunks.items ≡ shown_text report (booted_view booted.now) records) }
-{
-    let mut draft = Draft::new(alloc);
-    put_report(&mut draft, report, booted)?;
-    draft.into_chunks()
+    let mut text = Vec::new(alloc);
+    put_report(&mut text, report, booted)?;
+    Ok(text)
 }
 
 /// Appends the text of a report.
-pub fn put_report(draft: &mut Draft, report: Report, booted: &Booted) -> Result<(), Memory>
-    requires tables { (records : TableRecords) × TablesStand records booted.now }
+pub fn put_report(text: &mut Vec<u8>, report: Report, booted: &Booted) -> Result<(), Memory>
+    requires tables { TablesStand booted.now }
     requires map { Ascend booted.now.map.items }
-    ensures { (records : TableRecords) → TablesStand records booted.now
-        → OnOk result (draft_text draft.new
-        ≡ draft_text draft.old ++ shown_text report (booted_view booted.now) records) }
+    ensures { OnOk result (text.new.items
+        ≡ text.old.items ++ shown_text report (booted_view booted.now) (records_at_heads booted.now)) }
 {
-    let text = &mut draft.text;
     match report {
         Report::Map => put_map(text, &booted.map),
         Report::Options => put_options(text, &booted.options),
@@ -181,7 +164,7 @@ pub fn put_report(draft: &mut Draft, report: Report, booted: &Booted) -> Result<
         Report::Script => put_script(text, &booted.answers),
         Report::Tables => put_tables(text, &booted.heads),
         Report::Buddyinfo => put_buddyinfo(text, &booted.spans, &booted.buddy),
-        Report::Blocks => put_blocks(draft, &booted.buddy),
+        Report::Blocks => put_blocks(text, &booted.buddy),
         Report::Pages => put_pages(text, &booted.page_answers),
         Report::Pagesinfo => put_buddyinfo(text, &booted.spans, booted.after.buddy()),
         Report::Zonelists => put_zonelists(text, &booted.lists),

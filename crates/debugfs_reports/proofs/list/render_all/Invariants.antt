@@ -2,16 +2,14 @@
 use Rattle.std.proofs.Common.{◌≡◌, map, take}
 use Rattle.std.specs.List.{flat_map}
 use Rattle.boot_model.specs.View.{booted_view}
-use Rattle.stage_texts.specs.Chunks.{text_of_chunks}
-use Rattle.debugfs_reports.specs.Report.{TableRecords}
 use Rattle.debugfs_reports.specs.ReportList.{shown_part}
-use Rattle.debugfs_reports.specs.Stand.{TablesStand}
+use Rattle.debugfs_reports.specs.Stand.{records_at_heads}
 use Rattle.debugfs_reports.proofs.list.render_all.Given as goal
 
 abbrev pub invariant-loop-report : goal.invariant-loop-report
 invariant-loop-report l = record {
-  each : (records : TableRecords) → TablesStand records l.booted → map (λ chunks. text_of_chunks chunks.items) l.texts.items
-      ≡ map (shown_part l.several (booted_view l.booted) records) (take l.report-index l.reports);
-  whole : (records : TableRecords) → TablesStand records l.booted → flat_map (λ chunks. text_of_chunks chunks.items) l.texts.items
-      ≡ flat_map (shown_part l.several (booted_view l.booted) records) (take l.report-index l.reports);
+  each : map (λ text. text.items) l.texts.items
+      ≡ map (shown_part l.several (booted_view l.booted) (records_at_heads l.booted)) (take l.report-index l.reports);
+  whole : flat_map (λ text. text.items) l.texts.items
+      ≡ flat_map (shown_part l.several (booted_view l.booted) (records_at_heads l.booted)) (take l.report-index l.reports);
 }
