@@ -10,8 +10,9 @@ use Rattle.boot_model.specs.View.{booted_view}
 use Rattle.boot_model.specs.declared.booted.Booted.{Booted}
 use Rattle.boot_stages.specs.Boots.{TableStands}
 use Rattle.debugfs_reports.specs.declared.report.Report.{Report}
-use Rattle.debugfs_reports.specs.Report.{records_told}
-use Rattle.debugfs_reports.specs.Stand.{TablesStand}
+use Rattle.debugfs_reports.specs.ReportList.{shown_list, text_of}
+use Rattle.debugfs_reports.specs.Stand.{TablesStand, records_at_heads}
+use Rattle.debugfs_reports.proofs.StandLaws.{HaveTables, tables_shown, tables_stand}
 use Rattle.memblock_model.specs.declared.which.Which.TheVariants as which
 use Rattle.program_run.specs.declared.failure.Failure.{Failure}
 use Rattle.program_run.specs.Answers.{Makes}
@@ -27,10 +28,23 @@ boot_stopped view r failure stop given reports is from stops_so = rw is (grind a
 pub told_is : (answer : Result Told Cause) (told : Told) → with_error stop_of answer ≡ Ok told → answer ≡ Ok told
 told_is answer told is = grind arith
 
--- what the items of a boot come to stands at the heads of its tables
-pub items_stand : (b : Booted) → TableStands which.Memory b.journal.items b.store b.heads.memory
-    → TableStands which.Reserved b.journal.items b.store b.heads.reserved → TablesStand (records_told (booted_view b)) b
-items_stand b memory reserved = record {
-  memory = record { table = memory.table; at = record { stands = memory.stands; told = memory.told }; told = memory.records };
-  reserved = record { table = reserved.table; at = record { stands = reserved.stands; told = reserved.told }; told = reserved.records };
+-- a boot's tables stand at their heads, and the reports of the records there are those of what its items come to
+have_tables : (b : Booted) (memory : TableStands which.Memory b.journal.items b.store b.heads.memory)
+    (reserved : TableStands which.Reserved b.journal.items b.store b.heads.reserved) → HaveTables b memory.table reserved.table
+have_tables b memory reserved = record {
+  memory_stands = memory.stands;
+  memory_told = memory.told;
+  reserved_stands = reserved.stands;
+  reserved_told = reserved.told;
 }
+
+pub items_stand : (b : Booted) → TableStands which.Memory b.journal.items b.store b.heads.memory
+    → TableStands which.Reserved b.journal.items b.store b.heads.reserved → TablesStand b
+items_stand b memory reserved = tables_stand b memory.table reserved.table (have_tables b memory reserved)
+
+pub items_shown : (b : Booted) (list : List Report) → TableStands which.Memory b.journal.items b.store b.heads.memory
+    → TableStands which.Reserved b.journal.items b.store b.heads.reserved
+    → shown_list list (booted_view b) (records_at_heads b) ≡ text_of list (booted_view b)
+items_shown b list memory reserved =
+    rw (memory.records, reserved.records) at
+    (tables_shown b memory.table reserved.table (booted_view b) list (have_tables b memory reserved))

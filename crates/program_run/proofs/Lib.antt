@@ -4,5 +4,4 @@ pub mod GivenLaws
 pub mod HeadlineLaws
 mod LineExamples
 pub mod OutcomeExamples
-pub mod PutLaws
 pub mod RunLaws

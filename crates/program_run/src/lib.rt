@@ -12,7 +12,6 @@
 //! (`bootmem_c`).
 #![tactic(auto)]
 
-mod chunks;
 mod clauses;
 mod failure;
 mod given;

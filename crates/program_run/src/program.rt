@@ -7,7 +7,6 @@ ghost use Rattle.bm_io.specs.Counts.{Rose};
 ghost use Rattle.bm_io.specs.Told.{AppendsFront};
 ghost use Rattle.boot_model.specs.View.{inputs_view};
 ghost use Rattle.debugfs_reports.specs.ReportList.{reports_in};
-ghost use Rattle.stage_texts.specs.Chunks.{text_of_chunks};
 ghost use Rattle.program_words.specs.View.{wanted_view};
 ghost use Rattle.program_words.specs.Words.{accepted, texts};
 ghost use Rattle.program_run.specs.Answers.{FailureHasCause, IsOfBoot, Makes, ReportHasCause, Writes, WritingHasCause};
@@ -16,16 +15,14 @@ ghost use Rattle.program_run.specs.Outcome.{outcome, reported};
 ghost use Rattle.program_run.specs.Run.{IsTold, RanTo};
 ghost use Rattle.program_run.specs.Status.{End, status_of_end};
 
-use crate::chunks::put_reports;
 use crate::failure::{Failure, Reason};
 use crate::given::read_given;
 use crate::tell::{tell, tell_memory, tell_usage};
-use bm_io::{Files, Put, Sink};
+use bm_io::{Files, Put, Sink, put_all};
 use boot_model::Inputs;
 use boot_stages::boot;
 use debugfs_reports::{render_all, reports_in};
 use program_words::{Wanted, WordError, read_words};
-use stage_texts::Chunk;
 use std::alloc::Global;
 
 /// The whole program: reads the files that the words name, boots with them, and writes the reports.
@@ -100,18 +97,18 @@ fn write_reports<F: Files, S: Sink>(
     put_texts(out, texts)
 }
 
-/// Puts the texts of reports, each of their chunks that isn't empty by one put, or one a sheet.
-fn put_texts<S: Sink>(out: &mut S, texts: Vec<Vec<Chunk>>) -> Result<(), Failure>
+/// Puts the texts of reports in their order, each that isn't empty by one put, up to the first that is refused.
+fn put_texts<S: Sink>(out: &mut S, texts: Vec<Vec<u8>>) -> Result<(), Failure>
     ensures whole { OnOk result (Appends (S.written out.old) (S.written out.new)
-        (flat_map (λ chunks. text_of_chunks chunks.items) texts.items)) }
+        (flat_map (λ text. text.items) texts.items)) }
     ensures front { OnErr result (AppendsFront (S.written out.old) (S.written out.new)
-        (flat_map (λ chunks. text_of_chunks chunks.items) texts.items)) }
+        (flat_map (λ text. text.items) texts.items)) }
     ensures only { IfErr result (λ failure. (failure ≡ Failure.Unwritten)
         ⊎ (failure ≡ Failure.Memory)) }
     ensures failed { IsErrOf result Failure.Unwritten → Rose (S.faults out.old) (S.faults out.new) }
     ensures wanting { IsErrOf result Failure.Memory → Rose (S.wants out.old) (S.wants out.new) }
 {
-    match put_reports(out, texts) {
+    match put_all(out, &texts) {
         Ok(()) => Ok(()),
         Err(Put::Failed) => Err(Failure::Unwritten),
         Err(Put::Memory) => Err(Failure::Memory),
@@ -123,9 +120,9 @@ fn make_texts<F: Files>(
     alloc: Global,
     wanted: &Wanted<'_>,
     files: &mut F,
-) -> Result<Vec<Vec<Chunk>>, Failure>
+) -> Result<Vec<Vec<u8>>, Failure>
     ensures makes { IfSome (F.holds files.old) (λ held.
-        Makes (λ texts. flat_map (λ chunks. text_of_chunks chunks.items) texts.items) result
+        Makes (λ texts. flat_map (λ text. text.items) texts.items) result
         (outcome (Some (wanted_view wanted.now)) held)) }
     ensures cause { ReportHasCause (F.faults files.old) (F.faults files.new)
         (Some (wanted_view wanted.now)) result }
@@ -137,8 +134,8 @@ fn make_texts<F: Files>(
 }
 
 /// The texts of a list of reports, of what the boot makes of the inputs.
-fn boot_texts(alloc: Global, inputs: Inputs, list: &str) -> Result<Vec<Vec<Chunk>>, Failure>
-    ensures makes { Makes (λ texts. flat_map (λ chunks. text_of_chunks chunks.items) texts.items) result
+fn boot_texts(alloc: Global, inputs: Inputs, list: &str) -> Result<Vec<Vec<u8>>, Failure>
+    ensures makes { Makes (λ texts. flat_map (λ text. text.items) texts.items) result
         (reported (reports_in list.now) (inputs_view inputs)) }
     ensures cause { IsOfBoot result }
 {
