@@ -107,12 +107,12 @@ for bytes in 0 1 "$((second - 1))" "$second" "$((second + 1))" "$((third - 1))" 
 done
 room 0 "$end" map,buddyinfo,blocks "$@"
 
-# blocks whose lines are put by sheets of 1,024: one sheet goes out, and the next one fails
+# the blocks of 20 GiB are one put, of which the lines up to 8 GiB find room
 great=$top/examples/q35-20g-numa4/zp.bin
 "$program" --report map,blocks "$great" >whole
-sheet=$(before ' 0x0000000200000000')
-room 4 "$sheet" map,blocks "$great"
-room 4 "$((sheet + 1))" map,blocks "$great"
+upto=$(before ' 0x0000000200000000')
+room 4 "$upto" map,blocks "$great"
+room 4 "$((upto + 1))" map,blocks "$great"
 room 0 "$(($(wc -c <whole)))" map,blocks "$great"
 
 # a reader that leaves before the whole text is in the pipe

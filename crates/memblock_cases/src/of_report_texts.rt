@@ -1,15 +1,18 @@
 //! The texts of a small boot, put once each with memory to spare.
 
-use crate::ranges::{FIRST_MIB, KERNEL};
-use bm_base::Range;
+use crate::ranges::{FIRST_MIB, KERNEL, bytes};
+use bm_base::{Memory, Range};
 use boot_journal::{Item, Journal, Owner, Which};
 use boot_options::{CrashOption, CrashPlain, CrashRange, Edit, Options};
 use e820_model::Run;
 use memblock_ranges::{Head, Heads, Tables};
+use phys_store::Store;
 use report_texts::{
     put_item, put_journal, put_map, put_options, put_owners, put_records, put_tables,
 };
+use std::alloc::Global;
 use std::test::Fail;
+use table_frames::has_records;
 
 const RAM: Range = Range {
     base: 0x10_0000,
@@ -285,6 +288,16 @@ fn journal_and_owners(rt: HostRuntime) -> Result<(), Fail> {
     Ok(())
 }
 
+/// The text of the records at a head, if they are an ascending list.
+fn records_text(alloc: Global, store: &Store, head: &Head) -> Result<Vec<u8>, Fail> {
+    if !has_records(store, head, u64::MAX) {
+        return Err("no ascending list".into());
+    }
+    let mut text = Vec::new(alloc);
+    put_records(&mut text, store, head)?;
+    Ok(text)
+}
+
 #[test]
 fn records_and_heads(rt: HostRuntime) -> Result<(), Fail> {
     let mut tables = Tables::new(rt.alloc(), KERNEL)?;
@@ -292,8 +305,7 @@ fn records_and_heads(rt: HostRuntime) -> Result<(), Fail> {
     assert!(rt; pieces <= 128);
     tables.insert(Which::Memory, RAM, 3);
     let (store, heads) = tables.into_parts();
-    let mut text = Vec::new(rt.alloc());
-    put_records(&mut text, &store, &heads.memory)?;
+    let text = records_text(rt.alloc(), &store, &heads.memory)?;
     let want = b"   0: 0x0000000000100000..0x0000000007fdffff\n";
     assert!(rt; text.as_slice() == want.as_slice());
 
@@ -313,6 +325,36 @@ fn records_and_heads(rt: HostRuntime) -> Result<(), Fail> {
     put_tables(&mut text, &heads)?;
     let want =
         b"memory place 0x0000000007fde000 room 256 records 202\nreserved place 0x0000000007fdb000 room 512 records 303\n";
+    assert!(rt; text.as_slice() == want.as_slice());
+    Ok(())
+}
+
+/// Two records that touch and say the same, with flags 5 and node 7; the bytes after them aren't zeros.
+const TOUCHING: [u8; 50] = [
+    0, 0x10, 0, 0, 0, 0, 0, 0, 0, 0x10, 0, 0, 0, 0, 0, 0, 5, 0, 0, 0, 7, 0, 0, 0, //
+    0, 0x20, 0, 0, 0, 0, 0, 0, 1, 0, 0, 0, 0, 0, 0, 0, 5, 0, 0, 0, 7, 0, 0, 0, //
+    0xAA, 0xBB,
+];
+
+fn write_touching(store: &mut Store) -> Result<(), Memory> {
+    store.prepare(bytes(0x5000, 50))?;
+    store.write(0x5000, &TOUCHING);
+    Ok(())
+}
+
+// A table that no boot leaves: its room is four records, of which half of the bytes were never written.
+#[test]
+fn records_that_no_boot_writes(rt: HostRuntime) -> Result<(), Fail> {
+    let mut store = Store::new(rt.alloc());
+    write_touching(&mut store)?;
+    let head = Head {
+        place: 0x5000,
+        room: 4,
+        count: 2,
+    };
+    let text = records_text(rt.alloc(), &store, &head)?;
+    let want =
+        b"   0: 0x0000000000001000..0x0000000000001fff\n   1: 0x0000000000002000..0x0000000000002000\n";
     assert!(rt; text.as_slice() == want.as_slice());
     Ok(())
 }

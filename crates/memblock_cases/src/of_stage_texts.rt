@@ -12,8 +12,8 @@ use numa_nodes::{Nodes, Why};
 use section_maps::Placed;
 use sparse_sections::{RootPlace, Roots};
 use stage_texts::{
-    Chunk, Draft, Fullness, Summary, put_blocks, put_buddyinfo, put_crash, put_nodes, put_script,
-    put_sections, put_summary, put_zones,
+    Fullness, Summary, put_blocks, put_buddyinfo, put_crash, put_nodes, put_script, put_sections,
+    put_summary, put_zones,
 };
 use std::alloc::Global;
 use std::test::Fail;
@@ -223,53 +223,31 @@ fn zones_and_blocks(rt: HostRuntime) -> Result<(), Fail> {
         b"Node 1, zone      DMA      1      1      0      0      0      0      0      0      0      0      0 \nNode 1, zone    DMA32      0      0      1      0      0      0      0      0      0      0      0 \n";
     assert!(rt; text.as_slice() == want.as_slice());
 
-    let mut draft = Draft::new(rt.alloc());
-    put_blocks(&mut draft, &buddy)?;
+    let mut text = Vec::new(rt.alloc());
+    put_blocks(&mut text, &buddy)?;
     let want =
         b"node 1 zone DMA order 0 0x0000000000ffd000\nnode 1 zone DMA order 1 0x0000000000ffe000\nnode 1 zone DMA32 order 2 0x0000000001000000\n";
-    assert!(rt; draft.text.as_slice() == want.as_slice());
-    assert!(rt; draft.into_chunks()?.len() == 1);
+    assert!(rt; text.as_slice() == want.as_slice());
     Ok(())
 }
 
-// 2,050 blocks of the greatest order, from 4 MiB below 8 GiB on: a line, two sheets, and a line.
+// 2,050 blocks of the greatest order, from 4 MiB below 8 GiB on: a line, the lines of two times 4 GiB, and a line.
 #[test]
-fn sheets(rt: HostRuntime) -> Result<(), Fail> {
-    let mut buddy = Buddy::new(rt.alloc());
+fn lines_of_a_great_row(rt: HostRuntime) -> Result<(), Fail> {
+    let alloc = rt.alloc();
+    let mut buddy = Buddy::new(alloc);
     buddy.free_frames(0x1F_FC00, 2050 << 10, 0)?;
-    let mut draft = Draft::new(rt.alloc());
-    put_blocks(&mut draft, &buddy)?;
-    let mut chunks = draft.into_chunks()?;
-    let (Some(Chunk::Text(behind)), Some(Chunk::Sheets(sheets)), Some(Chunk::Text(before)), None) =
-        (chunks.pop(), chunks.pop(), chunks.pop(), chunks.pop()) else {
-        return Err("other chunks".into());
-    };
-    let mut sheets = sheets;
-    let want = b"node 0 zone Normal order 10 0x00000001ffc00000\n";
-    assert!(rt; before.as_slice() == want.as_slice());
-    assert!(rt; !sheets.is_empty());
-    let want =
-        b"node 0 zone Normal order 10 0x0000000200000000\nnode 0 zone Normal order 10 0x0000000200400000\n";
-    assert!(rt; sheets.sheet().starts_with(want));
-    assert!(rt;
-        sheets
-            .sheet()
-            .ends_with(b"node 0 zone Normal order 10 0x00000002ffc00000\n")
-    );
-    sheets.turn();
-    assert!(rt; !sheets.is_empty());
-    let want =
-        b"node 0 zone Normal order 10 0x0000000300000000\nnode 0 zone Normal order 10 0x0000000300400000\n";
-    assert!(rt; sheets.sheet().starts_with(want));
-    assert!(rt;
-        sheets
-            .sheet()
-            .ends_with(b"node 0 zone Normal order 10 0x00000003ffc00000\n")
-    );
-    sheets.turn();
-    assert!(rt; sheets.is_empty());
-    let want = b"node 0 zone Normal order 10 0x0000000400000000\n";
-    assert!(rt; behind.as_slice() == want.as_slice());
+    let mut text = Vec::new(alloc);
+    put_blocks(&mut text, &buddy)?;
+    let mut want = Vec::new(alloc);
+    for block in 0..2050_u64 {
+        let line = format!(in alloc;
+            "node 0 zone Normal order 10 0x{:016x}\n",
+            0x1_FFC0_0000 + (block << 22)
+        )?;
+        want.extend_from_slice(line.as_bytes())?;
+    }
+    assert!(rt; text == want);
     Ok(())
 }
 

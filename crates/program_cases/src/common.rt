@@ -2,8 +2,6 @@
 
 ghost use Rattle.std.specs.Prelude.{◌≡◌, ◌+◌, ◌^◌, ◌<◌, ◌≤◌, length, IfOk, string_bytes};
 ghost use Rattle.e820_model.specs.Claims.{EndInSpace, HaveTypes};
-ghost use Rattle.boot_model.specs.View.{booted_view};
-ghost use Rattle.debugfs_reports.specs.Report.{records_told};
 ghost use Rattle.debugfs_reports.specs.Stand.{TablesStand};
 
 use bm_base::{Range, Width};
@@ -134,7 +132,7 @@ fn put_options(inputs: &mut Inputs, options: Options)
 /// The boot of these entries, which come as an extension, and of this line.
 pub fn booted(alloc: Global, entries: &[Entry], line: &[u8]) -> Result<Result<Booted, Stop>, Fail>
     requires { EndInSpace entries.now }
-    ensures { IfOk result (λ answer. IfOk answer (λ booted. TablesStand (records_told (booted_view booted)) booted)) }
+    ensures { IfOk result (λ answer. IfOk answer (λ booted. TablesStand booted)) }
 {
     let mut inputs = Inputs::begun(alloc, Width::Bits46, KERNEL);
     put_entries(&mut inputs, Vec::from_slice(alloc, entries)?);

@@ -111,7 +111,7 @@ fn words_and_what_fails(rt: HostRuntime) -> Result<(), Fail> {
         (map, [&[1], &[], &[]], 3, "", "bootmem: cannot read zp\n"),
         (map, [&[2], &[], &[]], 0, MAP, ""),
         (map, [&[], &[1], &[]], 4, half, "bootmem: cannot write\n"),
-        // the report is put in one chunk
+        // the report is one put
         (map, [&[], &[2], &[]], 0, MAP, ""),
         (map, [&[], &[1], &[1]], 4, half, "bootmem: ca"),
         (other, [&[], &[], &[1]], 3, "", "bootmem: c"),
@@ -227,20 +227,28 @@ fn lists_of_reports(rt: HostRuntime) -> Result<(), Fail> {
     compare(&rt, rt.alloc(), b"", &empty)
 }
 
-/// How many bytes stand before the lines of the blocks from 4 GiB on, by an independent model.
-const LOW_LINES: usize = 1317;
+/// The map's part of two reports of a machine with 16 GiB above 4 GiB.
+const GREAT_MAP: &str = "== map\n\
+                         0x0000000000100000..0x0000000007fdffff 1 usable\n\
+                         0x0000000007fe0000..0x0000000007ffffff 2 reserved\n\
+                         0x0000000100000000..0x00000004ffffffff 1 usable\n";
 
-// Of 16 GiB above 4 GiB the lines of the blocks are put by sheets of 1,024, behind one put of what stands before them.
+// The blocks of such a machine are thousands of lines and one put: the second put is the second report, and there is no third.
 #[test]
-fn sheets_of_blocks(rt: HostRuntime) -> Result<(), Fail> {
-    let words = ["--cmdline", "cmd", "--report", "blocks", "zp"];
-    let line = b"memmap=16G@4G";
-    let ended = run_on(rt.alloc(), &words, line, [&[], &[3], &[]])?;
-    assert!(rt; ended.status == 4);
-    // a sheet, and the half of the next one
-    let text = ended.out.written();
-    assert!(rt; text.len() == LOW_LINES + 1536 * 47);
-    assert!(rt; text.ends_with(b"node 0 zone Normal order 10 0x000000027fc00000\n"));
+fn one_put_per_report(rt: HostRuntime) -> Result<(), Fail> {
+    let words = ["--cmdline", "cmd", "--report", "blocks,map", "zp"];
+    let run = |put: u64| run_on(rt.alloc(), &words, b"memmap=16G@4G", [&[], &[put], &[]]);
+    let (first, second, third) = (run(1)?, run(2)?, run(3)?);
+    assert!(rt; first.status == 4 && second.status == 4 && third.status == 0);
+    let whole = third.out.written();
+    assert!(rt; whole.starts_with(b"== blocks\n") && whole.ends_with(GREAT_MAP.as_bytes()));
+    let blocks = whole.len().saturating_sub(GREAT_MAP.len());
+    assert!(rt; blocks > 4000 * 47);
+    assert!(rt; first.out.written().len() == blocks / 2);
+    assert!(rt; whole.starts_with(first.out.written()));
+    let half = GREAT_MAP.len() / 2;
+    assert!(rt; second.out.written().len() == blocks.saturating_add(half));
+    assert!(rt; whole.starts_with(second.out.written()));
     Ok(())
 }
 

@@ -1,19 +1,17 @@
--- What the boot's items come to stands at the heads of its tables.
+-- The boot's tables stand at their heads.
 use Rattle.std.proofs.Common.{Result, Ok, Err}
 use Rattle.std.specs.Prelude.{IfOk}
 use Rattle.memblock_model.specs.declared.which.Which.TheVariants as which
 use Rattle.boot_model.specs.declared.booted.Booted.{Booted}
 use Rattle.boot_model.specs.declared.stop.Stop.{Stop}
-use Rattle.boot_model.specs.View.{booted_view}
 use Rattle.boot_stages.specs.Boots.{TableStands}
-use Rattle.debugfs_reports.specs.Report.{records_told}
 use Rattle.debugfs_reports.specs.Stand.{TablesStand}
 use Rattle.program_run.proofs.BootedLaws.{items_stand}
 use Rattle.program_cases.proofs.common.booted.Goals as goal
 
 stands_of : (answer : Result Booted Stop) → IfOk answer (λ b. TableStands which.Memory b.journal.items b.store b.heads.memory)
     → IfOk answer (λ b. TableStands which.Reserved b.journal.items b.store b.heads.reserved)
-    → IfOk answer (λ b. TablesStand (records_told (booted_view b)) b)
+    → IfOk answer (λ b. TablesStand b)
 stands_of (Ok b) memory reserved = items_stand b memory reserved
 stands_of (Err stop) memory reserved = tt
 

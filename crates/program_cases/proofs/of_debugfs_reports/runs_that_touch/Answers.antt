@@ -3,21 +3,18 @@ use Rattle.std.proofs.Common.{◌≡◌, Result, Ok, subst}
 use Rattle.std.specs.Prelude.{IfOk}
 use Rattle.boot_model.specs.declared.booted.Booted.{Booted}
 use Rattle.boot_model.specs.declared.stop.Stop.{Stop}
-use Rattle.boot_model.specs.View.{booted_view}
-use Rattle.debugfs_reports.specs.Report.{records_told}
 use Rattle.debugfs_reports.specs.Stand.{TablesStand}
 use Rattle.program_cases.proofs.of_debugfs_reports.runs_that_touch.Goals as goal
 
-stand : (answer : Result Booted Stop) (b : Booted) → answer ≡ Ok b
-    → IfOk answer (λ b. TablesStand (records_told (booted_view b)) b) → TablesStand (records_told (booted_view b)) b
-stand answer b is = subst (λ (r : Result Booted Stop). IfOk r (λ b. TablesStand (records_told (booted_view b)) b)) is
+stand : (answer : Result Booted Stop) (b : Booted) → answer ≡ Ok b → IfOk answer (λ b. TablesStand b) → TablesStand b
+stand answer b is = subst (λ (r : Result Booted Stop). IfOk r (λ b. TablesStand b)) is
 
 pub render-requires-clause-tables : goal.render-requires-clause-tables
 render-requires-clause-tables g c =
     let both = stand c.in_ok-booted.field-0 c.in-Ok.booted c.in-Ok.is c.in_ok-booted.ensures in
-    (records_told (booted_view c.in-Ok.booted), record { memory = both.memory; reserved = both.reserved })
+    record { memory = both.memory; reserved = both.reserved }
 
 pub render-requires-2-clause-tables : goal.render-requires-2-clause-tables
 render-requires-2-clause-tables g c =
     let both = stand c.in_ok-booted.field-0 c.in-Ok.booted c.in-Ok.is c.in_ok-booted.ensures in
-    (records_told (booted_view c.in-Ok.booted), record { memory = both.memory; reserved = both.reserved })
+    record { memory = both.memory; reserved = both.reserved }
