@@ -230,7 +230,7 @@ def figures(seconds):
     rows.append(("16 TiB: sections, beyond memory", (seconds["great", "sections"] - seconds["great", "memory"]) * 1e3, "ms", 50))
     rows.append(("16 TiB: buddyinfo", seconds["great", "buddyinfo"] * 1e3, "ms", 100))
     rows.append(("16 TiB: blocks", seconds["great", "blocks"] * 1e3, "ms", None))
-    rows.append(("16 TiB: blocks, to cat of the same bytes", seconds["great", "blocks"] / seconds["cat"], "times", 3))
+    rows.append(("16 TiB: blocks, to cat of the same bytes", seconds["great", "blocks"] / seconds["cat"], "times", 2))
     rows.append(("3,000 runs: buddyinfo and zones", seconds["runs", "buddyinfo,zones"] * 1e3, "ms", 20))
     rows.append(("3,000 runs: memory, to map", seconds["runs", "memory"] / seconds["runs", "map"], "times", 2))
     return rows
