@@ -14,5 +14,5 @@ render_all-requires-clause-map c = runs_ascend c.in_ok-booted.booted.map.items c
 pub returns-clause-makes : goal.returns-clause-makes
 returns-clause-makes c =
     let whole = c.in_ok-render_all.ensures.whole
-    ∙ items_shown c.in_ok-booted.booted _ c.in_ok-booted.ensures.memory c.in_ok-booted.ensures.reserved in
+    ∙ items_shown c.in_ok-booted.booted c.deref.result.now c.in_ok-booted.ensures.memory c.in_ok-booted.ensures.reserved in
     rw (told_is _ _ c.in_ok-booted.ensures.boots, whole, c.deref.ensures.value, c.in_ok-reports.ensures, c.as_bytes.ensures.value) refl
