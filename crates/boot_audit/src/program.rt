@@ -36,14 +36,11 @@ pub fn audit<F: Files, S: Sink, E: Sink>(
         × RoseFor (F.faults files.old) (F.faults files.new) (accepted (map string_bytes words.now)) report }
     ensures unwritten { result ≡ 4 → Rose (S.faults out.old) (S.faults out.new) }
 
-    // What stays as it was, whatever the files tell: the files and the output with refused words, the output where no
-    // verdict came to be, and after a verdict and after status 7 the count of failed fetches: a file that couldn't be
-    // read isn't told as want of memory.
+    // What stays as it was, whatever the files tell: the files and the output with refused words, and the output
+    // where no verdict came to be.
     ensures unfetched { IsNone (accepted (map string_bytes words.now)) → files.new ≡ files.old }
     ensures early { (result ≡ 2) ⊎ (result ≡ 3) ⊎ (result ≡ 5) → out.new ≡ out.old }
     ensures wanting { result ≡ 7 → (out.new ≡ out.old) ⊎ Rose (S.wants out.old) (S.wants out.new) }
-    ensures unfailed { result ≡ 7 → F.misses files.new ≡ F.misses files.old }
-    ensures none_missed { (result ≡ 0) ⊎ (result ≡ 8) → F.misses files.new ≡ F.misses files.old }
 
     // The headline, where the files tell what they hold: 0 comes exactly where the words have their form, the three texts
     // are well-formed, each usable frame is touched or in exactly one block and not both, each frame of a block is usable
