@@ -26,7 +26,7 @@ use Rattle.boot_inputs.specs.declared.input.Input.TheVariants as inputs
 use Rattle.boot_inputs.specs.declared.refusal.InputRefusal.{InputRefusal}
 use Rattle.boot_inputs.specs.declared.refusal.InputRefusal.TheVariants as refusals
 use Rattle.boot_inputs.specs.declared.refusal.InputError.TheVariants as errors
-use Rattle.boot_inputs.specs.Answers.{ComesTo, FitsAnswer, FitsRefusal, Gives, HasCause, IsCaused, IsOf, Passes, RefusalHasCause, RoseAt, input_of}
+use Rattle.boot_inputs.specs.Answers.{ComesTo, FitsAnswer, FitsRefusal, Gives, HasCause, IsCaused, IsOf, RefusalHasCause, RoseAt, input_of}
 use Rattle.boot_inputs.specs.CommandLine.{command_line, command_line_diagnostic, options_said, options_take, put_options}
 use Rattle.boot_inputs.specs.Diagnostic.{Diagnostic}
 use Rattle.boot_inputs.specs.Extension.{entries_said, extension_diagnostic, extension_file, put_extension}
@@ -34,9 +34,9 @@ use Rattle.boot_inputs.specs.Efi.{efi_diagnostic, efi_file, efi_given, efi_said,
 use Rattle.boot_inputs.specs.Faults.{IsOfBytes, diagnostic_of}
 use Rattle.boot_inputs.specs.File.{unless_fault, with_value}
 use Rattle.boot_inputs.specs.Input.{place, word_for}
-use Rattle.boot_inputs.specs.Inputs.{Held, Named, file_step, given_in, input_files, inputs_of, named_step, or_faulty, or_unread, step_if, takes_held, takes_memory, within}
+use Rattle.boot_inputs.specs.Inputs.{Held, Named, file_step, given_in, input_files, inputs_of, named_step, or_faulty, or_unread, step_if, within}
 use Rattle.boot_inputs.specs.Pages.{pages_diagnostic, pages_file, pages_said, pages_take, put_pages}
-use Rattle.boot_inputs.specs.Reading.{IsIn, WantsMemory, are_behind, ascend}
+use Rattle.boot_inputs.specs.Reading.{are_behind, ascend}
 use Rattle.boot_inputs.specs.Script.{lines_said, lines_take, put_lines, script_diagnostic, script_file}
 use Rattle.boot_inputs.specs.Slit.{distances_said, distances_take, put_distances, slit_diagnostic, slit_file}
 use Rattle.boot_inputs.specs.Srat.{put_domains, srat_diagnostic, srat_file, table_said, table_takes}
@@ -248,26 +248,10 @@ efi_take_examples : (efi_takes header ≡ false) × (efi_takes (header ++ replic
 unfolding descriptors_from
 efi_take_examples = (refl, refl)
 
--- and by a file that is named and held
-held_takes : (takes_held script_file (held (codes "free")) ≡ true) × (takes_held script_file None ≡ false)
-held_takes = (refl, refl)
-
-memory_takes : (takes_memory held (with_script (codes "free")) script_file ≡ true)
-    × (takes_memory held (with_script (codes "free")) extension_file ≡ false)
-memory_takes = (refl, refl)
-
--- the files ascend, and each is one of them
+-- the files ascend
 order_examples : (ascend input_files ≡ true) × (ascend (command_line ∷ extension_file ∷ []) ≡ false)
     × (are_behind inputs.Srat (script_file ∷ []) ≡ true) × (are_behind inputs.Srat (srat_file ∷ []) ≡ false)
 order_examples = (refl, refl, refl, refl)
-
-in_examples : IsIn extension_file (zero_page ∷ extension_file ∷ []) × (IsIn extension_file [] → ⊥)
-in_examples = (inr (inl refl), λ none. none)
-
--- the script wants memory where no file is refused; nothing does where the zero page is
-wants_examples : WantsMemory held (with_script (codes "free")) (script_file ∷ []) start
-    × (WantsMemory held (with_script (codes "free")) [] start → ⊥)
-wants_examples = ((script_file, inl refl, refl, tt), λ wants. wants.1)
 
 -- the inputs in their order: of several faults, the first input's
 all_inputs : inputs_of held (naming (codes "zp") (Some (codes "ext")) (Some (codes "cmd"))) start
@@ -338,15 +322,6 @@ comes_to_it = (omega arith, tt)
 never_comes_to_it : ComesTo {Y = List ℕ} inputs.Extension (Err (refusals.Faulty inputs.ZeroPage (faults.ZeroPage zero.TooFew))) → ⊥
 never_comes_to_it comes = omega (arith, comes)
 
--- the work goes beyond the extension's file where the command line is at fault; not where it is itself
-goes_beyond_it : Passes {Y = List ℕ} inputs.Extension (Err (refusals.Unread inputs.CommandLine))
-    × Passes {Y = List ℕ} inputs.Script (Ok [])
-goes_beyond_it = (omega arith, tt)
-
-never_goes_beyond_it : Passes {Y = List ℕ} inputs.Extension
-    (Err (refusals.Faulty inputs.Extension (faults.Extension extension.ExtHeader))) → ⊥
-never_goes_beyond_it passes = omega (arith, passes)
-
 -- how an answer fits what is said
 abbrev few : Result (List ℕ) InputRefusal
 few = Err (refusals.Faulty inputs.ZeroPage (faults.ZeroPage zero.TooFew))
@@ -366,7 +341,7 @@ own_examples : IsOf {X = ℕ} inputs.Extension (Err (errors.Refused (refusals.Un
     × (IsOf {X = ℕ} inputs.Extension (Err (errors.Refused (refusals.Unread inputs.ZeroPage))) → ⊥)
 own_examples = (refl, λ same. cc same)
 
--- before the call no fetch of any name had failed; after it one of each had
+-- before the call no fault of any name was counted; after it one of each was
 abbrev before : List ℕ → ℕ
 before name = 0
 

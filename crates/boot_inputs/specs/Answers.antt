@@ -1,6 +1,7 @@
 -- How answers about files stand to what the definitions say, and what counts as their cause. `said` is what a
--- definition comes to; `before` and `now` are how many fetches of each name had failed before the call and after it.
-use Rattle.std.specs.Prelude.{◌≡◌, ℕ, ◌<◌, ◌≤◌, List, Option, Some, None, Result, Ok, Err}
+-- definition comes to; `before` and `now` are how many faults of each name were counted (`faults` of `Files`) before the call
+-- and after it.
+use Rattle.std.specs.Prelude.{◌≡◌, ℕ, ◌≤◌, List, Option, Some, None, Result, Ok, Err}
 use Rattle.bm_io.specs.Counts.{Rose}
 use Rattle.boot_inputs.specs.declared.input.Input.{Input}
 use Rattle.boot_inputs.specs.declared.refusal.InputRefusal.{InputRefusal}
@@ -19,11 +20,6 @@ input_of (refusals.Faulty input fault) = input
 abbrev pub ComesTo : {Y : Type 0} → Input → Result Y InputRefusal → Type 0
 ComesTo input (Ok y) = Unit {0}
 ComesTo input (Err refusal) = place input ≤ place (input_of refusal)
-
--- the work goes beyond the input's file: neither it nor one before it is refused
-abbrev pub Passes : {Y : Type 0} → Input → Result Y InputRefusal → Type 0
-Passes input (Ok y) = Unit {0}
-Passes input (Err refusal) = place input < place (input_of refusal)
 
 -- a refusal is the one that the definition gives; but a file may fail to be read where the work comes to it
 abbrev pub FitsRefusal : {Y : Type 0} → InputRefusal → Result Y InputRefusal → Type 0
@@ -61,7 +57,7 @@ HasCause before now named (Ok x) = Unit {0}
 HasCause before now named (Err (errors.Refused refusal)) = RefusalHasCause before now named refusal
 HasCause before now named (Err errors.Memory) = Unit {0}
 
--- the same of a file whose faults were so many before and are so many now
+-- the same of a file whose count of faults was so high before and is so high now
 abbrev pub IsCaused : {X : Type 0} → ℕ → ℕ → Result X InputError → Type 0
 IsCaused before now (Ok x) = Unit {0}
 IsCaused before now (Err (errors.Refused (refusals.Unread input))) = Rose before now

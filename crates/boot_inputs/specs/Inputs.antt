@@ -1,6 +1,5 @@
 -- What the input files give, from their names and from what each name holds.
-use Rattle.std.specs.Prelude.{ℕ, Bool, false, List, [], ◌∷◌, length, Option, Some, None, Result, Ok, Err, nat_lt, if◌then◌else◌}
-use Rattle.std.specs.Option.{option_and_then}
+use Rattle.std.specs.Prelude.{ℕ, List, [], ◌∷◌, length, Option, Some, None, Result, Ok, Err, nat_lt, if◌then◌else◌}
 use Rattle.bm_base.specs.ResultSteps.{◌>>=◌, with_error}
 use Rattle.boot_model.specs.Boot.{Given}
 use Rattle.boot_inputs.specs.declared.fault.Fault.{Fault}
@@ -56,14 +55,6 @@ file_step held named file given = step_if held file given (named file.input)
 abbrev pub given_in : Held → Named → List File → Given → Result Given InputRefusal
 given_in held named [] given = Ok given
 given_in held named (file ∷ files) given = file_step held named file given >>= given_in held named files
-
--- whether memory is taken for what the file holds
-abbrev pub takes_held : File → Option (List ℕ) → Bool
-takes_held file None = false
-takes_held file (Some bytes) = file.takes bytes
-
-abbrev pub takes_memory : Held → Named → File → Bool
-takes_memory held named file = takes_held file (option_and_then held (named file.input))
 
 -- the input files in the order of work
 abbrev pub input_files : List File

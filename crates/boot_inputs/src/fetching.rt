@@ -1,10 +1,9 @@
 //! One step for every file: look up the name, fetch, read.
 
-ghost use Rattle.std.specs.Prelude.{◌≡◌, ℕ, ◌≤◌, List, length, IfSome, IsErrOf, IsNone, IsOk, IsTrue, OnOk, ◌⊎◌};
-ghost use Rattle.bm_io.specs.Counts.{Rose};
+ghost use Rattle.std.specs.Prelude.{◌≡◌, ℕ, ◌≤◌, List, length, IfSome, IsNone, IsOk};
 ghost use Rattle.boot_model.specs.View.{inputs_view};
 ghost use Rattle.boot_inputs.specs.Answers.{Gives, HasCause, IsCaused, IsOf};
-ghost use Rattle.boot_inputs.specs.Inputs.{file_step, named_step, or_faulty, takes_held, takes_memory};
+ghost use Rattle.boot_inputs.specs.Inputs.{file_step, named_step, or_faulty};
 
 use crate::fault::{Fault, Misread};
 use crate::names::Names;
@@ -15,8 +14,7 @@ use boot_model::Inputs;
 use std::alloc::Global;
 
 /// Puts what the file gives into the inputs; where none is named nothing is added, which takes no memory.
-/// Its refusals are of this input alone. Memory is wanting only where the fetch says so, or where the
-/// file has no fault and its bytes take some; so neither a failed fetch nor a fault is told as that.
+/// Its refusals are of this input alone.
 pub fn add_file<R: Reader, F: Files, N: Names>(
     alloc: Global,
     files: &mut F,
@@ -26,16 +24,10 @@ pub fn add_file<R: Reader, F: Files, N: Names>(
     ensures gives { IfSome (F.holds files.old) (λ held. Gives (λ done. inputs_view inputs.new) result
         (file_step held (N.named names.now) R.file (inputs_view inputs.old))) }
     ensures cause { HasCause (F.faults files.old) (F.faults files.new) (N.named names.now) result }
-    ensures memory { IsErrOf result InputError.Memory → Rose (F.wants files.old) (F.wants files.new)
-        ⊎ IfSome (F.holds files.old) (λ held. IsTrue (takes_memory held (N.named names.now) R.file)
-        × IsOk (file_step held (N.named names.now) R.file (inputs_view inputs.old))) }
-    ensures unfailed { IsErrOf result InputError.Memory → F.misses files.new ≡ F.misses files.old }
-    ensures unwanted { OnOk result (F.wants files.new ≡ F.wants files.old) }
     ensures own { IsOf R.file.input result }
     ensures unnamed { IsNone (N.named names.now R.file.input) → IsOk result }
     ensures unfetched { IsNone (N.named names.now R.file.input) → files.new ≡ files.old }
     ensures kept { F.holds files.new ≡ F.holds files.old }
-    ensures none_missed { OnOk result (F.misses files.new ≡ F.misses files.old) }
     ensures faults_stay { (any : List ℕ) → F.faults files.old any ≤ F.faults files.new any }
 {
     match names.of(R::input()) {
@@ -54,14 +46,8 @@ fn fetch<R: Reader, F: Files>(
     ensures gives { IfSome (F.holds files.old) (λ held. Gives (λ done. inputs_view inputs.new) result
         (named_step held R.file (inputs_view inputs.old) name.now)) }
     ensures cause { IsCaused (F.faults files.old name.now) (F.faults files.new name.now) result }
-    ensures memory { IsErrOf result InputError.Memory → Rose (F.wants files.old) (F.wants files.new)
-        ⊎ IfSome (F.holds files.old) (λ held. IsTrue (takes_held R.file (held name.now))
-        × IsOk (named_step held R.file (inputs_view inputs.old) name.now)) }
-    ensures unfailed { IsErrOf result InputError.Memory → F.misses files.new ≡ F.misses files.old }
-    ensures unwanted { OnOk result (F.wants files.new ≡ F.wants files.old) }
     ensures own { IsOf R.file.input result }
     ensures kept { F.holds files.new ≡ F.holds files.old }
-    ensures none_missed { OnOk result (F.misses files.new ≡ F.misses files.old) }
     ensures faults_stay { (any : List ℕ) → F.faults files.old any ≤ F.faults files.new any }
 {
     match files.fetch(alloc, name, R::limit()) {
@@ -81,8 +67,6 @@ fn read<R: Reader>(alloc: Global, bytes: &[u8], inputs: &mut Inputs) -> Result<(
     ensures gives { Gives (λ done. inputs_view inputs.new) result
         (or_faulty R.file.input (R.file.says bytes.now (inputs_view inputs.old))) }
     ensures cause { (before now : ℕ) → IsCaused before now result }
-    ensures memory { IsErrOf result InputError.Memory →
-        IsTrue (R.file.takes bytes.now) × IsOk (R.file.says bytes.now (inputs_view inputs.old)) }
     ensures own { IsOf R.file.input result }
 {
     match R::read(alloc, bytes, inputs) {

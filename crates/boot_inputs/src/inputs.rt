@@ -1,11 +1,9 @@
 //! All files, in the order of work.
 
-ghost use Rattle.std.specs.Prelude.{◌≡◌, IfSome, IsErrOf, IsNone, IsOk, OnOk, ◌⊎◌};
+ghost use Rattle.std.specs.Prelude.{IfSome, IsNone, IsOk};
 ghost use Rattle.boot_model.specs.View.{inputs_view};
-ghost use Rattle.bm_io.specs.Counts.{Rose};
 ghost use Rattle.boot_inputs.specs.Answers.{Gives, HasCause};
-ghost use Rattle.boot_inputs.specs.Inputs.{input_files, inputs_of};
-ghost use Rattle.boot_inputs.specs.Reading.{WantsMemory};
+ghost use Rattle.boot_inputs.specs.Inputs.{inputs_of};
 ghost use Rattle.boot_inputs.specs.declared.input.Input.{Input as AnyInput};
 
 use crate::command_line::CommandLines;
@@ -41,9 +39,7 @@ type FromSlit = (Slits, FromEfi);
 type FromEfi = (EfiMaps, ());
 
 /// Fetches each file that is named, in the order of work, and judges it before the next; the first
-/// refusal is the answer. Where none is named there is no refusal. What they give is put into what is begun with. Memory is
-/// wanting only where a fetch says so, or for what a file without a fault gives, behind files without a fault; a zero page takes
-/// none.
+/// refusal is the answer. Where none is named there is no refusal. What they give is put into what is begun with.
 pub fn read_inputs<F: Files, N: Names>(
     alloc: Global,
     files: &mut F,
@@ -53,11 +49,7 @@ pub fn read_inputs<F: Files, N: Names>(
     ensures gives { IfSome (F.holds files.old) (λ held.
         Gives inputs_view result (inputs_of held (N.named names.now) (inputs_view begun))) }
     ensures cause { HasCause (F.faults files.old) (F.faults files.new) (N.named names.now) result }
-    ensures memory { IsErrOf result InputError.Memory → Rose (F.wants files.old) (F.wants files.new)
-        ⊎ IfSome (F.holds files.old) (λ held. WantsMemory held (N.named names.now) input_files (inputs_view begun)) }
-    ensures unfailed { IsErrOf result InputError.Memory → F.misses files.new ≡ F.misses files.old }
     ensures unnamed { ((input : AnyInput) → IsNone (N.named names.now input)) → IsOk result }
-    ensures none_missed { OnOk result (F.misses files.new ≡ F.misses files.old) }
 {
     let mut inputs = begun;
     match FromZeroPage::add_files::<F, N>(alloc, files, names, &mut inputs) {
