@@ -1,8 +1,7 @@
 -- What is said of a run, whole.
-use Rattle.std.specs.Prelude.{◌≡◌, Option, IfSome, IsErrOf, IsNone, OnOk, Ok, Err}
+use Rattle.std.specs.Prelude.{◌≡◌, Option, IfSome, IsNone, Ok, Err}
 use Rattle.bm_io.specs.declared.reading.Files.{Ghosts as FilesOf}
 use Rattle.bm_io.specs.declared.writing.Sink.{Ghosts as SinkOf}
-use Rattle.program_run.specs.declared.failure.Failure.TheVariants as failures
 use Rattle.program_run.specs.Answers.{EndHasCause, Writes, WritingHasCause}
 use Rattle.program_run.specs.Line.{PutsLine, failure_line}
 use Rattle.program_run.specs.Outcome.{outcome}
@@ -26,9 +25,5 @@ pub record RanTo {F S : Type 0} (files : FilesOf F) (sink : SinkOf S) (accepted 
   pub unput : IsNone accepted → out_now ≡ out_before
   -- the output is as it was, or has the cause of what became of it
   pub output : WritingHasCause sink.faults sink.wants out_before out_now end
-  -- after status 0 no fetch failed
-  pub none_missed : OnOk end (files.misses held_now ≡ files.misses held_before)
-  -- a file that couldn't be read isn't told as want of memory
-  pub unfailed : IsErrOf end failures.Memory → files.misses held_now ≡ files.misses held_before
   -- where the files tell what they hold, the end and the output are those of the outcome
   pub said : IfSome (files.holds held_before) (λ held. Writes (sink.written out_before) (sink.written out_now) end (outcome accepted held))

@@ -34,15 +34,12 @@ pub fn run_by_clauses<F: Files, S: Sink, E: Sink>(
         × RoseFor (F.faults files.old) (F.faults files.new) (accepted (texts words.now)) input }
     ensures unwritten { result ≡ 4 → Rose (S.faults out.old) (S.faults out.new) }
 
-    // What stays as it was, whatever the files tell: the files and the output with refused words, the output
-    // where no text came to be, and after status 0 and status 7 the count of failed fetches: a file that couldn't be
-    // read isn't told as want of memory.
+    // What stays as it was, whatever the files tell: the files and the output with refused words, and the output
+    // where no text came to be.
     ensures unfetched { IsNone (accepted (texts words.now)) → files.new ≡ files.old }
     ensures unput { IsNone (accepted (texts words.now)) → out.new ≡ out.old }
     ensures early { (result ≡ 2) ⊎ (result ≡ 3) ⊎ (result ≡ 5) ⊎ (result ≡ 6) → out.new ≡ out.old }
     ensures wanting { result ≡ 7 → (out.new ≡ out.old) ⊎ Rose (S.wants out.old) (S.wants out.new) }
-    ensures unfailed { result ≡ 7 → F.misses files.new ≡ F.misses files.old }
-    ensures none_missed { result ≡ 0 → F.misses files.new ≡ F.misses files.old }
 
     // The headline: after status 0 the text of the one boot that the bytes determine was written, and in it each
     // usable frame is touched by a claim with a recorded owner or in exactly one block, and no other frame is in any.

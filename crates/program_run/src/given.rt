@@ -1,7 +1,7 @@
 //! What the boot is given: what the named files say, and where the words ask for a made table, that in place of the zero
 //! page's and the extension's.
 
-ghost use Rattle.std.specs.Prelude.{◌≡◌, ◌<◌, IfErr, IfOk, IfSome, IsErr, IsErrOf, IsSomeAnd, OnOk, Some};
+ghost use Rattle.std.specs.Prelude.{◌≡◌, ◌<◌, IfErr, IfOk, IfSome, IsErr, IsSomeAnd, Some};
 ghost use Rattle.boot_model.specs.View.{inputs_view};
 ghost use Rattle.boot_inputs.specs.Answers.{Gives, HasCause};
 ghost use Rattle.program_words.specs.Entries.{AreEntries};
@@ -25,8 +25,6 @@ pub fn read_given<F: Files>(
     ensures gives { IfSome (F.holds files.old) (λ held.
         Gives inputs_view result (given_by held (wanted_view wanted.now))) }
     ensures cause { HasCause (F.faults files.old) (F.faults files.new) (wanted_view wanted.now).named result }
-    ensures unfailed { IsErrOf result InputError.Memory → F.misses files.new ≡ F.misses files.old }
-    ensures none_missed { OnOk result (F.misses files.new ≡ F.misses files.old) }
 {
     let begun = begun_by(alloc, wanted)?;
     let inputs = read_inputs::<F, Wanted<'_>>(alloc, files, wanted, begun)?;

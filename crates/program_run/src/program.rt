@@ -89,9 +89,7 @@ fn write_reports<F: Files, S: Sink>(
         (outcome (Some (wanted_view wanted.now)) held)) }
     ensures cause { IfErr result (λ failure. FailureHasCause (F.faults files.old)
         (F.faults files.new) (Some (wanted_view wanted.now)) failure) }
-    ensures unfailed { IsErrOf result Failure.Memory → F.misses files.new ≡ F.misses files.old }
     ensures output { WritingHasCause S.faults S.wants out.old out.new result }
-    ensures none_missed { OnOk result (F.misses files.new ≡ F.misses files.old) }
 {
     let texts = make_texts(alloc, wanted, files)?;
     put_texts(out, texts)
@@ -126,8 +124,6 @@ fn make_texts<F: Files>(
         (outcome (Some (wanted_view wanted.now)) held)) }
     ensures cause { ReportHasCause (F.faults files.old) (F.faults files.new)
         (Some (wanted_view wanted.now)) result }
-    ensures unfailed { IsErrOf result Failure.Memory → F.misses files.new ≡ F.misses files.old }
-    ensures none_missed { OnOk result (F.misses files.new ≡ F.misses files.old) }
 {
     let inputs = read_given(alloc, wanted, files)?;
     boot_texts(alloc, inputs, wanted.list)

@@ -19,8 +19,6 @@ returns-in-Err-Usage-clause-ran g c =
         unfetched = λ none. refl;
         unput = λ none. refl;
         output = refl;
-        none_missed = tt;
-        unfailed = λ wanting. refl;
         said = grind (arith, none);
       },
       c.tell_usage.ensures,
@@ -35,8 +33,6 @@ returns-in-Err-Memory-clause-ran g c = (
     unfetched = λ none. refl;
     unput = λ none. refl;
     output = inl refl;
-    none_missed = tt;
-    unfailed = λ wanting. refl;
     said = grind arith;
   },
   c.tell_memory.ensures,
