@@ -7,7 +7,7 @@ use Rattle.bm_io.specs.declared.writing.Sink.{Ghosts as SinkOf}
 use Rattle.bm_io.specs.declared.mem_files.MemFile.{MemFile}
 use Rattle.bm_io.specs.Counts.{counted, Rose, RoseByMoreThan}
 use Rattle.bm_io.specs.Told.{IsToldAs, IsToldLonger, AppendsFront}
-use Rattle.bm_io.specs.HeldFiles.{HeldFile, HeldFiles, held_file, held_files, is_named, bytes_of, HaveOwnNames, IsRefused, IsLonger, failures, bytes_taken, wants_of_memory as fetch_wants}
+use Rattle.bm_io.specs.HeldFiles.{HeldFile, HeldFiles, held_file, held_files, is_named, bytes_of, HaveOwnNames, IsRefused, IsLonger, failures, bytes_taken}
 use Rattle.bm_io.specs.Puts.{Puts}
 use Rattle.bm_io.specs.Known.{TakesKnown, GivesKnown}
 use Rattle.bm_io.specs.Calls.{HasTaken, nothing_taken, took, HasGiven, nothing_given, gave, IsPutBy, IsReadBy, IsFetchedBy}
@@ -56,7 +56,6 @@ two_files = record {
   calls = 0;
   faults = 0;
   taken = 0;
-  wants = 0;
 }
 
 bytes_by_name : (bytes_of two_files.files (codes "zp") ≡ Some (codes "abc"))
@@ -107,9 +106,6 @@ taken_bytes = (refl, refl, refl)
 
 given_bytes : (bytes : Vec ℕ Global) → (failures (Ok bytes) ≡ 0) × (bytes_taken (Ok bytes) (Some (codes "abc")) ≡ 3)
 given_bytes bytes = (refl, refl)
-
-wanted_for_a_file : (fetch_wants (Err fetch.Memory) ≡ 1) × (fetch_wants (Err fetch.Failed) ≡ 0) × (fetch_wants (Err fetch.TooLong) ≡ 0)
-wanted_for_a_file = (refl, refl, refl)
 
 -- failures and wants of an answer of `put`
 failed_puts : (put_failures (Ok tt) ≡ 0) × (put_failures (Err put.Failed) ≡ 1) × (put_failures (Err put.Memory) ≡ 0)

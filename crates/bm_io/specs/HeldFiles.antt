@@ -11,15 +11,13 @@ pub record HeldFile : Type 0 where
   pub name : List ℕ
   pub bytes : List ℕ
 
--- the files, the numbers of the calls that are to fail, and how many calls, failed calls, bytes taken and calls with no
--- memory there were
+-- the files, the numbers of the calls that are to fail, and how many calls, failed calls and bytes taken there were
 pub record HeldFiles : Type 0 where
   pub files : List HeldFile
   pub failing : List ℕ
   pub calls : ℕ
   pub faults : ℕ
   pub taken : ℕ
-  pub wants : ℕ
 
 abbrev pub held_file : MemFile → HeldFile
 held_file f = record { name = string_bytes f.name; bytes = f.bytes.items }
@@ -55,13 +53,6 @@ failures (Ok bytes) = 0
 failures (Err fetch.Failed) = 1
 failures (Err fetch.TooLong) = 0
 failures (Err fetch.Memory) = 0
-
--- how many wants of memory an answer is
-abbrev pub wants_of_memory : Result (Vec ℕ Global) Fetch → ℕ
-wants_of_memory (Ok bytes) = 0
-wants_of_memory (Err fetch.Failed) = 0
-wants_of_memory (Err fetch.TooLong) = 0
-wants_of_memory (Err fetch.Memory) = 1
 
 -- how many bytes of the file an answer took: all of them where it gave them or found them too long
 abbrev pub bytes_taken : Result (Vec ℕ Global) Fetch → Option (List ℕ) → ℕ

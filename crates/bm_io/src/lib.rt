@@ -8,9 +8,10 @@
 //! holds and those that were written, where the object tells them, and counts of what happened. A
 //! count never falls. It is a `u64` that stands still at its last value, 2^64 - 1; that it rose in
 //! a call means that it is greater afterwards, or stands there. Each refusal has its cause in such
-//! a count, so a caller can tell a refusal of the outside from a mistake of the program. The counts
-//! of answers, of fetches that failed and of wants of memory, are moved by no other answer; one of
-//! faults may be, by an object that got over a fault by itself.
+//! a count, so a caller can tell a refusal of the outside from a mistake of the program. The one
+//! exception is [`Fetch::Memory`], which may come at any time. Only [`Put::Memory`] moves the count
+//! of puts that ran out of memory. Any answer may move a count of faults: an object may count a
+//! fault, try again and succeed.
 //!
 //! [`MemFiles`] and [`MemSink`] live in memory, tell everything, and fail at the calls that they
 //! were told to fail at: tests and proofs use them. [`RealFiles`] and [`StdSink`] are for the files

@@ -6,7 +6,7 @@ ghost use Rattle.std.specs.Prelude.{◌≡◌, ℕ, ◌+◌, ◌-◌, ◌^◌, �
 ghost use Rattle.std.specs.Option.{option_copied};
 ghost use Rattle.bm_io.specs.Counts.{counted, Rose, RoseByMoreThan};
 ghost use Rattle.bm_io.specs.Told.{IsToldAs, IsToldLonger};
-ghost use Rattle.bm_io.specs.HeldFiles.{held_files, bytes_of, HaveOwnNames, IsRefused, IsLonger, is_named, failures, bytes_taken, wants_of_memory};
+ghost use Rattle.bm_io.specs.HeldFiles.{held_files, bytes_of, HaveOwnNames, IsRefused, IsLonger, is_named, failures, bytes_taken};
 
 use crate::reading::{Fetch, Files};
 use std::alloc::Global;
@@ -27,7 +27,6 @@ pub struct MemFiles {
     calls: u64,
     faults: u64,
     taken: u64,
-    wants: u64,
 }
 
 impl Model for MemFiles {
@@ -42,11 +41,9 @@ impl Model for MemFiles {
       calls = s.calls;
       faults = s.faults;
       taken = s.taken;
-      wants = s.wants;
     } };
 
-    ghost invariant = { λ s. (s.calls < 2 ^ 64) × (s.faults < 2 ^ 64)
-        × (s.taken < 2 ^ 64) × (s.wants < 2 ^ 64) };
+    ghost invariant = { λ s. (s.calls < 2 ^ 64) × (s.faults < 2 ^ 64) × (s.taken < 2 ^ 64) };
 }
 
 impl MemFiles {
@@ -58,7 +55,6 @@ impl MemFiles {
         ensures calls { result.calls ≡ 0 }
         ensures faults { result.faults ≡ 0 }
         ensures taken { result.taken ≡ 0 }
-        ensures wants { result.wants ≡ 0 }
     {
         MemFiles {
             files,
@@ -66,7 +62,6 @@ impl MemFiles {
             calls: 0,
             faults: 0,
             taken: 0,
-            wants: 0,
         }
     }
 }
@@ -77,10 +72,6 @@ impl Files for MemFiles {
     ghost faults = { λ s name. s.faults };
 
     ghost taken = { λ s. s.taken };
-
-    ghost misses = { λ s. s.faults };
-
-    ghost wants = { λ s. s.wants };
 
     /// `Failed` comes exactly where the number of the call is one that is to fail or the name isn't
     /// held, and `TooLong` exactly where it isn't that and the file has more than `limit` bytes.
@@ -98,11 +89,8 @@ impl Files for MemFiles {
         ensures faults { self.new.faults ≡ counted self.old.faults (failures result) }
         ensures taken { self.new.taken
             ≡ counted self.old.taken (bytes_taken result (bytes_of self.old.files name.now)) }
-        ensures wants { self.new.wants ≡ counted self.old.wants (wants_of_memory result) }
-        ensures uncounted { OnOk result (self.new.faults ≡ self.old.faults) }
         ensures faults_stay { self.old.faults ≤ self.new.faults }
         ensures taken_stays { self.old.taken ≤ self.new.taken }
-        ensures wants_stay { self.old.wants ≤ self.new.wants }
     {
         self.calls = self.calls.saturating_add(1);
         let held = bytes_named(&self.files, name);
@@ -121,7 +109,6 @@ impl Files for MemFiles {
         }
         let mut copy = Vec::new(alloc);
         if copy.extend_from_slice(bytes).is_err() {
-            self.wants = self.wants.saturating_add(1);
             return Err(Fetch::Memory);
         }
         self.taken = self.taken.saturating_add(length);

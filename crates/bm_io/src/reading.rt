@@ -3,7 +3,7 @@
 //! A boot's inputs are small (a zero page has 4,096 bytes), so a file is one value and there are no
 //! streams above this crate. The trait stands apart from what implements it: a layer that is
 //! generic over `Files` knows this contract and nothing else.
-ghost use Rattle.std.specs.Prelude.{◌≡◌, ℕ, ◌^◌, ◌<◌, ◌≤◌, List, length, Option, IfOk, IsErrOf, ◌⊎◌};
+ghost use Rattle.std.specs.Prelude.{◌≡◌, ℕ, ◌^◌, ◌<◌, ◌≤◌, List, length, Option, IfOk, IsErrOf};
 ghost use Rattle.bm_io.specs.Counts.{Rose, RoseByMoreThan};
 ghost use Rattle.bm_io.specs.Told.{IsToldAs, IsToldLonger};
 
@@ -32,39 +32,24 @@ pub trait Files {
     // How many bytes were taken from files.
     ghost taken: { Self → ℕ };
 
-    // How many fetches answered that they failed.
-    ghost misses: { Self → ℕ };
-
-    // How many fetches answered that memory is wanting.
-    ghost wants: { Self → ℕ };
-
     /// The bytes of the file, at most `limit` of them.
     fn fetch(&mut self, alloc: Global, name: &str, limit: u64) -> Result<Vec<u8>, Fetch>
         ensures bounded { IfOk result (λ bytes. length bytes.items ≤ limit) }
         ensures told { IfOk result (λ bytes. IsToldAs (holds self.old) name.now bytes.items) }
 
-        // When each refusal comes.
+        // When each refusal comes. `Memory` may come at any time.
         ensures failed { IsErrOf result Fetch.Failed
             → Rose (faults self.old name.now) (faults self.new name.now) }
         ensures too_long { IsErrOf result Fetch.TooLong
             → RoseByMoreThan limit (taken self.old) (taken self.new) }
         ensures longer { IsErrOf result Fetch.TooLong → IsToldLonger (holds self.old) name.now limit }
 
-        // The answers that are counted, and what a call leaves as it was: a failure is counted only at `Failed`, a want
-        // only at `Memory`, so neither after `Ok`.
-        ensures miss { IsErrOf result Fetch.Failed → Rose (misses self.old) (misses self.new) }
-        ensures wanting { IsErrOf result Fetch.Memory → Rose (wants self.old) (wants self.new) }
-        ensures no_miss { IsErrOf result Fetch.Failed ⊎ (misses self.new ≡ misses self.old) }
-        ensures no_want { IsErrOf result Fetch.Memory ⊎ (wants self.new ≡ wants self.old) }
+        // What a call leaves as it was.
         ensures kept { holds self.new ≡ holds self.old }
 
         // No count falls or passes its last value.
         ensures faults_stay { (any : List ℕ) → faults self.old any ≤ faults self.new any }
         ensures faults_fit { (any : List ℕ) → faults self.new any < 2 ^ 64 }
         ensures taken_stays { taken self.old ≤ taken self.new }
-        ensures taken_fits { taken self.new < 2 ^ 64 }
-        ensures misses_stay { misses self.old ≤ misses self.new }
-        ensures misses_fit { misses self.new < 2 ^ 64 }
-        ensures wants_stay { wants self.old ≤ wants self.new }
-        ensures wants_fit { wants self.new < 2 ^ 64 };
+        ensures taken_fits { taken self.new < 2 ^ 64 };
 }

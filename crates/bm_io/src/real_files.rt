@@ -6,7 +6,7 @@
 ghost use Rattle.std.specs.Prelude.{◌≡◌, ℕ, ◌^◌, ◌<◌, ◌≤◌, length, None, IfSome, OnOk, IfOk, IsErrOf};
 ghost use Rattle.bm_io.specs.Counts.{counted, Rose, RoseByMoreThan};
 ghost use Rattle.bm_io.specs.Told.{IsToldAs};
-ghost use Rattle.bm_io.specs.HeldFiles.{failures, wants_of_memory};
+ghost use Rattle.bm_io.specs.HeldFiles.{failures};
 ghost use Rattle.bm_io.specs.Calls.{IsReadBy, IsFetchedBy};
 
 use crate::raw::{RawFiles, RawReader};
@@ -23,7 +23,6 @@ pub struct RealFiles<D: RawFiles + Drop> {
     files: D,
     faults: u64,
     taken: u64,
-    wants: u64,
 }
 
 impl<D: RawFiles + Drop> Model for RealFiles<D> {
@@ -32,9 +31,9 @@ impl<D: RawFiles + Drop> Model for RealFiles<D> {
 
     ghost Value = { ReadState D };
 
-    ghost view = { λ s. record { files = s.files; faults = s.faults; taken = s.taken; wants = s.wants } };
+    ghost view = { λ s. record { files = s.files; faults = s.faults; taken = s.taken } };
 
-    ghost invariant = { λ s. (s.faults < 2 ^ 64) × (s.taken < 2 ^ 64) × (s.wants < 2 ^ 64) };
+    ghost invariant = { λ s. (s.faults < 2 ^ 64) × (s.taken < 2 ^ 64) };
 }
 
 impl<'a, R: rt::Files> RealFiles<SystemFiles<'a, R>> {
@@ -42,13 +41,11 @@ impl<'a, R: rt::Files> RealFiles<SystemFiles<'a, R>> {
     pub fn new(runtime: &'a R) -> RealFiles<SystemFiles<'a, R>>
         ensures faults { result.faults ≡ 0 }
         ensures taken { result.taken ≡ 0 }
-        ensures wants { result.wants ≡ 0 }
     {
         RealFiles {
             files: SystemFiles { runtime },
             faults: 0,
             taken: 0,
-            wants: 0,
         }
     }
 }
@@ -67,7 +64,6 @@ impl<D: RawFiles + Drop> RealFiles<D> {
         ensures bounded { IfOk result (λ bytes. length bytes.items ≤ limit) }
         ensures whole { IfOk result (λ bytes. IfSome (F.remaining file.old) (λ all. bytes.items ≡ all)) }
         ensures faults { self.new.faults ≡ counted self.old.faults (failures result) }
-        ensures wants { self.new.wants ≡ counted self.old.wants (wants_of_memory result) }
         ensures too_long { IsErrOf result Fetch.TooLong
             → RoseByMoreThan limit self.old.taken self.new.taken }
         ensures longer { IsErrOf result Fetch.TooLong
@@ -90,7 +86,6 @@ impl<D: RawFiles + Drop> RealFiles<D> {
                 return Err(Fetch::TooLong);
             }
             if bytes.extend_from_slice(&buffer[..count]).is_err() {
-                self.wants = self.wants.saturating_add(1);
                 return Err(Fetch::Memory);
             }
         }
@@ -104,10 +99,6 @@ impl<D: RawFiles + Drop> Files for RealFiles<D> {
 
     ghost taken = { λ s. s.taken };
 
-    ghost misses = { λ s. s.faults };
-
-    ghost wants = { λ s. s.wants };
-
     /// Opens the file and reads it. `Failed` comes exactly where it couldn't be opened or a read failed; that
     /// is one fault, and none else is counted. What the reads gave was counted as taken.
     fn fetch(&mut self, alloc: Global, name: &str, limit: u64) -> Result<Vec<u8>, Fetch>
@@ -117,17 +108,13 @@ impl<D: RawFiles + Drop> Files for RealFiles<D> {
         ensures bounded { IfOk result (λ bytes. length bytes.items ≤ limit) }
         ensures told { IfOk result (λ bytes. IsToldAs None name.now bytes.items) }
         ensures faults { self.new.faults ≡ counted self.old.faults (failures result) }
-        ensures wants { self.new.wants ≡ counted self.old.wants (wants_of_memory result) }
         ensures failed { IsErrOf result Fetch.Failed → Rose self.old.faults self.new.faults }
         ensures too_long { IsErrOf result Fetch.TooLong
             → RoseByMoreThan limit self.old.taken self.new.taken }
-        ensures uncounted { OnOk result (self.new.faults ≡ self.old.faults) }
         ensures faults_stay { self.old.faults ≤ self.new.faults }
         ensures faults_fit { self.new.faults < 2 ^ 64 }
         ensures taken_stays { self.old.taken ≤ self.new.taken }
         ensures taken_fits { self.new.taken < 2 ^ 64 }
-        ensures wants_stay { self.old.wants ≤ self.new.wants }
-        ensures wants_fit { self.new.wants < 2 ^ 64 }
     {
         let Some(mut file) = self.files.open(name) else {
             self.faults = self.faults.saturating_add(1);

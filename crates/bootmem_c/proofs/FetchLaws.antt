@@ -1,6 +1,6 @@
 -- What a fetch of lent files counts, for each name.
-use Rattle.std.proofs.Common.{◌≡◌, ℕ, ◌+◌, ◌-◌, ◌^◌, ◌<◌, ◌≤◌, List, Option, Some, None, Result, Ok, Err, Vec, Global, refl, arith, inl, inr, ap, min}
-use Rattle.std.specs.Prelude.{IsErrOf, IsNone, ◌⊎◌, is_some, if◌then◌else◌}
+use Rattle.std.proofs.Common.{◌≡◌, ℕ, ◌+◌, ◌-◌, ◌^◌, ◌<◌, ◌≤◌, List, Option, Some, None, Result, Err, Vec, Global, refl, arith, ap, min}
+use Rattle.std.specs.Prelude.{IsNone, is_some, if◌then◌else◌}
 use Rattle.bm_io.specs.Counts.{Rose, RoseByMoreThan}
 use Rattle.bm_io.specs.HeldFiles.{HeldFile, bytes_of}
 use Rattle.bm_io.specs.declared.reading.Fetch.{Fetch}
@@ -10,9 +10,6 @@ use Rattle.bootmem_c.specs.Fetches.{LentState, faults_at, misses_of}
 -- a count at its last value counts as one that rose
 pub bytes_stay : (limit : ℕ) → RoseByMoreThan limit (2 ^ 64 - 1) (2 ^ 64 - 1)
 bytes_stay limit = omega arith
-
-pub want_stays : Rose (2 ^ 64 - 1) (2 ^ 64 - 1)
-want_stays = omega arith
 
 -- the count of a name by what it holds
 abbrev at : Option (List ℕ) → ℕ → ℕ
@@ -50,22 +47,6 @@ faults_stay answer old new kept grew any =
 
 pub faults_fit : (state : LentState) (any : List ℕ) → faults_at state any < 2 ^ 64
 faults_fit state any = at_fits (bytes_of state.files any) state.misses
-
--- a miss is a failed fetch, and nothing else is
-pub miss : (answer : Result (Vec ℕ Global) Fetch) (old new : ℕ) → new ≡ old + misses_of answer → IsErrOf answer fetch.Failed
-    → Rose old new
-miss answer old new grew failed =
-    let one : misses_of answer ≡ 1 = rw failed refl in omega (arith, grew, one)
-
-pub no_miss : (answer : Result (Vec ℕ Global) Fetch) (old new : ℕ) → new ≡ old + misses_of answer
-    → IsErrOf answer fetch.Failed ⊎ (new ≡ old)
-no_miss (Ok bytes) old new grew = inr (omega (arith, grew))
-no_miss (Err fetch.Failed) old new grew = inl refl
-no_miss (Err fetch.TooLong) old new grew = inr (omega (arith, grew))
-no_miss (Err fetch.Memory) old new grew = inr (omega (arith, grew))
-
-pub no_want : (answer : Result (Vec ℕ Global) Fetch) → IsErrOf answer fetch.Memory ⊎ (2 ^ 64 - 1 ≡ 2 ^ 64 - 1)
-no_want answer = inr refl
 
 -- a count that rose is that of a name that isn't held
 held_not_rose : (held : Option (List ℕ)) (misses now : ℕ) → now < 2 ^ 64 - 1 → Rose (at held misses) now → held ≡ None

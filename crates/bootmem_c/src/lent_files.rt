@@ -46,12 +46,8 @@ impl<'a> Files for LentFiles<'a> {
     // above, so whoever sees a count that rose knows that the name isn't held.
     ghost faults = { λ s name. faults_at s name };
 
-    ghost misses = { λ s. s.misses };
-
-    // These stand at their last value: nothing is counted.
+    // The count of bytes stands at its last value.
     ghost taken = { λ s. 2 ^ 64 - 1 };
-
-    ghost wants = { λ s. 2 ^ 64 - 1 };
 
     /// `Failed` comes only where the name isn't held, and `TooLong` exactly where it is, with more bytes than `limit`.
     /// Where 2^32 - 1 fetches missed, the next one that misses is told as want of memory: its count has no room.

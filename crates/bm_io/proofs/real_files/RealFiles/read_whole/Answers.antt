@@ -69,6 +69,5 @@ loop-count-preserved g c =
       taken_fits = omega (arith, counted);
       taken_stays = omega (arith, counted, l.invariant.taken_stays, l.invariant.taken_fits);
       faults = l.invariant.faults;
-      wants = l.invariant.wants;
       files = l.invariant.files;
     }

@@ -14,7 +14,6 @@ invariant-loop-count g l = record {
   taken_fits : l.self-inside.taken < 2 ^ 64;
   taken_stays : l.fn.self.taken ≤ l.self-inside.taken;
   faults : l.self-inside.faults ≡ l.fn.self.faults;
-  wants : l.self-inside.wants ≡ l.fn.self.wants;
   files : l.self-inside.files ≡ l.fn.self.files;
 }
 

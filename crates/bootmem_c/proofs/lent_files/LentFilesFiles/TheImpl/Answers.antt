@@ -1,7 +1,7 @@
--- A name that is held never fails, and a miss is a failed fetch.
+-- A name that is held never fails, and a fetch that fails was counted.
 use Rattle.std.proofs.Common.{Some, ap, arith}
 use Rattle.bm_io.specs.HeldFiles.{bytes_of}
-use Rattle.bootmem_c.proofs.FetchLaws.{bytes_stay, want_stays, faults_fit, faults_rose, faults_stay, miss, no_miss, no_want}
+use Rattle.bootmem_c.proofs.FetchLaws.{bytes_stay, faults_fit, faults_rose, faults_stay}
 use Rattle.bootmem_c.proofs.lent_files.LentFilesFiles.TheImpl.Goals as goal
 
 pub fetch-tells : goal.fetch-tells
@@ -11,17 +11,9 @@ fetch-tells _ c = record {
   failed = λ is. faults_rose c.result _ _ _ is c.ensures.files (c.ensures.failed is) c.ensures.misses c.ensures.few;
   too_long = λ is. bytes_stay c.args.limit;
   longer = c.ensures.too_long.0;
-  wanting = λ is. want_stays;
   kept = ap (λ files. Some (bytes_of files)) c.ensures.files;
-  miss = miss c.result _ _ c.ensures.misses;
-  no_miss = no_miss c.result _ _ c.ensures.misses;
-  no_want = no_want c.result;
   faults_stay = faults_stay c.result _ _ c.ensures.files c.ensures.misses;
   faults_fit = faults_fit _;
   taken_stays = omega arith;
   taken_fits = omega arith;
-  misses_stay = omega (arith, c.ensures.misses);
-  misses_fit = omega (arith, c.ensures.few);
-  wants_stay = omega arith;
-  wants_fit = omega arith;
 }
