@@ -1,5 +1,5 @@
 -- Small words, lines and scripts: what the definitions say of them, by computing.
-use Rattle.std.proofs.Common.{◌≡◌, ℕ, ◌-◌, ◌^◌, true, false, List, Some, None, [], ◌∷◌, Ok, Err, codes, refl, inl, inr, lit<, lit≤, arith}
+use Rattle.std.proofs.Common.{◌≡◌, ℕ, ◌-◌, ◌^◌, true, false, List, Some, None, [], ◌∷◌, Ok, Err, codes, refl, ap, inl, inr, lit<, lit≤, arith}
 use Rattle.text_words.specs.Words.{words_in, IsWord}
 use Rattle.text_words.specs.declared.separators.Separators.TheVariants as separators
 use Rattle.script_reader.specs.declared.act.Act.TheVariants as acts
@@ -7,7 +7,9 @@ use Rattle.script_reader.specs.declared.fault.Wrong.TheVariants as wrong
 use Rattle.script_reader.specs.declared.fault.ScriptFault.TheVariants as faults
 use Rattle.script_reader.specs.Numbers.{Words, IsOfWords, no_words, first_word, one_word, two_words, three_words, optional, whole, number, within, bounded, optional_number, power, some, range_at}
 use Rattle.script_reader.specs.Forms.{greatest, greatest_id, greatest_node, greatest_byte, greatest_len, optional_exact, alloc_words, alloc_line, reserve_line, free_line, trim_line, fill_line, peek_line, sections_line, by_name, is_comment, asked_by, HasBounds}
-use Rattle.script_reader.specs.Spelling.{HasWords, no_byte, blank_first, word_alone, word_first, SpellsMin, no_min, a_min, SpellsMax, no_max, a_max, SpellsNode, no_node, a_node, exact_node, SpellsAct, peek}
+use Rattle.script_reader.specs.Spelling.{HasWords, no_byte, blank_first, word_alone, word_first, IsPassedOver, no_words as no_word, comment, no_node, near_node, exact_node, alloc, trim, peek, sections, keyed, node_words, IsWithin, node_number, is_exact, HasNumbers, front_value, value, act_of, IsAligned, HasSize, IsInSpace, HasForm, SpellsNumbers, SpellsAct, HasFault}
+use Rattle.script_reader.specs.ScriptSpelling.{HasSectionsLine, LineAsksFor, LineHasFault, LinesAskFor, IsFirstFault}
+use Rattle.script_reader.proofs.StepLaws.{words_spelled}
 use Rattle.script_reader.specs.Script.{fault_at, is_sections, seen_behind, asked, line_at, lines_from, script_of}
 
 -- words of a line, and of the rest of one
@@ -127,20 +129,113 @@ spelled_words =
       word_first (codes "free") 32 (codes "7") (codes "7" ∷ []) name refl (word_alone (codes "7") id),
     )
 
+-- a line without words, and a comment, ask for nothing
+passed_over : IsPassedOver [] × IsPassedOver (codes "#free" ∷ codes "1" ∷ [])
+passed_over = (no_word, comment (codes "free") (codes "1" ∷ []))
+
 -- what may be left out of an `alloc`
-spelled_options : SpellsMin [] 0 × SpellsMin (codes "min" ∷ codes "1M" ∷ []) 1048576 × SpellsMax [] None
-    × SpellsMax (codes "max" ∷ codes "9" ∷ []) (Some 9) × SpellsNode [] None false
-    × SpellsNode (codes "node" ∷ codes "1023" ∷ []) (Some 1023) false
-    × SpellsNode (codes "node" ∷ codes "0" ∷ codes "exact" ∷ []) (Some 0) true
-spelled_options = (
-  no_min,
-  a_min (codes "1M") 1048576 refl,
-  no_max,
-  a_max (codes "9") 9 refl,
-  no_node,
-  a_node (codes "1023") 1023 refl (lit< tt),
-  exact_node (codes "0") 0 refl (lit< tt),
+spelled_options : (keyed (codes "min") None ≡ []) × (keyed (codes "min") (Some (codes "1M")) ≡ codes "min" ∷ codes "1M" ∷ [])
+    × (node_words no_node ≡ []) × (node_words (near_node (codes "3")) ≡ codes "node" ∷ codes "3" ∷ [])
+    × (node_words (exact_node (codes "3")) ≡ codes "node" ∷ codes "3" ∷ codes "exact" ∷ []) × (node_number no_node ≡ None)
+    × (node_number (near_node (codes "3")) ≡ Some (codes "3")) × (is_exact (near_node (codes "3")) ≡ false)
+    × (is_exact (exact_node (codes "3")) ≡ true)
+spelled_options = (refl, refl, refl, refl, refl, refl, refl, refl, refl)
+
+-- any word may stand for a number: `max` twice for a lower bound and as the key behind it
+any_word_for_a_number : HasForm (codes "alloc" ∷ codes "1" ∷ codes "1" ∷ codes "1" ∷ codes "min" ∷ codes "max" ∷ codes "max" ∷ codes "1" ∷ [])
+    × HasForm (codes "alloc" ∷ codes "1" ∷ codes "1" ∷ codes "1" ∷ codes "node" ∷ codes "exact" ∷ [])
+any_word_for_a_number = (
+  (alloc (codes "1") (codes "1") (codes "1") (Some (codes "max")) (Some (codes "1")) no_node, refl),
+  (alloc (codes "1") (codes "1") (codes "1") None None (near_node (codes "exact")), refl),
 )
 
+-- a size within its bound, a word that is no size, and the values
+sizes_within : IsWithin 255 (codes "0xff") × (IsWithin 255 (codes "256") → ⊥) × (IsWithin 255 (codes "x") → ⊥)
+    × (value (codes "64K") ≡ 65536) × (front_value (Ok (12, 2)) ≡ 12)
+sizes_within = (
+  (255, refl, lit≤ tt),
+  λ is. (let same : 256 ≡ is.0 = ap front_value is.1 in omega (arith, same, is.2)),
+  λ is. cc (is.1),
+  refl,
+  refl,
+)
+
+has_numbers : HasNumbers (peek (codes "0x10") (codes "64")) × HasNumbers sections
+has_numbers = (((16, refl, lit≤ tt), (64, refl, lit≤ tt)), tt)
+
+acts_of_forms : (act_of (peek (codes "0x10") (codes "64")) ≡ acts.Peek 16 64)
+    × (act_of (alloc (codes "1") (codes "8K") (codes "4") None None (exact_node (codes "3")))
+    ≡ acts.Alloc 1 (record { size = 8192; align = 4; min = 0; max = None; node = Some 3; exact = true }))
+acts_of_forms = (refl, refl)
+
+-- the further conditions of an act
+conditions : HasSize (acts.Trim 1 1) × (HasSize (acts.Trim 1 0) → ⊥) × IsInSpace (acts.Peek 16 64)
+    × (IsInSpace (acts.Peek (2 ^ 64 - 64) 64) → ⊥) × IsAligned (acts.Free 1)
+conditions = (lit< tt, λ is. omega (arith, is), lit< tt, λ is. omega (arith, is), tt)
+
+peek_numbers : SpellsNumbers (codes "peek" ∷ codes "0x10" ∷ codes "64" ∷ []) (acts.Peek 16 64)
+peek_numbers = record { form = peek (codes "0x10") (codes "64"); spelled = refl; numbers = has_numbers.0; asks = refl }
+
 spelled_peek : SpellsAct (codes "peek" ∷ codes "0x10" ∷ codes "64" ∷ []) (acts.Peek 16 64)
-spelled_peek = peek (codes "0x10") (codes "64") 16 64 refl refl (lit< tt) (lit≤ tt) (lit< tt)
+spelled_peek = record { numbers = peek_numbers; aligned = tt; size = lit< tt; in_space = lit< tt }
+
+-- the first condition that isn't met: a size of 0, and a second `sections`
+spells_sections : SpellsAct (codes "sections" ∷ []) acts.Sections
+spells_sections = record {
+  numbers = record { form = sections; spelled = refl; numbers = tt; asks = refl };
+  aligned = tt;
+  size = tt;
+  in_space = tt;
+}
+
+faults_of_words : HasFault false (codes "trim" ∷ codes "1" ∷ codes "0" ∷ []) wrong.ZeroSize
+    × HasFault true (codes "sections" ∷ []) wrong.SecondSections
+faults_of_words = (
+  (
+    acts.Trim 1 0,
+    record { form = trim (codes "1") (codes "0"); spelled = refl; numbers = ((1, refl, lit≤ tt), (0, refl, lit≤ tt)); asks = refl },
+    tt,
+    λ is. omega (arith, is),
+  ),
+  (spells_sections, refl),
+)
+
+-- whole scripts: a comment asks for nothing, and the fault of the first line
+none_earlier : HasSectionsLine [] → ⊥
+none_earlier has = omega (arith, has.1.1)
+
+lines_asked : LineAsksFor [] (codes "#") None × LinesAskFor [] (codes "sections" ∷ codes "#" ∷ []) (record { number = 1; act = acts.Sections } ∷ [])
+lines_asked =
+    let hash : IsWord separators.Script (codes "#") = record { some = lit< tt; closed = (refl, refl) } in
+    let words : HasWords (codes "#") (codes "#" ∷ []) = word_alone (codes "#") hash in (
+      (codes "#" ∷ [], words, comment [] []),
+      (
+        Some acts.Sections,
+        [],
+        (codes "sections" ∷ [], words_spelled (codes "sections"), spells_sections, λ same has. none_earlier has),
+        refl,
+        (None, [], (codes "#" ∷ [], words, comment [] []), refl, refl),
+      ),
+    )
+
+line_at_fault : LineHasFault [] (codes "trim 1 0") wrong.ZeroSize
+line_at_fault = record {
+  words = codes "trim" ∷ codes "1" ∷ codes "0" ∷ [];
+  spelled = words_spelled (codes "trim 1 0");
+  seen = false;
+  sections = (λ is. cc is, λ has. absurd (none_earlier has));
+  fault = faults_of_words.0;
+}
+
+first_fault : IsFirstFault [] (codes "trim 1 0" ∷ codes "x" ∷ []) (faults.ZeroSize 1)
+first_fault = record {
+  before = [];
+  text = codes "trim 1 0";
+  after = codes "x" ∷ [];
+  lines = refl;
+  acts = [];
+  faultless = refl;
+  wrong = wrong.ZeroSize;
+  at_fault = line_at_fault;
+  named = refl;
+}

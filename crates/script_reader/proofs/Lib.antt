@@ -1,3 +1,5 @@
 pub mod ScriptLaws
+pub mod StepLaws
 pub mod SpellingLaws
+pub mod ScriptSpellingLaws
 mod Examples

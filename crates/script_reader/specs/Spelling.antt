@@ -1,15 +1,21 @@
--- How a line that asks for an act is spelled: its words with blanks around them, the name of its form, and a size for each number.
-use Rattle.std.specs.Prelude.{◌≡◌, ℕ, ◌+◌, ◌^◌, ◌<◌, ◌≤◌, Bool, true, false, IsTrue, List, [], ◌∷◌, ◌++◌, codes, Option, Some, None}
+-- How a line is spelled: its words with blanks around them, the form of these words, and the conditions on its numbers. A line asks for
+-- an act if it has a form and meets each condition. Its fault is the first condition that it doesn't meet.
+use Rattle.std.specs.Prelude.{◌≡◌, ℕ, ◌+◌, ◌^◌, ◌<◌, ◌≤◌, Bool, true, false, IsTrue, List, [], ◌∷◌, ◌++◌, codes, Option, Some, None, IfSome, unwrap_or, Result, Ok, Err}
 use Rattle.std.specs.Int.{is_power_of_two}
-use Rattle.bm_base.specs.Size.{IsSize}
+use Rattle.std.specs.Option.{option_map}
+use Rattle.bm_base.specs.Size.{size_of, IsSize}
+use Rattle.bm_base.specs.declared.size.NumFault.{NumFault}
 use Rattle.text_words.specs.Parts.{separates}
 use Rattle.text_words.specs.Words.{IsWord}
 use Rattle.text_words.specs.declared.separators.Separators.TheVariants as separators
 use Rattle.script_reader.specs.declared.act.Act.{Act}
 use Rattle.script_reader.specs.declared.act.Act.TheVariants as acts
+use Rattle.script_reader.specs.declared.fault.Wrong.{Wrong}
+use Rattle.script_reader.specs.declared.fault.Wrong.TheVariants as wrong
 use Rattle.script_reader.specs.Numbers.{Words}
+use Rattle.script_reader.specs.Forms.{greatest, greatest_id, greatest_node, greatest_byte, greatest_len}
 
--- the text has those words, one blank or more between two, and any before the first and behind the last
+-- the text has those words, with at least one blank between two words, and any number of blanks before the first and after the last
 pub data HasWords : List ℕ → Words → Type 0 where
   no_byte : HasWords [] []
   blank_first : (b : ℕ) (text : List ℕ) (words : Words) → separates separators.Script b ≡ true → HasWords text words
@@ -18,34 +24,142 @@ pub data HasWords : List ℕ → Words → Type 0 where
   word_first : (word : List ℕ) (b : ℕ) (text : List ℕ) (words : Words) → IsWord separators.Script word
       → separates separators.Script b ≡ true → HasWords text words → HasWords (word ++ (b ∷ text)) (word ∷ words)
 
--- what may stand behind the alignment of an `alloc`: where nothing does, no bound is set and no node preferred
-pub data SpellsMin : Words → ℕ → Type 0 where
-  no_min : SpellsMin [] 0
-  a_min : (w : List ℕ) (n : ℕ) → IsSize w n → SpellsMin (codes "min" ∷ w ∷ []) n
+-- a line that asks for nothing: one without words, or a comment
+pub data IsPassedOver : Words → Type 0 where
+  no_words : IsPassedOver []
+  comment : (word : List ℕ) (words : Words) → IsPassedOver ((codes "#" ++ word) ∷ words)
 
-pub data SpellsMax : Words → Option ℕ → Type 0 where
-  no_max : SpellsMax [] None
-  a_max : (w : List ℕ) (n : ℕ) → IsSize w n → SpellsMax (codes "max" ∷ w ∷ []) (Some n)
+-- the words for a node, if any: `node N` or `node N exact`
+pub data NodeWords : Type 0 where
+  no_node : NodeWords
+  near_node : (node : List ℕ) → NodeWords
+  exact_node : (node : List ℕ) → NodeWords
 
-pub data SpellsNode : Words → Option ℕ → Bool → Type 0 where
-  no_node : SpellsNode [] None false
-  a_node : (w : List ℕ) (n : ℕ) → IsSize w n → n < 1024 → SpellsNode (codes "node" ∷ w ∷ []) (Some n) false
-  exact_node : (w : List ℕ) (n : ℕ) → IsSize w n → n < 1024 → SpellsNode (codes "node" ∷ w ∷ codes "exact" ∷ []) (Some n) true
+-- a form, with any word in the place of each number
+pub data Form : Type 0 where
+  alloc : (id size align : List ℕ) (min max : Option (List ℕ)) (node : NodeWords) → Form
+  reserve : (id base size : List ℕ) → Form
+  free : (id : List ℕ) → Form
+  trim : (id keep : List ℕ) → Form
+  fill : (id byte : List ℕ) → Form
+  peek : (address len : List ℕ) → Form
+  sections : Form
 
--- each form, with the bounds of its numbers
-pub data SpellsAct : Words → Act → Type 0 where
-  alloc : (i s a : List ℕ) (lower upper on : Words) (id size align min : ℕ) (max node : Option ℕ) (exact : Bool)
-      → IsSize i id → id < 2 ^ 32 → IsSize s size → 0 < size → IsSize a align → IsTrue (is_power_of_two align)
-      → SpellsMin lower min → SpellsMax upper max → SpellsNode on node exact
-      → SpellsAct (codes "alloc" ∷ i ∷ s ∷ a ∷ (lower ++ (upper ++ on)))
-      (acts.Alloc id (record { size = size; align = align; min = min; max = max; node = node; exact = exact }))
-  reserve : (i b s : List ℕ) (id base size : ℕ) → IsSize i id → id < 2 ^ 32 → IsSize b base → IsSize s size → 0 < size
-      → base + size < 2 ^ 64 → SpellsAct (codes "reserve" ∷ i ∷ b ∷ s ∷ []) (acts.Reserve id (record { base = base; size = size }))
-  free : (i : List ℕ) (id : ℕ) → IsSize i id → id < 2 ^ 32 → SpellsAct (codes "free" ∷ i ∷ []) (acts.Free id)
-  trim : (i k : List ℕ) (id keep : ℕ) → IsSize i id → id < 2 ^ 32 → IsSize k keep → 0 < keep
-      → SpellsAct (codes "trim" ∷ i ∷ k ∷ []) (acts.Trim id keep)
-  fill : (i b : List ℕ) (id byte : ℕ) → IsSize i id → id < 2 ^ 32 → IsSize b byte → byte < 256
-      → SpellsAct (codes "fill" ∷ i ∷ b ∷ []) (acts.Fill id byte)
-  peek : (a l : List ℕ) (at len : ℕ) → IsSize a at → IsSize l len → 0 < len → len ≤ 64 → at + len < 2 ^ 64
-      → SpellsAct (codes "peek" ∷ a ∷ l ∷ []) (acts.Peek at len)
-  sections : SpellsAct (codes "sections" ∷ []) acts.Sections
+-- a key and its number, which may be left out
+abbrev pub keyed : List ℕ → Option (List ℕ) → Words
+keyed key None = []
+keyed key (Some word) = key ∷ word ∷ []
+
+abbrev pub node_words : NodeWords → Words
+node_words no_node = []
+node_words (near_node node) = codes "node" ∷ node ∷ []
+node_words (exact_node node) = codes "node" ∷ node ∷ codes "exact" ∷ []
+
+-- the words of each form; the first is `alloc ID SIZE ALIGN [min A] [max A] [node N [exact]]`
+abbrev pub words_of : Form → Words
+words_of (alloc id size align min max node) =
+    codes "alloc" ∷ id ∷ size ∷ align ∷ (keyed (codes "min") min ++ (keyed (codes "max") max ++ node_words node))
+words_of (reserve id base size) = codes "reserve" ∷ id ∷ base ∷ size ∷ []
+words_of (free id) = codes "free" ∷ id ∷ []
+words_of (trim id keep) = codes "trim" ∷ id ∷ keep ∷ []
+words_of (fill id byte) = codes "fill" ∷ id ∷ byte ∷ []
+words_of (peek address len) = codes "peek" ∷ address ∷ len ∷ []
+words_of sections = codes "sections" ∷ []
+
+-- the whole word is a size, at most the bound
+abbrev pub IsWithin : ℕ → List ℕ → Type 0
+IsWithin most word = (n : ℕ) × IsSize word n × (n ≤ most)
+
+-- the word for the node's number, and whether `exact` follows it
+abbrev pub node_number : NodeWords → Option (List ℕ)
+node_number no_node = None
+node_number (near_node node) = Some node
+node_number (exact_node node) = Some node
+
+abbrev pub is_exact : NodeWords → Bool
+is_exact no_node = false
+is_exact (near_node node) = false
+is_exact (exact_node node) = true
+
+-- each number of the form is a size within its bound
+abbrev pub HasNumbers : Form → Type 0
+HasNumbers (alloc id size align min max node) = IsWithin greatest_id id × IsWithin greatest size × IsWithin greatest align
+    × IfSome min (IsWithin greatest) × IfSome max (IsWithin greatest) × IfSome (node_number node) (IsWithin greatest_node)
+HasNumbers (reserve id base size) = IsWithin greatest_id id × IsWithin greatest base × IsWithin greatest size
+HasNumbers (free id) = IsWithin greatest_id id
+HasNumbers (trim id keep) = IsWithin greatest_id id × IsWithin greatest keep
+HasNumbers (fill id byte) = IsWithin greatest_id id × IsWithin greatest_byte byte
+HasNumbers (peek address len) = IsWithin greatest address × IsWithin greatest_len len
+HasNumbers sections = Unit {0}
+
+-- the size at the front of a word; it is the word's value if it takes the whole word
+abbrev pub front_value : Result (ℕ × ℕ) NumFault → ℕ
+front_value (Ok found) = found.0
+front_value (Err fault) = 0
+
+abbrev pub value : List ℕ → ℕ
+value word = front_value (size_of word)
+
+-- what a form asks for, if its numbers are sizes. Without `min` the lower bound is 0; without `max` there is no upper bound, and without
+-- `node` no node is preferred
+abbrev pub act_of : Form → Act
+act_of (alloc id size align min max node) = acts.Alloc (value id) (record {
+  size = value size;
+  align = value align;
+  min = unwrap_or (option_map value min) 0;
+  max = option_map value max;
+  node = option_map value (node_number node);
+  exact = is_exact node;
+})
+act_of (reserve id base size) = acts.Reserve (value id) (record { base = value base; size = value size })
+act_of (free id) = acts.Free (value id)
+act_of (trim id keep) = acts.Trim (value id) (value keep)
+act_of (fill id byte) = acts.Fill (value id) (value byte)
+act_of (peek address len) = acts.Peek (value address) (value len)
+act_of sections = acts.Sections
+
+-- the alignment is a power of two
+abbrev pub IsAligned : Act → Type 0
+IsAligned (acts.Alloc id request) = IsTrue (is_power_of_two request.align)
+IsAligned act = Unit {0}
+
+-- SIZE, KEEP or LEN isn't 0
+abbrev pub HasSize : Act → Type 0
+HasSize (acts.Alloc id request) = 0 < request.size
+HasSize (acts.Reserve id range) = 0 < range.size
+HasSize (acts.Trim id keep) = 0 < keep
+HasSize (acts.Peek at len) = 0 < len
+HasSize act = Unit {0}
+
+-- BASE + SIZE or ADDR + LEN is at most 2^64 - 1
+abbrev pub IsInSpace : Act → Type 0
+IsInSpace (acts.Reserve id range) = range.base + range.size < 2 ^ 64
+IsInSpace (acts.Peek at len) = at + len < 2 ^ 64
+IsInSpace act = Unit {0}
+
+-- the words have a form
+abbrev pub HasForm : Words → Type 0
+HasForm words = (form : Form) × (words ≡ words_of form)
+
+-- the words have a form, its numbers are sizes within their bounds, and the act has these numbers
+pub record SpellsNumbers (words : Words) (act : Act) : Type 0 where
+  pub form : Form
+  pub spelled : words ≡ words_of form
+  pub numbers : HasNumbers form
+  pub asks : act ≡ act_of form
+
+-- the words spell the act: they also meet the conditions on its alignment, size and range
+pub record SpellsAct (words : Words) (act : Act) : Type 0 where
+  pub numbers : SpellsNumbers words act
+  pub aligned : IsAligned act
+  pub size : HasSize act
+  pub in_space : IsInSpace act
+
+-- the first condition that those words don't meet. `seen` says whether an earlier line is `sections`
+abbrev pub HasFault : Bool → Words → Wrong → Type 0
+HasFault seen words wrong.Form = (¬ (IsPassedOver words)) × (¬ (HasForm words))
+HasFault seen words wrong.Number = (form : Form) × (words ≡ words_of form) × (¬ (HasNumbers form))
+HasFault seen words wrong.Align = (act : Act) × SpellsNumbers words act × (¬ (IsAligned act))
+HasFault seen words wrong.ZeroSize = (act : Act) × SpellsNumbers words act × IsAligned act × (¬ (HasSize act))
+HasFault seen words wrong.SecondSections = SpellsAct words acts.Sections × (seen ≡ true)
+HasFault seen words wrong.TooFar = (act : Act) × SpellsNumbers words act × IsAligned act × HasSize act × (¬ (IsInSpace act))

@@ -1,18 +1,44 @@
-//! The law of lines: what their words and numbers spell.
+//! The laws of lines and of whole scripts: what they spell is what they are read as, and nothing else is read.
 
-ghost use Rattle.std.specs.Prelude.{◌≡◌, ℕ, Bool, false, List, [], ◌∷◌, ◌++◌, codes, Some, None, Ok};
+ghost use Rattle.std.specs.Prelude.{◌≡◌, ◌↔◌, ℕ, Bool, false, List, [], Some, None, Ok, Err};
+ghost use Rattle.text_words.specs.Parts.{parts_in};
+ghost use Rattle.text_words.specs.declared.separators.Separators.TheVariants as separators;
 ghost use Rattle.script_reader.specs.declared.act.Act.{Act as AnyAct};
 ghost use Rattle.script_reader.specs.declared.act.Act.TheVariants as acts;
+ghost use Rattle.script_reader.specs.declared.act.Line.{Line as AnyLine};
+ghost use Rattle.script_reader.specs.declared.fault.Wrong.{Wrong as AnyWrong};
+ghost use Rattle.script_reader.specs.declared.fault.ScriptFault.{ScriptFault as AnyFault};
 ghost use Rattle.script_reader.specs.Numbers.{Words};
-ghost use Rattle.script_reader.specs.Script.{asked};
-ghost use Rattle.script_reader.specs.Spelling.{HasWords, SpellsAct};
+ghost use Rattle.script_reader.specs.Script.{asked, script_of};
+ghost use Rattle.script_reader.specs.Spelling.{HasWords, IsPassedOver, SpellsAct, HasFault};
+ghost use Rattle.script_reader.specs.ScriptSpelling.{LinesAskFor, IsFirstFault};
 
-/// A law: a line whose words spell an act is read as that act, with any blanks around them, unless it is a second `sections`; and
-/// one without words, or with a first word that begins with `#`, asks for nothing.
+/// Law: each text has words, and only one list of words.
+pub fn each_line_has_its_words()
+    ensures some { (text : List ℕ) → (words : Words) × HasWords text words }
+    ensures one { (text : List ℕ) (words others : Words) →
+        HasWords text words → HasWords text others → words ≡ others }
+{}
+
+/// Law: a line is read as an act exactly if its words spell that act and it isn't a second
+/// `sections`. It asks for nothing exactly if it has no words or is a comment. It has a fault
+/// exactly if that is the first condition that its words don't meet.
 pub fn lines_of_spelling()
-    ensures act { (seen : Bool) (text : List ℕ) (words : Words) (act : AnyAct) → HasWords text words → SpellsAct words act →
-        (act ≡ acts.Sections → seen ≡ false) → asked seen text ≡ Ok (Some act) }
-    ensures blank { (seen : Bool) (text : List ℕ) → HasWords text [] → asked seen text ≡ Ok None }
-    ensures comment { (seen : Bool) (text word : List ℕ) (words : Words) → HasWords text ((codes "#" ++ word) ∷ words) →
-        asked seen text ≡ Ok None }
+    ensures act { (seen : Bool) (text : List ℕ) (words : Words) (act : AnyAct) → HasWords text words →
+        ((asked seen text ≡ Ok (Some act))
+        ↔ (SpellsAct words act × (act ≡ acts.Sections → seen ≡ false))) }
+    ensures nothing { (seen : Bool) (text : List ℕ) (words : Words) → HasWords text words →
+        ((asked seen text ≡ Ok None) ↔ IsPassedOver words) }
+    ensures fault { (seen : Bool) (text : List ℕ) (words : Words) (wrong : AnyWrong) → HasWords text words →
+        ((asked seen text ≡ Err wrong) ↔ HasFault seen words wrong) }
+{}
+
+/// Law: a script is read as a list of lines exactly if these are the acts that its lines ask for,
+/// with their numbers, and every other line asks for nothing. It has a fault exactly if that is the
+/// fault of the lowest line that has one.
+pub fn scripts_of_spelling()
+    ensures lines { (bytes : List ℕ) (lines : List AnyLine) →
+        ((script_of bytes ≡ Ok lines) ↔ LinesAskFor [] (parts_in (separators.Byte 10) bytes) lines) }
+    ensures fault { (bytes : List ℕ) (fault : AnyFault) →
+        ((script_of bytes ≡ Err fault) ↔ IsFirstFault [] (parts_in (separators.Byte 10) bytes) fault) }
 {}

@@ -10,8 +10,11 @@
 //! first fault: that of the lowest line that has one, and of a line the first in the order of
 //! [`ScriptFault`]. `specs/Forms.antt` has the forms, a row each, whose steps are in the order of the
 //! faults; `specs/Script.antt` goes over the lines. Words are those of `text_words`, numbers are
-//! sizes of `bm_base` that take their whole word. `specs/Spelling.antt` has the same forms as what a user writes, and a law says
-//! that what is spelled so is read so ([`lines_of_spelling`]).
+//! sizes of `bm_base` that take their whole word.
+//!
+//! `specs/Spelling.antt` has the same forms as what a user writes. By [`lines_of_spelling`] a line is
+//! read as an act exactly if its words spell that act, and has a fault exactly if that is the first
+//! condition that its words don't meet. [`scripts_of_spelling`] says the same of a whole script.
 //!
 //! A page script (`page_alloc`) has other forms of the same words: what reads them here, one step each ([`one_word`], [`bounded`]
 //! and the like, [`Wrong`] where a step fails), what passes over comments, and what keeps the lines, serves both.
@@ -31,7 +34,7 @@ mod words;
 pub use act::{Act, Line};
 pub use fault::{ScriptFault, Wrong};
 pub use forms::{GREATEST_ID, GREATEST_NODE};
-pub use laws::lines_of_spelling;
+pub use laws::{each_line_has_its_words, lines_of_spelling, scripts_of_spelling};
 pub use memblock_model::Request;
 pub use script::{keep, read_script};
 pub use words::{bounded, first_word, is_comment, one_word};

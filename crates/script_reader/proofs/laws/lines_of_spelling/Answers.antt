@@ -1,13 +1,13 @@
 -- A text with such words is read as these are.
-use Rattle.std.proofs.Common.{◌∷◌, [], refl}
-use Rattle.script_reader.proofs.SpellingLaws.{has_words, act_read}
+use Rattle.script_reader.proofs.StepLaws.{has_words}
+use Rattle.script_reader.proofs.SpellingLaws.{act_read, nothing_read, fault_read}
 use Rattle.script_reader.proofs.laws.lines_of_spelling.Goals as goal
 
 pub returns-clause-act : goal.returns-clause-act
-returns-clause-act c seen text words act has spells once = rw (has_words text words has) (act_read seen words act spells once)
+returns-clause-act c seen text words act has = rw (has_words text words has) (act_read seen words act)
 
-pub returns-clause-blank : goal.returns-clause-blank
-returns-clause-blank c seen text has = rw (has_words text [] has) refl
+pub returns-clause-nothing : goal.returns-clause-nothing
+returns-clause-nothing c seen text words has = rw (has_words text words has) (nothing_read seen words)
 
-pub returns-clause-comment : goal.returns-clause-comment
-returns-clause-comment c seen text word words has = rw (has_words text ((35 ∷ word) ∷ words) has) refl
+pub returns-clause-fault : goal.returns-clause-fault
+returns-clause-fault c seen text words fault has = rw (has_words text words has) (fault_read seen words fault)

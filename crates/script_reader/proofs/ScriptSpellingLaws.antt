@@ -1,0 +1,230 @@
+-- A script is read as what its lines spell, or has the fault of the lowest line that has one.
+use Rattle.std.proofs.Common.{◌≡◌, ℕ, ◌+◌, ◌<◌, Bool, true, false, List, [], ◌∷◌, ◌++◌, codes, length, length-append, Option, Some, None, Result, Ok, Err, refl, ◌∙◌, ap, sym, get_or, suc, zero, arith, append_assoc, ◌⊎◌, ◌↔◌, inl, inr}
+use Rattle.std.specs.Prelude.{Contains}
+use Rattle.std.specs.List.{cons_option}
+use Rattle.std.proofs.lemmas.List.{append-nil}
+use Rattle.std.proofs.lemmas.List.Elements.{Contains-append_left, Contains-append_right, Contains-append_cases}
+use Rattle.bm_base.specs.ResultSteps.{◌>>=◌, with_error}
+use Rattle.text_words.specs.Words.{words_in}
+use Rattle.text_words.specs.declared.separators.Separators.TheVariants as separators
+use Rattle.script_reader.specs.declared.act.Act.{Act}
+use Rattle.script_reader.specs.declared.act.Act.TheVariants as acts
+use Rattle.script_reader.specs.declared.act.Line.{Line}
+use Rattle.script_reader.specs.declared.fault.Wrong.{Wrong}
+use Rattle.script_reader.specs.declared.fault.ScriptFault.{ScriptFault}
+use Rattle.script_reader.specs.Script.{fault_at, line_at, seen_behind, asked, lines_from}
+use Rattle.script_reader.specs.Spelling.{HasWords, Form, sections, words_of, act_of}
+use Rattle.script_reader.specs.ScriptSpelling.{HasSectionsLine, LineAsksFor, LineHasFault, LinesAskFor, IsFirstFault}
+use Rattle.script_reader.proofs.StepLaws.{has_words, words_spelled}
+use Rattle.script_reader.proofs.SpellingLaws.{act_read, nothing_read, fault_read}
+
+-- `seen` says whether one of the earlier lines is `sections`
+abbrev pub SeenIn : List (List ℕ) → Bool → Type 0
+SeenIn earlier seen = (seen ≡ true) ↔ HasSectionsLine earlier
+
+same_seen : {P : Type 0} (a b : Bool) → ((a ≡ true) ↔ P) → ((b ≡ true) ↔ P) → a ≡ b
+same_seen true true of_a of_b = refl
+same_seen false false of_a of_b = refl
+same_seen true false of_a of_b = let other : false ≡ true = of_b.1 (of_a.0 refl) in cc
+same_seen false true of_a of_b = let other : false ≡ true = of_a.1 (of_b.0 refl) in cc
+
+not_seen : (earlier : List (List ℕ)) (seen : Bool) → SeenIn earlier seen → (seen ≡ false) ↔ (¬ (HasSectionsLine earlier))
+not_seen earlier true of = (λ is. cc, λ none. absurd (none (of.0 refl)))
+not_seen earlier false of = (λ is has. let other : false ≡ true = of.1 has in cc, λ none. refl)
+
+-- one line, after the earlier ones
+line_asks : (earlier : List (List ℕ)) (seen : Bool) (text : List ℕ) (act : Option Act) → SeenIn earlier seen
+    → (asked seen text ≡ Ok act) ↔ LineAsksFor earlier text act
+line_asks earlier seen text None of = (
+  λ is. (words_in separators.Script text, words_spelled text, (nothing_read seen (words_in separators.Script text)).0 is),
+  λ asks. rw (has_words text asks.0 asks.1) ((nothing_read seen asks.0).1 asks.2),
+)
+line_asks earlier seen text (Some act) of = (
+  λ is. let spelled = (act_read seen (words_in separators.Script text) act).0 is in
+      (words_in separators.Script text, words_spelled text, spelled.0, λ same. (not_seen earlier seen of).0 (spelled.1 same)),
+  λ asks. rw (has_words text asks.0 asks.1)
+      ((act_read seen asks.0 act).1 (asks.2, λ same. (not_seen earlier seen of).1 (asks.3 same))),
+)
+
+line_at_fault : (earlier : List (List ℕ)) (seen : Bool) (text : List ℕ) (fault : Wrong) → SeenIn earlier seen
+    → (asked seen text ≡ Err fault) ↔ LineHasFault earlier text fault
+line_at_fault earlier seen text fault of = (
+  λ is. record {
+    words = words_in separators.Script text;
+    spelled = words_spelled text;
+    seen = seen;
+    sections = of;
+    fault = (fault_read seen (words_in separators.Script text) fault).0 is;
+  },
+  λ at. rw (has_words text at.words at.spelled, same_seen seen at.seen of at.sections) ((fault_read at.seen at.words fault).1 at.fault),
+)
+
+-- a line is `sections` where its words are
+sections_words : (form : Form) → act_of form ≡ acts.Sections → words_of form ≡ codes "sections" ∷ []
+sections_words sections is = refl
+sections_words form is = cc
+
+sections_spelled : (seen : Bool) (text : List ℕ) → asked seen text ≡ Ok (Some acts.Sections) → HasWords text (codes "sections" ∷ [])
+sections_spelled seen text is =
+    let spelled = (act_read seen (words_in separators.Script text) acts.Sections).0 is in
+    let words : words_in separators.Script text ≡ codes "sections" ∷ [] =
+    spelled.0.numbers.spelled ∙ sections_words spelled.0.numbers.form (sym spelled.0.numbers.asks) in
+    (rw words at (words_spelled text))
+
+others_spelled : (text : List ℕ) (act : Option Act) → asked false text ≡ Ok act → seen_behind false act ≡ false
+    → ¬ (HasWords text (codes "sections" ∷ []))
+others_spelled text act is isnt has =
+    let was : asked false text ≡ Ok (Some acts.Sections) = rw (has_words text (codes "sections" ∷ []) has) refl in
+    let same : act ≡ Some acts.Sections = cc (is, was) in let other : true ≡ false = (rw same at isnt) in cc
+
+is_sections_or : (act : Option Act) → (act ≡ Some acts.Sections) ⊎ (seen_behind false act ≡ false)
+is_sections_or None = inr refl
+is_sections_or (Some acts.Sections) = inl refl
+is_sections_or (Some act) = inr refl
+
+-- so it is seen by the end of a line
+only_one : (x y : List ℕ) → Contains (x ∷ []) y → y ≡ x
+only_one x y has = at has.0 has.1 has.2
+  where
+    at : (k : ℕ) → k < 1 → get_or (x ∷ []) k y ≡ y → y ≡ x
+    at zero below is = sym is
+    at (suc k) below is = absurd (omega (arith, below))
+
+seen_on : (earlier : List (List ℕ)) (seen : Bool) (text : List ℕ) (act : Option Act) → SeenIn earlier seen → asked seen text ≡ Ok act
+    → SeenIn (earlier ++ (text ∷ [])) (seen_behind seen act)
+seen_on earlier true text act of is = (
+  λ seen. let has = of.0 refl in (has.0, Contains-append_left earlier (text ∷ []) has.0 has.1, has.2),
+  λ has. refl,
+)
+seen_on earlier false text act of is =
+    elim (is_sections_or act) [
+      | inl same ↦ (
+        λ seen. (
+          text,
+          Contains-append_right earlier (text ∷ []) text (0, omega arith, refl),
+          sections_spelled false text (is ∙ ap (λ (a : Option Act). Ok a) same),
+        ),
+        λ has. rw same refl,
+      )
+      | inr isnt ↦ (
+        λ seen. cc (isnt, seen),
+        λ has. elim (Contains-append_cases earlier (text ∷ []) has.0 has.1) [
+          | inl before ↦ let other : false ≡ true = of.1 (has.0, before, has.2) in cc
+          | inr this ↦ absurd (others_spelled text act is isnt (rw (only_one text has.0 this) at has.2))
+        ],
+      )
+    ]
+
+-- lines after the earlier ones: one of them, and the others
+length_on : (earlier : List (List ℕ)) (text : List ℕ) → length (earlier ++ (text ∷ [])) + 1 ≡ length earlier + 1 + 1
+length_on earlier text = rw (length-append earlier (text ∷ [])) refl
+
+abbrev read_on : ℕ → Result (Option Act) Wrong → (Option Act → Result (List Line) ScriptFault) → Result (List Line) ScriptFault
+read_on number first others = do
+  act ← with_error (fault_at number) first
+  lines ← others act
+  Ok (cons_option (line_at number act) lines)
+
+abbrev FirstOk : ℕ → Result (Option Act) Wrong → (Option Act → Result (List Line) ScriptFault) → List Line → Type 0
+FirstOk number first others lines =
+    (act : Option Act) × (left : List Line) × (first ≡ Ok act) × (others act ≡ Ok left) × (lines ≡ cons_option (line_at number act) left)
+
+first_ok : (number : ℕ) (first : Result (Option Act) Wrong) (others : Option Act → Result (List Line) ScriptFault) (lines : List Line)
+    → read_on number first others ≡ Ok lines → FirstOk number first others lines
+first_ok number (Err fault) others lines is = cc (is)
+first_ok number (Ok act) others lines is = behind (others act) refl
+  where
+    behind : (r : Result (List Line) ScriptFault) → others act ≡ r → FirstOk number (Ok act) others lines
+    behind (Ok left) was = (act, left, refl, was, let read = (rw was at is) in cc (read))
+    behind (Err fault) was = let read = (rw was at is) in cc (read)
+
+abbrev FirstFault : ℕ → Result (Option Act) Wrong → (Option Act → Result (List Line) ScriptFault) → ScriptFault → Type 0
+FirstFault number first others told = ((fault : Wrong) × (first ≡ Err fault) × (told ≡ fault_at number fault))
+    ⊎ ((act : Option Act) × (first ≡ Ok act) × (others act ≡ Err told))
+
+first_fault : (number : ℕ) (first : Result (Option Act) Wrong) (others : Option Act → Result (List Line) ScriptFault) (told : ScriptFault)
+    → read_on number first others ≡ Err told → FirstFault number first others told
+first_fault number (Err fault) others told is = inl (fault, refl, cc (is))
+first_fault number (Ok act) others told is = behind (others act) refl
+  where
+    behind : (r : Result (List Line) ScriptFault) → others act ≡ r → FirstFault number (Ok act) others told
+    behind (Ok left) was = let read = (rw was at is) in cc (read)
+    behind (Err fault) was = let read = (rw was at is) in inr (act, refl, was ∙ read)
+
+pub lines_ask : (earlier : List (List ℕ)) (seen : Bool) (texts : List (List ℕ)) (lines : List Line) → SeenIn earlier seen
+    → (lines_from seen (length earlier + 1) texts ≡ Ok lines) ↔ LinesAskFor earlier texts lines
+lines_ask earlier seen [] lines of = (λ is. cc (is), λ is. rw is refl)
+lines_ask earlier seen (text ∷ texts) lines of = (
+  λ is. let first = first_ok (length earlier + 1) (asked seen text)
+      (λ act. lines_from (seen_behind seen act) (length earlier + 1 + 1) texts) lines is in
+      let others = lines_ask (earlier ++ (text ∷ [])) (seen_behind seen first.0) texts first.1 (seen_on earlier seen text first.0 of first.2) in
+      (first.0, first.1, (line_asks earlier seen text first.0 of).0 first.2, first.4, others.0 (rw (length_on earlier text) first.3)),
+  λ asks. let was = (line_asks earlier seen text asks.0 of).1 asks.2 in
+      let others = lines_ask (earlier ++ (text ∷ [])) (seen_behind seen asks.0) texts asks.1 (seen_on earlier seen text asks.0 of was) in
+      let read = (rw (length_on earlier text) at (others.1 asks.4)) in
+      rw (was, read) (ap (λ (ls : List Line). Ok ls) (sym asks.3)),
+)
+
+-- and one of them has the first fault
+one_at_fault : (earlier : List (List ℕ)) (seen : Bool) (texts : List (List ℕ)) (told : ScriptFault) → SeenIn earlier seen
+    → lines_from seen (length earlier + 1) texts ≡ Err told → IsFirstFault earlier texts told
+one_at_fault earlier seen [] told of is = cc (is)
+one_at_fault earlier seen (text ∷ texts) told of is =
+    elim (first_fault (length earlier + 1) (asked seen text)
+    (λ act. lines_from (seen_behind seen act) (length earlier + 1 + 1) texts) told is) [
+      | inl first ↦ record {
+        before = [];
+        text = text;
+        after = texts;
+        lines = refl;
+        acts = [];
+        faultless = refl;
+        wrong = first.0;
+        at_fault = rw (append-nil earlier) ((line_at_fault earlier seen text first.0 of).0 first.1);
+        named = rw (append-nil earlier) (first.2);
+      }
+      | inr later ↦ let found = one_at_fault (earlier ++ (text ∷ [])) (seen_behind seen later.0) texts told
+          (seen_on earlier seen text later.0 of later.1) (rw (length_on earlier text) later.2) in
+          let whole : (earlier ++ (text ∷ [])) ++ found.before ≡ earlier ++ (text ∷ found.before) =
+          append_assoc earlier (text ∷ []) found.before in
+          record {
+            before = text ∷ found.before;
+            text = found.text;
+            after = found.after;
+            lines = ap (λ (ts : List (List ℕ)). text ∷ ts) found.lines;
+            acts = cons_option (line_at (length earlier + 1) later.0) found.acts;
+            faultless = (later.0, found.acts, (line_asks earlier seen text later.0 of).0 later.1, refl, found.faultless);
+            wrong = found.wrong;
+            at_fault = rw whole at found.at_fault;
+            named = rw whole at found.named;
+          }
+    ]
+
+fault_of_one : (earlier : List (List ℕ)) (seen : Bool) (before : List (List ℕ)) (text : List ℕ) (after : List (List ℕ))
+    (asks : List Line) (fault : Wrong) → SeenIn earlier seen → LinesAskFor earlier before asks → LineHasFault (earlier ++ before) text fault
+    → lines_from seen (length earlier + 1) (before ++ (text ∷ after)) ≡ Err (fault_at (length (earlier ++ before) + 1) fault)
+fault_of_one earlier seen [] text after asks fault of good at =
+    let same = append-nil earlier in
+    rw ((line_at_fault earlier seen text fault of).1 (rw same at at), same) refl
+fault_of_one earlier seen (line ∷ before) text after asks fault of good at =
+    let was = (line_asks earlier seen line good.0 of).1 good.2 in
+    let whole : (earlier ++ (line ∷ [])) ++ before ≡ earlier ++ (line ∷ before) = append_assoc earlier (line ∷ []) before in
+    let others = fault_of_one (earlier ++ (line ∷ [])) (seen_behind seen good.0) before text after good.1 fault
+    (seen_on earlier seen line good.0 of was) good.4 (rw whole at) in
+    let read = (rw (length_on earlier line, whole) at others) in
+    rw (was, read) refl
+
+pub fault_told : (earlier : List (List ℕ)) (seen : Bool) (texts : List (List ℕ)) (told : ScriptFault) → SeenIn earlier seen
+    → (lines_from seen (length earlier + 1) texts ≡ Err told) ↔ IsFirstFault earlier texts told
+fault_told earlier seen texts told of = (
+  one_at_fault earlier seen texts told of,
+  λ found. rw (found.lines, found.named)
+      (fault_of_one earlier seen found.before found.text found.after found.acts found.wrong of found.faultless found.at_fault),
+)
+
+-- before the first line none is `sections`
+pub none_seen : SeenIn [] false
+none_seen = (λ is. cc (is), λ has. absurd (none has.1.0 has.1.1))
+  where
+    none : (k : ℕ) → k < 0 → ⊥
+    none k below = omega (arith, below)

@@ -1,0 +1,195 @@
+-- One step of a line each: its words, a number, an alignment, a size, a range. What a step passes is spelled so, and nothing else.
+use Rattle.std.proofs.Common.{◌≡◌, ℕ, ◌+◌, ◌^◌, ◌<◌, ◌≤◌, ◌==◌, Bool, true, false, IsTrue, nat_le, nat_lt, List, [], ◌∷◌, ◌++◌, length, Option, Some, None, Result, Ok, Err, refl, ◌∙◌, ap, arith, append_assoc, ◌⊎◌, inl, inr}
+use Rattle.std.specs.Prelude.{IfSome, filter}
+use Rattle.std.specs.Option.{option_map}
+use Rattle.std.specs.Str.{bytes_eq}
+use Rattle.std.proofs.lemmas.Bool.Decides.{nat_tests}
+use Rattle.std.proofs.lemmas.List.{append-nil}
+use Rattle.std.proofs.lemmas.Slice.Eq.{bytes_eq-Decides}
+use Rattle.std.specs.Int.{is_power_of_two}
+use Rattle.bm_base.specs.ResultSteps.{◌>>=◌}
+use Rattle.bm_base.specs.Size.{size_of, IsSize}
+use Rattle.bm_base.specs.declared.size.NumFault.{NumFault}
+use Rattle.text_words.specs.Parts.{separates, parts_from}
+use Rattle.text_words.specs.Words.{words_in, is_word, IsClosed}
+use Rattle.text_words.specs.declared.separators.Separators.TheVariants as separators
+use Rattle.text_words.proofs.PartsLaws.{glued, glued-nil, parts-end, parts-more}
+use Rattle.text_words.proofs.WordsLaws.{words-spelled, words-one}
+use Rattle.script_reader.specs.declared.fault.Wrong.{Wrong}
+use Rattle.script_reader.specs.declared.fault.Wrong.TheVariants as wrong
+use Rattle.script_reader.specs.Forms.{greatest}
+use Rattle.script_reader.specs.Numbers.{Words, no_words, one_word, two_words, three_words, optional, whole, within, number, bounded, optional_number, power, some, range_at}
+use Rattle.script_reader.specs.Spelling.{HasWords, no_byte, blank_first, word_alone, word_first, keyed, IsWithin, front_value, value}
+
+-- the words of a text are those that it is spelled with
+pub has_words : (text : List ℕ) (words : Words) → HasWords text words → words_in separators.Script text ≡ words
+has_words text words no_byte = refl
+has_words text words (blank_first b behind ws is rest) = rw is (has_words behind ws rest)
+has_words text words (word_alone word is) = words-one separators.Script word is
+has_words text words (word_first word b behind ws is blank rest) =
+    words-spelled separators.Script word b behind is blank ∙ ap (λ (ws : Words). word ∷ ws) (has_words behind ws rest)
+
+-- the beginning of a word becomes longer by a byte that doesn't separate
+closed_more : (front : List ℕ) (b : ℕ) → IsClosed separators.Script false front → separates separators.Script b ≡ false
+    → IsClosed separators.Script false (front ++ (b ∷ []))
+closed_more [] b closed is = (is, refl)
+closed_more (a ∷ front) b closed is = (closed.0, closed_more front b closed.1 is)
+
+-- each text is spelled with its words: the beginning of one, and a text
+words_from : (front text : List ℕ) → IsClosed separators.Script false front
+    → HasWords (front ++ text) (filter is_word (glued front (parts_from separators.Script false text)))
+words_from [] [] closed = no_byte
+words_from (a ∷ front) [] closed = rw (append-nil front) (word_alone (a ∷ front) (record { some = omega arith; closed = closed }))
+words_from front (b ∷ text) closed =
+    by_test (λ (start : List ℕ). words_from start text) (separates separators.Script b) refl front closed
+  where
+    by_test : ((start : List ℕ) → IsClosed separators.Script false start
+        → HasWords (start ++ text) (filter is_word (glued start (parts_from separators.Script false text))))
+        → (t : Bool) → separates separators.Script b ≡ t → (start : List ℕ) → IsClosed separators.Script false start
+        → HasWords (start ++ (b ∷ text)) (filter is_word (glued start (parts_from separators.Script false (b ∷ text))))
+    by_test others true is [] closed =
+        rw (parts-end separators.Script false [] b text is refl) (blank_first b text _ is (rw (glued-nil _) at (others [] refl)))
+    by_test others true is (a ∷ start) closed =
+        rw (parts-end separators.Script false (a ∷ start) b text is refl)
+        (word_first (a ∷ start) b text _ (record { some = omega arith; closed = closed }) is (rw (glued-nil _) at (others [] refl)))
+    by_test others false is start closed =
+        rw (parts-more separators.Script false start b text (rw is refl))
+        (rw (append_assoc start (b ∷ []) text) at (others (start ++ (b ∷ [])) (closed_more start b closed is)))
+
+pub words_spelled : (text : List ℕ) → HasWords text (words_in separators.Script text)
+words_spelled text = rw (glued-nil (parts_from separators.Script false text)) at (words_from [] text refl)
+
+-- a step passes where a condition holds, and has its fault where it doesn't
+abbrev pub Judges : {A : Type 0} → Type 0 → A → Wrong → Result A Wrong → Type 0
+Judges Good value fault r = (Good × (r ≡ Ok value)) ⊎ ((¬ Good) × (r ≡ Err fault))
+
+pub passed : {A : Type 0} {Good : Type 0} {v : A} {fault : Wrong} {r : Result A Wrong} → Judges Good v fault r → Good → r ≡ Ok v
+passed judged good = elim judged [ inl is ↦ is.1 | inr bad ↦ absurd (bad.0 good) ]
+
+pub failed : {A : Type 0} {Good : Type 0} {v : A} {fault : Wrong} {r : Result A Wrong} → Judges Good v fault r → ¬ Good → r ≡ Err fault
+failed judged bad = elim judged [ inl is ↦ absurd (bad is.0) | inr is ↦ is.1 ]
+
+-- a number: a size that takes its whole word, and within its bound
+abbrev IsWhole : List ℕ → Result (ℕ × ℕ) NumFault → Type 0
+IsWhole word r = (n : ℕ) × (r ≡ Ok (n, length word))
+
+whole_or : (word : List ℕ) (r : Result (ℕ × ℕ) NumFault) → Judges (IsWhole word r) (front_value r) wrong.Number (whole word r)
+whole_or word (Err fault) = inr (λ is. cc (is.1), refl)
+whole_or word (Ok found) = by_test found.0 found.1 (found.1 == length word) refl
+  where
+    by_test : (n taken : ℕ) (t : Bool) → (taken == length word) ≡ t
+        → Judges (IsWhole word (Ok (n, taken))) n wrong.Number (whole word (Ok (n, taken)))
+    by_test n taken true all =
+        let same : taken ≡ length word = grind (arith, nat_tests, all) in inl ((n, ap (λ (m : ℕ). Ok (n, m)) same), rw all refl)
+    by_test n taken false part =
+        inr (
+          λ is. let pair : (n, taken) ≡ (is.0, length word) = cc (is.1) in
+              let same : taken ≡ length word = ap (λ (found : ℕ × ℕ). found.1) pair in absurd (grind (arith, nat_tests, part, same)),
+          rw part refl,
+        )
+
+within_bound : (most n : ℕ) → Judges (n ≤ most) n wrong.Number (within most n)
+within_bound most n = by_test (nat_le n most) refl
+  where
+    by_test : (t : Bool) → nat_le n most ≡ t → Judges (n ≤ most) n wrong.Number (within most n)
+    by_test true fits = inl (grind (arith, nat_tests, fits), rw fits refl)
+    by_test false above = inr (λ fits. absurd (grind (arith, nat_tests, above, fits)), rw above refl)
+
+front_value-whole : (word : List ℕ) (r : Result (ℕ × ℕ) NumFault) (n : ℕ) → r ≡ Ok (n, length word) → front_value r ≡ n
+front_value-whole word r n is = rw is refl
+
+bounded_or : (most : ℕ) (word : List ℕ) (r : Result (ℕ × ℕ) NumFault)
+    → Judges ((n : ℕ) × (r ≡ Ok (n, length word)) × (n ≤ most)) (front_value r) wrong.Number (whole word r >>= within most)
+bounded_or most word r =
+    elim (whole_or word r) [
+      | inl is ↦ elim (within_bound most (front_value r)) [
+        | inl fits ↦ inl (
+          (is.0.0, is.0.1, let same : front_value r ≡ is.0.0 = front_value-whole word r is.0.0 is.0.1 in omega (arith, fits.0)),
+          rw is.1 fits.1,
+        )
+        | inr above ↦ inr (
+          λ good. above.0 (let same : front_value r ≡ good.0 = front_value-whole word r good.0 good.1 in omega (arith, good.2)),
+          rw is.1 above.1,
+        )
+      ]
+      | inr isnt ↦ inr (λ good. isnt.0 (good.0, good.1), rw isnt.1 refl)
+    ]
+
+pub within_or : (most : ℕ) (word : List ℕ) → Judges (IsWithin most word) (value word) wrong.Number (bounded most word)
+within_or most word = bounded_or most word (size_of word)
+
+-- a size is below 2^64
+size_below : (word : List ℕ) (n : ℕ) → IsSize word n → n ≤ greatest
+size_below word n is = grind (arith, nat_tests)
+
+pub number_or : (word : List ℕ) → Judges (IsWithin greatest word) (value word) wrong.Number (number word)
+number_or word =
+    elim (whole_or word (size_of word)) [
+      | inl is ↦ inl ((is.0.0, is.0.1, size_below word is.0.0 is.0.1), is.1)
+      | inr isnt ↦ inr (λ good. isnt.0 (good.0, good.1), isnt.1)
+    ]
+
+pub optional_or : (most : ℕ) (word : Option (List ℕ))
+    → Judges (IfSome word (IsWithin most)) (option_map value word) wrong.Number (optional_number most word)
+optional_or most None = inl (tt, refl)
+optional_or most (Some word) =
+    elim (within_or most word) [ inl is ↦ inl (is.0, rw (is.1) refl) | inr isnt ↦ inr (isnt.0, rw (isnt.1) refl) ]
+
+-- an alignment, a size and a range
+pub power_or : (n : ℕ) → Judges (IsTrue (is_power_of_two n)) n wrong.Align (power n)
+power_or n = by_test (is_power_of_two n) refl
+  where
+    by_test : (t : Bool) → is_power_of_two n ≡ t → Judges (IsTrue (is_power_of_two n)) n wrong.Align (power n)
+    by_test true is = inl (is, rw is refl)
+    by_test false isnt = inr (λ is. cc, rw isnt refl)
+
+pub some_or : (n : ℕ) → Judges (0 < n) n wrong.ZeroSize (some n)
+some_or n = by_test (n == 0) refl
+  where
+    by_test : (t : Bool) → (n == 0) ≡ t → Judges (0 < n) n wrong.ZeroSize (some n)
+    by_test true none = inr (λ above. absurd (grind (arith, nat_tests, none, above)), rw none refl)
+    by_test false isnt = inl (grind (arith, nat_tests, isnt), rw isnt refl)
+
+pub range_or : (base size : ℕ)
+    → Judges (base + size < 2 ^ 64) (record { base = base; size = size }) wrong.TooFar (range_at base size)
+range_or base size = by_test (nat_lt (base + size) (2 ^ 64)) refl
+  where
+    by_test : (t : Bool) → nat_lt (base + size) (2 ^ 64) ≡ t
+        → Judges (base + size < 2 ^ 64) (record { base = base; size = size }) wrong.TooFar (range_at base size)
+    by_test true fits = inl (grind (arith, nat_tests, fits), rw fits refl)
+    by_test false far = inr (λ fits. absurd (grind (arith, nat_tests, far, fits)), rw far refl)
+
+-- words are those of a form, or a bad form
+pub is_key : (word key : List ℕ) → (word ≡ key) ⊎ (bytes_eq word key ≡ false)
+is_key word key = by_test (bytes_eq word key) refl
+  where
+    by_test : (t : Bool) → bytes_eq word key ≡ t → (word ≡ key) ⊎ (bytes_eq word key ≡ false)
+    by_test true is = inl ((bytes_eq-Decides word key).0 is)
+    by_test false isnt = inr isnt
+
+pub at_end : (words : Words) → (words ≡ []) ⊎ (no_words words ≡ Err wrong.Form)
+at_end [] = inl refl
+at_end (w ∷ ws) = inr refl
+
+pub one_or : (words : Words) → ((a : List ℕ) × (words ≡ a ∷ [])) ⊎ (one_word words ≡ Err wrong.Form)
+one_or [] = inr refl
+one_or (a ∷ []) = inl (a, refl)
+one_or (a ∷ w ∷ ws) = inr refl
+
+pub two_or : (words : Words) → ((a b : List ℕ) × (words ≡ a ∷ b ∷ [])) ⊎ (two_words words ≡ Err wrong.Form)
+two_or [] = inr refl
+two_or (a ∷ words) = elim (one_or words) [ inl is ↦ inl (a, is.0, rw (is.1) refl) | inr isnt ↦ inr (rw isnt refl) ]
+
+pub three_or : (words : Words) → ((a b d : List ℕ) × (words ≡ a ∷ b ∷ d ∷ [])) ⊎ (three_words words ≡ Err wrong.Form)
+three_or [] = inr refl
+three_or (a ∷ words) = elim (two_or words) [ inl is ↦ inl (a, is.0, is.1, rw (is.2) refl) | inr isnt ↦ inr (rw isnt refl) ]
+
+pub optional_spelled : (key : List ℕ) (words : Words) → words ≡ keyed key (optional key words).0 ++ (optional key words).1
+optional_spelled key [] = refl
+optional_spelled key (w ∷ []) = refl
+optional_spelled key (w ∷ v ∷ ws) = by_test (bytes_eq w key) refl
+  where
+    by_test : (t : Bool) → bytes_eq w key ≡ t
+        → w ∷ v ∷ ws ≡ keyed key (optional key (w ∷ v ∷ ws)).0 ++ (optional key (w ∷ v ∷ ws)).1
+    by_test true is = rw is (ap (λ (k : List ℕ). k ∷ v ∷ ws) ((bytes_eq-Decides w key).0 is))
+    by_test false isnt = rw isnt refl
