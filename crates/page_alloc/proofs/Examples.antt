@@ -1,5 +1,5 @@
 -- A frame that is asked for and given back, and small page scripts: what the definitions say of them.
-use Rattle.std.proofs.Common.{◌≡◌, ℕ, ◌/◌, ◌^◌, nat_le, nat_lt, false, ◌&&◌, Some, None, List, [], ◌∷◌, Ok, Err, codes, if◌then◌else◌, refl, sym, ◌∙◌, ap, subst, inl, inr, arith}
+use Rattle.std.proofs.Common.{◌≡◌, ℕ, ◌/◌, ◌^◌, nat_le, nat_lt, false, ◌&&◌, Some, None, List, [], ◌∷◌, Ok, Err, codes, if◌then◌else◌, refl, sym, ◌∙◌, ap, subst, inl, inr, lit≤, arith}
 use Rattle.std.proofs.lemmas.Bool.Decides.{nat_tests}
 use Rattle.std.proofs.Math.Nat.{div-one}
 use Rattle.std.proofs.lemmas.Bool.{cases_Bool}
@@ -26,6 +26,7 @@ use Rattle.page_alloc.specs.declared.outcome.PageOutcome.{PageOutcome}
 use Rattle.page_alloc.specs.declared.outcome.PageOutcome.TheVariants as outcomes
 use Rattle.page_alloc.specs.Book.{Book, held_in, state_of}
 use Rattle.page_alloc.specs.Forms.{greatest_order, zone_named, pages_line, near_line, give_line, by_name, asked}
+use Rattle.page_alloc.specs.Spelling.{pages as pages_form, give as give_form, zone_word, words_of, HasNumbers, HasForm, SpellsAct, HasFault}
 use Rattle.page_alloc.specs.Kept.{HoldsFrame, IsInOne, IsInNone, AreHeldApart}
 use Rattle.page_alloc.specs.Pages.{State, begun, with_held, served, unless_taken as asked_of, given_back, step, HasOrder, HaveOrders, NamesNoNode, TakesMemory}
 use Rattle.page_alloc.specs.Reading.{fault_at, line_at, lines_from, pages_of}
@@ -249,3 +250,21 @@ great_order = refl
 lowest_fault : (pages_of (codes "give 1\ngive x\ngive\n") ≡ Err (faults.BadNumber 2))
     × (pages_of (codes "near 1\ngive x\n") ≡ Err (faults.BadLine 1))
 lowest_fault = (refl, refl)
+
+-- a form takes any word for a number, and a zone by its name alone
+spelled_forms : HasForm (codes "give" ∷ codes "x" ∷ []) × HasForm (codes "pages" ∷ codes "1" ∷ codes "0" ∷ codes "7" ∷ codes "DMA" ∷ [])
+    × (zone_word zones.Normal ≡ codes "Normal") × (HasNumbers (give_form (codes "x")) → ⊥)
+    × (words_of (give_form (codes "1")) ≡ codes "give" ∷ codes "1" ∷ [])
+spelled_forms = (
+  (give_form (codes "x"), refl),
+  (pages_form (codes "1") (codes "0") (codes "7") zones.Dma, refl),
+  refl,
+  λ is. cc (is.1),
+  refl,
+)
+
+spelled_act : SpellsAct (codes "give" ∷ codes "1" ∷ []) (acts.Give 1)
+spelled_act = record { form = give_form (codes "1"); spelled = refl; numbers = (1, refl, lit≤ tt); asks = refl }
+
+bad_number : HasFault (codes "give" ∷ codes "x" ∷ []) wrong.Number
+bad_number = (give_form (codes "x"), refl, λ is. cc (is.1))

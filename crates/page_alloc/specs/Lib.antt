@@ -3,3 +3,4 @@ pub mod Forms
 pub mod Kept
 pub mod Pages
 pub mod Reading
+pub mod Spelling
