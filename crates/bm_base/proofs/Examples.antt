@@ -1,5 +1,5 @@
 -- Small ranges, numbers and texts, computed.
-use Rattle.std.proofs.Common.{◌≡◌, ℕ, ◌^◌, ◌*◌, ◌/◌, ◌+◌, ◌-◌, true, false, ◌&&◌, nat_lt, ◌==◌, not, [], codes, Some, None, Ok, Err, refl, arith}
+use Rattle.std.proofs.Common.{◌≡◌, ℕ, ◌^◌, ◌*◌, ◌/◌, ◌+◌, ◌-◌, true, false, ◌&&◌, nat_lt, ◌==◌, not, [], codes, Some, None, Ok, Err, refl, arith, inl}
 use Rattle.std.proofs.lemmas.Bool.Decides.{nat_tests}
 use Rattle.std.specs.Fmt.{digits}
 use Rattle.bm_base.specs.Answers.{Answers}
@@ -12,6 +12,8 @@ use Rattle.bm_base.specs.ResultSteps.{◌>>=◌, with_error}
 use Rattle.bm_base.specs.Text.{hexadecimal, hex_text, padded_decimal}
 use Rattle.bm_base.specs.Size.{front_digits, value_of, is_hexadecimal, begins_with_zero, begins_with_digit, prefix_of, radix_of, number_value, number_end, suffix_at, suffix_of, fitting, with_suffix, number_of, size_of, IsSize, IsNumber}
 use Rattle.bm_base.specs.declared.size.NumFault.TheVariants.{NoDigits, TooLarge}
+use Rattle.bm_base.specs.Spelling.{SpellsIn, hexadecimal as in_hexadecimal, octal, decimal, SpellsNumber, SpellsSize, bare, suffixed}
+use Rattle.bm_base.proofs.SpellingLaws.{size-read}
 use Rattle.bm_base.specs.Width.{reach_of, root_table_of}
 use Rattle.bm_base.specs.declared.width.Width.TheVariants.{Bits46, Bits52}
 use Rattle.bm_base.specs.Zones.{zone_of}
@@ -156,3 +158,19 @@ whole_frames_examples : (frames_within (record { base = 0x0FFF; size = 0x2002 })
     × (frames_within second_page ≡ Some second_page) × (frames_within (record { base = 0x1001; size = 0x1FFE }) ≡ None)
     × (stretch_of 5 5 ≡ None)
 whole_frames_examples = (refl, refl, refl, refl)
+
+-- a number in each base; sizes with a suffix and without, where `E` is a digit in base 16; and too large a number
+spelled_numbers : SpellsIn 16 (codes "0x1E") 30 × SpellsIn 8 (codes "010") 8 × SpellsIn 10 (codes "640") 640 × SpellsNumber (codes "0") 0
+spelled_numbers = (
+  in_hexadecimal 120 49 (codes "E") (inl refl) (omega arith, (omega arith, tt)),
+  octal (codes "10") (omega arith, (omega arith, tt)),
+  decimal 54 (codes "40") (omega arith, (omega arith, (omega arith, tt))) (λ same. cc same),
+  record { radix = 8; number = octal [] tt; fits = omega arith },
+)
+
+spelled_sizes : SpellsSize (codes "640K") 655360 × SpellsSize (codes "0x1E") 30 × (SpellsSize (codes "16E") (2 ^ 64) → ⊥)
+spelled_sizes = (
+  suffixed 10 640 1024 75 (codes "640") spelled_numbers.2 refl refl (omega arith),
+  bare (codes "0x1E") 30 (record { radix = 16; number = spelled_numbers.0; fits = omega arith }),
+  λ spells. let is : size_of (codes "16E") ≡ Ok (2 ^ 64, 3) = size-read (codes "16E") (2 ^ 64) spells in cc is,
+)

@@ -2,4 +2,5 @@ pub mod AnswerLaws
 pub mod EachLaws
 mod Examples
 pub mod SizeLaws
+pub mod SpellingLaws
 pub mod TextLaws

@@ -6,6 +6,7 @@ pub mod OptionSteps
 pub mod PutsText
 pub mod ResultSteps
 pub mod Size
+pub mod Spelling
 pub mod Text
 pub mod Width
 pub mod Zones

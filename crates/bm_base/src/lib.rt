@@ -37,7 +37,7 @@ pub use frame::FRAME_SIZE;
 pub use memory::{Memory, push_within_capacity};
 pub use range::Range;
 pub use rounding::{round_down, round_up};
-pub use size::{NumFault, read_number, read_size, sizes_of_spelling};
+pub use size::{NumFault, read_number, read_size, sizes_are_spelled, sizes_of_spelling};
 pub use text::{put_dec, put_hex, put_text};
 pub use width::Width;
 pub use zone::{MAX_DMA_FRAME, MAX_DMA32_FRAME, Zone, zone_of};

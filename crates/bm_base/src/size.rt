@@ -1,10 +1,11 @@
 //! Numbers and sizes at the front of a text, as `memparse` (lib/cmdline.c) and `simple_strtoull` read them. The command
 //! line and the program's text inputs have them alike, so the one reader stands below both.
 
-ghost use Rattle.std.specs.Prelude.{◌≡◌, ℕ, Bool, false, List, ◌∷◌, ◌++◌, Ok, ◌+◌, ◌*◌, ◌^◌, ◌<◌, ◌≤◌, length, drop, IfSome, IfNone, IfOk, IsTrue, SomeIff};
+ghost use Rattle.std.specs.Prelude.{◌≡◌, ◌↔◌, ℕ, Bool, false, List, ◌∷◌, ◌++◌, Ok, ◌+◌, ◌*◌, ◌^◌, ◌<◌, ◌≤◌, length, drop, IfSome, IfNone, IfOk, IsTrue, SomeIff};
 ghost use Rattle.std.specs.Char.{is_digit};
 ghost use Rattle.std.specs.Fmt.{decimal};
-ghost use Rattle.bm_base.specs.Size.{front_digits, value_of, is_hexadecimal, begins_with_digit, radix_of, suffix_of, number_of, size_of, IsSize};
+ghost use Rattle.bm_base.specs.Size.{front_digits, value_of, is_hexadecimal, begins_with_digit, radix_of, suffix_of, number_of, size_of, IsSize, IsNumber};
+ghost use Rattle.bm_base.specs.Spelling.{SpellsNumber, SpellsSize};
 
 /// Why a text doesn't begin with a number.
 #[derive(Clone, Copy, Debug, PartialEq, Eq)]
@@ -54,6 +55,19 @@ pub fn sizes_of_spelling()
     ensures number { (text rest : List ℕ) (mark : ℕ) → is_digit mark 36 ≡ false →
         number_of (text ++ (mark ∷ rest)) ≡ number_of text }
     ensures decimal { (n : ℕ) → n < 2 ^ 64 → IsSize (decimal n) n }
+{}
+
+/// Law: a text is read as a size or a number exactly if it is spelled as one, base by base, with
+/// or without a suffix. What is read at the front of a text is spelled so up to there.
+pub fn sizes_are_spelled()
+    ensures size { (text : List ℕ) (n : ℕ) → IsSize text n ↔ SpellsSize text n }
+    ensures number { (text : List ℕ) (n : ℕ) → IsNumber text n ↔ SpellsNumber text n }
+    ensures front_size { (text : List ℕ) (n end : ℕ) → size_of text ≡ Ok (n, end) →
+        (front : List ℕ) × IsSize front n × (text ≡ front ++ drop end text)
+        × (length front ≡ end) }
+    ensures front_number { (text : List ℕ) (n end : ℕ) → number_of text ≡ Ok (n, end) →
+        (front : List ℕ) × IsNumber front n × (text ≡ front ++ drop end text)
+        × (length front ≡ end) }
 {}
 
 /// Whether the text begins with a decimal digit.
