@@ -2,6 +2,8 @@
 use Rattle.std.proofs.Common.{◌≡◌, true, false, Some, None, [], ◌∷◌, codes, refl, arith}
 use Rattle.text_words.specs.declared.separators.Separators.TheVariants.{CommandLine, Script, Byte}
 use Rattle.text_words.specs.Parts.{separates, quotes, quoted_behind, with_front, parts_from, parts_in, parts_behind, before, onto, cut}
+use Rattle.text_words.specs.Spelling.{HasWords, blank_first, word_alone, word_first, QuotesClose, Unquotes, no_mark, both_marks}
+use Rattle.text_words.proofs.SpellingLaws.{unquoted_exactly}
 use Rattle.text_words.specs.Words.{is_word, words_in, without_last, unquoted, IsClosed, IsWord}
 
 -- blanks separate, and of a command line the bytes 0x09 to 0x0D; 0x08, 0x0E and 0xA0 don't
@@ -117,3 +119,21 @@ spelled_word = record { some = omega arith; closed = closed_text }
 
 empty_is_no_word : IsWord CommandLine [] → ⊥
 empty_is_no_word word = let some = word.some in omega arith
+
+-- two words with blanks around them, the second with a blank in its quotation; and a quotation that stays open
+lying_words : HasWords CommandLine (codes " a \"b c\"") (codes "a" ∷ codes "\"b c\"" ∷ [])
+    × (QuotesClose CommandLine false (codes "a \"b") → ⊥)
+lying_words = (
+  blank_first 32 (codes "a \"b c\"") (codes "a" ∷ codes "\"b c\"" ∷ []) refl
+      (word_first (codes "a") 32 (codes "\"b c\"") (codes "\"b c\"" ∷ []) (record { some = omega arith; closed = (refl, refl) }) refl
+      (word_alone (codes "\"b c\"") (record { some = omega arith; closed = (refl, refl) }))),
+  λ close. cc close,
+)
+
+-- marks on both sides, on one, and at the end alone, where none is lost
+lost_marks : Unquotes (codes "\"a b\"") (codes "a b") × Unquotes (codes "\"a") (codes "a") × Unquotes (codes "a\"") (codes "a\"")
+lost_marks = (
+  both_marks (codes "a b"),
+  (unquoted_exactly (codes "\"a") (codes "a")).0 refl,
+  no_mark (codes "a\"") (λ rest same. cc same),
+)

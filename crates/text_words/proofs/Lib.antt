@@ -1,3 +1,4 @@
 pub mod PartsLaws
+pub mod SpellingLaws
 pub mod WordsLaws
 mod Examples

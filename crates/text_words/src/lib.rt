@@ -11,7 +11,8 @@
 //!
 //! The definitions are functions on lists of bytes (`specs/Parts.antt`, `specs/Words.antt`). Beside
 //! them stands the grammar as laws: what is spelled as words with separators between them is read
-//! as those words ([`words_of_spelling`], [`parts_of_spelling`]).
+//! as those words ([`words_of_spelling`], [`parts_of_spelling`]), and whatever is read as words
+//! lies in the text so ([`words_are_spelled`]).
 #![tactic(auto)]
 
 mod parts;
@@ -20,4 +21,4 @@ mod words;
 
 pub use parts::{before, cut, next_part, parts_of_spelling};
 pub use separators::Separators;
-pub use words::{next_word, unquoted, without_last, words_of_spelling};
+pub use words::{next_word, unquoted, without_last, words_are_spelled, words_of_spelling};

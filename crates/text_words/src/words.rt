@@ -4,10 +4,11 @@
 //! `next_arg` of lib/cmdline.c does both in one pass and writes into the line; here the text
 //! stays as it is, and a word is a slice of it.
 
-ghost use Rattle.std.specs.Prelude.{◌≡◌, ℕ, ◌<◌, ◌≤◌, true, List, [], ◌∷◌, ◌++◌, length, IfSome, IfNone};
+ghost use Rattle.std.specs.Prelude.{◌≡◌, ◌↔◌, ℕ, ◌<◌, ◌≤◌, true, false, List, [], ◌∷◌, ◌++◌, length, IfSome, IfNone};
 ghost use Rattle.text_words.specs.declared.separators.Separators.{Separators as SomeSeparators};
 ghost use Rattle.text_words.specs.Parts.{separates};
 ghost use Rattle.text_words.specs.Words.{words_in, unquoted as text_unquoted, without_last as text_without_last, IsWord};
+ghost use Rattle.text_words.specs.Spelling.{HasWords, QuotesClose, Unquotes};
 
 use crate::{Separators, next_part};
 
@@ -62,4 +63,12 @@ pub fn words_of_spelling()
         → words_in s (word ++ (b ∷ rest)) ≡ word ∷ words_in s rest }
     ensures last { (s : SomeSeparators) (word : List ℕ)
         → IsWord s word → words_in s word ≡ word ∷ [] }
+{}
+
+/// Law: the words of a text are exactly those that lie in it with separators around them, if each
+/// quotation closes. A text loses exactly the quotation marks that it has.
+pub fn words_are_spelled()
+    ensures words { (s : SomeSeparators) (text : List ℕ) (words : List (List ℕ)) →
+        QuotesClose s false text → words_in s text ≡ words ↔ HasWords s text words }
+    ensures unquoted { (text inner : List ℕ) → text_unquoted text ≡ inner ↔ Unquotes text inner }
 {}
