@@ -7,7 +7,8 @@ use Rattle.boot_options.specs.declared.crash.CrashPlain.{CrashPlain}
 use Rattle.boot_options.specs.declared.crash.CrashRange.{CrashRange}
 use Rattle.boot_options.specs.declared.crash.PlainRead.{PlainRead}
 use Rattle.boot_options.specs.declared.fault.OptionFault.TheVariants as faults
-use Rattle.boot_options.specs.Crash.{AreInOrder, High, IsPlain, Low, Plain, PlainForm, SpellRanges, SpellsEnd, SpellsRange, at_sign, colon, comma, crash_range_of, crash_ranges_of, crash_view, dash, end_of_range, form_of, in_order, is_above, joined, no_crash, one_range, place_of, plain_view, ranges_form, simple_form, suffix_form, suffixed, with_base, without_colon}
+use Rattle.boot_options.specs.Crash.{AreInOrder, High, IsPlain, Low, Plain, PlainForm, at_sign, colon, comma, crash_range_of, crash_ranges_of, crash_view, dash, end_of_range, form_of, in_order, is_above, no_crash, one_range, place_of, plain_view, ranges_form, simple_form, suffix_form, suffixed, with_base, without_colon}
+use Rattle.boot_options.specs.Spelling.{SpellRanges, SpellsEnd, SpellsRange, joined}
 use Rattle.boot_options.specs.Kept.{KeepsForm, KeepsLast, KeepsPlain, KeepsRanges, KeepsSame}
 use Rattle.boot_options.specs.Options.{NumaOff, OfCrash, OfMap, WantsMemory, chosen_by, crash_by, crash_of, high_said, last_said, low_said, options_of, plain_said, said_by}
 use Rattle.boot_options.specs.Reading.{KeepsCrash, LacksRanges, after, after_form, start}

@@ -16,7 +16,8 @@ use Rattle.text_words.specs.Words.{IsClosed}
 use Rattle.text_words.proofs.PartsLaws.{parts-one, parts-spelled}
 use Rattle.boot_options.specs.declared.crash.CrashRange.{CrashRange}
 use Rattle.boot_options.specs.MapOptions.{whole_size}
-use Rattle.boot_options.specs.Crash.{Form, High, Low, Plain, SpellRanges, SpellsEnd, SpellsRange, crash_range_of, crash_ranges_of, end_of_range, form_of, in_order, is_above, joined, place_of, simple_form, suffixed}
+use Rattle.boot_options.specs.Crash.{Form, High, Low, Plain, crash_range_of, crash_ranges_of, end_of_range, form_of, in_order, is_above, place_of, simple_form, suffixed}
+use Rattle.boot_options.specs.Spelling.{SpellRanges, SpellsEnd, SpellsForm, SpellsRange, a_base, by_ranges, high, joined, low, no_base, one_size}
 use Rattle.boot_options.proofs.SpellingLaws.{then-some, whole_size-end}
 
 -- the mark isn't in the text
@@ -24,15 +25,15 @@ abbrev pub Lacks : ℕ → List ℕ → Type 0
 Lacks mark [] = Unit {0}
 Lacks mark (b ∷ bs) = (b == mark ≡ false) × Lacks mark bs
 
-lacks-append : (mark : ℕ) (xs ys : List ℕ) → Lacks mark xs → Lacks mark ys → Lacks mark (xs ++ ys)
+pub lacks-append : (mark : ℕ) (xs ys : List ℕ) → Lacks mark xs → Lacks mark ys → Lacks mark (xs ++ ys)
 lacks-append mark [] ys front back = back
 lacks-append mark (x ∷ xs) ys front back = (front.0, lacks-append mark xs ys front.1 back)
 
-cut-none : (mark : ℕ) (text : List ℕ) → Lacks mark text → cut mark text ≡ None
+pub cut-none : (mark : ℕ) (text : List ℕ) → Lacks mark text → cut mark text ≡ None
 cut-none mark [] lacks = refl
 cut-none mark (b ∷ bs) lacks = rw (lacks.0, cut-none mark bs lacks.1) refl
 
-cut-mark : (mark : ℕ) (text rest : List ℕ) → Lacks mark text → cut mark (text ++ (mark ∷ rest)) ≡ Some (text, rest)
+pub cut-mark : (mark : ℕ) (text rest : List ℕ) → Lacks mark text → cut mark (text ++ (mark ∷ rest)) ≡ Some (text, rest)
 cut-mark mark [] rest lacks = rw (eq-eqb mark mark refl) refl
 cut-mark mark (b ∷ bs) rest lacks = rw (lacks.0, cut-mark mark bs rest lacks.1) refl
 
@@ -111,12 +112,12 @@ form-simple_form : (value : List ℕ) → Lacks 58 value → Lacks 44 value → 
 unfolding form_of
 form-simple_form value colons commas = rw (cut-none 58 value colons, cut-none 44 value commas) refl
 
-pub form-simple : (s : List ℕ) (n : ℕ) → IsSize s n → form_of s ≡ Some (one n 0)
+form-simple : (s : List ℕ) (n : ℕ) → IsSize s n → form_of s ≡ Some (one n 0)
 form-simple s n size =
     form-simple_form s (lacks-size s 58 n refl size) (lacks-size s 44 n refl size)
     ∙ simple-placed s s 0 n (place-none s (lacks-size s 64 n refl size)) size
 
-pub form-placed : (s b : List ℕ) (n base : ℕ) → IsSize s n → IsSize b base → form_of (s ++ (64 ∷ b)) ≡ Some (one n base)
+form-placed : (s b : List ℕ) (n base : ℕ) → IsSize s n → IsSize b base → form_of (s ++ (64 ∷ b)) ≡ Some (one n base)
 form-placed s b n base size at =
     form-simple_form (s ++ (64 ∷ b))
     (lacks-append 58 s (64 ∷ b) (lacks-size s 58 n refl size) (refl, lacks-size b 58 base refl at))
@@ -133,10 +134,10 @@ form-suffixed s name n form size colons is =
     rw (none, cut-mark 44 s name (lacks-size s 44 n refl size))
     (then-some (whole_size s) (λ size. suffixed name size) n (whole_size-end s n size) ∙ is)
 
-pub form-high : (s : List ℕ) (n : ℕ) → IsSize s n → form_of (s ++ codes ",high") ≡ Some (High n)
+form-high : (s : List ℕ) (n : ℕ) → IsSize s n → form_of (s ++ codes ",high") ≡ Some (High n)
 form-high s n size = form-suffixed s (codes "high") n (High n) size (refl, (refl, (refl, (refl, tt)))) refl
 
-pub form-low : (s : List ℕ) (n : ℕ) → IsSize s n → form_of (s ++ codes ",low") ≡ Some (Low n)
+form-low : (s : List ℕ) (n : ℕ) → IsSize s n → form_of (s ++ codes ",low") ≡ Some (Low n)
 form-low s n size = form-suffixed s (codes "low") n (Low n) size (refl, (refl, (refl, tt))) refl
 
 -- a range
@@ -194,7 +195,7 @@ range-spelled text r spells =
     ∙ rw end.1 refl
 
 -- ranges with commas between
-lacks-closed : (text : List ℕ) → Lacks 44 text → IsClosed (Byte 44) false text
+pub lacks-closed : (text : List ℕ) → Lacks 44 text → IsClosed (Byte 44) false text
 lacks-closed [] lacks = refl
 lacks-closed (b ∷ bs) lacks = (lacks.0, lacks-closed bs lacks.1)
 
@@ -247,16 +248,26 @@ form-ranges_form value front base rs colon place ranges =
     (front, base) place
     ∙ then-some (crash_ranges_of (parts_in (Byte 44) front)) (λ ranges. Some (Plain (record { ranges = ranges; base = base }))) rs ranges)
 
-pub form-ranges : (text : List ℕ) (texts : List (List ℕ)) (rs : List CrashRange) → SpellRanges (text ∷ texts) rs
+form-ranges : (text : List ℕ) (texts : List (List ℕ)) (rs : List CrashRange) → SpellRanges (text ∷ texts) rs
     → form_of (joined (text ∷ texts)) ≡ Some (Plain (record { ranges = rs; base = 0 }))
 form-ranges text texts rs spell =
     let whole : joined (text ∷ texts) ++ [] ≡ joined (text ∷ texts) = append-nil (joined (text ∷ texts)) in
     form-ranges_form (joined (text ∷ texts)) (joined (text ∷ texts)) 0 rs (rw whole at (has-colon text texts rs [] spell))
     (place-none (joined (text ∷ texts)) (lacks-joined (text ∷ texts) rs spell)) (ranges-spelled text texts rs spell)
 
-pub form-ranges-placed : (text : List ℕ) (texts : List (List ℕ)) (rs : List CrashRange) (b : List ℕ) (base : ℕ)
+form-ranges-placed : (text : List ℕ) (texts : List (List ℕ)) (rs : List CrashRange) (b : List ℕ) (base : ℕ)
     → SpellRanges (text ∷ texts) rs → IsSize b base
     → form_of (joined (text ∷ texts) ++ (64 ∷ b)) ≡ Some (Plain (record { ranges = rs; base = base }))
 form-ranges-placed text texts rs b base spell size =
     form-ranges_form (joined (text ∷ texts) ++ (64 ∷ b)) (joined (text ∷ texts)) base rs (has-colon text texts rs (64 ∷ b) spell)
     (place-base (joined (text ∷ texts)) b base (lacks-joined (text ∷ texts) rs spell) size) (ranges-spelled text texts rs spell)
+
+-- each form that is spelled is read
+pub form-read : (value : List ℕ) (form : Form) → SpellsForm value form → form_of value ≡ Some form
+form-read value form (one_size s _ size _ is no_base) = rw (append-nil s) (form-simple s size is)
+form-read value form (one_size s _ size base is (a_base b _ at)) = form-placed s b size base is at
+form-read value form (by_ranges text _ texts ranges _ spell no_base) =
+    rw (append-nil (joined (text ∷ texts))) (form-ranges text texts ranges spell)
+form-read value form (by_ranges text _ texts ranges base spell (a_base b _ at)) = form-ranges-placed text texts ranges b base spell at
+form-read value form (high s size is) = form-high s size is
+form-read value form (low s size is) = form-low s size is

@@ -12,7 +12,7 @@ use Rattle.boot_options.specs.declared.map_option.MapOption.{MapOption}
 use Rattle.boot_options.specs.declared.map_option.MapOption.TheVariants.{ExactMap, Adding, Other}
 use Rattle.boot_options.specs.declared.reading.Reading.{Reading}
 use Rattle.boot_options.specs.declared.reading.UserMap.{UserMap}
-use Rattle.boot_options.specs.MapOptions.{number_and_rest, front_size, front_number, at_end, whole_size, range_at, unless_empty, range_above, ram_above, adding_option, small_kind, kind_behind, retyped_to, retyped_from, retyped, changed, by_mark, sized_map_option, map_option_of, ram_up_to, mem_of, Spell, SpellsType}
+use Rattle.boot_options.specs.MapOptions.{number_and_rest, front_size, front_number, at_end, whole_size, range_at, unless_empty, range_above, ram_above, adding_option, small_kind, kind_behind, retyped_to, retyped_from, retyped, changed, by_mark, sized_map_option, map_option_of, ram_up_to, mem_of}
 use Rattle.boot_options.specs.Crash.{crash_view, no_crash}
 use Rattle.boot_options.specs.Kept.{KeepsItems}
 use Rattle.boot_options.specs.Options.{raw_line, is_closed, checked_line, line_of, Said, OfMap, NumaOff, AddEfi, map_options_of, memmap_of, of_one, numa_of, or_fault, said_by, at_cut, name_value_of, until_end, option_words, said_from, numbered, all_map_options, edit_of, edits_of, is_efi_added, is_numa_off, count_adding, or_here, last_exact, Chosen, chosen, chosen_by, unless_incomplete, with_user_map, options_of, HasRange, HaveRanges, IsNumbered}
@@ -143,18 +143,6 @@ mem_values = (refl, refl, refl, refl, refl, refl, refl)
 
 ends_of_ram : (ram_up_to 1 ≡ Some (Other (Some (Remove (range 1 (2 ^ 64 - 2)) 1)))) × (ram_up_to 0 ≡ None)
 ends_of_ram = (refl, refl)
-
--- texts that spell a range, the last byte too, but no empty range; and a type, which isn't 0
-spelled_ranges : Spell (codes "1M") (codes "0x200000") (range 0x200000 0x100000)
-    × Spell (codes "1") (codes "0xFFFFFFFFFFFFFFFE") (range (2 ^ 64 - 2) 1) × (Spell (codes "0") (codes "1M") (range 0x100000 0) → ⊥)
-spelled_ranges = (
-  record { size = refl; base = refl; some = omega arith; ends = omega arith },
-  record { size = refl; base = refl; some = omega arith; ends = omega arith },
-  λ spelled. let some = spelled.some in omega arith,
-)
-
-spelled_types : SpellsType (codes "12") 12 × (SpellsType (codes "0") 0 → ⊥)
-spelled_types = (record { number = refl; above = omega arith; small = omega arith }, λ spelled. let above = spelled.above in omega arith)
 
 -- the line ends before the first zero byte, and one newline at its end doesn't count
 raw_lines : (raw_line (codes "quiet\n") ≡ codes "quiet") × (raw_line (113 ∷ 10 ∷ 10 ∷ 0 ∷ 120 ∷ []) ≡ 113 ∷ 10 ∷ []) × (raw_line [] ≡ [])

@@ -1,8 +1,9 @@
 -- What is spelled as a map option of `memmap=` is read as that map option.
-use Rattle.std.proofs.Common.{◌≡◌, ◌≢◌, ℕ, ◌+◌, ◌^◌, ◌<◌, ◌==◌, if◌then◌else◌, Bool, true, false, Option, Some, List, [], ◌∷◌, ◌++◌, length, drop, refl, ap, ◌∙◌, eq-eqb, codes, Result, Ok, Err, arith}
+use Rattle.std.proofs.Common.{◌≡◌, ℕ, ◌+◌, ◌^◌, ◌<◌, ◌==◌, if◌then◌else◌, Bool, true, false, Option, Some, List, [], ◌∷◌, ◌++◌, length, drop, refl, ◌∙◌, eq-eqb, codes, Result, Ok, Err, arith}
 use Rattle.std.proofs.Math.Seq.{drop-append_seam, drop-length}
 use Rattle.bm_base.specs.declared.size.NumFault.TheVariants.{NoDigits}
 use Rattle.std.proofs.lemmas.Bool.{lt-ltb, ne_eqb}
+use Rattle.std.proofs.lemmas.List.{append-nil}
 use Rattle.std.proofs.lemmas.Bool.Decides.{nat_tests}
 use Rattle.std.specs.Char.{is_digit}
 use Rattle.std.specs.Str.{bytes_eq}
@@ -10,11 +11,12 @@ use Rattle.bm_base.specs.Extent.{Extent}
 use Rattle.bm_base.specs.declared.size.NumFault.{NumFault}
 use Rattle.bm_base.specs.Size.{begins_with_digit, number_value, number_end, suffix_of, with_suffix, size_of, number_of, IsSize, IsNumber}
 use Rattle.bm_base.proofs.SizeLaws.{size_of-mark, number_of-mark}
-use Rattle.e820_model.specs.declared.edit.Edit.{Edit}
-use Rattle.e820_model.specs.declared.edit.Edit.TheVariants.{Add, Remove, RemoveAll, Change}
+use Rattle.e820_model.specs.declared.edit.Edit.TheVariants.{Add}
 use Rattle.bm_base.specs.OptionSteps.{◌>>=◌}
 use Rattle.boot_options.specs.declared.map_option.MapOption.TheVariants.{Adding, Other}
-use Rattle.boot_options.specs.MapOptions.{number_and_rest, front_size, front_number, at_end, whole_size, range_at, unless_empty, adding_option, small_kind, kind_behind, retyped, by_mark, map_option_of, Spell, SpellsType}
+use Rattle.boot_options.specs.MapOptions.{number_and_rest, front_size, front_number, at_end, whole_size, range_at, unless_empty, adding_option, small_kind, kind_behind, retyped, by_mark, map_option_of, ram_above}
+use Rattle.boot_options.specs.declared.map_option.MapOption.{MapOption}
+use Rattle.boot_options.specs.Spelling.{SpellsPlace, SpellsType, a_type, SpellsNoType, nothing, type_zero, SpellsMapOption, exactmap, ram, acpi, reserved, persistent, size_alone, every_type, one_type, new_type, other_type}
 
 -- the later step, where the earlier one gives a value
 pub then-some : {A B : Type 0} (o : Option A) (f : A → Option B) (x : A) → o ≡ Some x → (o >>= f) ≡ f x
@@ -56,14 +58,15 @@ begins_with_digit-size s n size = by_test (begins_with_digit s) size
     by_test true is = refl
     by_test false is = cc
 
-pub exactmap-digit : (b : ℕ) (bs : List ℕ) → is_digit b 10 ≡ true → bytes_eq (b ∷ bs) (codes "exactmap") ≡ false
-exactmap-digit b bs digit =
-    let other : b == 101 ≡ false = ne_eqb b 101 (λ same. let letter : is_digit 101 10 ≡ true = rw same at digit in cc) in
-    rw other refl
+pub begins-other : (text : List ℕ) (c : ℕ) (cs : List ℕ) → begins_with_digit text ≡ true → is_digit c 10 ≡ false
+    → bytes_eq text (c ∷ cs) ≡ false
+begins-other [] c cs begins letter = cc
+begins-other (b ∷ bs) c cs begins letter =
+    let other : b == c ≡ false = ne_eqb b c (λ same. let digit : is_digit c 10 ≡ true = rw same at begins in cc) in rw other refl
 
 pub exactmap-other : (s rest : List ℕ) → begins_with_digit s ≡ true → bytes_eq (s ++ rest) (codes "exactmap") ≡ false
 exactmap-other [] rest begins = cc
-exactmap-other (b ∷ bs) rest begins = exactmap-digit b (bs ++ rest) begins
+exactmap-other (b ∷ bs) rest begins = begins-other (b ∷ (bs ++ rest)) 101 (codes "xactmap") begins refl
 
 -- the size in front of a mark
 pub map_option-mark : (s : List ℕ) (n mark : ℕ) (rest : List ℕ) → IsSize s n → is_digit mark 36 ≡ false
@@ -76,20 +79,16 @@ map_option-mark s n mark rest size is =
 pub range_at-ends : (range : Extent) → range.base + range.size < 2 ^ 64 → range_at range.base range.size ≡ Some range
 range_at-ends range ends = rw (lt-ltb (range.base + range.size) (2 ^ 64) ends) refl
 
-pub unless_empty-some : (range : Extent) (e : Edit) → 0 < range.size → unless_empty range e ≡ Some e
-unless_empty-some range e some = rw (lt-ltb 0 range.size some) refl
-
-pub adding_option-spelled : (kind : ℕ) (s a : List ℕ) (range : Extent) → Spell s a range
-    → adding_option kind range.size a ≡ Some (Adding (Some (Add range kind)))
+pub adding_option-spelled : (kind : ℕ) (s a : List ℕ) (range : Extent) → SpellsPlace s a range
+    → adding_option kind range.size a ≡ Some (Adding (unless_empty range (Add range kind)))
 adding_option-spelled kind s a range spell =
     then-some (whole_size a) _ range.base (whole_size-end a range.base spell.base)
     ∙ then-some (range_at range.base range.size) (λ r. Some (Adding (unless_empty r (Add r kind)))) range (range_at-ends range spell.ends)
-    ∙ ap (λ (e : Option Edit). Some (Adding e)) (unless_empty-some range (Add range kind) spell.some)
 
 -- a mark of an adding form, which means that type
 pub map_option-adding : (s a : List ℕ) (range : Extent) (mark kind : ℕ) → is_digit mark 36 ≡ false
-    → by_mark range.size (mark ∷ a) ≡ adding_option kind range.size a → Spell s a range
-    → map_option_of (s ++ (mark ∷ a)) ≡ Some (Adding (Some (Add range kind)))
+    → by_mark range.size (mark ∷ a) ≡ adding_option kind range.size a → SpellsPlace s a range
+    → map_option_of (s ++ (mark ∷ a)) ≡ Some (Adding (unless_empty range (Add range kind)))
 map_option-adding s a range mark kind is means spell =
     map_option-mark s range.size mark a spell.size is ∙ means ∙ adding_option-spelled kind s a range spell
 
@@ -97,63 +96,107 @@ map_option-adding s a range mark kind is means spell =
 pub small_kind-below : (n : ℕ) (rest : List ℕ) → n < 2 ^ 32 → small_kind (n, rest) ≡ Some (n, rest)
 small_kind-below n rest is = rw (lt-ltb n (2 ^ 32) is) refl
 
--- a type behind its mark, before another mark or at the end
-pub kind_behind-end : (mark : ℕ) (text : List ℕ) (kind : ℕ) → SpellsType text kind → kind_behind mark (mark ∷ text) ≡ Some (kind, [])
-kind_behind-end mark text kind spells =
-    rw (eq-eqb mark mark refl)
-    (then-some (front_number text) small_kind (kind, []) (front_number-end text kind spells.number) ∙ small_kind-below kind [] spells.small)
+-- `S` alone
+pub map_option-above : (s : List ℕ) (size : ℕ) → IsSize s size → map_option_of s ≡ Some (Other (ram_above size))
+map_option-above s size is =
+    let other : bytes_eq s (codes "exactmap") ≡ false = rw (append-nil s) at (exactmap-other s [] (begins_with_digit-size s size is)) in
+    rw other (then-some (front_size s) (λ front. by_mark front.0 front.1) (size, []) (front_size-end s size is))
 
-pub kind_behind-mark : (mark : ℕ) (text : List ℕ) (kind next : ℕ) (rest : List ℕ) → SpellsType text kind → is_digit next 36 ≡ false
-    → kind_behind mark (mark ∷ (text ++ (next ∷ rest))) ≡ Some (kind, next ∷ rest)
-kind_behind-mark mark text kind next rest spells is =
-    rw (eq-eqb mark mark refl)
-    (then-some (front_number (text ++ (next ∷ rest))) small_kind (kind, next ∷ rest)
-    (front_number-mark text kind next rest spells.number is)
-    ∙ small_kind-below kind (next ∷ rest) spells.small)
+-- nothing, or a byte that is no digit and no letter and what stands behind it
+abbrev pub IsMarked : List ℕ → Type 0
+IsMarked [] = Unit {0}
+IsMarked (b ∷ bs) = is_digit b 36 ≡ false
 
--- the forms with `%`: the size, the address, the types, and nothing behind them
-pub map_option-changed : (s place tail rest : List ℕ) (range : Extent) (from to : ℕ) → IsSize s range.size
-    → range.base + range.size < 2 ^ 64
-    → front_size place ≡ Some (range.base, tail) → kind_behind 45 tail ≡ Some (from, rest) → kind_behind 43 rest ≡ Some (to, [])
-    → map_option_of (s ++ (37 ∷ place)) ≡ retyped range from to
-map_option-changed s place tail rest range from to size ends base is_from is_to =
-    map_option-mark s range.size 37 place size refl
-    ∙ then-some (front_size place) _ (range.base, tail) base
-    ∙ then-some (range_at range.base range.size) _ range (range_at-ends range ends)
-    ∙ then-some (kind_behind 45 tail) _ (from, rest) is_from
-    ∙ then-some (kind_behind 43 rest) (λ to. at_end to.1 (retyped range from to.0)) (to, []) is_to
+pub front_size-marked : (s : List ℕ) (n : ℕ) (rest : List ℕ) → IsSize s n → IsMarked rest → front_size (s ++ rest) ≡ Some (n, rest)
+front_size-marked s n [] size marked = rw (append-nil s) (front_size-end s n size)
+front_size-marked s n (b ∷ bs) size marked = front_size-mark s n b bs size marked
+
+pub front_number-marked : (s : List ℕ) (n : ℕ) (rest : List ℕ) → IsNumber s n → IsMarked rest
+    → front_number (s ++ rest) ≡ Some (n, rest)
+front_number-marked s n [] number marked = rw (append-nil s) (front_number-end s n number)
+front_number-marked s n (b ∷ bs) number marked = front_number-mark s n b bs number marked
+
+-- a type with its mark, 0 where it counts as not written
+pub data IsKind (mark : ℕ) : List ℕ → ℕ → Type 0 where
+  not_there : IsKind mark [] 0
+  there : (text : List ℕ) (kind : ℕ) → IsNumber text kind → kind < 2 ^ 32 → IsKind mark (mark ∷ text) kind
+
+pub type-kind : (mark : ℕ) (text : List ℕ) (kind : ℕ) → SpellsType (mark ∷ []) text kind → IsKind mark text kind
+type-kind mark text kind (a_type number _ is above small) = there number kind is small
+
+pub no_type-kind : (mark : ℕ) (text : List ℕ) → SpellsNoType (mark ∷ []) text → IsKind mark text 0
+no_type-kind mark text nothing = not_there
+no_type-kind mark text (type_zero number is) = there number 0 is (omega arith)
+
+-- such a type before what doesn't begin with its mark
+abbrev pub BeginsOther : ℕ → List ℕ → Type 0
+BeginsOther mark [] = Unit {0}
+BeginsOther mark (b ∷ bs) = b == mark ≡ false
+
+pub kind_behind-kind : (mark : ℕ) (text : List ℕ) (kind : ℕ) (rest : List ℕ) → IsKind mark text kind → IsMarked rest → BeginsOther mark rest
+    → kind_behind mark (text ++ rest) ≡ Some (kind, rest)
+kind_behind-kind mark text kind rest not_there marked other = absent rest other
+  where
+    absent : (rest : List ℕ) → BeginsOther mark rest → kind_behind mark rest ≡ Some (0, rest)
+    absent [] other = refl
+    absent (b ∷ bs) other = rw other refl
+kind_behind-kind mark text kind rest (there number _ is small) marked other =
+    rw (eq-eqb mark mark refl)
+    (then-some (front_number (number ++ rest)) small_kind (kind, rest) (front_number-marked number kind rest is marked)
+    ∙ small_kind-below kind rest small)
+
+kind-marked : (mark : ℕ) (text : List ℕ) (kind : ℕ) → is_digit mark 36 ≡ false → IsKind mark text kind → IsMarked text
+kind-marked mark text kind is not_there = tt
+kind-marked mark text kind is (there _ _ number small) = is
+
+kind-other : (text : List ℕ) (kind : ℕ) → IsKind 43 text kind → BeginsOther 45 text
+kind-other text kind not_there = tt
+kind-other text kind (there _ _ number small) = refl
+
+both-marked : (f t : List ℕ) (from to : ℕ) → IsKind 45 f from → IsKind 43 t to → IsMarked (f ++ t)
+both-marked f t from to not_there to_is = kind-marked 43 t to refl to_is
+both-marked f t from to (there _ _ number small) to_is = refl
+
+-- the forms with `%`
+pub map_option-changed : (s a f t : List ℕ) (range : Extent) (from to : ℕ) → SpellsPlace s a range → IsKind 45 f from → IsKind 43 t to
+    → map_option_of (s ++ (37 ∷ (a ++ (f ++ t)))) ≡ retyped range from to
+map_option-changed s a f t range from to spell from_is to_is =
+    map_option-mark s range.size 37 (a ++ (f ++ t)) spell.size refl
+    ∙ then-some (front_size (a ++ (f ++ t))) _ (range.base, f ++ t)
+    (front_size-marked a range.base (f ++ t) spell.base (both-marked f t from to from_is to_is))
+    ∙ then-some (range_at range.base range.size) _ range (range_at-ends range spell.ends)
+    ∙ then-some (kind_behind 45 (f ++ t)) _ (from, t)
+    (kind_behind-kind 45 f from t from_is (kind-marked 43 t to refl to_is) (kind-other t to to_is))
+    ∙ then-some (kind_behind 43 t) (λ kind. at_end kind.1 (retyped range from kind.0)) (to, [])
+    (rw (append-nil t) at (kind_behind-kind 43 t to [] to_is tt tt))
 
 pub other_than_zero : (n : ℕ) → 0 < n → n == 0 ≡ false
-other_than_zero n above = grind (arith, nat_tests, above)
+other_than_zero n above = grind (arith, nat_tests)
 
-pub map_option-every_type : (s a : List ℕ) (range : Extent) → Spell s a range
-    → map_option_of (s ++ (37 ∷ a)) ≡ Some (Other (Some (RemoveAll range)))
-map_option-every_type s a range spell =
-    map_option-changed s a [] [] range 0 0 spell.size spell.ends (front_size-end a range.base spell.base) refl refl
-    ∙ ap (λ (e : Option Edit). Some (Other e)) (unless_empty-some range (RemoveAll range) spell.some)
+type-above : (mark text : List ℕ) (kind : ℕ) → SpellsType mark text kind → 0 < kind
+type-above mark text kind (a_type _ _ is above small) = above
 
-pub map_option-one_type : (s a f : List ℕ) (range : Extent) (from : ℕ) → Spell s a range → SpellsType f from
-    → map_option_of (s ++ (37 ∷ (a ++ (45 ∷ f)))) ≡ Some (Other (Some (Remove range from)))
-map_option-one_type s a f range from spell spells =
-    map_option-changed s (a ++ (45 ∷ f)) (45 ∷ f) [] range from 0 spell.size spell.ends (front_size-mark a range.base 45 f spell.base refl)
-    (kind_behind-end 45 f from spells) refl
-    ∙ rw (other_than_zero from spells.above)
-    (ap (λ (e : Option Edit). Some (Other e)) (unless_empty-some range (Remove range from) spell.some))
-
-pub map_option-new_type : (s a t : List ℕ) (range : Extent) (to : ℕ) → Spell s a range → SpellsType t to
-    → map_option_of (s ++ (37 ∷ (a ++ (43 ∷ t)))) ≡ Some (Adding (Some (Add range to)))
-map_option-new_type s a t range to spell spells =
-    map_option-changed s (a ++ (43 ∷ t)) (43 ∷ t) (43 ∷ t) range 0 to spell.size spell.ends
-    (front_size-mark a range.base 43 t spell.base refl) refl (kind_behind-end 43 t to spells)
-    ∙ rw (other_than_zero to spells.above)
-    (ap (λ (e : Option Edit). Some (Adding e)) (unless_empty-some range (Add range to) spell.some))
-
-pub map_option-other_type : (s a f t : List ℕ) (range : Extent) (from to : ℕ)
-    → Spell s a range → SpellsType f from → SpellsType t to → from ≢ to
-    → map_option_of (s ++ (37 ∷ (a ++ (45 ∷ (f ++ (43 ∷ t)))))) ≡ Some (Other (Some (Change range from to)))
-map_option-other_type s a f t range from to spell is_from is_to differ =
-    map_option-changed s (a ++ (45 ∷ (f ++ (43 ∷ t)))) (45 ∷ (f ++ (43 ∷ t))) (43 ∷ t) range from to spell.size spell.ends
-    (front_size-mark a range.base 45 (f ++ (43 ∷ t)) spell.base refl)
-    (kind_behind-mark 45 f from 43 t is_from refl) (kind_behind-end 43 t to is_to)
-    ∙ rw (other_than_zero from is_from.above, other_than_zero to is_to.above, ne_eqb from to differ)
-    (ap (λ (e : Option Edit). Some (Other e)) (unless_empty-some range (Change range from to) spell.some))
+-- what is spelled is read
+pub map_option-read : (text : List ℕ) (option : MapOption) → SpellsMapOption text option → map_option_of text ≡ Some option
+map_option-read text option exactmap = refl
+map_option-read text option (ram s a range spell) = map_option-adding s a range 64 1 refl refl spell
+map_option-read text option (acpi s a range spell) = map_option-adding s a range 35 3 refl refl spell
+map_option-read text option (reserved s a range spell) = map_option-adding s a range 36 2 refl refl spell
+map_option-read text option (persistent s a range spell) = map_option-adding s a range 33 12 refl refl spell
+map_option-read text option (size_alone _ size is) = map_option-above text size is
+map_option-read text option (every_type s a f t range spell from to) =
+    map_option-changed s a f t range 0 0 spell (no_type-kind 45 f from) (no_type-kind 43 t to)
+map_option-read text option (one_type s a f t range from spell is_from to) =
+    map_option-changed s a f t range from 0 spell (type-kind 45 f from is_from) (no_type-kind 43 t to)
+    ∙ rw (other_than_zero from (type-above (codes "-") f from is_from)) refl
+map_option-read text option (new_type s a f t range to spell from is_to) =
+    map_option-changed s a f t range 0 to spell (no_type-kind 45 f from) (type-kind 43 t to is_to)
+    ∙ rw (other_than_zero to (type-above (codes "+") t to is_to)) refl
+map_option-read text option (other_type s a f t range from to spell is_from is_to differ) =
+    map_option-changed s a f t range from to spell (type-kind 45 f from is_from) (type-kind 43 t to is_to)
+    ∙ rw (
+      other_than_zero from (type-above (codes "-") f from is_from),
+      other_than_zero to (type-above (codes "+") t to is_to),
+      ne_eqb from to differ,
+    )
+    refl

@@ -1,10 +1,9 @@
 -- What the value of `crashkernel=` says (`parse_crashkernel_simple`, `parse_crashkernel_mem` and
 -- `parse_crashkernel_suffix` of kernel/crash_core.c). None: the value is malformed.
-use Rattle.std.specs.Prelude.{◌≡◌, ℕ, ◌<◌, ◌++◌, Bool, true, is_some, nat_lt, if◌then◌else◌, Option, Some, None, IfSome, List, [], ◌∷◌, length, codes}
+use Rattle.std.specs.Prelude.{ℕ, ◌<◌, Bool, true, is_some, nat_lt, if◌then◌else◌, Option, Some, None, IfSome, List, [], ◌∷◌, length, codes}
 use Rattle.std.specs.Option.{option_map}
 use Rattle.std.specs.Str.{bytes_eq}
 use Rattle.bm_base.specs.OptionSteps.{◌>>=◌}
-use Rattle.bm_base.specs.Size.{IsSize}
 use Rattle.text_words.specs.declared.separators.Separators.TheVariants.{Byte}
 use Rattle.text_words.specs.Parts.{cut, parts_in}
 use Rattle.boot_options.specs.declared.crash.CrashRange.{CrashRange}
@@ -137,30 +136,3 @@ AreInOrder (r ∷ rs) = IfSome r.end (λ end. r.start < end) × AreInOrder rs
 pub record IsPlain (form : PlainForm) : Type 0 where
   pub some : 0 < length form.ranges
   pub order : AreInOrder form.ranges
-
--- how the end of a range is spelled, and a range
-abbrev pub SpellsEnd : List ℕ → Option ℕ → ℕ → Type 0
-SpellsEnd text None start = text ≡ []
-SpellsEnd text (Some end) start = IsSize text end × (start < end)
-
-pub record SpellsRange (spelled : List ℕ) (r : CrashRange) : Type 0 where
-  pub start_text : List ℕ
-  pub end_text : List ℕ
-  pub size_text : List ℕ
-  pub text : spelled ≡ start_text ++ (codes "-" ++ (end_text ++ (codes ":" ++ size_text)))
-  pub start : IsSize start_text r.start
-  pub end : SpellsEnd end_text r.end r.start
-  pub size : IsSize size_text r.size
-
--- each text spells its range
-abbrev pub SpellRanges : List (List ℕ) → List CrashRange → Type 0
-SpellRanges [] [] = Unit {0}
-SpellRanges [] (r ∷ rs) = ⊥
-SpellRanges (text ∷ texts) [] = ⊥
-SpellRanges (text ∷ texts) (r ∷ rs) = SpellsRange text r × SpellRanges texts rs
-
--- the texts with commas between
-abbrev pub joined : List (List ℕ) → List ℕ
-joined [] = []
-joined (text ∷ []) = text
-joined (text ∷ next ∷ texts) = text ++ (comma ∷ joined (next ∷ texts))

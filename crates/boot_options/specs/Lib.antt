@@ -3,3 +3,4 @@ pub mod Kept
 pub mod MapOptions
 pub mod Options
 pub mod Reading
+pub mod Spelling

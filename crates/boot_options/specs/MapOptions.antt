@@ -1,10 +1,10 @@
 -- What the value of `mem=` and one map option of `memmap=` say of the map (`parse_memopt` and
 -- `parse_memmap_one` of arch/x86/kernel/e820.c). None: the value is malformed.
-use Rattle.std.specs.Prelude.{ℕ, ◌+◌, ◌-◌, ◌^◌, ◌==◌, ◌<◌, nat_lt, if◌then◌else◌, Option, Some, None, List, [], ◌∷◌, drop, codes, Result, Ok, Err}
+use Rattle.std.specs.Prelude.{ℕ, ◌+◌, ◌-◌, ◌^◌, ◌==◌, nat_lt, if◌then◌else◌, Option, Some, None, List, [], ◌∷◌, drop, codes, Result, Ok, Err}
 use Rattle.std.specs.Str.{bytes_eq}
 use Rattle.bm_base.specs.Extent.{Extent}
 use Rattle.bm_base.specs.OptionSteps.{◌>>=◌}
-use Rattle.bm_base.specs.Size.{size_of, number_of, IsSize, IsNumber}
+use Rattle.bm_base.specs.Size.{size_of, number_of}
 use Rattle.bm_base.specs.declared.size.NumFault.{NumFault}
 use Rattle.e820_model.specs.declared.types.TheConstants.{E820_TYPE_RAM, E820_TYPE_RESERVED, E820_TYPE_ACPI, E820_TYPE_PRAM}
 use Rattle.e820_model.specs.declared.edit.Edit.{Edit}
@@ -140,16 +140,3 @@ ram_up_to size = if size == 0 then None else Some (Other (ram_above size))
 -- the value of `mem=`; `nopentium` does nothing
 abbrev pub mem_of : List ℕ → Option MapOption
 mem_of text = if bytes_eq text (codes "nopentium") then Some (Other None) else whole_size text >>= ram_up_to
-
--- the two texts are the size and the address of the range, which isn't empty
-pub record Spell (s a : List ℕ) (range : Extent) : Type 0 where
-  pub size : IsSize s range.size
-  pub base : IsSize a range.base
-  pub some : 0 < range.size
-  pub ends : range.base + range.size < 2 ^ 64
-
--- the text is a type above 0
-pub record SpellsType (text : List ℕ) (kind : ℕ) : Type 0 where
-  pub number : IsNumber text kind
-  pub above : 0 < kind
-  pub small : kind < 2 ^ 32

@@ -3,17 +3,16 @@
 //! There are three forms (kernel/crash_core.c): the plain one, whose ranges make the size depend on how much memory
 //! there is, and `S,high` and `S,low`, which ask for a part above and a part below 4 GiB. One value at a time is read
 //! here, and a malformed one is `None`. Memory is taken for ranges alone; where it runs out the value is still read to
-//! its end, so that a malformed one is never told as want of memory. At the end stand the laws: what is spelled in one
-//! of the forms is read as that form.
+//! its end, so that a malformed one is never told as want of memory. At the end stands the law:
+//! a value is read as a form exactly if it is spelled so.
 
-ghost use Rattle.std.specs.Prelude.{◌≡◌, ℕ, List, ◌∷◌, [], ◌++◌, codes, Some};
+ghost use Rattle.std.specs.Prelude.{◌≡◌, ◌↔◌, ℕ, List, ◌∷◌, [], Some};
 ghost use Rattle.std.specs.Option.{option_map};
-ghost use Rattle.bm_base.specs.Size.{IsSize};
 ghost use Rattle.text_words.specs.declared.separators.Separators.TheVariants.{Byte as any_byte};
 ghost use Rattle.text_words.specs.Parts.{parts_in};
-ghost use Rattle.boot_options.specs.declared.crash.CrashRange.{CrashRange as AnyRange};
-ghost use Rattle.boot_options.specs.Crash.{High, Low, Plain, SpellRanges, joined, one_range, comma, crash_range_of, crash_ranges_of, end_of_range, form_of, place_of as place_at, ranges_form, simple_form, suffix_form};
+ghost use Rattle.boot_options.specs.Crash.{Form, comma, crash_range_of, crash_ranges_of, end_of_range, form_of, place_of as place_at, ranges_form, simple_form, suffix_form};
 ghost use Rattle.boot_options.specs.Kept.{KeepsItems, KeepsForm, KeepsRanges};
+ghost use Rattle.boot_options.specs.Spelling.{SpellsForm};
 
 use crate::kept::keep;
 use crate::map_option::read_whole_size;
@@ -183,21 +182,7 @@ fn read_end(text: &[u8]) -> Option<Option<u64>>
     Some(Some(read_whole_size(text)?))
 }
 
-/// A law: what is spelled as one of the forms is read as that form.
-pub fn crash_forms_of_spelling()
-    ensures one { (s : List ℕ) (size : ℕ) → IsSize s size →
-        form_of s ≡ Some (Plain (one_range size 0)) }
-    ensures one_placed { (s b : List ℕ) (size base : ℕ) → IsSize s size → IsSize b base →
-        form_of (s ++ (codes "@" ++ b)) ≡ Some (Plain (one_range size base)) }
-    ensures ranges { (text : List ℕ) (texts : List (List ℕ)) (ranges : List AnyRange) →
-        SpellRanges (text ∷ texts) ranges →
-        form_of (joined (text ∷ texts)) ≡ Some (Plain (record { ranges = ranges; base = 0 })) }
-    ensures ranges_placed { (text b : List ℕ) (texts : List (List ℕ)) (ranges : List AnyRange)
-        (base : ℕ) → SpellRanges (text ∷ texts) ranges → IsSize b base →
-        form_of (joined (text ∷ texts) ++ (codes "@" ++ b))
-        ≡ Some (Plain (record { ranges = ranges; base = base })) }
-    ensures high { (s : List ℕ) (size : ℕ) → IsSize s size →
-        form_of (s ++ codes ",high") ≡ Some (High size) }
-    ensures low { (s : List ℕ) (size : ℕ) → IsSize s size →
-        form_of (s ++ codes ",low") ≡ Some (Low size) }
+/// Law: a value of `crashkernel=` is read as a form exactly if it is spelled as that form.
+pub fn crash_forms_are_spelled()
+    ensures { (value : List ℕ) (form : Form) → form_of value ≡ Some form ↔ SpellsForm value form }
 {}

@@ -15,6 +15,10 @@
 //! to. `specs/MapOptions.antt` has the values of `mem=` and `memmap=`, `specs/Crash.antt` those of
 //! `crashkernel=`; `specs/Reading.antt` and `specs/Kept.antt` serve the proof alone.
 //!
+//! `specs/Spelling.antt` says how each form is spelled, in the grammar's own words. Laws say that
+//! this is what is read: [`map_options_are_spelled`], [`crash_forms_are_spelled`],
+//! [`words_say_what_they_spell`] and [`malformed_words_are_faults`].
+//!
 //! The layer above may rest on this: no type in an edit is 0, no range in one is empty, a plain
 //! form has a range and each of them ends above its start, words are numbered from 1, and want of
 //! memory comes only where the line has no fault, and makes an edit or asks for an area by ranges.
@@ -27,8 +31,8 @@ mod map_option;
 mod options;
 mod reading;
 
-pub use crash::{CrashOption, CrashPlain, CrashRange, crash_forms_of_spelling};
+pub use crash::{CrashOption, CrashPlain, CrashRange, crash_forms_are_spelled};
 pub use e820_model::Edit;
 pub use fault::OptionFault;
-pub use map_option::{map_options_of_spelling, read_whole_size};
-pub use options::{Options, read_options};
+pub use map_option::{map_options_are_spelled, read_whole_size};
+pub use options::{Options, malformed_words_are_faults, read_options, words_say_what_they_spell};

@@ -3,17 +3,18 @@
 //! One map option at a time, as `parse_memopt` and `parse_memmap_one` of arch/x86/kernel/e820.c
 //! read it: a size at the front, a mark that says what the range is for, and an address, with
 //! types behind it where they change. Nothing here knows of the line or takes memory; a malformed
-//! text is `None`, and the word that it stands in makes a fault of it. At the end stand the laws:
-//! what is spelled in one of the forms is read as that form.
+//! text is `None`, and the word that it stands in makes a fault of it. At the end stands the law:
+//! a text is read as a form exactly if it is spelled so.
 
-ghost use Rattle.std.specs.Prelude.{◌≡◌, ◌≢◌, ℕ, ◌-◌, ◌++◌, ◌<◌, ◌≤◌, ◌^◌, List, codes, Option, Some, None};
+ghost use Rattle.std.specs.Prelude.{◌≡◌, ◌↔◌, ℕ, List, Some};
 ghost use Rattle.std.specs.Option.{option_map};
-ghost use Rattle.bm_base.specs.Extent.{Extent};
-ghost use Rattle.bm_base.specs.Size.{IsSize};
-ghost use Rattle.e820_model.specs.declared.types.TheConstants.{E820_TYPE_RAM, E820_TYPE_RESERVED, E820_TYPE_ACPI, E820_TYPE_PRAM};
-ghost use Rattle.e820_model.specs.declared.edit.Edit.TheVariants.{Add, Remove, RemoveAll, Change};
-ghost use Rattle.boot_options.specs.declared.map_option.MapOption.TheVariants.{Adding, Other};
-ghost use Rattle.boot_options.specs.MapOptions.{range_above, Spell, SpellsType, front_size, front_number, whole_size, unless_empty as edit_unless_empty, ram_above as edit_above, adding_option as adding_map_option, kind_behind as front_kind, retyped as retyped_map_option, changed as changed_map_option, by_mark as marked_map_option, map_option_of, mem_of};
+ghost use Rattle.text_words.specs.declared.separators.Separators.TheVariants.{Byte as any_byte};
+ghost use Rattle.text_words.specs.Parts.{parts_in};
+ghost use Rattle.boot_options.specs.declared.map_option.MapOption.{MapOption as AnyOption};
+ghost use Rattle.boot_options.specs.Crash.{comma};
+ghost use Rattle.boot_options.specs.MapOptions.{front_size, front_number, whole_size, unless_empty as edit_unless_empty, ram_above as edit_above, adding_option as adding_map_option, kind_behind as front_kind, retyped as retyped_map_option, changed as changed_map_option, by_mark as marked_map_option, map_option_of, mem_of};
+ghost use Rattle.boot_options.specs.Options.{map_options_of};
+ghost use Rattle.boot_options.specs.Spelling.{SpellsMapOption, SpellsMapOptions, SpellsMem};
 
 use bm_base::{Range, read_number, read_size};
 use e820_model::{E820_TYPE_ACPI, E820_TYPE_PRAM, E820_TYPE_RAM, E820_TYPE_RESERVED, Edit};
@@ -169,31 +170,14 @@ fn read_front_number(text: &[u8]) -> Option<(u64, &[u8])>
     Some((number, text.split_at(taken).1))
 }
 
-/// A law: what is spelled as a map option of `memmap=` is read as that map option, form by form.
-pub fn map_options_of_spelling()
-    ensures ram { (s a : List ℕ) (range : Extent) → Spell s a range →
-        map_option_of (s ++ (codes "@" ++ a)) ≡ Some (Adding (Some (Add range E820_TYPE_RAM))) }
-    ensures acpi { (s a : List ℕ) (range : Extent) → Spell s a range →
-        map_option_of (s ++ (codes "#" ++ a)) ≡ Some (Adding (Some (Add range E820_TYPE_ACPI))) }
-    ensures reserved { (s a : List ℕ) (range : Extent) → Spell s a range →
-        map_option_of (s ++ (codes "$" ++ a))
-        ≡ Some (Adding (Some (Add range E820_TYPE_RESERVED))) }
-    ensures persistent { (s a : List ℕ) (range : Extent) → Spell s a range →
-        map_option_of (s ++ (codes "!" ++ a)) ≡ Some (Adding (Some (Add range E820_TYPE_PRAM))) }
-    ensures above { (s : List ℕ) (size : ℕ) → IsSize s size → size < 2 ^ 64 - 1 →
-        map_option_of s ≡ Some (Other (Some (Remove (range_above size) E820_TYPE_RAM))) }
-    ensures every_type { (s a : List ℕ) (range : Extent) → Spell s a range →
-        map_option_of (s ++ (codes "%" ++ a)) ≡ Some (Other (Some (RemoveAll range))) }
-    ensures one_type { (s a f : List ℕ) (range : Extent) (from : ℕ) →
-        Spell s a range → SpellsType f from →
-        map_option_of (s ++ (codes "%" ++ (a ++ (codes "-" ++ f))))
-        ≡ Some (Other (Some (Remove range from))) }
-    ensures new_type { (s a t : List ℕ) (range : Extent) (to : ℕ) →
-        Spell s a range → SpellsType t to →
-        map_option_of (s ++ (codes "%" ++ (a ++ (codes "+" ++ t))))
-        ≡ Some (Adding (Some (Add range to))) }
-    ensures other_type { (s a f t : List ℕ) (range : Extent) (from to : ℕ) →
-        Spell s a range → SpellsType f from → SpellsType t to → from ≢ to →
-        map_option_of (s ++ (codes "%" ++ (a ++ (codes "-" ++ (f ++ (codes "+" ++ t))))))
-        ≡ Some (Other (Some (Change range from to))) }
+/// Law: a text is read as a map option of `memmap=` exactly if it is spelled as that map option.
+/// The value of `memmap=`, which has commas between them, and that of `mem=` are read so, too.
+pub fn map_options_are_spelled()
+    ensures one { (text : List ℕ) (option : AnyOption) →
+        map_option_of text ≡ Some option ↔ SpellsMapOption text option }
+    ensures value { (value : List ℕ) (options : List AnyOption) →
+        map_options_of (parts_in (any_byte comma) value) ≡ Some options
+        ↔ SpellsMapOptions value options }
+    ensures mem { (value : List ℕ) (option : AnyOption) →
+        mem_of value ≡ Some option ↔ SpellsMem value option }
 {}

@@ -3,13 +3,15 @@
 //! This is the entry of the crate. What a file holds becomes a line here, and where the reader is
 //! at the end of the line, the options are told: a user map must be complete by then.
 
-ghost use Rattle.std.specs.Prelude.{◌≡◌, ℕ, ◌<◌, ◌≤◌, length, MatchResult, Ok, Err, IfOk, IfErr, IfSome, Option, IsOkAnd, IsErr, OnErr, ◌⊎◌};
+ghost use Rattle.std.specs.Prelude.{◌≡◌, ◌↔◌, ℕ, List, ◌<◌, ◌≤◌, length, MatchResult, Ok, Err, IfOk, IfErr, IfSome, Option, IsOkAnd, IsErr, OnErr, ◌⊎◌};
 ghost use Rattle.bm_base.specs.Answers.{Answers};
 ghost use Rattle.boot_options.specs.declared.options.TheConstants.{LONGEST_LINE};
 ghost use Rattle.std.specs.Option.{option_map};
 ghost use Rattle.boot_options.specs.Crash.{CrashWords, IsPlain, PlainForm, crash_view, plain_view};
 ghost use Rattle.boot_options.specs.Kept.{KeepsLast};
-ghost use Rattle.boot_options.specs.Options.{chosen, line_of, options_of, HaveRanges, IsNumbered, WantsMemory};
+ghost use Rattle.boot_options.specs.Options.{Said, chosen, line_of, name_value_of, option_words, options_of, said_by, said_from, HaveRanges, IsNumbered, WantsMemory};
+ghost use Rattle.boot_options.specs.Spelling.{IsBadCrash, IsBadMem, IsBadMemmap, IsBadNuma, IsFirstFault, SpellsLine, SpellsSaid};
+ghost use Rattle.boot_options.specs.declared.fault.OptionFault.TheVariants as faults;
 ghost use Rattle.e820_model.specs.Claims.{HaveTypes};
 ghost use Rattle.boot_options.specs.Reading.{State, IsReadTo, KeepsCrash, LacksRanges, at_line_end};
 
@@ -53,6 +55,29 @@ pub fn read_options(alloc: Global, bytes: &[u8]) -> Result<Options, OptionFault>
     let reading = read_words(alloc, line)?;
     finish(reading)
 }
+
+/// Law: a line has the fault [`OptionFault::BadMemmap`] of a word exactly if the word is the lowest
+/// malformed one and named `memmap`, and so for the three other names. A word is malformed if it
+/// has no `=`, or if its value, without quotation marks, is spelled in no form of its name.
+pub fn malformed_words_are_faults()
+    ensures mem { (bytes : List ℕ) (word : ℕ) →
+        options_of bytes ≡ Err (faults.BadMem word) ↔ IsFirstFault bytes word IsBadMem }
+    ensures memmap { (bytes : List ℕ) (word : ℕ) →
+        options_of bytes ≡ Err (faults.BadMemmap word) ↔ IsFirstFault bytes word IsBadMemmap }
+    ensures crash { (bytes : List ℕ) (word : ℕ) →
+        options_of bytes ≡ Err (faults.BadCrash word) ↔ IsFirstFault bytes word IsBadCrash }
+    ensures numa { (bytes : List ℕ) (word : ℕ) →
+        options_of bytes ≡ Err (faults.BadNuma word) ↔ IsFirstFault bytes word IsBadNuma }
+{}
+
+/// Law: a word says exactly what it spells, by its name and its value without quotation marks. So
+/// does a line: its words are those that lie in it with separators around them, up to `--`.
+pub fn words_say_what_they_spell()
+    ensures word { (number : ℕ) (word : List ℕ) (said : Said) →
+        said_by number (name_value_of word) ≡ Ok said ↔ SpellsSaid word said }
+    ensures line { (bytes line : List ℕ) (said : List (ℕ × Said)) → line_of bytes ≡ Ok line →
+        said_from 1 (option_words line) ≡ Ok said ↔ SpellsLine line said }
+{}
 
 /// The greatest number of bytes of a line, which a zero byte ends (`COMMAND_LINE_SIZE` - 1).
 const LONGEST_LINE: usize = 2047;

@@ -1,0 +1,119 @@
+-- Small words and values, and how they are spelled.
+use Rattle.std.proofs.Common.{◌≡◌, ℕ, ◌-◌, ◌^◌, Some, None, [], ◌∷◌, codes, Err, Ok, refl, arith}
+use Rattle.bm_base.specs.Extent.{Extent}
+use Rattle.e820_model.specs.declared.edit.Edit.TheVariants.{Add, Remove, RemoveAll}
+use Rattle.text_words.specs.Spelling.{blank_first, both_marks, no_mark, word_alone}
+use Rattle.boot_options.specs.declared.fault.OptionFault.TheVariants as faults
+use Rattle.boot_options.specs.declared.map_option.MapOption.{MapOption}
+use Rattle.boot_options.specs.declared.map_option.MapOption.TheVariants.{ExactMap, Adding, Other}
+use Rattle.boot_options.specs.Crash.{High, Plain, form_of, one_range}
+use Rattle.boot_options.specs.Options.{AddEfi, OfCrash, OfMap, Said}
+use Rattle.boot_options.specs.Spelling.{HasName, IsOtherWord, SpellEach, SpellsLine, SpellsSaid, alone, crash_word, efi_word, with_value, IsBadMem, IsBadMemmap, IsCrashValue, IsFirstFault, IsMemValue, IsMemmapValue, IsNumaValue, IsSoundWord, OptionWords, SpellsBase, SpellsForm, SpellsMapOption, SpellsMapOptions, SpellsMem, SpellsNoType, SpellsPlace, SpellsType, a_base, a_type, a_word, end_of_ram, every_type, exactmap, high, last_option, line_end, new_type, next_option, no_base, no_value, nopentium, nothing, one_size, other_value, ram, size_alone, two_dashes, type_zero}
+use Rattle.boot_options.proofs.FaultLaws.{memmap-exactly_first, sound-ok}
+use Rattle.boot_options.proofs.SaidSpelledLaws.{word-exactly}
+use Rattle.boot_options.proofs.SpelledCrashLaws.{form-exactly}
+use Rattle.boot_options.proofs.SpelledLaws.{map_option-exactly, map_options-exactly}
+
+abbrev range : ℕ → ℕ → Extent
+range base size = record { base = base; size = size }
+
+-- a range up to the last byte, and one that passes it
+places : SpellsPlace (codes "1") (codes "0xFFFFFFFFFFFFFFFE") (range (2 ^ 64 - 2) 1)
+    × (SpellsPlace (codes "2") (codes "0xFFFFFFFFFFFFFFFE") (range (2 ^ 64 - 2) 2) → ⊥)
+places = (record { size = refl; base = refl; ends = omega arith }, λ place. let ends = place.ends in omega arith)
+
+-- a type, and what counts as none
+types : SpellsType (codes "-") (codes "-12") 12 × SpellsNoType (codes "+") [] × SpellsNoType (codes "+") (codes "+0")
+types = (a_type (codes "12") 12 refl (omega arith) (omega arith), nothing, type_zero (codes "0") refl)
+
+abbrev a_place : SpellsPlace (codes "1M") (codes "0x200000") (range 0x200000 0x100000)
+a_place = record { size = refl; base = refl; ends = omega arith }
+
+-- an adding form, one with two types of which the first counts as not written, and a size alone; a base is missing
+map_options : SpellsMapOption (codes "1M@0x200000") (Adding (Some (Add (range 0x200000 0x100000) 1)))
+    × SpellsMapOption (codes "1M%0x200000-0+5") (Adding (Some (Add (range 0x200000 0x100000) 5)))
+    × SpellsMapOption (codes "1M%0x200000") (Other (Some (RemoveAll (range 0x200000 0x100000))))
+    × SpellsMapOption (codes "16M") (Other (Some (Remove (range 0x1000000 (2 ^ 64 - 1 - 0x1000000)) 1)))
+    × ((option : MapOption) → SpellsMapOption (codes "1M@") option → ⊥)
+map_options = (
+  ram (codes "1M") (codes "0x200000") (range 0x200000 0x100000) a_place,
+  new_type (codes "1M") (codes "0x200000") (codes "-0") (codes "+5") (range 0x200000 0x100000) 5 a_place (type_zero (codes "0") refl)
+      (a_type (codes "5") 5 refl (omega arith) (omega arith)),
+  every_type (codes "1M") (codes "0x200000") [] [] (range 0x200000 0x100000) a_place nothing nothing,
+  size_alone (codes "16M") 0x1000000 refl,
+  λ option spells. let is : None ≡ Some option = (map_option-exactly (codes "1M@") option).1 spells in cc is,
+)
+
+-- two map options, and an empty one after a comma
+memmap_values : SpellsMapOptions (codes "exactmap,1M@0x200000") (ExactMap ∷ Adding (Some (Add (range 0x200000 0x100000) 1)) ∷ [])
+    × (IsMemmapValue (codes "exactmap,") → ⊥)
+memmap_values = (
+  next_option (codes "exactmap") (codes "1M@0x200000") ExactMap (Adding (Some (Add (range 0x200000 0x100000) 1)) ∷ []) exactmap
+      (last_option (codes "1M@0x200000") (Adding (Some (Add (range 0x200000 0x100000) 1))) map_options.0),
+  λ value. let is : None ≡ Some value.0 = (map_options-exactly (codes "exactmap,") value.0).1 value.1 in cc is,
+)
+
+mem_values : SpellsMem (codes "nopentium") (Other None) × IsMemValue (codes "4G") × IsNumaValue (codes "off")
+mem_values = (nopentium, (_, end_of_ram (codes "4G") 0x100000000 refl (omega arith)), refl)
+
+-- sizes with a base, without, and with a name; a name in the wrong case
+crash_values : SpellsForm (codes "16M@1M") (Plain (one_range 0x1000000 0x100000)) × SpellsForm (codes "16M") (Plain (one_range 0x1000000 0))
+    × SpellsForm (codes "16M,high") (High 0x1000000) × SpellsBase [] 0 × (IsCrashValue (codes "16M,HIGH") → ⊥)
+unfolding form_of
+crash_values = (
+  one_size (codes "16M") (codes "@1M") 0x1000000 0x100000 refl (a_base (codes "1M") 0x100000 refl),
+  one_size (codes "16M") [] 0x1000000 0 refl no_base,
+  high (codes "16M") 0x1000000 refl,
+  no_base,
+  λ value. let is : None ≡ Some value.0 = (form-exactly (codes "16M,HIGH") value.0).1 value.1 in cc is,
+)
+
+-- malformed words, one without a value; and one of another name
+words : IsBadMem (codes "mem") × IsBadMemmap (codes "memmap=\"exactmap,\"") × IsSoundWord (codes "quiet")
+words = (
+  no_value,
+  other_value (codes "\"exactmap,\"") (codes "exactmap,") (both_marks (codes "exactmap,")) memmap_values.1,
+  sound-ok 1 (codes "quiet") (OfMap []) refl,
+)
+
+-- the words before `--`, also where it is quoted
+option_words : OptionWords (codes "a" ∷ codes "\"--\"" ∷ codes "b" ∷ []) (codes "a" ∷ []) × OptionWords [] []
+option_words = (
+  a_word (codes "a") (codes "a") _ [] (no_mark (codes "a") (λ rest same. cc same)) (λ same. cc same)
+      (two_dashes (codes "\"--\"") (codes "b" ∷ []) (both_marks (codes "--"))),
+  line_end,
+)
+
+-- the second word of the line is the lowest malformed one
+first_fault : IsFirstFault (codes "quiet memmap=1M@ memmap=2") 2 IsBadMemmap
+first_fault = (memmap-exactly_first (codes "quiet memmap=1M@ memmap=2") 2).0 refl
+
+-- words with a value in quotation marks, without one, and of another name
+said_words : SpellsSaid (codes "crashkernel=\"16M,high\"") (OfCrash (High 0x1000000)) × SpellsSaid (codes "add_efi_memmap") AddEfi
+    × HasName (codes "numa") (codes "numa=on") × SpellsSaid (codes "quiet") (OfMap []) × ((said : Said) → SpellsSaid (codes "numa") said → ⊥)
+said_words = (
+  crash_word (codes "\"16M,high\"") (codes "16M,high") (High 0x1000000) (both_marks (codes "16M,high")) crash_values.2,
+  efi_word (codes "add_efi_memmap") alone,
+  with_value (codes "on"),
+  (word-exactly 1 (codes "quiet") (OfMap [])).0 refl,
+  λ said spells. let is : Err (faults.BadNuma 1) ≡ Ok said = (word-exactly 1 (codes "numa") said).1 spells in cc is,
+)
+
+-- a word of another name has none of the five
+other_words : (IsOtherWord (codes "mem") → ⊥) × (IsOtherWord (codes "numa=on") → ⊥)
+other_words = (λ other. other.mem alone, λ other. other.numa (with_value (codes "on")))
+
+-- two words and their numbers, and a line of one word
+said_line : SpellEach 1 (codes "quiet" ∷ codes "add_efi_memmap" ∷ []) ((1, OfMap []) ∷ (2, AddEfi) ∷ [])
+    × SpellsLine (codes " quiet") ((1, OfMap []) ∷ [])
+said_line = (
+  (refl, said_words.3, (refl, said_words.1, tt)),
+  record {
+    raws = codes "quiet" ∷ [];
+    words = codes "quiet" ∷ [];
+    lie = blank_first 32 (codes "quiet") (codes "quiet" ∷ []) refl
+        (word_alone (codes "quiet") (record { some = omega arith; closed = (refl, (refl, (refl, (refl, (refl, refl))))) }));
+    options = a_word (codes "quiet") (codes "quiet") [] [] (no_mark (codes "quiet") (λ rest same. cc same)) (λ same. cc same) line_end;
+    spell = (refl, said_words.3, tt);
+  },
+)
