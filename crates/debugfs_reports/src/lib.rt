@@ -1,14 +1,15 @@
 //! The reports of a boot: their names, their texts, and lists of them.
 //!
-//! A report is a text of lines, in the manner of the files below `/sys/kernel/debug`. [`Report`] names
-//! those that there are, [`report_named`] finds one by its name, and [`render`] gives its text. It is that of the definition
-//! (`shown_text` of `specs/Report.antt`): `memory` and `reserved` show the records in the bytes at the heads of the two tables, each other
-//! report what is told of the boot. If the boot's items come to those records it is `report_text`.
-//! A report asks for two ascending lists of records at the heads (`specs/Stand.antt`), whose flags and nodes may be any, and for a map
-//! whose runs ascend; records and runs may touch and say the same.
-//! The lines are those of
-//! `report_texts` and `stage_texts`, so a report is here a name and one call. The summary alone is counted here: [`summary_of`] makes its
-//! numbers of what the boot made (`specs/Summary.antt`).
+//! A report is a text of lines, in the manner of the files below `/sys/kernel/debug`. [`Report`]
+//! names those that there are, [`report_named`] finds one by its name, and [`render`] gives its
+//! text. It is that of the definition (`shown_text` of `specs/Report.antt`): `memory` and
+//! `reserved` show the records in the bytes at the heads of the two tables, each other report what
+//! is told of the boot. If the boot's items come to those records it is `report_text`. A report
+//! asks for two ascending lists of records at the heads (`specs/Stand.antt`), whose flags and
+//! nodes may be any, and for a map whose runs ascend; records and runs may touch and say the same.
+//! The lines are those of `report_texts` and `stage_texts`, so a report is here a name and one
+//! call. The summary alone is counted here: [`summary_of`] makes its numbers of what the boot made
+//! (`specs/Summary.antt`).
 //!
 //! A list of reports is spelled as names with a comma between each two, and a name may stand twice:
 //! [`are_reports`] tells whether each name is a report's, and takes no memory, so that a list can be

@@ -45,8 +45,8 @@ pub fn reports_in(alloc: Global, list: &[u8]) -> Result<Vec<Report>, Memory>
     Ok(reports)
 }
 
-/// Returns the texts of all reports of a list, in its order; each begins with its `== NAME` line if there are two or
-/// more. Together they are the whole text of the list.
+/// Returns the texts of all reports of a list, in its order; each begins with its `== NAME` line
+/// if there are two or more. Together they are the whole text of the list.
 pub fn render_all(
     alloc: Global,
     reports: &[Report],
@@ -55,7 +55,8 @@ pub fn render_all(
     requires tables { TablesStand booted.now }
     requires map { Ascend booted.now.map.items }
     ensures each { IfOk result (λ texts. map (λ text. text.items) texts.items
-        ≡ map (shown_part (nat_lt 1 (length reports.now)) (booted_view booted.now) (records_at_heads booted.now)) reports.now) }
+        ≡ map (shown_part (nat_lt 1 (length reports.now)) (booted_view booted.now)
+        (records_at_heads booted.now)) reports.now) }
     ensures whole { IfOk result (λ texts. flat_map (λ text. text.items) texts.items
         ≡ shown_list reports.now (booted_view booted.now) (records_at_heads booted.now)) }
 {

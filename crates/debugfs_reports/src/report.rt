@@ -130,8 +130,8 @@ pub fn report_named(name: &[u8]) -> Option<Report>
     None
 }
 
-/// Returns the text of a report. `memory` and `reserved` show the records in the bytes at the heads of the two tables,
-/// whatever the boot's items come to. Takes the memory of the whole text.
+/// Returns the text of a report. `memory` and `reserved` show the records in the bytes at the
+/// heads of the two tables, whatever the boot's items come to. Takes the memory of the whole text.
 pub fn render(alloc: Global, report: Report, booted: &Booted) -> Result<Vec<u8>, Memory>
     requires tables { TablesStand booted.now }
     requires map { Ascend booted.now.map.items }

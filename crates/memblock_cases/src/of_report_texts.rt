@@ -329,7 +329,8 @@ fn records_and_heads(rt: HostRuntime) -> Result<(), Fail> {
     Ok(())
 }
 
-/// Two records that touch and say the same, with flags 5 and node 7; the bytes after them aren't zeros.
+/// Two records that touch and say the same, with flags 5 and node 7; the bytes after them aren't
+/// zeros.
 const TOUCHING: [u8; 50] = [
     0, 0x10, 0, 0, 0, 0, 0, 0, 0, 0x10, 0, 0, 0, 0, 0, 0, 5, 0, 0, 0, 7, 0, 0, 0, //
     0, 0x20, 0, 0, 0, 0, 0, 0, 1, 0, 0, 0, 0, 0, 0, 0, 5, 0, 0, 0, 7, 0, 0, 0, //
@@ -342,7 +343,8 @@ fn write_touching(store: &mut Store) -> Result<(), Memory> {
     Ok(())
 }
 
-// A table that no boot leaves: its room is four records, of which half of the bytes were never written.
+// A table that no boot leaves: its room is four records, of which half of the bytes were never
+// written.
 #[test]
 fn records_that_no_boot_writes(rt: HostRuntime) -> Result<(), Fail> {
     let mut store = Store::new(rt.alloc());

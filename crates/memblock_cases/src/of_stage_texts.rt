@@ -231,7 +231,8 @@ fn zones_and_blocks(rt: HostRuntime) -> Result<(), Fail> {
     Ok(())
 }
 
-// 2,050 blocks of the greatest order, from 4 MiB below 8 GiB on: a line, the lines of two times 4 GiB, and a line.
+// 2,050 blocks of the greatest order, from 4 MiB below 8 GiB on: a line, the lines of two times 4
+// GiB, and a line.
 #[test]
 fn lines_of_a_great_row(rt: HostRuntime) -> Result<(), Fail> {
     let alloc = rt.alloc();

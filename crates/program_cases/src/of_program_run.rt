@@ -233,7 +233,8 @@ const GREAT_MAP: &str = "== map\n\
                          0x0000000007fe0000..0x0000000007ffffff 2 reserved\n\
                          0x0000000100000000..0x00000004ffffffff 1 usable\n";
 
-// The blocks of such a machine are thousands of lines and one put: the second put is the second report, and there is no third.
+// The blocks of such a machine are thousands of lines and one put: the second put is the second
+// report, and there is no third.
 #[test]
 fn one_put_per_report(rt: HostRuntime) -> Result<(), Fail> {
     let words = ["--cmdline", "cmd", "--report", "blocks,map", "zp"];

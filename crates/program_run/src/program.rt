@@ -95,7 +95,8 @@ fn write_reports<F: Files, S: Sink>(
     put_texts(out, texts)
 }
 
-/// Puts the texts of reports in their order, each that isn't empty by one put, up to the first that is refused.
+/// Puts the texts of reports in their order, each that isn't empty by one put, up to the first
+/// that is refused.
 fn put_texts<S: Sink>(out: &mut S, texts: Vec<Vec<u8>>) -> Result<(), Failure>
     ensures whole { OnOk result (Appends (S.written out.old) (S.written out.new)
         (flat_map (λ text. text.items) texts.items)) }

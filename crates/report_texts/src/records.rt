@@ -12,8 +12,8 @@ use bm_base::{Memory, put_hex, put_text};
 use memblock_ranges::{Head, Region, region_at};
 use phys_store::Store;
 
-/// Appends a line for each record of the table that the head names. The head's bytes in the store are an
-/// ascending list of records; their flags and nodes may be any.
+/// Appends a line for each record of the table that the head names. The head's bytes in the store
+/// are an ascending list of records; their flags and nodes may be any.
 pub fn put_records(text: &mut Vec<u8>, store: &Store, head: &Head) -> Result<(), Memory>
     requires { HasRecords store.now head.now (2 ^ 64) }
     ensures { PutsText text.old text.new result (records_text (list_in store.now head.now)) }

@@ -178,7 +178,7 @@ pub batch_placed : (row : BlockRow) → FillBatches row → 0 < row.count → Ar
 batch_placed row fill some =
     rw fill.order (row_low 1024 row.first row.node row.zone (omega arith) (omega arith))
 
--- the row behind a batch, the batch of that, and what its lines are
+-- the row after a batch, the batch of that, and what its lines are
 pub rest_fill : (row : BlockRow) → FillBatches row → 0 < row.count
     → FillBatches (record row { first = row.first + 1048576; count = row.count - 1024 })
 rest_fill row fill some = record { order = fill.order; first = omega arith; count = omega arith; end = omega arith }

@@ -1,8 +1,9 @@
 //! The lines of great rows of blocks, batch by batch.
 //!
-//! A row of blocks of the greatest order may have millions, and their lines differ in the address alone. A batch is the
-//! lines of the 1,024 of them that lie in 4 GiB: from one batch to the next only eight digits of each line change. So
-//! the lines of the first 4 GiB are made one by one, and copied for each next 4 GiB with those digits written anew.
+//! A row of blocks of the greatest order may have millions, and their lines differ in the address
+//! alone. A batch is the lines of the 1,024 of them that lie in 4 GiB: from one batch to the next
+//! only eight digits of each line change. So the lines of the first 4 GiB are made one by one, and
+//! copied for each next 4 GiB with those digits written anew.
 
 ghost use Rattle.std.specs.Prelude.{◌≡◌, ℕ, List, ◌*◌, ◌%◌, ◌^◌, ◌<◌, ◌≤◌, ◌++◌, IfOk, OnOk, false, length};
 ghost use Rattle.std.specs.Fmt.{digit_glyph};
@@ -20,8 +21,8 @@ pub(crate) const BATCH_BLOCKS: u64 = 1024;
 /// How many frames those have.
 pub(crate) const BATCH_FRAMES: u64 = BATCH_BLOCKS << MAX_ORDER;
 
-/// Appends the line of each block of a row that fills 4 GiB or a multiple of it. Takes memory for the lines of 4 GiB
-/// besides the text's own, some 48 KB.
+/// Appends the line of each block of a row that fills 4 GiB or a multiple of it. Takes memory for
+/// the lines of 4 GiB besides the text's own, some 48 KB.
 pub(crate) fn put_batches(text: &mut Vec<u8>, row: &BlockRow) -> Result<(), Memory>
     requires fill { FillBatches row.now }
     requires some { 0 < row.now.count }
@@ -69,7 +70,8 @@ fn set_number(batch: &mut Vec<u8>, number: u64)
 fn renumber(batch: &mut [u8], digits: &[u8; 8])
     requires whole { length batch.old % 1024 ≡ 0 }
     requires long { 17 * 1024 ≤ length batch.old }
-    ensures { (front old : List ℕ) → length old ≡ 8 → batch.old ≡ batch_text front old → batch.new ≡ batch_text front digits.now }
+    ensures { (front old : List ℕ) → length old ≡ 8 → batch.old ≡ batch_text front old
+        → batch.new ≡ batch_text front digits.now }
 {
     let line = batch.len() / 1024;
     for i in 0..1024 {

@@ -1,7 +1,8 @@
 //! The text of the blocks: each of them, where it lies and how large it is.
 //!
-//! There may be millions, nearly all of the greatest order and next to each other. Room for the whole text is taken once.
-//! The lines of great rows are put batch by batch ([`put_batches`]); the others, and those at the ends of great rows, one by one.
+//! There may be millions, nearly all of the greatest order and next to each other. Room for the
+//! whole text is taken once. The lines of great rows are put batch by batch ([`put_batches`]); the
+//! others, and those at the ends of great rows, one by one.
 
 ghost use Rattle.std.specs.Prelude.{◌≡◌, ◌+◌, ◌*◌, ◌^◌, ◌<◌, ◌≤◌, ◌++◌, OnOk, length};
 ghost use Rattle.bm_base.specs.PutsText.{PutsText};
@@ -20,7 +21,8 @@ use buddy_handover::{Block, BlockRow, Buddy, MAX_ORDER};
 /// A line has no more bytes: `node 4294967295 zone Normal order 10 0x0123456789abcdef` and its end.
 const LONGEST_LINE: usize = 56;
 
-/// Appends the text of the free blocks: a line for each, ascending. Takes the memory of the whole text at once.
+/// Appends the text of the free blocks: a line for each, ascending. Takes the memory of the whole
+/// text at once.
 pub fn put_blocks(text: &mut Vec<u8>, buddy: &Buddy) -> Result<(), Memory>
     ensures { OnOk result (text.new.items ≡ text.old.items ++ blocks_text (free buddy.now)) }
 {
@@ -44,7 +46,8 @@ fn count_blocks(rows: &[BlockRow]) -> u64
 /// Appends the line of each block of all rows.
 fn put_rows(text: &mut Vec<u8>, rows: &[BlockRow]) -> Result<(), Memory>
     requires { ArePlaced (blocks_of_rows rows.now) }
-    ensures { OnOk result (text.new.items ≡ text.old.items ++ lines_from block_line 0 (blocks_of_rows rows.now)) }
+    ensures { OnOk result (text.new.items
+        ≡ text.old.items ++ lines_from block_line 0 (blocks_of_rows rows.now)) }
 {
     for row in rows {
         put_row(text, row)?;
@@ -63,8 +66,8 @@ fn put_row(text: &mut Vec<u8>, row: &BlockRow) -> Result<(), Memory>
     put_each(text, row)
 }
 
-/// Appends the line of each block of a row of the greatest order: batch by batch from the first multiple of 4 GiB to the
-/// last, and one by one before and after.
+/// Appends the line of each block of a row of the greatest order: batch by batch from the first
+/// multiple of 4 GiB to the last, and one by one before and after.
 fn put_great_row(text: &mut Vec<u8>, row: &BlockRow) -> Result<(), Memory>
     requires great { row.now.order ≡ MAX_ORDER }
     requires many { 2 * 1024 ≤ row.now.count }

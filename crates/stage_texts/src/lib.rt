@@ -13,11 +13,12 @@
 //! [`put_zonelists`] of the zones in the order in which a request near a node asks them, [`put_summary`] of how much there is
 //! of everything.
 //!
-//! The text of the blocks may have millions of lines: [`put_blocks`] takes the room for all of them at once.
+//! The text of the blocks may have millions of lines: [`put_blocks`] takes the room for all of
+//! them at once.
 //!
-//! A call fails for want of memory alone, and only if the text's room is too small (`PutsText` of `bm_base`).
-//! [`put_blocks`] and [`put_zonelists`] alone take other memory, for lists. The text is then of no use, and whoever asked
-//! for it drops it.
+//! A call fails for want of memory alone, and only if the text's room is too small (`PutsText` of
+//! `bm_base`). [`put_blocks`] and [`put_zonelists`] alone take other memory, for lists. The text
+//! is then of no use, and whoever asked for it drops it.
 #![tactic(auto)]
 
 mod batches;
