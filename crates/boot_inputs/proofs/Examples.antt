@@ -20,7 +20,7 @@ use Rattle.script_reader.specs.declared.fault.ScriptFault.TheVariants as script
 use Rattle.page_alloc.specs.declared.fault.PageFault.TheVariants as pages
 use Rattle.slit_zonelists.specs.declared.table.SlitFault.TheVariants as slit
 use Rattle.efi_map.specs.declared.efi.EfiFault.TheVariants as efi
-use Rattle.efi_map.specs.Map.{descriptors_from}
+use Rattle.efi_map.specs.Map.{descriptors_from, far_among, mirrors_of}
 use Rattle.boot_inputs.specs.declared.fault.Fault.TheVariants as faults
 use Rattle.boot_inputs.specs.declared.input.Input.TheVariants as inputs
 use Rattle.boot_inputs.specs.declared.refusal.InputRefusal.{InputRefusal}
@@ -40,6 +40,7 @@ use Rattle.boot_inputs.specs.Reading.{are_behind, ascend}
 use Rattle.boot_inputs.specs.Script.{lines_said, lines_take, put_lines, script_diagnostic, script_file}
 use Rattle.boot_inputs.specs.Slit.{distances_said, distances_take, put_distances, slit_diagnostic, slit_file}
 use Rattle.boot_inputs.specs.Srat.{put_domains, srat_diagnostic, srat_file, table_said, table_takes}
+use Rattle.boot_inputs.specs.WithoutEfi.{IsBeforeFiles, LacksDescriptors, LacksEfiWord, asks_for_efi, without_efi, without_map}
 use Rattle.boot_inputs.specs.ZeroPage.{page_said, put_page, zero_page, zero_page_diagnostic}
 
 -- a zero page of so many entries, of which these 40 bytes are the first two
@@ -300,6 +301,39 @@ first_refusals : (inputs_of held (naming (codes "short") (Some (codes "bad")) (S
     × (inputs_of held (naming (codes "zp") (Some (codes "ext")) (Some (codes "no"))) start ≡ Err (refusals.Unread inputs.CommandLine))
 unfolding entry_at is_initrd_far
 first_refusals = (refl, refl, refl, refl)
+
+-- the word counts with any value and without one, before `--` alone, and by its whole name
+efi_words : (asks_for_efi (codes "quiet add_efi_memmap") ≡ true) × (asks_for_efi (codes "add_efi_memmap=0") ≡ true)
+    × (asks_for_efi (codes "quiet -- add_efi_memmap") ≡ false) × (asks_for_efi (codes "add_efi") ≡ false)
+efi_words = (refl, refl, refl, refl)
+
+-- a header of descriptors of 48 bytes, and nothing behind it
+abbrev efi_header : List ℕ
+efi_header = 48 ∷ 0 ∷ 0 ∷ 0 ∷ 1 ∷ 0 ∷ 0 ∷ 0 ∷ []
+
+efi_said_of_none : efi_said efi_header ≡ Ok (record { entries = []; mirrors = [] })
+unfolding descriptors_from far_among mirrors_of
+efi_said_of_none = refl
+
+abbrev with_efi : Named
+with_efi inputs.Efi = Some (codes "efi")
+with_efi inputs.CommandLine = Some (codes "cmd")
+with_efi other = None
+
+-- only the name of the EFI file goes
+names_without_efi : (without_efi with_efi inputs.Efi ≡ None) × (without_efi with_efi inputs.CommandLine ≡ Some (codes "cmd"))
+names_without_efi = (refl, refl)
+
+lack_examples : LacksEfiWord held with_efi × LacksDescriptors (λ name. Some efi_header) with_efi
+    × (LacksEfiWord (λ name. Some (codes "add_efi_memmap")) with_efi → ⊥)
+unfolding descriptors_from
+lack_examples = (refl, refl, λ lacks. cc lacks)
+
+before_files : IsBeforeFiles start × (IsBeforeFiles (put_efi (record { entries = []; mirrors = [] }) start) → ⊥)
+before_files = (record { options = refl; efi = refl }, λ is. cc (is.efi))
+
+map_taken_out : without_map (put_efi (record { entries = ram ∷ []; mirrors = [] }) start) ≡ start
+map_taken_out = refl
 
 -- the inputs' places and words, and whose refusal it is
 place_examples : (place inputs.ZeroPage ≡ 0) × (place inputs.CommandLine ≡ 2) × (place inputs.Srat ≡ 3) × (place inputs.Script ≡ 4)

@@ -1,4 +1,5 @@
 mod CommandLineLaws
+mod EfiWordLaws
 mod Examples
 mod FileLaws
 mod PagesLaws
@@ -6,3 +7,4 @@ mod ReadingLaws
 mod ScriptLaws
 mod SratLaws
 mod WantLaws
+mod WithoutEfiLaws

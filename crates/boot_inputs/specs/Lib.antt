@@ -12,4 +12,5 @@ pub mod Reading
 pub mod Script
 pub mod Slit
 pub mod Srat
+pub mod WithoutEfi
 pub mod ZeroPage

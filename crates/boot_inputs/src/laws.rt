@@ -1,8 +1,9 @@
 //! What holds of the definitions of all bytes.
 
-ghost use Rattle.std.specs.Prelude.{◌≡◌, All, Err};
+ghost use Rattle.std.specs.Prelude.{◌≡◌, All, Ok, Err};
 ghost use Rattle.boot_inputs.specs.Faults.{IsOfBytes, SaysOfBytes};
 ghost use Rattle.boot_inputs.specs.Inputs.{Held, Named, input_files, inputs_of};
+ghost use Rattle.boot_inputs.specs.WithoutEfi.{HasMapWithoutEfi, IsBeforeFiles, LacksDescriptors, LacksEfiWord};
 ghost use Rattle.boot_inputs.specs.declared.fault.Fault.{Fault as AnyFault};
 ghost use Rattle.boot_inputs.specs.declared.input.Input.{Input as AnyInput};
 ghost use Rattle.boot_model.specs.Boot.{Given};
@@ -20,3 +21,12 @@ pub fn bytes_want_no_memory()
 {
     FromZeroPage::want_no_memory();
 }
+
+/// Law: the EFI memory map changes the boot's map only if a word of the command line has the name `add_efi_memmap` and the file has
+/// descriptors. Otherwise the map is that of the same inputs without the file (`do_add_efi_memmap`).
+pub fn efi_adds_what_is_asked()
+    ensures unasked { (held : Held) (named : Named) (begun given : Given) → IsBeforeFiles begun →
+        inputs_of held named begun ≡ Ok given → LacksEfiWord held named → HasMapWithoutEfi held named begun given }
+    ensures empty { (held : Held) (named : Named) (begun given : Given) → IsBeforeFiles begun →
+        inputs_of held named begun ≡ Ok given → LacksDescriptors held named → HasMapWithoutEfi held named begun given }
+{}

@@ -47,7 +47,7 @@ pub use fault::{Fault, Misread};
 pub use fetching::add_file;
 pub use input::Input;
 pub use inputs::read_inputs;
-pub use laws::bytes_want_no_memory;
+pub use laws::{bytes_want_no_memory, efi_adds_what_is_asked};
 pub use list::Readers;
 pub use names::Names;
 pub use pages::pages_wants_no_memory;
