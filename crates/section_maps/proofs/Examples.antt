@@ -1,8 +1,11 @@
 -- Worked examples: sections in groups, the places within a group, and what is asked for.
-use Rattle.std.proofs.Common.{◌≡◌, ℕ, true, false, Some, None, List, [], ◌∷◌, refl}
+use Rattle.std.proofs.Common.{◌≡◌, ℕ, true, false, Some, None, List, [], ◌∷◌, refl, arith}
+use Rattle.std.proofs.lemmas.List.Elements.{All-head, All-tail}
 use Rattle.memblock_grow.specs.declared.section.Section.{Section}
 use Rattle.stage_model.specs.Doing.{returns, listed}
 use Rattle.section_maps.specs.Maps.{Group, sections_in, groups_of, usage_request, map_request, spread, map_each, maps}
+use Rattle.section_maps.specs.Stretches.{AreMaximalStretches, HasOneNode}
+use Rattle.section_maps.proofs.StretchLaws.{maximal}
 
 abbrev section : ℕ → ℕ → Section
 section number node = record { number = number; node = node }
@@ -19,6 +22,21 @@ grouped = (refl, refl, refl)
 
 all_of_a_group : sections_in (group (section 4 1) (section 5 1 ∷ [])) ≡ section 4 1 ∷ section 5 1 ∷ []
 all_of_a_group = refl
+
+-- two sections of node 0 and one of node 1 are two stretches; cut anywhere else they aren't
+abbrev three : List Section
+three = section 0 0 ∷ section 1 0 ∷ section 2 1 ∷ []
+
+stretches : AreMaximalStretches three (group (section 0 0) (section 1 0 ∷ []) ∷ group (section 2 1) [] ∷ [])
+stretches = maximal three
+
+too_short : AreMaximalStretches three (group (section 0 0) [] ∷ group (section 1 0) [] ∷ group (section 2 1) [] ∷ []) → ⊥
+too_short are = are.apart 0 (group (section 0 0) []) (omega arith) refl
+
+two_nodes : HasOneNode (group (section 1 0) (section 2 1 ∷ [])) → ⊥
+two_nodes one =
+    let node : 1 ≡ 0 = All-head (λ s. s.node ≡ 0) (section 2 1) [] (All-tail (λ s. s.node ≡ 0) (section 1 0) (section 2 1 ∷ []) one) in
+    omega (arith, node)
 
 -- 40 bytes of usage data and a map of 2 MiB each, one behind the other
 spread_over : spread 0x1000 0x4000000 (section 4 1 ∷ section 5 1 ∷ section 9 1 ∷ [])

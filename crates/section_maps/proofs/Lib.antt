@@ -2,3 +2,4 @@ pub mod QuietLaws
 pub mod MapLaws
 pub mod GroupLaws
 mod Examples
+mod StretchLaws

@@ -1,12 +1,13 @@
 //! The laws of maps, as functions that do nothing: what a boot may rest on. The handover asks that each byte of
-//! memory has a node: where that was so before the maps, it is so behind them.
+//! memory has a node: where that was so before the maps, it is so behind them. And groups are what they are called.
 
 ghost use Rattle.std.specs.Prelude.{◌≡◌, List};
 ghost use Rattle.memblock_model.specs.declared.item.Item.{Item as AnyItem};
 ghost use Rattle.memblock_model.specs.Items.{memory_of, limit_of};
 ghost use Rattle.memblock_grow.specs.declared.section.Section.{Section as AnySection};
 ghost use Rattle.stage_model.specs.Doing.{after};
-ghost use Rattle.section_maps.specs.Maps.{maps};
+ghost use Rattle.section_maps.specs.Maps.{groups_of, maps};
+ghost use Rattle.section_maps.specs.Stretches.{AreMaximalStretches};
 
 /// A law: the places of maps and usage data leave memory and the limit as they are, whether each finds one or not.
 pub fn maps_leave_memory()
@@ -14,4 +15,9 @@ pub fn maps_leave_memory()
         memory_of (after items (maps sections items)) ≡ memory_of items }
     ensures limit { (sections : List AnySection) (items : List AnyItem) →
         limit_of (after items (maps sections items)) ≡ limit_of items }
+{}
+
+/// Law: the groups of a list of sections are its maximal stretches of sections of one node, in its order.
+pub fn groups_are_maximal_stretches()
+    ensures { (sections : List AnySection) → AreMaximalStretches sections (groups_of sections) }
 {}
