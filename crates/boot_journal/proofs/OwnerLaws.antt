@@ -1,6 +1,5 @@
 -- The runs of bytes of one owner that a journal keeps beside its items.
-use Rattle.std.proofs.Common.{◌≡◌, ℕ, ◌^◌, List, [], ◌∷◌, ◌++◌, map, sym, ◌∙◌}
-use Rattle.std.proofs.lemmas.List.{map-id}
+use Rattle.std.proofs.Common.{◌≡◌, ℕ, ◌^◌, List, [], ◌∷◌, ◌++◌, sym, ◌∙◌}
 use Rattle.address_runs.specs.Runs.{RunOf, value_at, IsRunsOf}
 use Rattle.address_runs.specs.Edits.{NothingFrom}
 use Rattle.address_runs.proofs.RunsLaws.{the_list}
@@ -29,8 +28,3 @@ pub owner_list : (items : List Item) (rs : List (RunOf Owner)) → IsRunsOf (own
     ≡ owner_runs_of items
 unfolding owner_runs_of
 owner_list items rs known none = the_list same_owner owner_tells (owner_of items) rs none known
-
--- code that is generic in the record sees a run through a function that changes nothing
-pub owner_held : (items : List Item) (rs : List (RunOf Owner)) (x : ℕ) → IsRunsOf (owner_of items) rs
-    → value_at (map (λ (r : RunOf Owner). r) rs) x ≡ owner_of items x
-owner_held items rs x known = rw (map-id rs) (known.each x)

@@ -1,3 +1,4 @@
 pub mod Contents
 pub mod Bytes
 pub mod Mirrors
+pub mod RunList

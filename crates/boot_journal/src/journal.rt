@@ -10,6 +10,7 @@ ghost use Rattle.address_runs.specs.Runs.{IsRunsOf};
 ghost use Rattle.memblock_model.specs.Items.{IsItem, AreItems, owner_of, tag_of, owner_runs_of};
 ghost use Rattle.boot_journal.specs.Mirrors.{mirrors_after, mirrors_in};
 
+use crate::run_list::RunList;
 use crate::{owners, tags};
 use bm_base::{Memory, Range, push_within_capacity};
 use memblock_model::{Item, Owner, OwnerRun, Tag};
@@ -25,13 +26,13 @@ use std::marker::Model;
 #[derive(Debug, Drop)]
 pub struct Journal {
     items: Vec<Item>,
-    owners: Vec<OwnerRun>,
+    owners: RunList,
     mirrors: bool,
     spare: u64,
 }
 
 impl Model for Journal {
-    ghost use Rattle.std.specs.Prelude.{◌≡◌, ◌+◌, ◌*◌, ◌^◌, ◌≤◌, vec_len, vec_capacity};
+    ghost use Rattle.std.specs.Prelude.{◌≡◌, ◌+◌, ◌*◌, ◌^◌, ◌≤◌, length, vec_len, vec_capacity};
     ghost use Rattle.address_runs.specs.Runs.{IsRunsOf};
     ghost use Rattle.address_runs.specs.Edits.{NothingFrom};
     ghost use Rattle.memblock_model.specs.Items.{AreItems, owner_of};
@@ -45,7 +46,7 @@ impl Model for Journal {
     // an item adds two runs at most
     ghost invariant = { λ j.
         (vec_len j.items + j.spare ≤ vec_capacity j.items) × AreItems j.items.items ×
-        (vec_len j.owners + 2 * j.spare ≤ vec_capacity j.owners) ×
+        (length j.owners.items + 2 * j.spare ≤ j.owners.room) ×
         IsRunsOf (owner_of j.items.items) j.owners.items × NothingFrom (2 ^ 64) (owner_of j.items.items) ×
         (j.mirrors ≡ mirrors_in j.items.items) };
 }
@@ -57,7 +58,7 @@ impl Journal {
     {
         Journal {
             items: Vec::new(alloc),
-            owners: Vec::new(alloc),
+            owners: RunList::new(alloc),
             mirrors: false,
             spare: 0,
         }
@@ -80,7 +81,7 @@ impl Journal {
             return Err(Memory);
         };
         self.items.reserve(n as usize)?;
-        self.owners.reserve(runs as usize)?;
+        self.owners.reserve(runs)?;
         self.spare = n;
         Ok(())
     }

@@ -18,6 +18,7 @@
 
 mod journal;
 mod owners;
+mod run_list;
 mod tags;
 
 pub use journal::Journal;

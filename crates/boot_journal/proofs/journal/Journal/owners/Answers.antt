@@ -6,5 +6,5 @@ use Rattle.boot_journal.proofs.journal.Journal.owners.Goals as goal
 
 pub returns-clause-list : goal.returns-clause-list
 returns-clause-list c =
-    c.as_slice.ensures.value ∙ owner_list c.self.inside.items.items c.self.inside.owners.items c.self.invariant.3 c.self.invariant.4
+    c.as_slice.ensures ∙ owner_list c.self.inside.items.items c.self.inside.owners.items c.self.invariant.3 c.self.invariant.4
     ∙ ap (λ (v : Contents). owner_runs_of v.items) c.self.view_is

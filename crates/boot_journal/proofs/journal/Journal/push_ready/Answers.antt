@@ -17,7 +17,7 @@ invariant_of-self c =
     c.note.ensures.runs) in (
       omega (arith, c.self.invariant.0, c.push_within_capacity.ensures.len, c.push_within_capacity.ensures.capacity, c.requires.spare),
       rw pushed (AreItems-push c.self.inside.items.items c.args.item c.self.invariant.1 c.requires.item),
-      omega (arith, c.self.invariant.2, c.note.ensures.len, c.note.ensures.capacity, c.requires.spare),
+      omega (arith, c.self.invariant.2, c.note.ensures.len, c.note.ensures.room, c.requires.spare),
       runs,
       owners_within c.push_within_capacity.new.items.items c.note.new.owners.items runs c.note.ensures.within,
       c.mirrors_after-self-inside.ensures ∙ ap (λ (m : Bool). mirrors_after m c.args.item) c.self.invariant.5

@@ -1,0 +1,9 @@
+-- What contracts see of a list of runs that grows at both ends.
+use Rattle.std.specs.Prelude.{ℕ, List}
+use Rattle.address_runs.specs.Runs.{RunOf}
+use Rattle.memblock_model.specs.declared.owner.Owner.{Owner}
+
+-- its runs, ascending, and how many runs it has memory for
+pub record RunListView : Type 0 where
+  pub items : List (RunOf Owner)
+  pub room : ℕ
