@@ -15,6 +15,8 @@ domains       3,000 runs of memory with gaps between, mostly of 4 MiB, and an SR
               over one run or two. `apart`: the two blocks of a domain have those of all others between them, and the table is in no
               order; `together`: they lie side by side, and the table is in order.
 16 TiB        in one run: 131,072 sections and 4.1 million free blocks, whose lines go to a file, as those of `cat` do.
+single maps   in the same memory, of which a crash area leaves 255 GiB above 4 GiB: too little for the 131,072 maps in one piece, so each is
+              placed alone, right below the last, and has an owner of its own.
 3,000 runs    the same without an SRAT.
 """
 import os
@@ -143,6 +145,8 @@ def make_inputs(folder):
         inputs["srat", name] = (["nodes", "--srat", path] + runs, 2 + DOMAINS + joined)
     for report, count in (("memory", 2), ("sections", 1 + SECTIONS // 256 + SECTIONS), ("buddyinfo", 3), ("blocks", FREE_BLOCKS)):
         inputs["great", report] = ([report] + great, count)
+    path = write(folder, "cmdline", b"crashkernel=16125G,high\n")
+    inputs["great", "single maps"] = (["crash", "--cmdline", path] + great, 2)
     for report, count in (("map", RUNS + 1), ("memory", RUNS), ("buddyinfo,zones", 8)):
         inputs["runs", report] = ([report] + runs, count)
     return inputs
@@ -228,6 +232,7 @@ def figures(seconds):
     for name in ("apart", "together"):
         rows.append(("domains: %s, beyond no SRAT" % name, (seconds["srat", name] - seconds["no srat"]) * 1e3, "ms", 20))
     rows.append(("16 TiB: sections, beyond memory", (seconds["great", "sections"] - seconds["great", "memory"]) * 1e3, "ms", 50))
+    rows.append(("16 TiB: single maps", seconds["great", "single maps"] * 1e3, "ms", 1000))
     rows.append(("16 TiB: buddyinfo", seconds["great", "buddyinfo"] * 1e3, "ms", 100))
     rows.append(("16 TiB: blocks", seconds["great", "blocks"] * 1e3, "ms", None))
     rows.append(("16 TiB: blocks, to cat of the same bytes", seconds["great", "blocks"] / seconds["cat"], "times", 2))
