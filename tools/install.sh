@@ -22,7 +22,7 @@ share=$2$3/share
 man=$2$4
 tools="bootmem-draw bootmem-where bootmem-diff bootmem-live zp-from-log"
 tools="$tools bootmem-line bootmem-crash"
-tools="$tools bootmem-fleet bootmem-json claims-from-log"
+tools="$tools bootmem-fleet bootmem-json claims-from-log free-lists"
 
 uninstall() {
 	for tool in bootmem bootaudit bootmem-collect $tools; do
