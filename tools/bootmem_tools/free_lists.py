@@ -439,28 +439,34 @@ def boot(qemu: Sequence[str], vmlinux: str, timeout: float) -> Tuple[Dict[str, A
                 guest, stdin=subprocess.DEVNULL, stdout=said, stderr=said
             ) as emulator:
                 try:
-                    await_stub(emulator, stub, said.name)
+                    await_stub(emulator, stub)
                     run_gdb(stub, output, vmlinux, timeout)
+                except reports.Trouble as trouble:
+                    raise reports.Trouble(f"{trouble}{end_of(emulator, said.name)}") from None
                 finally:
                     emulator.kill()
         with open(output, encoding="ascii") as file:
             return json.load(file), reports.read_text(serial)
 
 
-def await_stub(emulator: "subprocess.Popen[bytes]", stub: str, said: str) -> None:
+def end_of(emulator: "subprocess.Popen[bytes]", said: str) -> str:
+    """What to add to a trouble if QEMU has ended by itself: its status and first line."""
+    if emulator.poll() is None:
+        return ""
+    first = reports.read_text(said).strip().splitlines()[:1]
+    return f"; QEMU ended with status {emulator.returncode}" + "".join(f": {one}" for one in first)
+
+
+def await_stub(emulator: "subprocess.Popen[bytes]", stub: str) -> None:
     """Waits until QEMU has made its stub.
 
     # Errors
-    Trouble: it ends before, with its first line."""
+    Trouble: it ends before."""
     for _ in range(600):
         if os.path.exists(stub):
             return
         if emulator.poll() is not None:
-            first = reports.read_text(said).strip().splitlines()[:1]
-            raise reports.Trouble(
-                f"QEMU ended with status {emulator.returncode}: "
-                f"{first[0] if first else 'it said nothing'}"
-            )
+            raise reports.Trouble("QEMU made no stub for gdb")
         time.sleep(0.1)
     raise reports.Trouble("QEMU made no stub for gdb in a minute")
 

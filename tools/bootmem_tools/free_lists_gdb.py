@@ -200,6 +200,7 @@ def main() -> None:
         "confirm off",
         "max-value-size unlimited",
         "tcp connect-timeout 60",
+        "remotetimeout 60",
     ):
         gdb.execute("set " + setting)
     gdb.execute("target remote " + os.environ["FREE_LISTS_STUB"])
