@@ -1,7 +1,7 @@
 # bootmem: the boot-time memory set-up of x86-64 Linux 6.1, proved.
 #
-#   make run                  prints the map of the example zero page: by ./bootmem where it is up to date, else by an
-#                             unproved build of e820_map, a program for the map alone, within half a minute
+#   make run                  prints the map and the free blocks of an example machine, by ./bootmem if it is up to date, else by
+#                             an unproved build, which takes about a minute
 #   make                      proves and builds both programs, as the next two do
 #   make bootmem              proves and builds ./bootmem: some 35 minutes of a processor, 10 of the clock at least
 #   make bootaudit            proves and builds ./bootaudit, the audit of saved reports, which takes some minutes
@@ -29,7 +29,7 @@ ARGS ?=
 PROVE ?=
 
 # the words of the first run
-FIRST := --report map examples/first/zp.bin
+FIRST := --report map,buddyinfo examples/first/zp.bin
 
 # sources FOLDER..: the files of those folders that a proof reads
 sources = crates.txt $(if $(1),$(shell find $(1) -name out -prune -o \( -name '*.rt' -o -name '*.antt' \) -print))
@@ -58,7 +58,7 @@ $(LIBRARY): $(SOURCES)
 	@tools/library.sh "$(VERSION)"
 
 run:
-	@if $(MAKE) -q --no-print-directory bootmem >/dev/null 2>&1; then ./bootmem $(FIRST); else tools/try.sh e820_map examples/first/zp.bin </dev/null; fi
+	@if $(MAKE) -q --no-print-directory bootmem >/dev/null 2>&1; then ./bootmem $(FIRST); else tools/try.sh bootmem_cli $(FIRST) </dev/null; fi
 
 try:
 	@tools/try.sh bootmem_cli $(ARGS)

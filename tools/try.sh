@@ -1,20 +1,36 @@
 #!/bin/sh
-# try.sh CRATE WORD..: runs the crate's program on these words without proving it.
-# Its output and its standard error are the program's, behind one line that says that it isn't proved. Words that name files are
-# handed to the run as copies under plain names, so a line on standard error may name such a copy.
+# try.sh CRATE WORD..: builds the crate's program without proving it, and runs it on these words.
+# Standard output and standard error are the program's, after a line that says that the build is unproved. While it builds, standard error shows
+# the seconds so far: on a terminal in one line that is rewritten, elsewhere in a line every 15 seconds. A word that names a file is passed as a
+# copy with a plain name, so an error may name that copy.
 set -eu
 unset CDPATH
 rt=${RT:-rt}
 top=$(cd "$(dirname "$0")/.." && pwd)
 
+# show_time PID: shows how long the process has been building, until it ends
+show_time() {
+	seconds=0
+	while kill -0 "$1" 2>/dev/null; do
+		sleep 1
+		seconds=$((seconds + 1))
+		if [ -t 2 ]; then
+			printf '\r%s: building without proof, %s s (about a minute)' "$name_of_program" "$seconds" >&2
+		elif [ $((seconds % 15)) = 0 ]; then
+			echo "$name_of_program: building without proof, $seconds s so far" >&2
+		fi
+	done
+	[ ! -t 2 ] || printf '\r\033[K' >&2
+}
+
 "$top/tools/toolchain.sh"
 crate=$1
 shift
 case $crate in
-bootmem_cli) part= ;;
-*) part=" of $crate alone" ;;
+bootmem_cli) name_of_program=bootmem ;;
+*) name_of_program=$crate ;;
 esac
-echo "bootmem: an unproved build$part; 'make bootmem' gives the proved program" >&2
+echo "$name_of_program: an unproved build; 'make bootmem' gives the proved program" >&2
 copies=$(mktemp -d)
 trap 'rm -rf "$copies"' EXIT
 given=$#
@@ -24,7 +40,7 @@ while [ "$given" -gt 0 ]; do
 	word=$1
 	shift
 	given=$((given - 1))
-	# the word behind --report is the report's name, whatever files there are
+	# the word after --report names reports, even if a file has that name
 	if [ "$before" != --report ] && [ -f "$word" ]; then
 		count=$((count + 1))
 		name=file$count-$(basename "$word" | tr -c 'A-Za-z0-9._\n' _)
@@ -40,8 +56,13 @@ for copy in "$copies"/*; do
 	[ ! -f "$copy" ] || set -- --data "$(basename "$copy")=$copy" "$@"
 done
 cd "$top/crates/$crate"
+"$rt" try "$@" >"$copies/out" 2>"$copies/said" &
+building=$!
+trap 'kill "$building" 2>/dev/null || :; rm -rf "$copies"' EXIT
+show_time "$building"
 status=0
-"$rt" try "$@" 2>"$copies/said" || status=$?
+wait "$building" || status=$?
+cat "$copies/out"
 # what the toolchain says of its own run is left out
 grep -v -e '^checked: ' -e '^run=' "$copies/said" >&2 || :
 exit "$status"
