@@ -1,11 +1,15 @@
 """claims-from-log: the early claims of a kernel, from a log with memblock=debug, as inputs of bootmem."""
 
-import collections
+from __future__ import annotations
+
+import argparse
 import os
 import re
 import struct
+from typing import Iterable, Iterator, NamedTuple, NoReturn, Optional, Sequence
 
-from bootmem_tools import machine, reports
+from bootmem_tools import inputs, ranges, tool
+from bootmem_tools.ranges import Range, common, joined, without
 
 NAME = "claims-from-log"
 USAGE = """claims-from-log --e820ext EXT [--over OLD] [--script SCRIPT [--places]]
@@ -36,12 +40,11 @@ examples:
   bootmem --report crash --cmdline cmdline --e820ext early.bin zp.bin
   claims-from-log --replay again log"""
 
-MIB = 1 << 20
+MIB = ranges.MIB
 CRASH_ALIGNS = (16 * MIB, MIB)  # without a base, and with one
+LONGEST_EXTENSION = 61456  # bytes
 NODE_DATA = 0x2B000  # what bootmem claims for the data of a node
-EXTENSION_ROOM = (61456 - 16) // 20
-ROOM = 128
-RESERVED, SOFT_RESERVED = 2, 0xEFFFFFFF
+LONGEST_LOG = 256 << 20  # bytes
 HEAD = "BIOS-provided physical RAM map:"
 # newer kernels tell node and flags, too
 CALL = re.compile(r"(memblock_(?:add|reserve|phys_free|free)): \[0x([0-9a-f]+)-0x([0-9a-f]+)\](?: nid=-?\d+)?(?: flags=\w+)? (\w+)")
@@ -54,41 +57,66 @@ DATA = re.compile(r"NODE_DATA\((\d+)\) allocated \[mem 0x([0-9a-f]+)-0x([0-9a-f]
 RAMDISK = re.compile(r"RAMDISK: \[mem 0x([0-9a-f]+)-0x([0-9a-f]+)\]")
 END = re.compile(r"Memory: \d+K/\d+K available")
 
-# What an allocation asked for. `exact` says that no other node will do.
-Request = collections.namedtuple("Request", "size align node low high exact")
-# One claim of the log: alloc, reserve or free; a request where one was logged; first and last byte, None where an alloc found
-# no place; the function that asked.
-Claim = collections.namedtuple("Claim", "deed request first last caller")
+
+class Request(NamedTuple):
+    """What an allocation asked for. `exact` says that no other node will do."""
+
+    size: int
+    align: int
+    node: int | None
+    low: int
+    high: int
+    exact: bool
+
+
+class Claim(NamedTuple):
+    """One claim of the log: alloc, reserve or free; a request if one was logged; the place, None if an alloc found none; the caller."""
+
+    deed: str
+    request: Request | None
+    place: Range | None
+    caller: str
+
+
+# The places that a script tells: the number of its line, and the address or None.
+Places = list[tuple[int, Optional[int]]]
 
 
 class Log:
     """What a log tells: the first and the newest dump of memblock, what was added before, the claims behind the first dump."""
 
-    def __init__(self):
-        self.added, self.soft, self.before = [], [], []
-        self.memory, self.reserved, self.noded = [], [], []
-        self.claims, self.tables, self.data = [], [], {}
-        self.initrd = None
+    def __init__(self) -> None:
+        self.added: list[Range] = []
+        self.soft: list[Range] = []
+        self.before: list[Range] = []
+        self.memory: list[Range] = []
+        self.reserved: list[Range] = []
+        self.noded: list[tuple[int, int, int]] = []
+        self.claims: list[Claim] = []
+        self.tables: list[Range] = []
+        self.data: dict[int, Range] = {}
+        self.initrd: Range | None = None
 
 
-def last_boot(lines):
+def last_boot(lines: list[str]) -> list[str]:
     """The lines of the last boot of a log."""
     heads = [place for place, line in enumerate(lines) if HEAD in line]
     if len(heads) > 1:
-        reports.complain(NAME, f"the log has {len(heads)} boots: the last is taken")
+        tool.complain(NAME, f"the log has {len(heads)} boots: the last is taken")
     return lines[heads[-1]:] if heads else lines
 
 
-def request_of(match):
+def request_of(match: re.Match[str]) -> Request:
     """The request of a line that asks for memory."""
     size, align, node, low, high, _ = match.groups()
     return Request(int(size), int(align, 16), int(node) if node and int(node) >= 0 else None, int(low, 16), int(high, 16),
                    "exact_nid" in match.group(0))
 
 
-def read_log(lines):
+def read_log(lines: Iterable[str]) -> Log:
     """The Log of these lines."""
-    log, pending, dumps = Log(), None, 0
+    log, dumps = Log(), 0
+    pending: Claim | None = None
     for line in lines:
         if END.search(line):
             break
@@ -101,8 +129,8 @@ def read_log(lines):
             continue
         match = REQUEST.search(line)
         if match and dumps:
-            pending = settle(log, pending)
-            pending = Claim("alloc", request_of(match), None, None, match.group(6))
+            settle(log, pending)
+            pending = Claim("alloc", request_of(match), None, match.group(6))
             continue
         match = CALL.search(line)
         if match:
@@ -111,17 +139,17 @@ def read_log(lines):
         read_fact(log, line)
     settle(log, pending)
     if not log.reserved:
-        raise reports.Trouble("no dump of memblock ('MEMBLOCK configuration:') in the log: the kernel makes one with memblock=debug")
+        raise tool.Trouble("no dump of memblock ('MEMBLOCK configuration:') in the log: the kernel makes one with memblock=debug")
     return log
 
 
-def settle(log, pending):
+def settle(log: Log, pending: Claim | None) -> None:
     """A request that was followed by no place found none."""
     if pending:
         log.claims.append(pending)
 
 
-def read_record(log, match, dumps):
+def read_record(log: Log, match: re.Match[str], dumps: int) -> None:
     """A record of a dump: those of the first, and the newest ones of memory with their nodes."""
     first, last = int(match.group(2), 16), int(match.group(3), 16)
     if dumps == 1:
@@ -130,7 +158,7 @@ def read_record(log, match, dumps):
         log.noded.append((first, last, int(match.group(4))))
 
 
-def read_call(log, match, dumps, pending):
+def read_call(log: Log, match: re.Match[str], dumps: int, pending: Claim | None) -> Claim | None:
     """A call that names a range; answers the request that still waits for its place."""
     deed, first, last, caller = match.group(1), int(match.group(2), 16), int(match.group(3), 16), match.group(4)
     if caller == "memblock_double_array":
@@ -142,15 +170,15 @@ def read_call(log, match, dumps, pending):
             (log.soft if caller == "e820__memblock_setup" else log.before).append((first, last))
         return None
     if deed == "memblock_reserve" and caller == "memblock_alloc_range_nid":
-        log.claims.append((pending or Claim("alloc", None, 0, 0, caller))._replace(first=first, last=last))
+        log.claims.append((pending or Claim("alloc", None, None, caller))._replace(place=(first, last)))
         return None
     settle(log, pending)
     if deed != "memblock_add":
-        log.claims.append(Claim("reserve" if deed == "memblock_reserve" else "free", None, first, last, caller))
+        log.claims.append(Claim("reserve" if deed == "memblock_reserve" else "free", None, (first, last), caller))
     return None
 
 
-def read_fact(log, line):
+def read_fact(log: Log, line: str) -> None:
     """A line that tells of a grown table, a node's data or the initrd."""
     match = DOUBLED.search(line)
     if match:
@@ -159,16 +187,16 @@ def read_fact(log, line):
     if match:
         place = int(match.group(2), 16), int(match.group(3), 16)
         log.data[int(match.group(1))] = place
-        if log.claims and log.claims[-1][1:4] == (None, *place):
+        if log.claims and log.claims[-1][1:3] == (None, place):
             size = place[1] + 1 - place[0]
             log.claims[-1] = log.claims[-1]._replace(request=Request(size, 64, int(match.group(1)), 0, 0, False), caller="alloc_node_data")
     match = RAMDISK.search(line)
     if match:
         first, last = int(match.group(1), 16), int(match.group(2), 16)
-        log.initrd = first - first % reports.FRAME, last | reports.FRAME - 1
+        log.initrd = first - first % ranges.FRAME, last | ranges.FRAME - 1
 
 
-def image_of(log):
+def image_of(log: Log) -> Range | None:
     """First and last byte of the kernel's image: what lies below its brk in one range of the first dump; None where it isn't told."""
     for first, last in log.before:
         for low, high in log.reserved:
@@ -177,41 +205,20 @@ def image_of(log):
     return None
 
 
-def joined(ranges):
-    """The ranges, ascending, where those that touch are one."""
-    found = []
-    for first, last in sorted(ranges):
-        if found and first <= found[-1][1] + 1:
-            found[-1] = found[-1][0], max(found[-1][1], last)
-        else:
-            found.append((first, last))
-    return found
-
-
-def without(ranges, first, last):
-    """The ranges without the bytes from first to last."""
-    parts = [part for low, high in ranges for part in ((low, min(high, first - 1)), (max(low, last + 1), high))]
-    return [part for part in parts if part[0] <= part[1]]
-
-
-def common(ranges, others):
-    """The bytes that both lists of ranges have."""
-    parts = [(max(low, first), min(high, last)) for low, high in ranges for first, last in others]
-    return joined(part for part in parts if part[0] <= part[1])
-
-
-def low_alone(claim):
+def low_alone(claim: Claim) -> bool:
     """Whether a claim lies in the first MiB, which bootmem claims whole."""
-    return claim.last < MIB if claim.last is not None else 0 < claim.request.high <= MIB
+    if claim.place is not None:
+        return claim.place[1] < MIB
+    return claim.request is not None and 0 < claim.request.high <= MIB
 
 
-def is_crash(claim):
+def is_crash(claim: Claim) -> bool:
     """Whether a claim is for the crash area: asked for by reserve_crashkernel, which may be part of setup_arch in a build."""
     return claim.caller.startswith("reserve_crashkernel") or (
         claim.caller == "setup_arch" and claim.request is not None and claim.request.align in CRASH_ALIGNS)
 
 
-def split_claims(log):
+def split_claims(log: Log) -> tuple[list[Claim], list[Claim]]:
     """The claims before the crash area, and those behind it that bootmem doesn't make by itself."""
     claims = [claim for claim in log.claims if not low_alone(claim)]
     own = [place for place, claim in enumerate(claims) if is_crash(claim) or claim.caller.startswith("sparse_")]
@@ -219,161 +226,146 @@ def split_claims(log):
     return claims[:edge], [claim for place, claim in enumerate(claims[edge:], edge) if place not in own]
 
 
-def early_ranges(log, early, image):
+def early_ranges(log: Log, early: Iterable[Claim], image: Range) -> list[Range]:
     """The memory that was claimed before the crash area and that bootmem doesn't claim by itself, in whole frames."""
     held = joined(log.reserved)
     for claim in early:
-        if claim.deed == "free":
-            held = without(held, claim.first, claim.last)
-        elif claim.first is not None:
-            held = joined(held + [(claim.first, claim.last)])
+        if claim.place is None:
+            continue
+        held = without(held, *claim.place) if claim.deed == "free" else joined(held + [claim.place])
     own = [(0, 0xFFFF), *log.data.values(), *log.tables, *log.soft]
     for first, last in own + [one for one in (image, log.initrd) if one]:
         held = without(held, first, last)
-    return common(joined((first - first % reports.FRAME, last | reports.FRAME - 1) for first, last in held), log.memory)
+    return common(joined((first - first % ranges.FRAME, last | ranges.FRAME - 1) for first, last in held), log.memory)
 
 
-def alloc_line(number, claim):
+def alloc_line(number: int, request: Request) -> str:
     """The script's line for a request."""
-    size, align, node, low, high, exact = claim.request
+    size, align, node, low, high, exact = request
     window = (f" min {low:#x}" if low else "") + (f" max {high:#x}" if high else "")
     return f"alloc {number} {size} {align}{window}" + (f" node {node}" if node is not None else "") + (" exact" if exact else "")
 
 
-def reserve_line(number, claim):
+def reserve_line(number: int, place: Range) -> str:
     """The script's line for a range."""
-    return f"reserve {number} {claim.first:#x} {claim.last + 1 - claim.first:#x}"
+    return f"reserve {number} {place[0]:#x} {place[1] + 1 - place[0]:#x}"
 
 
-def give_back(number, claim, live):
+def give_back(number: int, place: Range, live: dict[int, Range]) -> list[str]:
     """The lines that give a range back: of an allocation that began or ended with it, else of a range of its own."""
     for own, (first, last) in list(live.items()):
-        if (first, last) == (claim.first, claim.last):
+        if (first, last) == place:
             del live[own]
             return [f"free {own}"]
-        if first < claim.first and last == claim.last:
-            live[own] = first, claim.first - 1
-            return [f"trim {own} {claim.first - first}"]
-    return [reserve_line(number, claim), f"free {number}"]
+        if first < place[0] and last == place[1]:
+            live[own] = first, place[0] - 1
+            return [f"trim {own} {place[0] - first}"]
+    return [reserve_line(number, place), f"free {number}"]
 
 
-def later_script(claims, places):
+def later_script(claims: Iterable[Claim], places: bool) -> list[str]:
     """The lines of the script for the claims behind the crash area."""
-    lines, live, before = ["sections"], {}, None
+    lines, before = ["sections"], None
+    live: dict[int, Range] = {}
     for number, claim in enumerate(claims, 1):
         if claim.caller != before:
             lines.append(f"# {claim.caller}")
             before = claim.caller
-        if claim.deed == "free":
-            lines += give_back(number, claim, live)
-        elif claim.request is None or places and claim.first is not None:
-            lines.append(reserve_line(number, claim))
-        elif not places:
-            lines.append(alloc_line(number, claim))
-        if claim.deed != "free" and claim.first is not None:
-            live[number] = claim.first, claim.last
+        if claim.place and claim.deed == "free":
+            lines += give_back(number, claim.place, live)
+            continue
+        if claim.place and (places or claim.request is None):
+            lines.append(reserve_line(number, claim.place))
+        elif claim.request and not places:
+            lines.append(alloc_line(number, claim.request))
+        if claim.place:
+            live[number] = claim.place
     return lines
 
 
-def replay_script(log):
+def replay_script(log: Log) -> tuple[list[str], Places]:
     """The lines of a whole boot's script, and the numbers of those that tell a place, with the place or None."""
-    lines, places, number = [], [], 0
-    at_once = [Claim("reserve", None, first, last, "") for first, last in log.reserved]
-    for claim in at_once + [claim for claim in log.claims if not low_alone(claim)]:
-        number += 1
+    lines: list[str] = []
+    places: Places = []
+    at_once = [Claim("reserve", None, place, "") for place in log.reserved]
+    for number, claim in enumerate(at_once + [claim for claim in log.claims if not low_alone(claim)], 1):
         if claim.request is not None:
-            lines.append(alloc_line(number, claim))
-            places.append((len(lines), claim.first))
-        else:
-            lines.append(reserve_line(number, claim))
+            lines.append(alloc_line(number, claim.request))
+            places.append((len(lines), claim.place[0] if claim.place else None))
+        elif claim.place is not None:
+            lines.append(reserve_line(number, claim.place))
             lines += [f"free {number}"] if claim.deed == "free" else []
     return lines, places
 
 
-def srat(blocks, nodes):
-    """The bytes of an SRAT, revision 3, with a processor for each node and these blocks: first, last, node."""
-    body = b"".join(struct.pack("<BBBBIB3xI", 0, 16, node, 0, 1, 0, 0) for node in nodes)
-    body += b"".join(struct.pack("<BBIHQQIIQ", 1, 40, node, 0, first, last + 1 - first, 0, 1, 0) for first, last, node in blocks)
-    table = bytearray(struct.pack("<4sIBB6s8sI4sIIQ", b"SRAT", 48 + len(body), 3, 0, b"x", b"x", 1, b"x", 1, 1, 0) + body)
-    table[9] = -sum(table) % 256
-    return bytes(table)
-
-
-def phantoms(log):
+def phantoms(log: Log) -> dict[int, int]:
     """Memory above all other, of a frame's room for each node's data, so that what bootmem claims for it moves nothing: by node."""
     top = max(last + 1 for _, last in log.memory)
     return {node: ((top >> 30) + 2 + place << 30) for place, node in enumerate(sorted(log.data) or [0])}
 
 
-def write_replay(log, image, folder):
+def write_replay(log: Log, image: Range, folder: str) -> None:
     """Writes the files of a whole boot."""
     spare = phantoms(log)
     entries = sorted([(first, last + 1 - first, 1) for first, last in joined(log.added or log.memory)]
-                     + [(first, last + 1 - first, SOFT_RESERVED) for first, last in log.soft])
+                     + [(first, last + 1 - first, inputs.SOFT_RESERVED) for first, last in log.soft])
     entries += [(place, NODE_DATA, 1) for place in spare.values()]
-    if len(entries) > ROOM + EXTENSION_ROOM:
-        raise reports.Trouble(f"{len(entries)} ranges of memory: zero page and extension have {ROOM + EXTENSION_ROOM} at most")
+    if len(entries) > inputs.ROOM + inputs.EXTENSION_ROOM:
+        raise tool.Trouble(f"{len(entries)} ranges of memory: zero page and extension have {inputs.ROOM + inputs.EXTENSION_ROOM} at most")
     lines, places = replay_script(log)
     words = ["--kernel", kernel_text(image), "--script", "script"]
-    files = {"zp.bin": machine.zero_page(entries[:ROOM]), "script": text_of(lines),
-             "places": text_of(f"{line}: {'no gap' if place is None else 'at ' + reports.hex_text(place)}" for line, place in places)}
+    files = {"zp.bin": inputs.zero_page(entries[:inputs.ROOM]), "script": text_of(lines),
+             "places": text_of(f"{line}: {'no gap' if place is None else 'at ' + ranges.hex_text(place)}" for line, place in places)}
     if len({node for _, _, node in log.noded}) > 1:
-        blocks = log.noded + [(place, place + NODE_DATA - 1, node) for node, place in spare.items()]
-        files["srat.bin"] = srat(blocks, sorted(spare))
+        blocks = [(first, last + 1 - first, node) for first, last, node in log.noded]
+        files["srat.bin"] = inputs.srat(blocks + [(place, NODE_DATA, node) for node, place in spare.items()], sorted(spare))
         words += ["--srat", "srat.bin"]
-    if entries[ROOM:]:
-        files["e820ext.bin"] = machine.extension(entries[ROOM:])
+    if entries[inputs.ROOM:]:
+        files["e820ext.bin"] = inputs.extension(entries[inputs.ROOM:])
         words += ["--e820ext", "e820ext.bin"]
     files["words"] = text_of([" ".join(words + ["zp.bin"])])
     os.makedirs(folder, exist_ok=True)
-    for name, data in files.items():
-        write(os.path.join(folder, name), data)
+    tool.write_files({os.path.join(folder, name): data for name, data in files.items()})
     print(" ".join(words + ["zp.bin"]))
 
 
-def text_of(lines):
+def text_of(lines: Iterable[str]) -> bytes:
     """The bytes of these lines."""
     return "".join(f"{line}\n" for line in lines).encode()
 
 
-def write(path, data):
-    """Writes the bytes to the file."""
-    with open(path, "wb") as file:
-        file.write(data)
-
-
-def kernel_text(image):
+def kernel_text(image: Range) -> str:
     """The image's first and last byte as bootmem reads them."""
     return f"{image[0]:#x},{image[1] + 1 - image[0]:#x}"
 
 
-def old_entries(path):
+def old_entries(path: str) -> list[inputs.Entry]:
     """The entries of an extension's file."""
-    with open(path, "rb") as file:
-        data = file.read()
+    data = tool.read_bytes(path, LONGEST_EXTENSION, "extension")
     if len(data) < 16 or struct.unpack_from("<II", data, 8) != (1, len(data) - 16) or (len(data) - 16) % 20:
-        raise reports.Trouble(f"{path}: no extension")
-    return [struct.unpack_from("<QQI", data, place) for place in range(16, len(data), 20)]
+        raise tool.Trouble(f"{path}: no extension")
+    return [(base, size, kind) for base, size, kind in struct.iter_unpack("<QQI", data[16:])]
 
 
-def write_parts(log, image, given):
+def write_parts(log: Log, image: Range, given: argparse.Namespace) -> None:
     """Writes the extension and the script, and prints the words for bootmem."""
     early, later = split_claims(log)
     entries = old_entries(given.over) if given.over else []
-    entries += [(first, last + 1 - first, RESERVED) for first, last in early_ranges(log, early, image)]
-    if len(entries) > EXTENSION_ROOM:
-        raise reports.Trouble(f"{len(entries)} entries: an extension has {EXTENSION_ROOM} at most")
+    entries += [(first, last + 1 - first, inputs.RESERVED) for first, last in early_ranges(log, early, image)]
+    if len(entries) > inputs.EXTENSION_ROOM:
+        raise tool.Trouble(f"{len(entries)} entries: an extension has {inputs.EXTENSION_ROOM} at most")
     words = ["--kernel", kernel_text(image), "--e820ext", given.e820ext]
-    write(given.e820ext, machine.extension(entries))
+    files = {given.e820ext: inputs.extension(entries)}
     if given.script:
-        write(given.script, text_of(later_script(later, given.places)))
+        files[given.script] = text_of(later_script(later, given.places))
         words += ["--script", given.script]
+    tool.write_files(files)
     print(" ".join(words))
 
 
-def read_words(words):
+def read_words(words: list[str]) -> argparse.Namespace:
     """The tool's words."""
-    parser = reports.new_parser(NAME, USAGE, ABOUT, EPILOG)
+    parser = tool.new_parser(NAME, USAGE, ABOUT, EPILOG)
     parser.add_argument("log", metavar="LOG", nargs="?", default="-", help="the kernel's log; without it standard input")
     parser.add_argument("--e820ext", metavar="EXT", help="the file of the extension: what was claimed before the crash area")
     parser.add_argument("--over", metavar="OLD", help="the extension that the machine has already")
@@ -390,25 +382,25 @@ def read_words(words):
     if given.places and given.script is None:
         parser.error("--places without --script")
     if given.kernel is not None:
-        numbers = [reports.parse_size(part) for part in given.kernel.split(",")]
-        if len(numbers) != 2 or not all(numbers):
+        image = ranges.parse_pair(given.kernel)
+        if image is None:
             parser.error(f"{given.kernel}: no place of an image: two sizes with a comma between, such as 0x1000000,0x3400000")
-        given.kernel = numbers[0], sum(numbers) - 1
+        given.kernel = image[0], sum(image) - 1
     return given
 
 
-def main(words):
+def main(words: list[str]) -> int:
     """Writes what the words ask for."""
     given = read_words(words)
-    text = re.sub(r"\x1b\[[0-9;]*[mK]", "", reports.read_text(given.log))
+    text = re.sub(r"\x1b\[[0-9;]*[mK]", "", tool.read_text(given.log, what="text of a log", limit=LONGEST_LOG))
     lines = last_boot(text.splitlines())
     log = read_log(lines)
     image = given.kernel or image_of(log)
     if image is None:
         image = 16 * MIB, 48 * MIB - 1
-        reports.complain(NAME, "the log doesn't tell where the kernel's image lies: 16 MiB to 48 MiB is assumed; --kernel names the place")
+        tool.complain(NAME, "the log doesn't tell where the kernel's image lies: 16 MiB to 48 MiB is assumed; --kernel names the place")
     if any("Command line:" in line and "exactmap" in line for line in lines) and given.replay is None:
-        reports.complain(NAME, "the command line has exactmap, which forgets the extension's entries, too")
+        tool.complain(NAME, "the command line has exactmap, which forgets the extension's entries, too")
     if given.replay is not None:
         write_replay(log, image, given.replay)
     else:
@@ -416,9 +408,9 @@ def main(words):
     return 0
 
 
-def command():
+def command() -> NoReturn:
     """Runs the tool as a command."""
-    reports.run_tool(NAME, main)
+    tool.run_tool(NAME, main)
 
 
 if __name__ == "__main__":

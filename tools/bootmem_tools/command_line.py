@@ -6,18 +6,20 @@ which bootmem understands what the kernel does of the given one, and tells each 
 proved.
 """
 
-import collections
+from __future__ import annotations
+
 import functools
 import os
 import re
-import sys
 import tempfile
+from typing import Callable, Iterable, Iterator, NamedTuple, Optional, Sequence
 
-from bootmem_tools import reports
+from bootmem_tools import ranges, reports, runner, tool
 
 LONGEST = 2047  # bytes of a line (COMMAND_LINE_SIZE without its end)
 ROUND = 128 << 20  # total memory is rounded up to this (parse_crashkernel_mem)
-TOP = reports.TOP
+LONGEST_FILE = 1 << 20  # bytes of a file with a line
+TOP = ranges.TOP
 LOW_LEAST = 256 << 20  # the low part without a form `S,low` (reserve_crashkernel_low)
 KEY = "crashkernel="
 NAMES = ("mem", "memmap", "crashkernel", "numa")
@@ -35,19 +37,54 @@ PASSED = {
     "memtest": "bad memory is claimed before the crash area (early_memtest)",
 }
 
-# A word of the line: where it begins, its text, its name, and its value or None (next_arg).
-Word = collections.namedtuple("Word", "start text name value")
-# The crash area that is asked for: size and base by the plain form, else the size by the form high; and the size of the low part.
-Crash = collections.namedtuple("Crash", "size base high low")
-Reading = collections.namedtuple("Reading", "line changes notes")
-Total = collections.namedtuple("Total", "kernel bootmem")
+
+class Word(NamedTuple):
+    """A word of the line: where it begins, its text, its name, and its value or None (next_arg)."""
+
+    start: int
+    text: str
+    name: str
+    value: str | None
+
+
+class Crash(NamedTuple):
+    """The crash area that a line asks for: size and base by the plain form, else the size by the form high; and the size of the low part."""
+
+    size: int
+    base: int
+    high: int
+    low: int
+
+
+class Reading(NamedTuple):
+    """A line that bootmem reads as the kernel reads the given one, what was changed, and what bootmem ignores."""
+
+    line: str
+    changes: list[str]
+    notes: list[str]
+
+
+class Total(NamedTuple):
+    """Total memory in bytes, as the kernel and as bootmem count it."""
+
+    kernel: int
+    bootmem: int
+
+
+# Total memory of the machine.
+Totals = Callable[[], Total]
+# Where the value of each form stands in the raw line, and by this place why the kernel passes it over.
+Places = dict[str, int]
+Faults = dict[int, str]
+# A range of the plain form: its start, its end or None, and the size.
+Sized = tuple[int, Optional[int], int]
 
 
 class Malformed(Exception):
     """Why the kernel passes a value over, in the words of its warning where it has one."""
 
 
-def memparse(text, place):
+def memparse(text: str, place: int) -> tuple[int, int]:
     """The number at a place, as `memparse` takes it, and the place behind it: at most one suffix, wrapping at 2^64."""
     number, behind = number_at(text, place)
     suffix = text[behind:behind + 1].upper()
@@ -56,7 +93,7 @@ def memparse(text, place):
     return number, behind
 
 
-def number_at(text, place):
+def number_at(text: str, place: int) -> tuple[int, int]:
     """The number at a place without a suffix, and the place behind its last digit (simple_strtoull with base 0)."""
     for form, base in ((r"0[xX]([0-9a-fA-F]+)", 16), (r"(0[0-7]*)", 8), (r"([0-9]+)", 10)):
         match = re.compile(form).match(text, place)
@@ -65,14 +102,14 @@ def number_at(text, place):
     return 0, place
 
 
-def size_said(text, first, behind):
+def size_said(text: str, first: int, behind: int) -> str:
     """A size as bootmem reads it alike: what stands there, or its value where that has no digit or passes 2^64 - 1."""
     token = text[first:behind]
     value = memparse(text, first)[0]
     return token if plain_size(token) == value else size_text(value)
 
 
-def plain_size(token):
+def plain_size(token: str) -> int | None:
     """The value of a text that is one size for bootmem, or None."""
     if not re.fullmatch(r"(0[xX][0-9a-fA-F]+|0[0-7]*|[1-9][0-9]*)[kKmMgGtTpPeE]?", token):
         return None
@@ -82,7 +119,7 @@ def plain_size(token):
     return number if number <= TOP else None
 
 
-def size_text(value):
+def size_text(value: int) -> str:
     """A size with the greatest suffix that leaves no fraction; without one in hexadecimal, where it isn't small."""
     for power, suffix in ((4, "T"), (3, "G"), (2, "M"), (1, "K")):
         if value and value % (1 << 10 * power) == 0:
@@ -90,7 +127,7 @@ def size_text(value):
     return str(value) if value < 4096 else f"{value:#x}"
 
 
-def mem_said(value):
+def mem_said(value: str | None) -> str:
     """What `mem=` says to the kernel, as bootmem reads it alike (parse_memopt)."""
     if value is None:
         raise Malformed("it has no value")
@@ -102,7 +139,7 @@ def mem_said(value):
     return size_said(value, 0, behind)
 
 
-def memmap_said(value):
+def memmap_said(value: str | None) -> str:
     """What `memmap=` says to the kernel, map option by map option (parse_memmap_opt)."""
     said = []
     for part in (value or "").split(","):
@@ -115,7 +152,7 @@ def memmap_said(value):
     return ",".join(said)
 
 
-def map_option_said(part):
+def map_option_said(part: str) -> str:
     """What one map option says (parse_memmap_one)."""
     if part.startswith("exactmap"):
         return "exactmap"
@@ -130,12 +167,12 @@ def map_option_said(part):
     types, adds = types_said(part[end:]) if mark == "%" else ("", True)
     if size + start > TOP:
         if adds:
-            raise reports.Trouble(f"memmap={part}: it adds memory beyond 2^64 - 1, and the kernel's map never settles", 2)
+            raise tool.Trouble(f"memmap={part}: it adds memory beyond 2^64 - 1, and the kernel's map never settles", 2)
         said = size_text(TOP - start)
     return f"{said}{mark}{place}{types}"
 
 
-def types_said(text):
+def types_said(text: str) -> tuple[str, bool]:
     """The types of `S%A-f+t`, which are cut to 32 bits, and whether it adds memory."""
     said, place, types = "", 0, {"-": 0, "+": 0}
     for mark in "-+":
@@ -148,11 +185,11 @@ def types_said(text):
     if place != len(text):
         raise Malformed("bytes behind it")
     if types["-"] and types["-"] == types["+"]:
-        raise reports.Trouble(f"memmap= with {text}: the kernel stops with a BUG (e820__range_update)", 2)
+        raise tool.Trouble(f"memmap= with {text}: the kernel stops with a BUG (e820__range_update)", 2)
     return said, types["+"] != 0 and types["-"] == 0
 
 
-def numa_said(value):
+def numa_said(value: str | None) -> str:
     """What `numa=` says to the kernel (numa_setup); without an SRAT all memory is node 0, as with `off`."""
     if value is None:
         raise Malformed("it has no value")
@@ -166,15 +203,16 @@ def numa_said(value):
 SAID = {"mem": mem_said, "memmap": memmap_said, "numa": numa_said}
 
 
-def raw_line(data):
+def raw_line(data: bytes) -> str:
     """The line of a file, as the kernel has it: before the first zero byte, without one newline at its end, uncut."""
     line = data.split(b"\0", 1)[0]
     return (line[:-1] if line.endswith(b"\n") else line).decode("latin-1")
 
 
-def settled_line(line, changes):
+def settled_line(line: str, changes: list[str]) -> str:
     """The line without what splits words in the kernel alone: a quotation that isn't closed, and bytes 0xA0."""
-    letters, quoted = [], False
+    letters: list[str] = []
+    quoted = False
     for letter in line:
         quoted ^= letter == '"'
         letters.append(" " if letter == "\xa0" and not quoted else letter)
@@ -186,9 +224,9 @@ def settled_line(line, changes):
     return "".join(letters)
 
 
-def words_of(line):
+def words_of(line: str) -> tuple[list[Word], int]:
     """The words of a line up to `--`, as `next_arg` splits it, and where `--` or else the line's end is."""
-    found = []
+    found: list[Word] = []
     for match in re.finditer(r'(?:[^ \t\n\v\f\r"]|"[^"]*")+', line):
         text = match.group()
         name, value = kernel_word(text)
@@ -198,7 +236,7 @@ def words_of(line):
     return found, len(line)
 
 
-def kernel_word(text):
+def kernel_word(text: str) -> tuple[str, str | None]:
     """Name and value of a word in the kernel, which takes one closing mark from a word and its value together (next_arg)."""
     quoted = text.startswith('"')
     text = text[1:] if quoted else text
@@ -211,18 +249,18 @@ def kernel_word(text):
     return name, value.removesuffix('"') if quoted else value
 
 
-def program_word(text):
+def program_word(text: str) -> tuple[str, str | None]:
     """Name and value of a word in bootmem: the word loses its quotation marks once, and its value once more."""
     name, equals, value = unquoted(text).partition("=")
     return name, unquoted(value) if equals else None
 
 
-def unquoted(text):
+def unquoted(text: str) -> str:
     """The text without a first quotation mark, and then without a last one."""
     return text[1:].removesuffix('"') if text.startswith('"') else text
 
 
-def options_said(words, changes):
+def options_said(words: Sequence[Word], changes: list[str]) -> list[str]:
     """The text that stands for each word, but for `crashkernel=`; an empty one where it is left out."""
     texts = []
     for number, word in enumerate(words, 1):
@@ -246,7 +284,7 @@ def options_said(words, changes):
     return texts
 
 
-def last_crash(raw, suffix):
+def last_crash(raw: str, suffix: str) -> tuple[int, int] | None:
     """Where the value of the last `crashkernel=` of a form begins in the raw line and where its word ends, or None (get_last_crashkernel)."""
     found = None
     for match in re.finditer(KEY, raw):
@@ -258,7 +296,7 @@ def last_crash(raw, suffix):
     return found
 
 
-def suffixed(raw, place, suffix):
+def suffixed(raw: str, place: int, suffix: str) -> int:
     """The size of a form high or low (parse_crashkernel_suffix)."""
     size, behind = memparse(raw, place)
     if behind == place:
@@ -269,7 +307,7 @@ def suffixed(raw, place, suffix):
     return size
 
 
-def simple(raw, place):
+def simple(raw: str, place: int) -> tuple[int, int]:
     """Size and base of the plain form without ranges (parse_crashkernel_simple)."""
     size, behind = memparse(raw, place)
     if behind == place:
@@ -281,7 +319,7 @@ def simple(raw, place):
     return size, 0
 
 
-def size_at(raw, place):
+def size_at(raw: str, place: int) -> tuple[int, int]:
     """A size that has to be there, and the place behind it."""
     value, behind = memparse(raw, place)
     if behind == place:
@@ -289,14 +327,14 @@ def size_at(raw, place):
     return value, behind
 
 
-def mark_at(raw, place, mark):
+def mark_at(raw: str, place: int, mark: str) -> int:
     """The place behind a mark that has to be there."""
     if raw[place:place + 1] != mark:
         raise Malformed(f"'{mark}' expected")
     return place + 1
 
 
-def ranged(raw, place, total):
+def ranged(raw: str, place: int, total: int) -> tuple[int, int]:
     """Size and base of the plain form by ranges, for this total of bytes, rounded already (parse_crashkernel_mem)."""
     while True:
         start, place = size_at(raw, place)
@@ -317,15 +355,18 @@ def ranged(raw, place, total):
     return size, size_at(raw, base.end())[0] if size and base else 0
 
 
-def round_up(total):
+def round_up(total: int) -> int:
     """Total memory as the kernel compares it with ranges."""
     return -(-total // ROUND) * ROUND
 
 
-def kernel_crash(raw, words, total):
+def kernel_crash(raw: str, words: Sequence[Word], total: Totals) -> tuple[Crash, Places, Faults]:
     """What the raw line says of the crash area (parse_crashkernel, reserve_crashkernel); for each form where its value stands in the
     raw line; and by this place why the kernel passes it over, where it does."""
-    said, places, faults = {"plain": (0, 0), "high": 0, "low": None}, {}, {}
+    plain = 0, 0
+    said: dict[str, int] = {}
+    places: Places = {}
+    faults: Faults = {}
     for form, suffix in (("plain", ""), ("high", ",high"), ("low", ",low")):
         found = last_crash(raw, suffix)
         if found is None:
@@ -336,15 +377,15 @@ def kernel_crash(raw, words, total):
             if suffix:
                 said[form] = suffixed(raw, place, suffix)
             elif ":" in raw[place:end]:
-                said[form] = ranged(raw, place, round_up(total().kernel))
+                plain = ranged(raw, place, round_up(total().kernel))
             else:
-                said[form] = simple(raw, place)
+                plain = simple(raw, place)
         except Malformed as why:
             faults[place] = f"the kernel warns: {why}"
-    return asked(*said["plain"], said["high"], said["low"], low_default(words)), places, faults
+    return asked(*plain, said.get("high", 0), said.get("low"), low_default(words)), places, faults
 
 
-def asked(size, base, high, low, default):
+def asked(size: int, base: int, high: int, low: int | None, default: int) -> Crash:
     """What is asked for: the form high counts where the plain one has no size, and a low part only where one of them has."""
     if size:
         high = 0
@@ -355,11 +396,11 @@ def asked(size, base, high, low, default):
     return Crash(size, base, high, default if low is None else low)
 
 
-def low_default(words):
+def low_default(words: Iterable[Word]) -> int:
     """The size of the low part without a form `S,low`: 256 MiB, or what `swiotlb=` asks for and 8 MiB (reserve_crashkernel_low)."""
     slabs = 0
     for word in words:
-        if word.name == "swiotlb" and (word.value or "")[:1].isdigit():
+        if word.name == "swiotlb" and word.value and word.value[0].isdigit():
             slabs = -(-number_at(word.value, 0)[0] // 128) * 128
     return max(LOW_LEAST, slabs * 2048 + (8 << 20)) if slabs else LOW_LEAST
 
@@ -367,42 +408,49 @@ def low_default(words):
 SIZE = r"(?:0[xX][0-9a-fA-F]+|[0-9]+)[kKmMgGtTpPeE]?"
 
 
-def program_plain(value):
+def program_plain(value: str) -> tuple[list[Sized], int] | None:
     """Ranges (start, end or None, size) and base of the plain form for bootmem, or None where it refuses it."""
     body, _, base = value.partition("@")
-    parts = [re.fullmatch(rf"(?:({SIZE})-({SIZE})?:)?({SIZE})", part) for part in body.split(",")]
-    if not all(parts) or len(parts) > 1 and not all(part.group(1) for part in parts):
-        return None
-    texts = [text for part in parts for text in part.groups() if text] + ([base] if "@" in value else [])
-    if None in map(plain_size, texts):
-        return None
-    ranges = [tuple(None if text is None else plain_size(text) for text in part.groups()) for part in parts]
-    if any(start is not None and end is not None and end <= start for start, end, _ in ranges):
-        return None
-    return [(start or 0, end, size) for start, end, size in ranges], plain_size(base) if base else 0
+    parts = body.split(",")
+    found: list[Sized] = []
+    for part in parts:
+        match = re.fullmatch(rf"(?:({SIZE})-({SIZE})?:)?({SIZE})", part)
+        if match is None or len(parts) > 1 and not match.group(1):
+            return None
+        start, end, size = (None if text is None else plain_size(text) for text in match.groups())
+        if size is None or (start is None) != (match.group(1) is None) or (end is None) != (match.group(2) is None):
+            return None
+        if start is not None and end is not None and end <= start:
+            return None
+        found.append((start or 0, end, size))
+    place = plain_size(base) if "@" in value else 0
+    return None if place is None else (found, place)
 
 
-def program_crash(words, total):
+def program_crash(words: Iterable[Word], total: Totals) -> Crash | None:
     """What bootmem takes the words for, or None where it refuses one."""
-    plain, said = ([], 0), {"high": 0, "low": None}
+    found: list[Sized] = []
+    base = 0
+    said: dict[str, int] = {}
     for word in words:
         name, value = program_word(word.text)
         if name != "crashkernel":
             continue
-        suffixed_size = re.fullmatch(rf"({SIZE}),(high|low)", value or "")
-        if suffixed_size:
-            said[suffixed_size.group(2)] = heard = plain_size(suffixed_size.group(1))
+        match = re.fullmatch(rf"({SIZE}),(high|low)", value or "")
+        size = plain_size(match.group(1)) if match else None
+        plain = None if match else program_plain(value or "")
+        if match and size is not None:
+            said[match.group(2)] = size
+        elif plain is not None:
+            found, base = plain
         else:
-            plain = heard = program_plain(value or "")
-        if heard is None:
             return None
-    ranges, base = plain
-    have = total().bootmem if any(one[:2] != (0, None) for one in ranges) else 0
-    size = next((size for start, end, size in ranges if start <= have and (end is None or have < end)), 0)
-    return asked(size, base if size else 0, said["high"], said["low"], LOW_LEAST)
+    have = total().bootmem if any(one[:2] != (0, None) for one in found) else 0
+    size = next((size for start, end, size in found if start <= have and (end is None or have < end)), 0)
+    return asked(size, base if size else 0, said.get("high", 0), said.get("low"), LOW_LEAST)
 
 
-def crash_words(crash):
+def crash_words(crash: Crash) -> dict[str, str]:
     """The words that ask bootmem for this area, by the form whose value they have."""
     found = {}
     if crash.size:
@@ -414,7 +462,7 @@ def crash_words(crash):
     return found
 
 
-def crash_said(raw, words, texts, total, changes):
+def crash_said(raw: str, words: Sequence[Word], texts: list[str], total: Totals, changes: list[str]) -> list[str]:
     """The texts with `crashkernel=` as the kernel reads it, and the words that are put in behind them."""
     wanted, places, faults = kernel_crash(raw, words, total)
     if program_crash(words, total) == wanted:
@@ -438,7 +486,7 @@ def crash_said(raw, words, texts, total, changes):
     return list(found.values())
 
 
-def why_size(text, total):
+def why_size(text: str, total: Totals) -> str:
     """Why a form by ranges has another size in the kernel; empty for the others."""
     if ":" not in text:
         return ""
@@ -446,14 +494,14 @@ def why_size(text, total):
     return f", since total memory, {have} bytes, counts as {size_text(round_up(have))} (parse_crashkernel_mem)"
 
 
-def why_unused(forms, places, faults):
+def why_unused(forms: Iterable[str], places: Places, faults: Faults) -> str:
     """Why the kernel takes no size from a word."""
     for form in forms:
         return faults.get(places[form], "it asks for nothing there")
     return "the kernel takes a later one, or none"
 
 
-def words_noted(words):
+def words_noted(words: Iterable[Word]) -> Iterator[str]:
     """What bootmem passes over though the kernel acts on it, what wants a file, and names that are nearly its own."""
     for number, word in enumerate(words, 1):
         name = word.name.replace("-", "_")
@@ -467,7 +515,7 @@ def words_noted(words):
             yield f"word {number}: {word.text}: passed over, by the kernel too: is {near(name)}= meant?"
 
 
-def near(name):
+def near(name: str) -> str | None:
     """The one of bootmem's own names that differs from this one by case, by a sign `_` or `-`, or by one letter or two; else None."""
     plain = name.lower().replace("_", "").replace("-", "")
     for own, most in (("crashkernel", 2), ("memmap", 1), ("numa", 1), ("mem", 0)):
@@ -476,9 +524,10 @@ def near(name):
     return None
 
 
-def distance(one, two):
+def distance(one: str, two: str) -> int:
     """How many letters are to be added, taken away, replaced or swapped with the next, from one text to the other."""
-    before, row = [], list(range(len(two) + 1))
+    before: list[int] = []
+    row = list(range(len(two) + 1))
     for i, letter in enumerate(one, 1):
         older, before, row = before, row, [i]
         for j, other in enumerate(two, 1):
@@ -488,10 +537,11 @@ def distance(one, two):
     return row[-1]
 
 
-def read_line(data, total=None):
+def read_line(data: bytes, total: Callable[[str], Total] | None = None) -> Reading:
     """A line that bootmem reads as the kernel reads the file's bytes. `total` gives total memory, of type Total, for a line without
     `crashkernel=`; it is called where a size depends on it."""
-    changes, raw = [], raw_line(data)
+    changes: list[str] = []
+    raw = raw_line(data)
     if len(raw) > LONGEST:
         changes.append(f"byte {LONGEST + 1} and all behind it: cut off, as the kernel does")
         raw = raw[:LONGEST]
@@ -505,58 +555,48 @@ def read_line(data, total=None):
     return Reading(line, [shown(said) for said in changes], [shown(said) for said in words_noted(words)])
 
 
-def shown(text):
+def shown(text: str) -> str:
     """A text of the line for a terminal: as UTF-8, and nothing that moves the cursor."""
     decoded = text.encode("latin-1").decode("utf-8", "replace")
     return "".join(letter if letter.isprintable() else f"\\x{ord(letter):02x}" for letter in decoded)
 
 
-def total_for(total, line):
+def total_for(total: Callable[[str], Total] | None, line: str) -> Total:
     """Total memory for a line, where something tells it."""
     if total is None:
-        raise reports.Trouble("crashkernel= has ranges, so its size depends on how much memory there is: "
+        raise tool.Trouble("crashkernel= has ranges, so its size depends on how much memory there is: "
                               "name the zero page, or --total", 2)
     return total(line)
 
 
-def total_by(program, words, folder=None):
-    """A function from a line to total memory by the map of the named program, or of the one that is found: the kernel counts the bytes of frames that are memory in part,
-    where they are beside a whole one (memblock_trim_memory)."""
-    def total(line):
+def total_by(program: str | None, words: Sequence[str], folder: str | None = None) -> Callable[[str], Total]:
+    """Returns a function from a line to total memory by the map of the named program, or of the one that is found: the kernel counts the
+    bytes of frames that are memory in part, if they are beside a whole one (memblock_trim_memory)."""
+    def total(line: str) -> Total:
+        """Returns total memory for this line."""
         with tempfile.TemporaryDirectory() as work:
             path = os.path.join(work, "line")
             write_line(path, line)
-            lines = reports.run_program(reports.find_program(program), ["map"], ["--cmdline", path] + words, folder)["map"]
+            texts = runner.run_program(runner.find_program(program), ["map"], ["--cmdline", path, *words], folder)
         counted, whole = 0, 0
-        for first, last in joined(reports.spans("map", lines)):
-            frames = (last + 1) // reports.FRAME - -(-first // reports.FRAME)
+        for first, last in reports.memory_of(texts):
+            frames = (last + 1) // ranges.FRAME - -(-first // ranges.FRAME)
             if frames > 0:
-                counted, whole = counted + last + 1 - first, whole + frames * reports.FRAME
+                counted, whole = counted + last + 1 - first, whole + frames * ranges.FRAME
         return Total(counted, whole)
     return total
 
 
-def joined(entries):
-    """The ranges of memory of a map, neighbours joined."""
-    found = []
-    for entry in entries:
-        if entry.fields["type"] in ("1", "128"):
-            if found and found[-1][1] + 1 == entry.first:
-                found[-1] = (found[-1][0], entry.last)
-            else:
-                found.append((entry.first, entry.last))
-    return found
+def read_file(path: str) -> bytes:
+    """Returns the bytes of a command line's file, or of standard input if the path is `-`.
+
+    # Errors
+    A Trouble if there are more bytes than any boot loader hands over.
+    """
+    return tool.read_bytes(path, LONGEST_FILE, "command line")
 
 
-def read_bytes(path):
-    """The bytes of a file, or of standard input where the path is `-`."""
-    if path == "-":
-        return sys.stdin.buffer.read()
-    with open(path, "rb") as file:
-        return file.read()
-
-
-def write_line(path, line):
+def write_line(path: str, line: str) -> None:
     """Writes a line of the bytes as they are, with a newline."""
     with open(path, "wb") as file:
         file.write(line.encode("latin-1") + b"\n")

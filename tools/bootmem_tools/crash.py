@@ -1,10 +1,13 @@
 """bootmem-crash: which crash area fits on a machine, and where."""
 
-import collections
+from __future__ import annotations
+
+import argparse
 import os
 import tempfile
+from typing import Iterable, Iterator, NamedTuple, NoReturn, Sequence
 
-from bootmem_tools import command_line as cmdline, machine, reports
+from bootmem_tools import command_line, machine, ranges, reports, runner, tool
 
 NAME = "bootmem-crash"
 USAGE = """bootmem-crash [--size SIZE].. [--kernel BASE,SIZE] [--cmdline FILE]
@@ -20,7 +23,7 @@ line is read as the kernel reads it (bootmem-line); its crashkernel= but for a f
 What is found holds for a boot that claims no more before the area than bootmem does. A kernel with UEFI firmware does,
 which is said.
 
-{reports.FINDING}
+{runner.FINDING}
 
 exit status: 0 where each SIZE fits (without one: what the line asks for, or anything where it asks for nothing), 1
 where one doesn't, 2 for trouble.
@@ -30,29 +33,43 @@ examples:
   bootmem-crash --size 512M --size 1G,high --cmdline cmdline zp.bin
   bootmem-crash ."""
 
-MIB = 1 << 20
+MIB = ranges.MIB
 ALIGN = 16 << 20  # of the area, and its least place (CRASH_ALIGN)
 LOW = 1 << 32  # CRASH_ADDR_LOW_MAX
 HIGH = 1 << 46  # CRASH_ADDR_HIGH_MAX
 
-# What came of a try: the area and its low part, ascending, or why there is none.
-Tried = collections.namedtuple("Tried", "ranges why")
-# Memory that nobody has when the area is looked for: its first and last byte, and what lies below and above it.
-Gap = collections.namedtuple("Gap", "first last below above")
+# A claim: its first and last byte, and its owner.
+Claim = tuple[int, int, str]
 
 
-def read_words(words):
+class Tried(NamedTuple):
+    """The outcome of a try: the area and its low part, ascending, or why there is none."""
+
+    ranges: list[ranges.Range]
+    why: str
+
+
+class Gap(NamedTuple):
+    """Memory that nobody has when the kernel looks for the area: its first and last byte, and what lies below and above it."""
+
+    first: int
+    last: int
+    below: str
+    above: str
+
+
+def read_words(words: list[str]) -> argparse.Namespace:
     """The tool's words."""
-    parser = reports.new_parser(NAME, USAGE, ABOUT, EPILOG)
+    parser = tool.new_parser(NAME, USAGE, ABOUT, EPILOG)
     parser.add_argument("machine", metavar="FOLDER|ZEROPAGE", help="the machine")
     parser.add_argument("--size", metavar="SIZE", action="append", default=[], help="try this size: S, S@BASE or S,high")
     parser.add_argument("--kernel", metavar="BASE,SIZE", help="where the kernel's image lies, as bootmem reads it")
     for option in ("cmdline", "e820ext", "srat"):
         parser.add_argument(f"--{option}", metavar="FILE", help="as bootmem's")
-    reports.add_program(parser)
+    runner.add_program(parser)
     given = parser.parse_args(words)
     for size in given.size:
-        said = cmdline.program_plain(size.removesuffix(",high"))
+        said = command_line.program_plain(size.removesuffix(",high"))
         if said is None or size.count("@") and size.endswith(",high") or [one for one in said[0] if one[:2] != (0, None) or not one[2]]:
             parser.error(f"--size {size}: none of S, S@BASE and S,high with a size S above 0")
     return given
@@ -61,9 +78,9 @@ def read_words(words):
 class Machine:
     """A machine's files, and its line as the kernel reads it, apart from what it asks for of the crash area."""
 
-    def __init__(self, given):
+    def __init__(self, given: argparse.Namespace) -> None:
         folder = given.machine if os.path.isdir(given.machine) else None
-        self.program = os.path.abspath(reports.find_program(given.program))
+        self.program = os.path.abspath(runner.find_program(given.program))
         self.page = os.path.join(folder, "zp.bin") if folder else given.machine
         self.kernel = given.kernel or (machine.kernel_in(folder) if folder else None)
         named = {name: getattr(given, name) or self.beside(folder, file) for name, file in
@@ -71,44 +88,44 @@ class Machine:
         extension = ["--e820ext", named["e820ext"]] if named["e820ext"] else []
         self.words = extension + (["--srat", named["srat"]] if named["srat"] else [])
         self.words += (["--kernel", self.kernel] if self.kernel else []) + [self.page]
-        data = cmdline.read_bytes(named["cmdline"]) if named["cmdline"] else b""
-        self.reading = cmdline.read_line(data, cmdline.total_by(self.program, extension + [self.page]))
+        data = command_line.read_file(named["cmdline"]) if named["cmdline"] else b""
+        self.reading = command_line.read_line(data, command_line.total_by(self.program, extension + [self.page]))
         self.split_line()
 
     @staticmethod
-    def beside(folder, name):
+    def beside(folder: str | None, name: str) -> str | None:
         """The path of a file of the folder, where it is there."""
         path = os.path.join(folder or "", name)
         return path if folder and os.path.exists(path) else None
 
-    def split_line(self):
+    def split_line(self) -> None:
         """What the line asks for apart from the rest of it, with which the low part stays."""
-        words, end = cmdline.words_of(self.reading.line)
-        asking = [word.text for word in words if cmdline.program_word(word.text)[0] == "crashkernel"]
+        words, end = command_line.words_of(self.reading.line)
+        asking = [word.text for word in words if command_line.program_word(word.text)[0] == "crashkernel"]
         low = [text for text in asking if text.rstrip('"').endswith(",low")]
         self.asked = " ".join(text for text in asking if text not in low)
         self.rest = [word.text for word in words if word.text not in asking] + low
         self.behind = self.reading.line[end:]
 
-    def run(self, asked, names):
+    def run(self, asked: str, names: list[str]) -> tuple[reports.Texts, str | None]:
         """The reports of these names for a line that asks for this besides, or why the boot stops."""
         with tempfile.TemporaryDirectory() as work:
             path = os.path.join(work, "line")
-            cmdline.write_line(path, " ".join(self.rest + ([asked] if asked else []) + [self.behind]))
-            return machine.run_or_stop(self.program, names, ["--cmdline", path] + self.words)
+            command_line.write_line(path, " ".join(self.rest + ([asked] if asked else []) + [self.behind]))
+            return runner.run_or_stop(self.program, names, ["--cmdline", path] + self.words)
 
-    def tried(self, asked):
+    def tried(self, asked: str) -> Tried:
         """What comes of asking for an area."""
         texts, stop = self.run(asked, ["crash"])
         if stop:
             return Tried([], stop)
-        ranges = machine.crash_ranges(texts["crash"])
-        return Tried(ranges, None if ranges else texts["crash"][0].removeprefix("crash "))
+        found = reports.crash_ranges(texts["crash"])
+        return Tried(found, "" if found else texts["crash"][0][len("crash "):])
 
 
-def greatest(own, suffix, most, end=HIGH):
+def greatest(own: Machine, suffix: str, most: int, end: int = HIGH) -> tuple[int, Tried]:
     """The greatest number of MiB that fits with this suffix and begins below an end, and what came of it; 0 where none does."""
-    fits, fails, best = 0, most + 1, None
+    fits, fails, best = 0, most + 1, Tried([], "")
     while fails - fits > 1:
         middle = (fits + fails) // 2
         found = own.tried(f"crashkernel={middle}M{suffix}")
@@ -119,30 +136,29 @@ def greatest(own, suffix, most, end=HIGH):
     return fits, best
 
 
-def area_text(ranges):
+def area_text(found: Sequence[ranges.Range]) -> str:
     """The area, and its low part where it has one."""
-    area = f"at {reports.range_text(*ranges[-1])}"
-    if len(ranges) == 1:
+    area = f"at {ranges.range_text(*found[-1])}"
+    if len(found) == 1:
         return area
-    first, last = ranges[0]
-    return f"{area}, low part {reports.range_text(first, last)} ({reports.size_text(last + 1 - first)})"
+    first, last = found[0]
+    return f"{area}, low part {ranges.range_text(first, last)} ({ranges.size_text(last + 1 - first)})"
 
 
-def claims(lines):
+def claims(lines: Iterable[str]) -> list[Claim]:
     """Who has what when the area is looked for, ascending: the journal's claims up to those of the sections."""
-    found = []
+    found: list[Claim] = []
     for item in reports.spans("journal", lines):
-        deed = item.fields["deed"]
-        if deed == "claim roots":
+        if item.fields.get("owner") == "roots":
             break
-        if deed == "free" or deed.startswith("claim "):
+        if item.kind in ("claim", "free"):
             found = [part for one in found for part in parts_outside(one, item)]
-        if deed.startswith("claim "):
-            found.append((item.first, item.last, deed.removeprefix("claim ")))
+        if item.kind == "claim":
+            found.append((item.first, item.last, item.fields["owner"]))
     return sorted(found)
 
 
-def parts_outside(one, item):
+def parts_outside(one: Claim, item: reports.Span) -> Iterator[Claim]:
     """What a range leaves of a claim."""
     first, last, owner = one
     if first < item.first:
@@ -151,8 +167,9 @@ def parts_outside(one, item):
         yield max(first, item.last + 1), last, owner
 
 
-def gaps(memory, claimed, low, high):
+def gaps(memory: Iterable[reports.Span], claimed: Iterable[Claim], low: int, high: int) -> Iterator[Gap]:
     """The gaps of memory from `low` on and below `high`."""
+    memory, claimed = list(memory), list(claimed)
     starts, ends = {record.first for record in memory}, {record.last + 1 for record in memory}
     for record in memory:
         cuts = [(first, last, owner) for first, last, owner in claimed if first <= record.last and record.first <= last]
@@ -165,43 +182,43 @@ def gaps(memory, claimed, low, high):
             below, start = owner, max(start, last + 1)
 
 
-def cut_gap(gap, low, high):
+def cut_gap(gap: Gap, low: int, high: int) -> Gap:
     """The part of a gap from `low` on and below `high`."""
     if gap.first < low:
-        gap = gap._replace(first=low, below=reports.size_text(low))
+        gap = gap._replace(first=low, below=ranges.size_text(low))
     if gap.last >= high:
-        gap = gap._replace(last=high - 1, above=reports.size_text(high))
+        gap = gap._replace(last=high - 1, above=ranges.size_text(high))
     return gap
 
 
-def room(gap):
+def room(gap: Gap) -> int:
     """How many bytes an area has in a gap, from the first multiple of 16 MiB in it on."""
     return max(0, gap.last + 1 - -(-gap.first // ALIGN) * ALIGN)
 
 
-def gap_text(texts, low, high, where):
+def gap_text(texts: reports.Texts, low: int, high: int, where: str) -> str:
     """The greatest gap of a window, and who cuts it."""
     found = max(gaps(reports.spans("memory", texts["memory"]), claims(texts["journal"]), low, high), key=room, default=None)
     if found is None or room(found) == 0:
         return f"{where} there is no gap at a multiple of 16 MiB"
-    return (f"{where} the greatest gap has room for {room(found) // MIB}M: {reports.range_text(found.first, found.last)}, "
+    return (f"{where} the greatest gap has room for {room(found) // MIB}M: {ranges.range_text(found.first, found.last)}, "
             f"between {found.below} and {found.above}")
 
 
-def taken_text(texts, asked):
+def taken_text(texts: reports.Texts, asked: str) -> str:
     """Who has bytes of the place that is asked for."""
-    said = cmdline.program_plain(asked.split("crashkernel=")[-1])
-    ranges, base = said if said and len(said[0]) == 1 else ([], 0)
-    owners = [owner for first, last, owner in claims(texts["journal"]) if ranges and first < base + ranges[0][2] and base <= last]
+    said = command_line.program_plain(asked.split("crashkernel=")[-1])
+    parts, base = said if said and len(said[0]) == 1 else ([], 0)
+    owners = [owner for first, last, owner in claims(texts["journal"]) if parts and first < base + parts[0][2] and base <= last]
     if owners:
         return f"of the place {' and '.join(sorted(set(owners)))} has bytes"
     return "the place isn't free memory of one node, from a multiple of 1 MiB on"
 
 
-def reasons(own, asked, tried):
+def reasons(own: Machine, asked: str, tried: Tried) -> Iterator[str]:
     """Why an area doesn't fit, a line each."""
     if tried.why not in ("no area", "low failed", "in use"):
-        yield f"the boot stops behind it: {tried.why.removeprefix('stopped: ')}"
+        yield f"the boot stops behind it: {without_stop(tried.why)}"
         return
     texts, stop = own.run("", ["memory", "journal"])
     if stop:
@@ -218,7 +235,12 @@ def reasons(own, asked, tried):
     yield gap_text(texts, ALIGN if ",high" in asked else LOW, HIGH, "from 16 MiB on" if ",high" in asked else "from 4 GiB on")
 
 
-def tell(own, head, asked):
+def without_stop(said: str) -> str:
+    """Returns what the program says of a stop, without the word for it."""
+    return said[len("stopped: "):] if said.startswith("stopped: ") else said
+
+
+def tell(own: Machine, head: str, asked: str) -> bool:
     """Prints what comes of asking for an area; whether it fits."""
     tried = own.tried(asked)
     if tried.ranges:
@@ -230,7 +252,7 @@ def tell(own, head, asked):
     return False
 
 
-def tell_greatest(own, form, suffix, most):
+def tell_greatest(own: Machine, form: str, suffix: str, most: int) -> bool:
     """Prints the greatest size that fits in a form; whether there is one."""
     size, best = greatest(own, suffix, most)
     if size == 0:
@@ -243,26 +265,26 @@ def tell_greatest(own, form, suffix, most):
     return True
 
 
-def warn(own, texts):
+def warn(own: Machine, texts: reports.Texts) -> None:
     """What is to be known before the answers are believed."""
     for said in own.reading.changes + own.reading.notes:
-        reports.complain(NAME, said)
+        tool.complain(NAME, said)
     if own.kernel is None:
-        reports.complain(NAME, reports.ASSUMED)
-    if machine.is_uefi(cmdline.read_bytes(own.page)):
-        reports.complain(NAME, "the firmware is UEFI: the kernel claims more before the area there, so it may lie lower "
+        tool.complain(NAME, runner.ASSUMED)
+    if machine.is_uefi(own.page):
+        tool.complain(NAME, "the firmware is UEFI: the kernel claims more before the area there, so it may lie lower "
                                "(by 32 MiB in four boots), or find no place")
     for why in machine.panics(texts):
-        reports.complain(NAME, f"Linux 6.1 panics on this boot: {why}")
+        tool.complain(NAME, f"Linux 6.1 panics on this boot: {why}")
 
 
-def main(words):
+def main(words: list[str]) -> int:
     """Prints what fits; the status says whether what is asked for does."""
     given = read_words(words)
     own = Machine(given)
     texts, stop = own.run("", ["map", "nodes"])
     if stop:
-        raise reports.Trouble(f"the boot stops without a crash area: {stop.removeprefix('stopped: ')}")
+        raise tool.Trouble(f"the boot stops without a crash area: {without_stop(stop)}")
     warn(own, texts)
     if given.size:
         return 0 if all([tell(own, "size", f"crashkernel={size}") for size in given.size]) else 1
@@ -271,9 +293,9 @@ def main(words):
     return 0 if (tell(own, "line", own.asked) if own.asked else any(fits)) else 1
 
 
-def command():
+def command() -> NoReturn:
     """Runs the tool as a command."""
-    reports.run_tool(NAME, main, failure=2)
+    tool.run_tool(NAME, main, failure=2)
 
 
 if __name__ == "__main__":

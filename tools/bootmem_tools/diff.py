@@ -1,10 +1,19 @@
 """bootmem-diff: what changed between two texts of reports, or two runs of bootmem, by address."""
 
-import shlex
+from __future__ import annotations
 
-from bootmem_tools import reports
+import argparse
+import shlex
+from typing import Iterable, NoReturn, Optional
+
+from bootmem_tools import ranges, reports, runner, tool
 
 NAME = "bootmem-diff"
+# The reports of both sides, and the names of those to compare, if the words have them.
+Sides = tuple[reports.Texts, reports.Texts, Optional[list[str]]]
+# A range in which the sides differ: its first and last byte, and what each side says of it.
+Change = tuple[int, int, str, str]
+
 COMPARED = ["map", "owners", "memory", "reserved", "nodes", "blocks"]
 USAGE = """bootmem-diff [--report LIST] A B
        bootmem-diff [--report LIST] [--program P] --a WORDS --b WORDS"""
@@ -20,7 +29,7 @@ EPILOG = f"""A and B are files, of which one may be - for standard input. Each h
 
 WORDS are the program's words in one argument, quoted as for a shell, but for --report.
 
-{reports.FINDING}
+{runner.FINDING}
 
 exit status: 0 where there is no difference, 1 where there is one, 2 where they can't be compared.
 
@@ -29,25 +38,25 @@ examples:
   bootmem-diff --a '--kernel 16M,8M zp.bin' --b '--kernel 32M,8M zp.bin'"""
 
 
-def read_words(words):
+def read_words(words: list[str]) -> Sides:
     """What the words ask for: both sides' reports, and the names of the reports to compare, or None."""
-    parser = reports.new_parser(NAME, USAGE, ABOUT, EPILOG)
+    parser = tool.new_parser(NAME, USAGE, ABOUT, EPILOG)
     parser.add_argument("files", metavar="A B", nargs="*", help="the two texts of reports")
     parser.add_argument("--report", metavar="LIST", help=f"compare these, of {','.join(COMPARED)}")
     parser.add_argument("--a", metavar="WORDS", help="the words of the first run")
     parser.add_argument("--b", metavar="WORDS", help="the words of the second run")
-    reports.add_program(parser)
+    runner.add_program(parser)
     given = parser.parse_args(words)
     names = given.report.split(",") if given.report is not None else None
     for name in names or []:
         if name not in COMPARED:
             parser.error(f"{name}: no report that is compared by address: one of {', '.join(COMPARED)}")
     if given.a is not None and given.b is not None and not given.files:
-        program = reports.find_program(given.program)
+        program = runner.find_program(given.program)
         asked = names or ["map", "owners"]
         (one, before), (other, after) = run(program, asked, given.a), run(program, asked, given.b)
-        if reports.is_place_assumed(asked, one) or reports.is_place_assumed(asked, other):
-            reports.complain(NAME, reports.ASSUMED)
+        if runner.is_place_assumed(asked, one) or runner.is_place_assumed(asked, other):
+            tool.complain(NAME, runner.ASSUMED)
         return before, after, asked
     if given.a is not None or given.b is not None or len(given.files) != 2:
         parser.error("two texts A and B, or --a and --b with the words of two runs")
@@ -56,19 +65,19 @@ def read_words(words):
     return reports.read_reports(given.files[0]), reports.read_reports(given.files[1]), names
 
 
-def run(program, names, text):
+def run(program: str, names: list[str], text: str) -> tuple[list[str], reports.Texts]:
     """The words in one text, quoted as for a shell, and the program's reports for them."""
     try:
         words = shlex.split(text)
     except ValueError as error:
-        raise reports.Trouble(f"{text!r}: {error}") from error
-    return words, reports.run_program(program, names, words)
+        raise tool.Trouble(f"{text!r}: {error}") from error
+    return words, runner.run_program(program, names, words)
 
 
-def changes(name, before, after):
+def changes(name: str, before: Iterable[str], after: Iterable[str]) -> list[Change]:
     """The ranges in which the two sides of a report differ: first, last, what was said, what is."""
-    found = []
-    for first, last, sides in reports.sweep(reports.spans(name, before), reports.spans(name, after)):
+    found: list[Change] = []
+    for first, last, sides in ranges.sweep(reports.spans(name, before), reports.spans(name, after)):
         was, now = (", ".join(span.name for span in side) or "none" for side in sides)
         if was == now:
             continue
@@ -78,20 +87,20 @@ def changes(name, before, after):
     return found
 
 
-def chosen(names, before, after):
+def chosen(names: list[str] | None, before: reports.Texts, after: reports.Texts) -> list[str]:
     """The reports to compare: the named ones, which both sides must have, or what both have of map and owners."""
     for name in names or []:
         for side, have in (("A", before), ("B", after)):
             if name not in have:
-                raise reports.Trouble(f"{side} has no report {name}")
+                raise tool.Trouble(f"{side} has no report {name}")
     common = [name for name in COMPARED if name in before and name in after]
     picked = names or [name for name in common if name in ("map", "owners")] or common
     if not picked:
-        raise reports.Trouble(f"A has {', '.join(before)}, B has {', '.join(after)}: no report that both have is compared")
+        raise tool.Trouble(f"A has {', '.join(before)}, B has {', '.join(after)}: no report that both have is compared")
     return picked
 
 
-def main(words):
+def main(words: list[str]) -> int:
     """Prints the differences; the status says whether there are any."""
     before, after, names = read_words(words)
     picked = chosen(names, before, after)
@@ -101,14 +110,14 @@ def main(words):
         if found and len(picked) > 1:
             print(f"== {name}")
         for first, last, was, now in found:
-            print(f"{reports.range_text(first, last)} {was} -> {now}")
+            print(f"{ranges.range_text(first, last)} {was} -> {now}")
         differ = differ or bool(found)
     return 1 if differ else 0
 
 
-def command():
+def command() -> NoReturn:
     """Runs the tool as a command."""
-    reports.run_tool(NAME, main, failure=2)
+    tool.run_tool(NAME, main, failure=2)
 
 
 if __name__ == "__main__":

@@ -1,14 +1,17 @@
 """bootmem-draw: a picture of reports of bootmem, side by side over one axis of addresses."""
 
+from __future__ import annotations
+
+import argparse
 import collections
 import math
 import re
 import shutil
-import sys
 import textwrap
+from typing import Iterable, Iterator, NamedTuple, NoReturn, Sequence
 from xml.sax.saxutils import escape
 
-from bootmem_tools import reports
+from bootmem_tools import ranges, reports, runner, tool
 
 NAME = "bootmem-draw"
 DRAWN = ["map", "owners", "nodes", "zones", "blocks"]
@@ -24,10 +27,10 @@ EPILOG = f"""Behind -- stand the words of the program but --report; it is run wi
 Else the text of reports is read from FILE, or from standard input where there is none or it is -; those of
 {', '.join(DRAWN)} that are there are drawn. In a viewer that shows tool tips each row tells its exact range.
 
-A table keeps within $COLUMNS, or else the terminal's width, or else {reports.WIDTH}: columns without room there stand in a table of
+A table keeps within $COLUMNS, or else the terminal's width, or else {tool.WIDTH}: columns without room there stand in a table of
 their own below.
 
-{reports.FINDING}
+{runner.FINDING}
 
 exit status: 0; 1 where the reports couldn't be had or the picture not be written; 2 for words that aren't those above.
 
@@ -35,10 +38,24 @@ examples:
   bootmem-draw --output machine.svg -- --kernel 16M,52M zp.bin
   bootmem --report map,zones zp.bin | bootmem-draw --text"""
 
-# A row of the picture: its bytes, its name, its colour, and what a tool tip tells of it.
-Row = collections.namedtuple("Row", "first last name colour tip")
-# A column: its head, and its rows in lanes, of which each has no two rows over one another.
-Column = collections.namedtuple("Column", "head lanes")
+
+class Row(NamedTuple):
+    """A row of the picture: its bytes, its name, its colour, None for a gap, and the text of its tool tip."""
+
+    first: int
+    last: int
+    name: str
+    colour: str | None
+    tip: str
+
+
+class Column(NamedTuple):
+    """A column: its head, and its rows in lanes, each without rows that overlap."""
+
+    head: str
+    lanes: list[list[Row]]
+
+
 
 HEADS = {"map": "map", "owners": "owners", "nodes": "nodes", "zones": "zones", "blocks": "free blocks"}
 
@@ -58,24 +75,24 @@ COLOURS = {
 NODES = [BLUE, YELLOW, MINT, PINK, CYAN, ORANGE, PEAR]
 
 
-def read_words(words):
+def read_words(words: list[str]) -> tuple[argparse.Namespace, reports.Texts]:
     """What the words ask for, and the reports to draw."""
-    own, program_words = reports.split_words(words)
-    parser = reports.new_parser(NAME, USAGE, ABOUT, EPILOG)
+    own, program_words = tool.split_words(words)
+    parser = tool.new_parser(NAME, USAGE, ABOUT, EPILOG)
     parser.add_argument("file", metavar="FILE", nargs="?", help="a text of reports; - is standard input")
     parser.add_argument("--text", action="store_true", help="a table for a terminal")
     parser.add_argument("--title", metavar="TEXT", help="a line above the picture")
     parser.add_argument("--output", metavar="FILE", help="write to FILE; without it to standard output")
-    reports.add_program(parser)
+    runner.add_program(parser)
     given = parser.parse_args(own)
     if program_words is None:
         return given, reports.read_reports(given.file or "-", behind=True)
     if given.file is not None:
         parser.error("a FILE and words behind -- at once")
-    return given, reports.run_for(NAME, reports.find_program(given.program), DRAWN, program_words)
+    return given, runner.run_for(NAME, runner.find_program(given.program), DRAWN, program_words)
 
 
-def colour_of(report, span):
+def colour_of(report: str, span: reports.Span) -> str:
     """The colour of a row: of a node by its number, of a block by its order, else by its name."""
     if report == "nodes":
         return NODES[int(span.fields["node"]) % len(NODES)]
@@ -84,36 +101,36 @@ def colour_of(report, span):
         low, high = (238, 245, 252), (139, 184, 228)
         return "#" + "".join(f"{round(a + (b - a) * part):02x}" for a, b in zip(low, high))
     name = span.fields["zone"] if report == "zones" else span.name
-    return COLOURS.get(name) or COLOURS.get(name.split()[0], GREY)
+    return COLOURS.get(name, COLOURS.get(name.split()[0], GREY))
 
 
-def joined_blocks(found):
+def joined_blocks(found: Iterable[reports.Span]) -> list[reports.Span]:
     """The blocks, in which neighbours of one order, node and zone are one span with the number of blocks in its name."""
-    runs = []
+    runs: list[list[reports.Span]] = []
     for span in found:
-        kind = (span.fields["order"], span.fields["node"], span.fields["zone"])
-        if runs and runs[-1][0] == kind and runs[-1][-1].last + 1 == span.first:
+        before = runs[-1][-1] if runs else None
+        if before and before.last + 1 == span.first and all(before.fields[key] == span.fields[key] for key in ("order", "node", "zone")):
             runs[-1].append(span)
         else:
-            runs.append([kind, span])
-    return [run[1]._replace(last=run[-1].last, name=f"{len(run) - 1} \u00d7 order {run[0][0]}") for run in runs]
+            runs.append([span])
+    return [run[0]._replace(last=run[-1].last, name=f"{len(run)} \u00d7 order {run[0].fields['order']}") for run in runs]
 
 
-def name_of(report, span):
+def name_of(report: str, span: reports.Span) -> str:
     """A row's name: the report's own, but for the map of a section, which isn't the firmware's map."""
     return re.sub(r"^map (?=\d+$)", STRUCTURES, span.name) if report == "owners" else span.name
 
 
-def tip_of(report, span):
+def tip_of(report: str, span: reports.Span) -> str:
     """What a tool tip tells: range, size, name and what else the report says."""
     more = {"zones": "present {present} free {free} frames", "blocks": "node {node} zone {zone}", "map": "type {type}"}
-    text = f"{reports.range_text(span.first, span.last)}, {reports.size_text(span.last + 1 - span.first)}: {name_of(report, span)}"
+    text = f"{ranges.range_text(span.first, span.last)}, {ranges.size_text(span.last + 1 - span.first)}: {name_of(report, span)}"
     return f"{text}, {more[report].format(**span.fields)}" if report in more else text
 
 
-def lanes_of(rows):
+def lanes_of(rows: Iterable[Row]) -> list[list[Row]]:
     """The rows, each in the first lane in which none before it lies over it."""
-    lanes = []
+    lanes: list[list[Row]] = []
     for row in sorted(rows):
         for lane in lanes:
             if lane[-1].last < row.first:
@@ -124,16 +141,16 @@ def lanes_of(rows):
     return lanes or [[]]
 
 
-def gaps_of(rows):
+def gaps_of(rows: Iterable[Row]) -> Iterator[Row]:
     """Rows without a colour for what no row says between the first address and the last."""
     after = 0
     for row in sorted(rows):
         if row.first > after:
-            yield Row(after, row.first - 1, "gap", None, f"{reports.range_text(after, row.first - 1)}: nothing in the map")
+            yield Row(after, row.first - 1, "gap", None, f"{ranges.range_text(after, row.first - 1)}: nothing in the map")
         after = max(after, row.last + 1)
 
 
-def columns_of(texts):
+def columns_of(texts: reports.Texts) -> list[Column]:
     """The columns of the reports that are drawn, in their order."""
     columns = []
     for report in DRAWN:
@@ -144,7 +161,7 @@ def columns_of(texts):
             rows += list(gaps_of(rows)) if report == "map" else []
             columns.append(Column(HEADS[report], lanes_of(rows)))
     if not any(lane for column in columns for lane in column.lanes):
-        raise reports.Trouble(f"none of the reports {', '.join(DRAWN)} is there with a line")
+        raise tool.Trouble(f"none of the reports {', '.join(DRAWN)} is there with a line")
     return columns
 
 
@@ -164,40 +181,40 @@ STYLE = """text { font: 11px "DejaVu Sans", Verdana, "Segoe UI", Helvetica, Aria
 .gap { font-style: italic; fill: #777 } .end { text-anchor: end }"""
 
 
-def heights(columns):
+def heights(columns: Sequence[Column]) -> dict[int, int]:
     """The place of each end of a row below the first, so that each row has room for its text and each address for its own."""
     rows = [row for column in columns for lane in column.lanes for row in lane]
-    by_end = collections.defaultdict(list)
+    by_end: dict[int, list[Row]] = collections.defaultdict(list)
     for row in rows:
         by_end[row.last + 1].append(row)
     ends = sorted({row.first for row in rows} | set(by_end))
     place = {ends[0]: 0}
     for before, end in zip(ends, ends[1:]):
-        wanted = [place[before] + LINE]
+        wanted: list[float] = [place[before] + LINE]
         for row in by_end[end]:
-            more = 0 if row.colour is None else 0.7 * max(0, math.log2((end - row.first) / reports.FRAME))
+            more = 0 if row.colour is None else 0.7 * max(0, math.log2((end - row.first) / ranges.FRAME))
             wanted.append(place[row.first] + ROW + more)
         place[end] = round(max(wanted))
     return place
 
 
-def lane_width(lane, head):
+def lane_width(lane: Sequence[Row], head: str) -> int:
     """The width that the longest text of a lane needs."""
     longest = max([len(row.name) + len(size_of(row)) + 2 for row in lane] + [len(head) + 1])
     return math.ceil(longest * LETTER + 2 * PADDING)
 
 
-def size_of(row):
+def size_of(row: Row) -> str:
     """The text of a row's size."""
-    return reports.size_text(row.last + 1 - row.first)
+    return ranges.size_text(row.last + 1 - row.first)
 
 
-def text_at(x, y, text, kind=""):
+def text_at(x: float, y: float, text: str, kind: str = "") -> str:
     """An SVG text in one of the classes of STYLE."""
     return f'<text x="{x}" y="{y}"{f" class={chr(34)}{kind}{chr(34)}" if kind else ""}>{escape(text)}</text>'
 
 
-def draw_row(row, x, top, bottom, width):
+def draw_row(row: Row, x: int, top: int, bottom: int, width: int) -> Iterator[str]:
     """The lines of one row of the picture."""
     middle = (top + bottom) / 2 + 4
     look = 'fill="none" stroke="#bbb" stroke-dasharray="3 3"' if row.colour is None else f'fill="{row.colour}" stroke="#8c8c8c"'
@@ -208,12 +225,13 @@ def draw_row(row, x, top, bottom, width):
     yield text_at(x + width - PADDING, middle, size_of(row), "gap end" if kind else "end") + "</g>"
 
 
-def draw(columns, title):
+def draw(columns: Sequence[Column], title: str | None) -> str:
     """The text of the SVG picture."""
     place = heights(columns)
     axis = math.ceil(max(len(f"{end:#x}") for end in place) * DIGIT)
     top = MARGIN + (24 if title else 0) + HEAD
-    body, x = [], MARGIN + axis + 8
+    body: list[str] = []
+    x = MARGIN + axis + 8
     for column in columns:
         body.append(text_at(x + PADDING, top - 8, column.head, "head"))
         for lane in column.lanes:
@@ -234,18 +252,18 @@ def draw(columns, title):
     return "\n".join(lines + body + ["</svg>", ""])
 
 
-def cell_of(row, first):
+def cell_of(row: Row, first: int) -> str:
     """What stands in the table for a row at the address `first`."""
     name = row.name.replace("\u00d7", "x").replace(STRUCTURES, "page structures ")
     return f"{name} {size_of(row)}" if row.first == first else "|"
 
 
-def table_lines(lanes):
+def table_lines(lanes: Sequence[tuple[str, list[Row]]]) -> list[str]:
     """The lines of a table of lanes, each with its column's head: one for each address at which something begins or ends."""
-    before = [None] + [head for head, _ in lanes]
+    before = [""] + [head for head, _ in lanes]
     lines = [["address"] + ["" if head == left else head for (head, _), left in zip(lanes, before)]]
     after = 0
-    for first, last, found in reports.sweep(*(lane for _, lane in lanes)):
+    for first, last, found in ranges.sweep(*(lane for _, lane in lanes)):
         lines.append([f"{first:#x}"] + [cell_of(rows[0], first) if rows else "" for rows in found])
         after = last + 1
     lines.append([f"{after:#x}"])
@@ -254,9 +272,9 @@ def table_lines(lanes):
             for line in lines]
 
 
-def table(columns, title, width):
+def table(columns: Sequence[Column], title: str | None, width: int) -> str:
     """The text of the tables for a terminal of this width: as few as have room for all lanes; a line that still has none is cut."""
-    groups = []
+    groups: list[list[tuple[str, list[Row]]]] = []
     for lane in [(column.head, lane) for column in columns for lane in column.lanes if lane]:
         if groups and max(map(len, table_lines(groups[-1] + [lane]))) <= width:
             groups[-1].append(lane)
@@ -266,22 +284,18 @@ def table(columns, title, width):
     return "\n".join((textwrap.wrap(title, width) if title else []) + texts)
 
 
-def main(words):
+def main(words: list[str]) -> int:
     """Writes the picture or the table."""
     given, texts = read_words(words)
     columns = columns_of(texts)
-    text = table(columns, given.title, shutil.get_terminal_size((reports.WIDTH, 24)).columns) if given.text else draw(columns, given.title)
-    if given.output in (None, "-"):
-        sys.stdout.buffer.write(text.encode())
-    else:
-        with open(given.output, "wb") as file:
-            file.write(text.encode())
+    text = table(columns, given.title, shutil.get_terminal_size((tool.WIDTH, 24)).columns) if given.text else draw(columns, given.title)
+    tool.write_output(text, given.output)
     return 0
 
 
-def command():
+def command() -> NoReturn:
     """Runs the tool as a command."""
-    reports.run_tool(NAME, main)
+    tool.run_tool(NAME, main)
 
 
 if __name__ == "__main__":

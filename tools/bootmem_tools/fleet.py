@@ -1,13 +1,16 @@
 """bootmem-fleet: what bootmem tells of many machines, a line each."""
 
-import collections
+from __future__ import annotations
+
+import argparse
 import json
 import multiprocessing
 import os
 import subprocess
 import tempfile
+from typing import IO, NamedTuple, NoReturn
 
-from bootmem_tools import command_line as cmdline, objects, reports
+from bootmem_tools import command_line, machine, objects, reports, runner, tool
 
 NAME = "bootmem-fleet"
 USAGE = """bootmem-fleet [--json] [--cmdline-add WORDS] [--cmdline-drop NAME]..
@@ -35,7 +38,7 @@ is read as the machine's kernel would read it (bootmem-line); --verbose tells wh
 
 --json prints one JSON object a line instead (FORMATS.md of the documents: "A fleet as JSON").
 
-{reports.FINDING}
+{runner.FINDING}
 
 exit status: 0 where each run ended with 0, 1 where one didn't, 2 for words that aren't those above.
 
@@ -46,15 +49,29 @@ examples:
 FILES = (("--e820ext", "e820ext.bin"), ("--cmdline", "cmdline"), ("--srat", "srat.bin"), ("--efi", "efi.bin"))
 ASKED = ["summary", "crash", "nodes"]
 
-# What each run is given, the same for all of them; and what came of one: its row, whether the image's place was assumed, and
-# what bootmem-line said.
-Plan = collections.namedtuple("Plan", "program add drop kernel")
-Answer = collections.namedtuple("Answer", "row assumed said")
+
+class Plan(NamedTuple):
+    """What all runs have in common."""
+
+    program: str
+    add: str | None
+    drop: list[str]
+    kernel: str | None
 
 
-def read_words(words):
+class Answer(NamedTuple):
+    """The outcome for a folder: its row, whether the image's place was assumed, and what was changed in its line."""
+
+    row: objects.Object
+    assumed: bool
+    said: list[str]
+
+
+
+
+def read_words(words: list[str]) -> argparse.Namespace:
     """The tool's words."""
-    parser = reports.new_parser(NAME, USAGE, ABOUT, EPILOG)
+    parser = tool.new_parser(NAME, USAGE, ABOUT, EPILOG)
     parser.add_argument("folders", metavar="FOLDER", nargs="+", help="what bootmem-collect gathered of a machine")
     parser.add_argument("--json", action="store_true", help="one JSON object a line")
     parser.add_argument("--cmdline-add", metavar="WORDS", help="append WORDS to each command line")
@@ -62,24 +79,25 @@ def read_words(words):
     parser.add_argument("--kernel", metavar="BASE,SIZE", help="where every kernel's image lies")
     parser.add_argument("--jobs", metavar="N", type=int, help="so many runs at once")
     parser.add_argument("--verbose", action="store_true", help="tell what bootmem-line changed")
-    reports.add_program(parser)
+    runner.add_program(parser)
     given = parser.parse_args(words)
     if given.jobs is not None and given.jobs < 1:
         parser.error(f"--jobs {given.jobs}: at least 1")
     return given
 
 
-def kernel_words(folder, plan):
+def kernel_words(folder: str, plan: Plan) -> list[str]:
     """The words that tell where the kernel's image lies, as far as the words, or the folder's kernel or words, tell it."""
     if plan.kernel:
         return ["--kernel", plan.kernel]
-    if os.path.exists(os.path.join(folder, "kernel")):
-        return ["--kernel", reports.read_text(os.path.join(folder, "kernel")).strip()]
-    words = reports.read_text(os.path.join(folder, "words")).split() if os.path.exists(os.path.join(folder, "words")) else []
+    told = machine.text_in(folder, "kernel")
+    if told is not None:
+        return ["--kernel", told.strip()]
+    words = (machine.text_in(folder, "words") or "").split()
     return words[words.index("--kernel"):][:2] if "--kernel" in words else []
 
 
-def dropped(line, names):
+def dropped(line: str, names: list[str]) -> str:
     """The line without the words of these names; words are parted by blanks outside quotation marks."""
     words, quoted = [""], False
     for letter in line:
@@ -91,21 +109,20 @@ def dropped(line, names):
     return " ".join(word for word in words if word and word.lstrip('"').split("=", 1)[0] not in names)
 
 
-def changed_line(folder, plan, file):
-    """Writes the folder's line, changed as the plan says, to the file; what bootmem-line said."""
+def changed_line(folder: str, plan: Plan, file: IO[bytes]) -> list[str]:
+    """Writes the folder's line, changed as the plan says, to the file; returns what reading it as the kernel does changed."""
     path = os.path.join(folder, "cmdline")
     line = b""
     if os.path.exists(path):
-        with open(path, "rb") as source:
-            line = source.read().split(b"\0")[0].rstrip(b"\n")
+        line = command_line.read_file(path).split(b"\0")[0].rstrip(b"\n")
     text = dropped(line.decode("latin-1"), plan.drop) if plan.drop else line.decode("latin-1")
     made = f"{text} {plan.add}".strip() if plan.add else text
     data = made.encode("latin-1") + b"\n"
     extension = os.path.join(folder, "e820ext.bin")
     words = ["--e820ext", extension] if os.path.exists(extension) else []
     try:
-        reading = cmdline.read_line(data, cmdline.total_by(plan.program, words + [os.path.join(folder, "zp.bin")]))
-    except reports.Trouble as trouble:
+        reading = command_line.read_line(data, command_line.total_by(plan.program, words + [os.path.join(folder, "zp.bin")]))
+    except tool.Trouble as trouble:
         said = [str(trouble)]
     else:
         said = reading.changes + reading.notes
@@ -115,7 +132,7 @@ def changed_line(folder, plan, file):
     return said
 
 
-def run(folder, plan, words):
+def run(folder: str, plan: Plan, words: list[str]) -> tuple[int, str, objects.Object | None]:
     """The program's status, what it said, and its reports for these words in the folder."""
     done = subprocess.run([plan.program, "--report", ",".join(ASKED), *words, "zp.bin"], stdin=subprocess.DEVNULL,
                           stdout=subprocess.PIPE, stderr=subprocess.PIPE, cwd=folder, check=False)
@@ -125,14 +142,21 @@ def run(folder, plan, words):
     return 0, said, objects.as_object(reports.split_reports(done.stdout.decode()))
 
 
-def tell(work):
+def tell(work: tuple[str, Plan]) -> Answer:
     """The answer for one folder of the plan."""
     folder, plan = work
     if not os.path.isdir(folder):
         return Answer(row_of(folder, 2, "no folder", None), False, [])
     words = [word for option, name in FILES if os.path.exists(os.path.join(folder, name)) for word in (option, name)]
-    kernel = kernel_words(folder, plan)
-    said = []
+    try:
+        return told(folder, plan, words, kernel_words(folder, plan))
+    except (tool.Trouble, OSError) as trouble:
+        return Answer(row_of(folder, 2, tool.printable(str(trouble)), None), False, [])
+
+
+def told(folder: str, plan: Plan, words: list[str], kernel: list[str]) -> Answer:
+    """Returns the answer for one folder, whose files these words name."""
+    said: list[str] = []
     with tempfile.NamedTemporaryFile() as file:
         if plan.add or plan.drop:
             said = changed_line(folder, plan, file)
@@ -144,9 +168,9 @@ def tell(work):
     return Answer(row, not kernel, said)
 
 
-def row_of(folder, status, line, found):
+def row_of(folder: str, status: int, line: str, found: objects.Object | None) -> objects.Object:
     """What is told of a folder, by column."""
-    row = {"folder": folder, "status": status, "line": line or None, "runs": None, "usable": None, "free": None, "crash": None,
+    row: objects.Object = {"folder": folder, "status": status, "line": line or None, "runs": None, "usable": None, "free": None, "crash": None,
            "numa": None, "nodes": None}
     if found:
         nodes = {one["node"] for one in found["nodes"]["ranges"]}
@@ -155,12 +179,12 @@ def row_of(folder, status, line, found):
     return row
 
 
-def range_of(found):
+def range_of(found: objects.Object) -> str:
     """A range as the reports have it."""
     return f"{found['first']}..{found['last']}"
 
 
-def columns(row):
+def columns(row: objects.Object) -> list[str]:
     """The texts of a row."""
     crash, numa = row["crash"], row["numa"]
     texts = [row[name] for name in ("folder", "status", "line", "runs", "usable", "free")]
@@ -169,10 +193,10 @@ def columns(row):
     return ["-" if text is None else str(text) for text in texts + [row["nodes"]]]
 
 
-def main(words):
+def main(words: list[str]) -> int:
     """Prints a line for each folder; the status says whether each run ended with 0."""
     given = read_words(words)
-    plan = Plan(os.path.abspath(reports.find_program(given.program)), given.cmdline_add, given.cmdline_drop, given.kernel)
+    plan = Plan(os.path.abspath(runner.find_program(given.program)), given.cmdline_add, given.cmdline_drop, given.kernel)
     jobs = min(given.jobs or len(os.sched_getaffinity(0)), len(given.folders))
     failed, assumed = False, 0
     with multiprocessing.get_context("fork").Pool(jobs) as pool:
@@ -181,16 +205,16 @@ def main(words):
             failed = failed or answer.row["status"] != 0
             assumed += answer.assumed
             for line in answer.said if given.verbose else []:
-                reports.complain(NAME, f"{answer.row['folder']}: bootmem-line: {line}")
+                tool.complain(NAME, f"{answer.row['folder']}: bootmem-line: {line}")
     if assumed:
-        reports.complain(NAME, f"of {assumed} of {len(given.folders)} folders nothing tells where the kernel's image lies: 16 MiB to "
+        tool.complain(NAME, f"of {assumed} of {len(given.folders)} folders nothing tells where the kernel's image lies: 16 MiB to "
                                "48 MiB is assumed")
     return 1 if failed else 0
 
 
-def command():
+def command() -> NoReturn:
     """Runs the tool as a command."""
-    reports.run_tool(NAME, main, failure=2)
+    tool.run_tool(NAME, main, failure=2)
 
 
 if __name__ == "__main__":

@@ -1,8 +1,11 @@
 """bootmem-json: reports of bootmem as one JSON object."""
 
-import json
+from __future__ import annotations
 
-from bootmem_tools import objects, reports
+import json
+from typing import NoReturn
+
+from bootmem_tools import objects, reports, runner, tool
 
 NAME = "bootmem-json"
 USAGE = """bootmem-json [--compact] [--report NAME] [FILE]
@@ -16,7 +19,7 @@ Else the text of reports is read from FILE, or from standard input where there i
 without its line `== NAME` is known by its first line; --report NAME tells it where that may be another's (reserved, which
 looks like memory, pages like script, pagesinfo like buddyinfo, or a text without a line).
 
-{reports.FINDING}
+{runner.FINDING}
 
 exit status: 0; 1 where the reports couldn't be had; 2 for words that aren't those above.
 
@@ -27,14 +30,14 @@ examples:
 WANTED = [name for name in objects.REPORTS if name not in ("script", "blocks", "pages", "pagesinfo")]
 
 
-def read_words(words):
+def read_words(words: list[str]) -> tuple[bool, reports.Texts]:
     """Whether the text is to be one line, and the reports."""
-    own, program_words = reports.split_words(words)
-    parser = reports.new_parser(NAME, USAGE, ABOUT, EPILOG)
+    own, program_words = tool.split_words(words)
+    parser = tool.new_parser(NAME, USAGE, ABOUT, EPILOG)
     parser.add_argument("file", metavar="FILE", nargs="?", help="a text of reports; - is standard input")
     parser.add_argument("--report", metavar="LIST", help="the reports to ask for, or the name of the one in FILE")
     parser.add_argument("--compact", action="store_true", help="one line, without blanks")
-    reports.add_program(parser)
+    runner.add_program(parser)
     given = parser.parse_args(own)
     names = given.report.split(",") if given.report is not None else None
     for name in names or []:
@@ -43,16 +46,16 @@ def read_words(words):
     if program_words is not None:
         if given.file is not None:
             parser.error("a FILE and words behind -- at once")
-        return given.compact, reports.run_for(NAME, reports.find_program(given.program), names or WANTED, program_words)
+        return given.compact, runner.run_for(NAME, runner.find_program(given.program), names or WANTED, program_words)
     if names is None:
         return given.compact, reports.read_reports(given.file or "-", behind=True)
-    lines = reports.read_text(given.file or "-").splitlines()
+    lines = tool.read_text(given.file or "-", what="text of reports").splitlines()
     if len(names) > 1 or any(line.startswith("== ") for line in lines):
         parser.error("--report names one report whose text has no line `== NAME`")
     return given.compact, {names[0]: lines}
 
 
-def main(words):
+def main(words: list[str]) -> int:
     """Prints the object."""
     compact, texts = read_words(words)
     found = objects.as_object(texts)
@@ -60,9 +63,9 @@ def main(words):
     return 0
 
 
-def command():
+def command() -> NoReturn:
     """Runs the tool as a command."""
-    reports.run_tool(NAME, main)
+    tool.run_tool(NAME, main)
 
 
 if __name__ == "__main__":

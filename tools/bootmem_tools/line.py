@@ -1,8 +1,12 @@
 """bootmem-line: a kernel's command line, said so that bootmem reads it as that kernel does."""
 
-import sys
+from __future__ import annotations
 
-from bootmem_tools import command_line as cmdline, reports
+import argparse
+import sys
+from typing import Callable, NoReturn
+
+from bootmem_tools import command_line, ranges, runner, tool
 
 NAME = "bootmem-line"
 USAGE = """bootmem-line [--e820ext FILE] [--total SIZE] [--program P]
@@ -28,7 +32,7 @@ Words that bootmem passes over though the kernel acts on them (movable_node, ker
 names that are nearly one of bootmem's own, are told as passed over; they stay, and aren't a change. A line with which
 the kernel stops, or never settles its map, is trouble.
 
-{reports.FINDING}
+{runner.FINDING}
 
 exit status: 0 where nothing had to be changed, 1 where something was, 2 for trouble.
 
@@ -38,44 +42,44 @@ examples:
   echo 'crashkernel=1G-4G:192M,4G-:256M' | bootmem-line --total 4095M"""
 
 
-def read_words(words):
+def read_words(words: list[str]) -> argparse.Namespace:
     """The tool's words."""
-    parser = reports.new_parser(NAME, USAGE, ABOUT, EPILOG)
+    parser = tool.new_parser(NAME, USAGE, ABOUT, EPILOG)
     parser.add_argument("cmdline", metavar="CMDLINE", nargs="?", default="-", help="the file with the line")
     parser.add_argument("zeropage", metavar="ZEROPAGE", nargs="?", help="the machine's zero page")
     parser.add_argument("--e820ext", metavar="FILE", help="the machine's E820 extension")
     parser.add_argument("--total", metavar="SIZE", help="total memory, in place of ZEROPAGE")
-    reports.add_program(parser)
+    runner.add_program(parser)
     given = parser.parse_args(words)
-    if given.total is not None and reports.parse_size(given.total) is None:
+    if given.total is not None and ranges.parse_size(given.total) is None:
         parser.error(f"--total {given.total}: no size")
     return given
 
 
-def total_of(given):
+def total_of(given: argparse.Namespace) -> Callable[[str], command_line.Total] | None:
     """What tells total memory, or None."""
     if given.total is not None:
-        size = reports.parse_size(given.total)
-        return lambda _: cmdline.Total(size, size)
+        size = ranges.parse_size(given.total) or 0
+        return lambda _: command_line.Total(size, size)
     if given.zeropage is None:
         return None
     words = ["--e820ext", given.e820ext] if given.e820ext else []
-    return cmdline.total_by(given.program, words + [given.zeropage])
+    return command_line.total_by(given.program, words + [given.zeropage])
 
 
-def main(words):
+def main(words: list[str]) -> int:
     """Prints the line, and tells what was changed; the status says whether anything was."""
     given = read_words(words)
-    reading = cmdline.read_line(cmdline.read_bytes(given.cmdline), total_of(given))
+    reading = command_line.read_line(command_line.read_file(given.cmdline), total_of(given))
     for said in reading.changes + reading.notes:
-        reports.complain(NAME, said)
+        tool.complain(NAME, said)
     sys.stdout.buffer.write(reading.line.encode("latin-1") + b"\n")
     return 1 if reading.changes else 0
 
 
-def command():
+def command() -> NoReturn:
     """Runs the tool as a command."""
-    reports.run_tool(NAME, main, failure=2)
+    tool.run_tool(NAME, main, failure=2)
 
 
 if __name__ == "__main__":

@@ -1,5 +1,8 @@
 """bootmem-live: does bootmem's account of memory hold on the kernel that runs here?"""
 
+from __future__ import annotations
+
+import argparse
 import collections
 import os
 import re
@@ -7,8 +10,9 @@ import shutil
 import subprocess
 import sys
 import tempfile
+from typing import Iterable, Iterator, NamedTuple, NoReturn, Sequence
 
-from bootmem_tools import command_line as cmdline, machine, reports
+from bootmem_tools import command_line, machine, ranges, reports, runner, tool
 
 NAME = "bootmem-live"
 USAGE = """bootmem-live [--kernel BASE,SIZE] [--program P] FOLDER
@@ -33,7 +37,7 @@ A line begins with
   differs  it differs in another way
   passed   it can't be compared, and why
 
-{reports.FINDING}
+{runner.FINDING}
 
 exit status: 0 where nothing differs but in a known way, 1 where something does, 2 where nothing could be compared, and
 for words that aren't those above.
@@ -48,63 +52,85 @@ BORDERS = {"DMA": (0, 4096), "DMA32": (4096, 1 << 20), "Normal": (1 << 20, 1 << 
 GIVEN = "the boot loader's command line isn't /proc/cmdline (built-in words, bootconfig)"
 HOTPLUG = "hotplug, or nodes that bootmem wasn't told of (an SRAT that root alone reads, numa=fake)"
 
-# A zone of /proc/zoneinfo or of the report, in frames.
-Zone = collections.namedtuple("Zone", "start spanned present")
-Finding = collections.namedtuple("Finding", "kind text")
+
+class Zone(NamedTuple):
+    """A zone of /proc/zoneinfo or of the report, in frames; None where the kernel shows no number."""
+
+    start: int | None
+    spanned: int
+    present: int
 
 
-def row(*functions):
+class Finding(NamedTuple):
+    """A line of the answer: its first word, and its text."""
+
+    kind: str
+    text: str
+
+
+# Zones by node and name.
+Zones = dict[tuple[int, str], Zone]
+Texts = reports.Texts
+
+
+def row(*functions: str) -> str:
     """A row of the table in KERNEL.md, by the functions that it begins with."""
     return "docs/KERNEL.md, row " + ", ".join(functions)
 
 
-def read_words(words):
+def read_words(words: list[str]) -> argparse.Namespace:
     """The tool's words."""
-    parser = reports.new_parser(NAME, USAGE, ABOUT, EPILOG)
+    parser = tool.new_parser(NAME, USAGE, ABOUT, EPILOG)
     parser.add_argument("folder", metavar="FOLDER", nargs="?", help="what bootmem-collect gathered of a machine")
     parser.add_argument("--kernel", metavar="BASE,SIZE", help="where the kernel's image lies, as bootmem reads it")
     parser.add_argument("--keep", metavar="FOLDER", help="gather into FOLDER and leave it there")
     parser.add_argument("--sys", metavar="DIR", help="what stands for /sys")
     parser.add_argument("--proc", metavar="DIR", help="what stands for /proc")
-    reports.add_program(parser)
+    runner.add_program(parser)
     given = parser.parse_args(words)
     if given.folder and (given.keep or given.sys or given.proc):
         parser.error("a FOLDER is gathered already: --keep, --sys and --proc don't stand beside it")
     return given
 
 
-def collect(given, folder):
+def collect(given: argparse.Namespace, folder: str) -> None:
     """Gathers the machine's inputs into the folder, by the script beside this tool, else by the one on the PATH."""
     folders = [os.path.dirname(os.path.realpath(sys.argv[0])), os.path.dirname(os.path.dirname(os.path.realpath(__file__)))]
     scripts = [os.path.join(beside, name) for beside in folders for name in ("collect.sh", "bootmem-collect")]
     script = next((path for path in scripts if os.path.isfile(path)), None) or shutil.which("bootmem-collect")
     if script is None:
-        raise reports.Trouble(f"there is no collect.sh and no bootmem-collect in {folders[0]}, and none on the PATH")
+        raise tool.Trouble(f"there is no collect.sh and no bootmem-collect in {folders[0]}, and none on the PATH")
     done = subprocess.run(["sh", script, "--sys", given.sys or "/sys", "--proc", given.proc or "/proc", folder],
                           stdin=subprocess.DEVNULL, stdout=subprocess.PIPE, stderr=subprocess.PIPE, check=False)
     if done.returncode != 0:
-        sys.stderr.write(done.stderr.decode("utf-8", "replace"))
-        raise reports.Trouble("this machine's inputs couldn't be gathered")
+        for line in done.stderr.decode("utf-8", "replace").splitlines()[:-1]:
+            tool.complain(NAME, line)
+        raise tool.Trouble("this machine's inputs couldn't be gathered" + "".join(
+            f": {line}" for line in done.stderr.decode("utf-8", "replace").splitlines()[-1:]))
 
 
-def read_zoneinfo(text):
+def read_zoneinfo(text: str) -> Zones:
     """The zones of /proc/zoneinfo that have frames, by node and name; a start that isn't shown is None."""
     found = {}
     for part in re.split(r"^(?=Node \d+, zone)", text, flags=re.MULTILINE):
         head = re.match(r"Node (\d+), zone +(\S+)", part)
         if head is None:
             continue
-        values = [re.search(form, part, re.MULTILINE)
-                  for form in (r"^\s*start_pfn: +(\d+)", r"^\s*spanned +(\d+)", r"^\s*present +(\d+)")]
-        zone = Zone(*(int(value.group(1)) if value else None for value in values))
-        if zone.spanned:
-            found[int(head.group(1)), head.group(2)] = zone
+        start, spanned, present = (number_in(form, part) for form in ("start_pfn:", "spanned", "present"))
+        if spanned:
+            found[int(head.group(1)), head.group(2)] = Zone(start, spanned, present or 0)
     return found
 
 
-def ram_finding(first, last, here, image):
+def number_in(name: str, part: str) -> int | None:
+    """Returns the number of a line with this name, or None if there is none."""
+    match = re.search(rf"^\s*{name} +(\d{{1,20}})$", part, re.MULTILINE)
+    return int(match.group(1)) if match else None
+
+
+def ram_finding(first: int, last: int, here: bool, image: ranges.Range | None) -> Finding:
     """The finding for a range that is RAM on one side alone; `here` says that the kernel has it as System RAM."""
-    where = f"iomem {reports.range_text(first, last)} ({reports.size_text(last + 1 - first)}): "
+    where = f"iomem {ranges.range_text(first, last)} ({ranges.size_text(last + 1 - first)}): "
     if not here:
         return Finding("differs", f"{where}usable by bootmem, no System RAM here: taken back later (see 'e820: update' and "
                                   "'e820: remove' in the log; " + row("early_gart_iommu_check", "mtrr_trim_uncached_memory")
@@ -116,17 +142,19 @@ def ram_finding(first, last, here, image):
                               + row("efi_memblock_x86_reserve_range", "do_add_efi_memmap") + f"), or {GIVEN}")
 
 
-def compare_ram(resources, entries):
+def compare_ram(resources: Sequence[machine.Resource], entries: Iterable[reports.Span]) -> Iterator[Finding]:
     """The findings for System RAM."""
     ram = [one for one in resources if one.name == "System RAM"]
     for one in resources:
         if one.name.startswith("System RAM ("):
-            yield Finding("passed", f"iomem {reports.range_text(one.first, one.last)}: {one.name}, added after boot by a driver")
+            yield Finding("passed", f"iomem {ranges.range_text(one.first, one.last)}: {one.name}, added after boot by a driver")
     code = [one for one in resources if one.name.startswith("Kernel ")]
     image = (min(one.first for one in code), max(one.last for one in code)) if code else None
     usable = [entry for entry in entries if entry.name in ("usable", "usable kernel")]
-    agreed, run = 0, None
-    for first, last, (here, told) in reports.sweep(ram, usable):
+    agreed = 0
+    run: tuple[int, int, bool] | None = None
+    both: list[Sequence[ranges.Ranged]] = [ram, usable]
+    for first, last, (here, told) in ranges.sweep(*both):
         if bool(here) == bool(told):
             agreed += last + 1 - first if here else 0
             continue
@@ -138,18 +166,18 @@ def compare_ram(resources, entries):
     if run:
         yield ram_finding(*run, image)
     if agreed:
-        yield Finding("agrees", f"iomem: {reports.size_text(agreed)} of System RAM are usable by bootmem")
+        yield Finding("agrees", f"iomem: {ranges.size_text(agreed)} of System RAM are usable by bootmem")
 
 
-def area_text(ranges):
+def area_text(found: Iterable[ranges.Range]) -> str:
     """The crash area and its low part."""
-    return " and ".join(f"{reports.range_text(first, last)} ({reports.size_text(last + 1 - first)})" for first, last in ranges) or "none"
+    return " and ".join(f"{ranges.range_text(first, last)} ({ranges.size_text(last + 1 - first)})" for first, last in found) or "none"
 
 
-def compare_crash(resources, lines, uefi):
+def compare_crash(resources: Iterable[machine.Resource], lines: Sequence[str], uefi: bool) -> Finding:
     """The finding for the crash area."""
     here = sorted((one.first, one.last) for one in resources if one.name == "Crash kernel")
-    told = machine.crash_ranges(lines)
+    told = reports.crash_ranges(lines)
     if here == told:
         return Finding("agrees", f"crash area: {area_text(here)}" + ("" if told or "crash none" in lines else f", and {lines[0]}"))
     where = f"crash area: {area_text(here)} here, {area_text(told)} by bootmem: "
@@ -163,32 +191,32 @@ def compare_crash(resources, lines, uefi):
                               f"({before}), or {GIVEN}")
 
 
-def told_zones(spans):
+def told_zones(spans: Iterable[reports.Span]) -> Zones:
     """The zones of the report, by node and name, by the kernel's rule: the node's hull cut by the zone's borders, with the same
     present frames (zone_spanned_pages_in_node)."""
-    own = {(int(one.fields["node"]), one.fields["zone"]): {key: int(one.fields[key]) for key in ("start", "end", "present")}
+    own = {(int(one.fields["node"]), one.fields["zone"]): {key: int(one.fields[key]) for key in ("start_frame", "end_frame", "present")}
            for one in spans}
     found = {}
     for node in {node for node, _ in own}:
         hull = [zone for (number, _), zone in own.items() if number == node]
         for name, (low, high) in BORDERS.items():
-            start, end = max(low, min(zone["start"] for zone in hull)), min(high, max(zone["end"] for zone in hull))
+            start, end = max(low, min(zone["start_frame"] for zone in hull)), min(high, max(zone["end_frame"] for zone in hull))
             if start < end:
                 found[node, name] = Zone(start, end - start, own.get((node, name), {"present": 0})["present"])
     return found
 
 
-def zone_text(zone):
+def zone_text(zone: Zone) -> str:
     """Start, spanned and present frames of a zone."""
     return f"start {'unknown' if zone.start is None else zone.start} spanned {zone.spanned} present {zone.present}"
 
 
-def why_untold(name):
+def why_untold(name: str) -> str:
     """What may explain a zone of the kernel that bootmem doesn't tell of."""
     return {"Movable": "kernelcore=, movablecore=, movable_node or hotplug", "Device": "memory of a driver"}.get(name, HOTPLUG)
 
 
-def why_other(node, name, here, told):
+def why_other(node: int, name: str, here: Zone, told: Zones) -> str:
     """What may explain a zone of the kernel that is another than bootmem's."""
     zone, below = told[node, name], told.get((node, "DMA"))
     if name == "DMA32" and below and here.present == zone.present + below.present:
@@ -200,7 +228,7 @@ def why_other(node, name, here, told):
     return f"the node's hull is another: {HOTPLUG}"
 
 
-def zone_finding(node, name, here, told):
+def zone_finding(node: int, name: str, here: Zone, told: Zones) -> Finding:
     """The finding for a zone that the kernel shows, by the zones that bootmem tells."""
     where = f"zoneinfo node {node} {name}: {zone_text(here)}"
     zone = told.get((node, name))
@@ -215,7 +243,7 @@ def zone_finding(node, name, here, told):
     return Finding("differs", f"{where} here, {zone_text(zone)} by bootmem: {why_other(node, name, here, told)}")
 
 
-def compare_zones(shown, told):
+def compare_zones(shown: Zones, told: Zones) -> Iterator[Finding]:
     """The findings for the zones that the kernel shows and for those that bootmem alone tells of."""
     for node, name in sorted(shown):
         yield zone_finding(node, name, shown[node, name], told)
@@ -226,25 +254,25 @@ def compare_zones(shown, told):
                                      "zone, memory offline, or fewer nodes here")
 
 
-def run(given, folder, reading):
+def run(given: argparse.Namespace, folder: str, reading: command_line.Reading) -> tuple[list[str], Texts]:
     """The words of the program for the inputs in the folder, as they are told, and its reports for them."""
     kernel = given.kernel or machine.kernel_in(folder)
     words = machine.files_in(folder) + (["--kernel", kernel] if kernel else []) + ["zp.bin"]
     if not os.path.exists(os.path.join(folder, "cmdline")):
-        return words, reports.run_program(given.program, ["map", "zones", "nodes", "crash"], words, folder)
+        return words, runner.run_program(given.program, ["map", "zones", "nodes", "crash"], words, folder)
     with tempfile.TemporaryDirectory() as work:
         path = os.path.join(work, "line")
-        cmdline.write_line(path, reading.line)
-        texts = reports.run_program(given.program, ["map", "zones", "nodes", "crash"], ["--cmdline", path] + words, folder)
+        command_line.write_line(path, reading.line)
+        texts = runner.run_program(given.program, ["map", "zones", "nodes", "crash"], ["--cmdline", path] + words, folder)
     return ["--cmdline", "line" if reading.changes else "cmdline"] + words, texts
 
 
-def compare(given, folder, words, texts):
+def compare(given: argparse.Namespace, folder: str, words: Sequence[str], texts: Texts) -> Iterator[Finding]:
     """All findings, by what the kernel shows."""
     for why in machine.panics(texts):
         yield Finding("panics", why)
     if "--kernel" not in words:
-        yield Finding("passed", f"kernel: {reports.ASSUMED}")
+        yield Finding("passed", f"kernel: {runner.ASSUMED}")
     srat = os.path.join(given.sys or "/sys", "firmware", "acpi", "tables", "SRAT")
     if not given.folder and "--srat" not in words and os.path.exists(srat):
         yield Finding("passed", "srat: this machine has an SRAT that root alone can read; bootmem takes all memory for node 0")
@@ -254,14 +282,14 @@ def compare(given, folder, words, texts):
     else:
         resources = machine.read_iomem(iomem)
         yield from compare_ram(resources, reports.spans("map", texts["map"]))
-        yield compare_crash(resources, texts["crash"], machine.is_uefi(cmdline.read_bytes(os.path.join(folder, "zp.bin"))))
+        yield compare_crash(resources, texts["crash"], machine.is_uefi(os.path.join(folder, "zp.bin")))
     if zoneinfo is None:
         yield Finding("passed", "zoneinfo: it isn't there")
     else:
         yield from compare_zones(read_zoneinfo(zoneinfo), told_zones(reports.spans("zones", texts["zones"])))
 
 
-def tell(given, folder):
+def tell(given: argparse.Namespace, folder: str) -> collections.Counter[str]:
     """Prints the commands and the findings for a folder; how many there are of each kind."""
     reading = machine.line_in(given.program, folder)
     words, texts = run(given, folder, reading)
@@ -269,7 +297,7 @@ def tell(given, folder):
         extension = words[words.index("--e820ext"):][:2] if "--e820ext" in words else []
         print(" ".join(["bootmem-line", *extension, "cmdline", "zp.bin > line"]))
     print(f"bootmem {' '.join(words)}")
-    counts = collections.Counter()
+    counts: collections.Counter[str] = collections.Counter()
     findings = [Finding("noted", said) for said in reading.changes + reading.notes]
     for finding in findings + list(compare(given, folder, words, texts)):
         counts[finding.kind] += 1
@@ -277,10 +305,10 @@ def tell(given, folder):
     return counts
 
 
-def main(words):
+def main(words: list[str]) -> int:
     """Prints the findings and their numbers; the status says whether the kernel differs in a way that isn't known."""
     given = read_words(words)
-    given.program = os.path.abspath(reports.find_program(given.program))
+    given.program = os.path.abspath(runner.find_program(given.program))
     with tempfile.TemporaryDirectory() as temporary:
         folder = given.folder or given.keep or temporary
         if not given.folder:
@@ -289,13 +317,13 @@ def main(words):
     print(f"{counts['agrees']} agree, {counts['known']} differ as docs/KERNEL.md says, {counts['differs']} differ, "
           f"{counts['passed']} can't be compared")
     if counts["agrees"] + counts["known"] + counts["differs"] == 0:
-        raise reports.Trouble("nothing could be compared")
+        raise tool.Trouble("nothing could be compared")
     return 1 if counts["differs"] else 0
 
 
-def command():
+def command() -> NoReturn:
     """Runs the tool as a command."""
-    reports.run_tool(NAME, main, failure=2)
+    tool.run_tool(NAME, main, failure=2)
 
 
 if __name__ == "__main__":

@@ -1,7 +1,14 @@
 """bootmem-where: what becomes of one address, by the reports of bootmem."""
 
+from __future__ import annotations
 
-from bootmem_tools import reports
+from typing import Iterator, NoReturn
+
+from bootmem_tools import ranges, reports, runner, tool
+
+# What the lines of an answer say: a word and a text each.
+Sayings = Iterator[tuple[str, str]]
+Spans = list[reports.Span]
 
 NAME = "bootmem-where"
 WANTED = ["map", "memory", "owners", "journal", "tables", "nodes", "zones", "sections", "blocks"]
@@ -15,7 +22,7 @@ program but --report; it is run with --report {','.join(WANTED)}.
 Else the text of these reports is read from FILE, or from standard input where there is none or it is -; of a report
 that isn't there nothing is told. A page structure has 64 bytes: the map of a section, of 2 MiB, has 32,768 of them.
 
-{reports.FINDING}
+{runner.FINDING}
 
 exit status: 0; 1 where the reports couldn't be had; 2 for words that aren't those above.
 
@@ -24,105 +31,106 @@ examples:
   bootmem-where --frame 4096 reports.txt"""
 
 
-def read_words(words):
+def read_words(words: list[str]) -> tuple[int, reports.Texts]:
     """The address and the reports that the words ask for."""
-    own, program_words = reports.split_words(words)
-    parser = reports.new_parser(NAME, USAGE, ABOUT, EPILOG)
+    own, program_words = tool.split_words(words)
+    parser = tool.new_parser(NAME, USAGE, ABOUT, EPILOG)
     parser.add_argument("address", metavar="ADDRESS", help="what to tell of: 0x100000, 1048576, 1M")
     parser.add_argument("file", metavar="FILE", nargs="?", help="a text of reports; - is standard input")
     parser.add_argument("--frame", action="store_true", help="ADDRESS is the number of a frame of 4,096 bytes")
-    reports.add_program(parser)
+    runner.add_program(parser)
     given = parser.parse_args(own)
-    address = reports.parse_size(given.address)
+    address = ranges.parse_size(given.address)
     if address is not None and given.frame:
-        address *= reports.FRAME
-    if address is None or address > reports.TOP:
+        address *= ranges.FRAME
+    if address is None or address > ranges.TOP:
         parser.error(f"{given.address}: no address: 0x.. or decimal, with K, M, G or T or without, below 2^64")
     if program_words is None:
         return address, reports.read_reports(given.file or "-", behind=True)
     if given.file is not None:
         parser.error("a FILE and words behind -- at once")
-    return address, reports.run_for(NAME, reports.find_program(given.program), WANTED, program_words)
+    return address, runner.run_for(NAME, runner.find_program(given.program), WANTED, program_words)
 
 
-def last_step(steps, address):
+def last_step(steps: Spans, address: int) -> reports.Span | None:
     """The newest claim or free of the journal that has the address, which decides its owner; None where there is none."""
-    deciding = [step for step in reports.at(steps, address) if step.fields["deed"].split()[0] in ("claim", "free")]
+    deciding = [step for step in ranges.at(steps, address) if step.kind in ("claim", "free")]
     return deciding[-1] if deciding else None
 
 
-def owner_lines(owners, steps, tables, address):
+def owner_lines(owners: Spans | None, steps: Spans | None, tables: Spans | None, address: int) -> Sayings:
     """The lines of who owns the address, since which step, and of the table of memblock that lies there."""
-    holder = reports.at(owners or [], address)
+    holder = ranges.at(owners or [], address)
     if owners is not None:
-        yield "owner", f"{holder[0].name} {reports.range_text(*holder[0][:2])}" if holder else "none"
+        yield "owner", f"{holder[0].name} {ranges.range_text(*holder[0][:2])}" if holder else "none"
     if steps is not None:
         step = last_step(steps, address)
-        yield ("freed" if step and step.fields["deed"] == "free" else "claimed"), (
+        yield ("freed" if step and step.kind == "free" else "claimed"), (
             f"journal {step.line}" if step else "never")
-    for table in reports.at(tables or [], address):
+    for table in ranges.at(tables or [], address):
         record = (address - table.first) // 24
         used = "" if record < int(table.fields["records"]) else ", not in use"
         yield "table", f"{table.fields['table']} of memblock, record {record}{used}"
 
 
-def place_lines(found, address):
+def place_lines(found: dict[str, Spans], address: int) -> Sayings:
     """The lines of node, zone and section; a span may have holes, so they are told of addresses without memory, too."""
     if "nodes" in found:
-        node = reports.at(found["nodes"], address)
-        yield "node", f"{node[-1].fields['node']} {reports.range_text(*node[-1][:2])}" if node else "none"
+        node = ranges.at(found["nodes"], address)
+        yield "node", f"{node[-1].fields['node']} {ranges.range_text(*node[-1][:2])}" if node else "none"
     if "zones" in found:
-        zones = reports.at(found["zones"], address)
-        own = [zone for zone in zones if "nodes" in found and node and zone.fields["node"] == node[-1].fields["node"]]
+        zones = ranges.at(found["zones"], address)
+        node = ranges.at(found.get("nodes", []), address)
+        own = [zone for zone in zones if node and zone.fields["node"] == node[-1].fields["node"]]
         for zone in own or zones:
-            yield "zone", (f"{zone.fields['zone']} of node {zone.fields['node']}, frames {zone.fields['start']} to "
-                           f"{int(zone.fields['end']) - 1}")
+            yield "zone", (f"{zone.fields['zone']} of node {zone.fields['node']}, frames {zone.fields['start_frame']} to "
+                           f"{int(zone.fields['end_frame']) - 1}")
         if not zones:
             yield "zone", "none"
     if "sections" in found:
-        section = reports.at(found["sections"], address)
+        section = ranges.at(found["sections"], address)
         yield "section", section_text(section[0], address) if section else (
-            f"{address // reports.SECTION}, which has no memory")
+            f"{address // ranges.SECTION}, which has no memory")
 
 
-def section_text(section, address):
+def section_text(section: reports.Span, address: int) -> str:
     """A section's number and node, the place of its map, and of the page structure of the address's frame."""
     place = int(section.fields["map"], 16)
-    page = place + (address - section.first) // reports.FRAME * 64
-    return (f"{section.fields['section']} of node {section.fields['node']}, map at {reports.hex_text(place)}, "
-            f"page structure at {reports.hex_text(page)}")
+    page = place + (address - section.first) // ranges.FRAME * 64
+    return (f"{section.fields['section']} of node {section.fields['node']}, map at {ranges.hex_text(place)}, "
+            f"page structure at {ranges.hex_text(page)}")
 
 
-def tell(address, found):
+def tell(address: int, found: dict[str, Spans]) -> Sayings:
     """The lines of what the reports say of the address, each a word and a text."""
-    yield "address", f"{reports.hex_text(address)} ({reports.size_text(address)}), frame {address // reports.FRAME}"
+    yield "address", f"{ranges.hex_text(address)} ({ranges.size_text(address)}), frame {address // ranges.FRAME}"
     if "map" in found:
-        entry = reports.at(found["map"], address)
-        yield "map", f"{entry[0].name} {reports.range_text(*entry[0][:2])}" if entry else "none"
+        entry = ranges.at(found["map"], address)
+        yield "map", f"{entry[0].name} {ranges.range_text(*entry[0][:2])}" if entry else "none"
     if "memory" in found:
-        memory = reports.at(found["memory"], address)
-        yield "memory", reports.range_text(*memory[0][:2]) if memory else "none"
+        memory = ranges.at(found["memory"], address)
+        yield "memory", ranges.range_text(*memory[0][:2]) if memory else "none"
     yield from owner_lines(found.get("owners"), found.get("journal"), found.get("tables"), address)
     yield from place_lines(found, address)
     if "blocks" in found:
-        block = reports.at(found["blocks"], address)
-        yield "block", (f"{block[0].name} {reports.range_text(*block[0][:2])}, free" if block else "none: not free")
+        block = ranges.at(found["blocks"], address)
+        yield "block", (f"{block[0].name} {ranges.range_text(*block[0][:2])}, free" if block else "none: not free")
 
 
-def main(words):
+def main(words: list[str]) -> int:
     """Prints what becomes of the address."""
     address, texts = read_words(words)
     found = {name: reports.spans(name, lines) for name, lines in texts.items() if name in WANTED}
     if not found:
-        raise reports.Trouble(f"none of the reports {', '.join(WANTED)} is there")
+        raise tool.Trouble(f"none of the reports {', '.join(WANTED)} is there")
     for word, text in tell(address, found):
         print(f"{word:<8} {text}")
     return 0
 
 
-def command():
+def command() -> NoReturn:
     """Runs the tool as a command."""
-    reports.run_tool(NAME, main)
+    tool.run_tool(NAME, main)
 
 
 if __name__ == "__main__":

@@ -1,0 +1,109 @@
+"""Runs of the program bootmem: finding it, and its reports for words."""
+
+from __future__ import annotations
+
+import argparse
+import os
+import shutil
+import subprocess
+import sys
+from typing import Iterable, Sequence
+
+from bootmem_tools.reports import Texts, split_reports
+from bootmem_tools.tool import Trouble, complain
+
+STOPPED = 6  # the status of a boot that stops
+PLACELESS = {"map", "options", "nodes"}  # reports that don't go by the kernel's place
+ASSUMED = "the kernel's place isn't known, so 16 MiB to 48 MiB is assumed; --kernel BASE,SIZE tells it"
+FINDING = "The program is --program, else $BOOTMEM, else bootmem beside this tool, else bootmem on the PATH."
+
+
+def add_program(parser: argparse.ArgumentParser) -> None:
+    """Adds the option that names the program."""
+    parser.add_argument("--program", metavar="P", help="the program bootmem; see below")
+
+
+def find_program(named: str | None = None) -> str:
+    """Returns the path of the program: the named one, else $BOOTMEM, else one beside the tools or above them in a clone, else on the PATH.
+
+    # Errors
+    A Trouble if there is none, or if the named one can't be run.
+    """
+    tools = os.path.dirname(os.path.dirname(os.path.realpath(__file__)))
+    chosen = named or os.environ.get("BOOTMEM")
+    if chosen:
+        found = shutil.which(chosen)
+        if found is None:
+            raise Trouble(f"{chosen}: no program that can be run")
+        return found
+    beside = [os.path.join(os.path.dirname(os.path.realpath(sys.argv[0])), "bootmem")]
+    if os.path.basename(tools) == "tools":
+        beside.append(os.path.join(os.path.dirname(tools), "bootmem"))
+    for path in beside:
+        if os.path.isfile(path) and os.access(path, os.X_OK):
+            return path
+    found = shutil.which("bootmem")
+    if found is None:
+        raise Trouble("there is no program bootmem beside this tool or on the PATH; --program or BOOTMEM names it")
+    return found
+
+
+def call_program(program: str, names: Sequence[str], words: Sequence[str], folder: str | None = None) -> tuple[int, str, str]:
+    """Returns status, standard output and line of a run that asks for these reports; the words mustn't have --report.
+
+    Standard input is the program's, since a word may be /dev/stdin.
+    """
+    if any(word == "--report" or word.startswith("--report=") for word in words):
+        raise Trouble("this tool asks for its own reports: leave --report out of the program's words", 2)
+    done = subprocess.run([program, "--report", ",".join(names), *words], stdout=subprocess.PIPE, stderr=subprocess.PIPE,
+                          cwd=folder, check=False)
+    return done.returncode, done.stdout.decode("utf-8", "replace"), done.stderr.decode("utf-8", "replace").strip()
+
+
+def texts_of(names: Sequence[str], text: str) -> Texts:
+    """Returns the reports that a run for these names printed."""
+    return split_reports(text) if len(names) > 1 else {names[0]: text.splitlines()}
+
+
+def failed(status: int, said: str) -> Trouble:
+    """Returns the trouble of a run that ended with this status and line."""
+    return Trouble(f"the program ended with status {status}: {said or 'it said nothing'}")
+
+
+def run_program(program: str, names: Sequence[str], words: Sequence[str], folder: str | None = None) -> Texts:
+    """Returns the reports of these names for these words, which mustn't have --report.
+
+    # Errors
+    A Trouble if the program doesn't end with status 0.
+    """
+    status, text, said = call_program(program, names, words, folder)
+    if status != 0:
+        raise failed(status, said)
+    return texts_of(names, text)
+
+
+def run_or_stop(program: str, names: Sequence[str], words: Sequence[str], folder: str | None = None) -> tuple[Texts, str | None]:
+    """Returns the reports of these names and None, or no report and the program's line if the boot stops.
+
+    # Errors
+    A Trouble if the program ends with another status than 0 and that of a stop.
+    """
+    status, text, said = call_program(program, names, words, folder)
+    if status == STOPPED:
+        return {}, said[len("bootmem: "):] if said.startswith("bootmem: ") else said
+    if status != 0:
+        raise failed(status, said)
+    return texts_of(names, text), None
+
+
+def is_place_assumed(names: Iterable[str], words: Iterable[str]) -> bool:
+    """Tells whether one of these reports goes by the kernel's place, and the program's words don't have it."""
+    return not PLACELESS.issuperset(names) and not any(word == "--kernel" or word.startswith("--kernel=") for word in words)
+
+
+def run_for(tool: str, program: str, names: Sequence[str], words: Sequence[str]) -> Texts:
+    """Returns what `run_program` does, for a tool whose words are its user's: if the kernel's place is assumed, it says so."""
+    found = run_program(program, names, words)
+    if is_place_assumed(names, words):
+        complain(tool, ASSUMED)
+    return found

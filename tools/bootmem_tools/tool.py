@@ -1,0 +1,205 @@
+"""How each tool reads its words and its input, writes its files, and ends: one line on standard error and a status."""
+
+from __future__ import annotations
+
+import argparse
+import contextlib
+import os
+import re
+import signal
+import stat
+import sys
+import tempfile
+import textwrap
+from typing import BinaryIO, Callable, Mapping, NoReturn, Sequence
+
+WIDTH = 80  # of help, in letters
+LONGEST = 1 << 30  # bytes of a text: the report blocks of 16 TiB in single frames has half as many
+SHORT = 60  # letters of a line that an error quotes
+
+BEHIND = ", or put the program's own words behind --"
+UNPROVED = "This tool isn't proved: it only reads what the proved program prints, or writes what it reads."
+
+
+class Trouble(Exception):
+    """Why a tool ends: one line for standard error, and the exit status where it isn't the tool's own."""
+
+    def __init__(self, message: str, status: int | None = None) -> None:
+        super().__init__(message)
+        self.status = status
+
+
+def run_tool(name: str, main: Callable[[list[str]], int], failure: int = 1) -> NoReturn:
+    """Ends the process with the status of main(words); a Trouble is one line on standard error, and the status `failure`."""
+    if hasattr(signal, "SIGPIPE"):
+        signal.signal(signal.SIGPIPE, signal.SIG_DFL)
+    try:
+        status = main(sys.argv[1:])
+        sys.stdout.flush()
+    except Trouble as trouble:
+        complain(name, str(trouble))
+        status = failure if trouble.status is None else trouble.status
+    except OSError as error:
+        what = f"{error.filename}: " if error.filename else ""
+        complain(name, f"{what}{error.strerror or error}")
+        status = failure
+    except MemoryError:
+        complain(name, "out of memory")
+        status = failure
+    except KeyboardInterrupt:
+        status = 130
+    if status:
+        os._exit(status)  # what couldn't be written has been told
+    sys.exit(0)
+
+
+def complain(name: str, message: str) -> None:
+    """Prints one line on standard error in the tool's name."""
+    print(f"{name}: {printable(message)}", file=sys.stderr, flush=True)
+
+
+def printable(text: str) -> str:
+    """Returns the text with what a terminal would act on, or standard error can't encode, as escapes."""
+    return "".join(letter if letter.isprintable() else letter.encode("unicode_escape").decode() for letter in text)
+
+
+def quoted(line: str) -> str:
+    """Returns a line as an error quotes it: in quotation marks, with escapes, and cut where it is long."""
+    return repr(line) if len(line) <= SHORT else repr(line[:SHORT]) + ".."
+
+
+class Help(argparse.RawDescriptionHelpFormatter):
+    """Help whose text keeps its lines."""
+
+    def __init__(self, prog: str) -> None:
+        super().__init__(prog, max_help_position=28, width=WIDTH)
+
+
+class Parser(argparse.ArgumentParser):
+    """A parser of a tool's words, whose errors are one line."""
+
+    def error(self, message: str) -> NoReturn:
+        """Ends with status 2 and one line."""
+        complain(self.prog, f"{message} ({self.prog} --help tells the words)")
+        sys.exit(2)
+
+
+def filled(text: str) -> str:
+    """Returns the text with its paragraphs filled, except those that have an indented line."""
+    parts = text.split("\n\n")
+    return "\n\n".join(part if re.search(r"^ ", part, re.MULTILINE) else
+                       textwrap.fill(part, WIDTH, break_long_words=False, break_on_hyphens=False) for part in parts)
+
+
+def new_parser(name: str, usage: str, description: str, epilog: str) -> Parser:
+    """Returns a parser of a tool's words, whose help ends with what holds for every tool."""
+    return Parser(prog=name, usage=usage, description=filled(description), epilog=filled(f"{epilog}\n\n{UNPROVED}"),
+                  formatter_class=Help, allow_abbrev=False)
+
+
+def split_words(words: Sequence[str]) -> tuple[list[str], list[str] | None]:
+    """Returns the tool's own words, and those of the program after the first `--`, or None if there is no `--`."""
+    if "--" not in words:
+        return list(words), None
+    place = list(words).index("--")
+    return list(words[:place]), list(words[place + 1:])
+
+
+def shown_name(path: str) -> str:
+    """Returns a file's name for an error."""
+    return "standard input" if path == "-" else path
+
+
+def read_limited(file: BinaryIO, name: str, limit: int, what: str, hint: str = "") -> bytes:
+    """Returns all bytes of a file, up to a limit. `what` the file should be, and a hint, are words for the error.
+
+    # Errors
+    A Trouble if there are more bytes than the limit, or if a text has a zero byte.
+    """
+    parts: list[bytes] = []
+    size = 0
+    while True:
+        part = file.read(min(1 << 20, limit + 1 - size))
+        if not part:
+            return b"".join(parts)
+        size += len(part)
+        if size > limit:
+            raise Trouble(f"{name}: no {what}: longer than {limit} bytes{hint}")
+        if what.startswith("text") and b"\0" in part:
+            raise Trouble(f"{name}: no {what}: it has a zero byte{hint}")
+        parts.append(part)
+
+
+def read_bytes(path: str, limit: int, what: str, hint: str = "") -> bytes:
+    """Returns the bytes of a file, or of standard input if the path is `-`.
+
+    # Errors
+    As `read_limited`.
+    """
+    if path == "-":
+        return read_limited(sys.stdin.buffer, shown_name(path), limit, what, hint)
+    with open(path, "rb") as file:
+        return read_limited(file, path, limit, what, hint)
+
+
+def read_text(path: str, behind: bool = False, what: str = "text", limit: int = LONGEST) -> str:
+    """Returns the text of a file, or of standard input if the path is `-`; `behind` says that the program's words may stand after `--`.
+
+    # Errors
+    A Trouble if standard input is a terminal, or as `read_limited`.
+    """
+    hint = BEHIND if behind else ""
+    if path == "-" and sys.stdin.isatty():
+        raise Trouble(f"nothing to read: name a file{hint}", 2)
+    return read_bytes(path, limit, what, hint).decode("utf-8", "replace")
+
+
+def write_files(files: Mapping[str, bytes]) -> None:
+    """Writes all of these files or, if one can't be written, none: each under a name of its own first, then all are renamed.
+
+    What isn't a plain file, such as a device, is written as it is.
+    """
+    made: dict[str, str] = {}
+    with contextlib.ExitStack() as undo:
+        for path, data in files.items():
+            if os.path.exists(path) and not stat.S_ISREG(os.stat(path).st_mode):
+                with open(path, "wb") as device:
+                    device.write(data)
+                continue
+            try:
+                handle, made[path] = tempfile.mkstemp(prefix=".", dir=os.path.dirname(os.path.realpath(path)))
+            except OSError as error:
+                raise OSError(error.errno, error.strerror, path) from error
+            undo.callback(remove_quietly, made[path])
+            try:
+                with open(handle, "wb") as file:
+                    file.write(data)
+                os.chmod(made[path], mode_of(path))
+            except OSError as error:
+                raise OSError(error.errno, error.strerror, path) from error
+        for path, temporary in made.items():
+            os.replace(temporary, os.path.realpath(path))
+        undo.pop_all()
+
+
+def mode_of(path: str) -> int:
+    """Returns the mode of a file that is there, or that of a new one."""
+    if os.path.exists(path):
+        return stat.S_IMODE(os.stat(path).st_mode)
+    mask = os.umask(0)
+    os.umask(mask)
+    return 0o666 & ~mask
+
+
+def remove_quietly(path: str) -> None:
+    """Removes a file, if it is there."""
+    with contextlib.suppress(OSError):
+        os.remove(path)
+
+
+def write_output(text: str, path: str | None = None) -> None:
+    """Writes a text to a file whole or not at all, or to standard output if the path is None or `-`."""
+    if path in (None, "-"):
+        sys.stdout.buffer.write(text.encode("utf-8", "surrogateescape"))
+    else:
+        write_files({str(path): text.encode("utf-8", "surrogateescape")})
