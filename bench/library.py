@@ -12,9 +12,9 @@ import time
 
 TOP = os.path.join(os.path.dirname(os.path.abspath(__file__)), "..")
 os.environ.setdefault("BOOTMEM_LIB", os.path.join(TOP, "libbootmem.so"))
-sys.path.insert(0, os.path.join(TOP, "bindings", "python"))
+sys.path.insert(0, os.path.join(TOP, "tools"))
 sys.dont_write_bytecode = True
-import bootmem  # noqa: E402
+from bootmem_tools import library  # noqa: E402
 
 MACHINES = ["first", "q35-1g", "q35-8g-numa2", "q35-20g-numa4"]
 
@@ -45,9 +45,9 @@ def main():
         for report in ("map", "buddyinfo"):
             words = ["--report", report, *named]
             wanted = subprocess.run([program, *words], cwd=folder, capture_output=True, check=True).stdout
-            if bootmem.run(words, files) != wanted:
+            if library.run(words, files) != wanted:
                 sys.exit(f"{machine}: {report}: the library answers otherwise")
-            calls = rate(lambda: bootmem.run(words, files))
+            calls = rate(lambda: library.run(words, files))
             processes = rate(lambda: subprocess.run([program, *words], cwd=folder, capture_output=True, check=True))
             print(f"{machine} {report} {calls:.0f} {processes:.0f} {calls / processes:.1f}")
 

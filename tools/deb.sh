@@ -58,7 +58,8 @@ if [ -f "$root/usr/lib/libbootmem.a" ]; then
 	package "$dev" bootmem-dev "libc6" <<END
 libbootmem: the memory set-up of x86-64 Linux 6.1 from C
  The program bootmem as one call over bytes in memory, proved as it is: a static
- and a shared library, the C header, and bindings for Rust and Python.
+ and a shared library, the C header, and a crate for Rust; the package bootmem
+ has a module of Python over it.
 END
 fi
 package "$root" bootmem "$(printf '%s\n' "${depends:-libc6 (>= $library)}" | paste -s -d , - | sed 's/,/, /g')" <<END

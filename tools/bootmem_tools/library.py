@@ -1,0 +1,238 @@
+"""Calls of libbootmem: what x86-64 Linux 6.1 makes of a machine's memory at boot, without a process.
+
+    >>> from bootmem_tools import library
+    >>> from bootmem_tools.inputs import RAM, zero_page
+    >>> page = zero_page([(0, 0x9fc00, RAM), (0x100000, 0x7ff00000, RAM)])
+    >>> library.map_runs(["zp.bin"], {"zp.bin": page})[-1]
+    MapRun(base=1048576, size=2146435072, type=1)
+    >>> library.run(["--report", "map", "zp.bin"], {"zp.bin": page}).decode()
+
+The shared object is libbootmem.so of the system's folders, or the one that the environment's BOOTMEM_LIB names.
+"""
+
+from __future__ import annotations
+
+import ctypes
+import os
+from typing import Any, Mapping, NamedTuple, Sequence, Union
+
+# The zones of a block: below 16 MiB, from there to 4 GiB, and above.
+DMA, DMA32, NORMAL = 0, 1, 2
+
+# Words and names of files are texts or bytes.
+Text = Union[str, bytes]
+Words = Sequence[Text]
+Files = Mapping[Any, bytes]
+
+_REASONS = {2: "usage", 3: "unread", 5: "faulty", 6: "stopped", 7: "memory"}
+
+
+class MapRun(NamedTuple):
+    """A run of the map: base and size in bytes, and the E820 type."""
+
+    base: int
+    size: int
+    type: int
+
+
+class CrashArea(NamedTuple):
+    """The crash area and its part below 4 GiB: base and size in bytes, 0 if there is none."""
+
+    base: int
+    size: int
+    low_base: int
+    low_size: int
+
+
+class FreeBlock(NamedTuple):
+    """A free block: 2^order frames of 4,096 bytes from the frame of that number on."""
+
+    first: int
+    order: int
+    node: int
+    zone: int
+
+
+class Refused(Exception):
+    """There is no report: `status` and `reason` say why, and the text is the line that says what is wrong."""
+
+    def __init__(self, status: int, line: str) -> None:
+        super().__init__(line)
+        self.status = status
+        self.reason = _REASONS[status]
+
+
+class _Bytes(ctypes.Structure):
+    """struct bootmem_bytes."""
+
+    _fields_ = [("at", ctypes.c_char_p), ("len", ctypes.c_size_t)]
+
+
+class _File(ctypes.Structure):
+    """struct bootmem_file."""
+
+    _fields_ = [("name", _Bytes), ("bytes", _Bytes)]
+
+
+class _Text(ctypes.Structure):
+    """struct bootmem_text."""
+
+    _fields_ = [("at", ctypes.POINTER(ctypes.c_char)), ("room", ctypes.c_size_t), ("needed", ctypes.c_size_t)]
+
+
+class _MapRun(ctypes.Structure):
+    """struct bootmem_map_run."""
+
+    _fields_ = [("base", ctypes.c_uint64), ("size", ctypes.c_uint64), ("type", ctypes.c_uint32)]
+
+
+class _MapRuns(ctypes.Structure):
+    """struct bootmem_map_runs."""
+
+    _fields_ = [("at", ctypes.POINTER(_MapRun)), ("room", ctypes.c_size_t), ("count", ctypes.c_size_t)]
+
+
+class _CrashArea(ctypes.Structure):
+    """struct bootmem_crash_area."""
+
+    _fields_ = [(name, ctypes.c_uint64) for name in CrashArea._fields]
+
+
+class _FreeBlock(ctypes.Structure):
+    """struct bootmem_free_block."""
+
+    _fields_ = [("first", ctypes.c_uint64), ("order", ctypes.c_uint32), ("node", ctypes.c_uint32), ("zone", ctypes.c_uint32)]
+
+
+class _FreeBlocks(ctypes.Structure):
+    """struct bootmem_free_blocks."""
+
+    _fields_ = [("at", ctypes.POINTER(_FreeBlock)), ("room", ctypes.c_size_t), ("count", ctypes.c_size_t)]
+
+
+_EXPORTS: dict[str, list[type[ctypes.Structure]]] = {
+    "bootmem_run": [_Text, _Text], "bootmem_map": [_MapRuns], "bootmem_crash": [_CrashArea], "bootmem_blocks": [_FreeBlocks]}
+_libraries: list[ctypes.CDLL] = []
+
+
+def _loaded() -> ctypes.CDLL:
+    """Returns the library, which the first call loads."""
+    if not _libraries:
+        library = ctypes.CDLL(os.environ.get("BOOTMEM_LIB", "libbootmem.so"))
+        lent = [ctypes.POINTER(_Bytes), ctypes.c_size_t, ctypes.POINTER(_File), ctypes.c_size_t]
+        for export, outs in _EXPORTS.items():
+            getattr(library, export).restype = ctypes.c_uint8
+            getattr(library, export).argtypes = lent + [ctypes.POINTER(out) for out in outs]
+        library.bootmem_version.restype = ctypes.c_uint32
+        _libraries.append(library)
+    return _libraries[0]
+
+
+def version() -> tuple[int, int, int]:
+    """Returns the library's version: major, minor, patch."""
+    number = int(_loaded().bootmem_version())
+    return number // 1000000, number // 1000 % 1000, number % 1000
+
+
+def _lent(text: Text) -> _Bytes:
+    """Returns the bytes of a word or of a file, which live as long as the structure."""
+    held = text.encode() if isinstance(text, str) else bytes(text)
+    return _Bytes(held, len(held))
+
+
+def _lent_all(words: Words, files: Files) -> tuple[Any, int, Any, int]:
+    """Returns words and files as a call takes them."""
+    lent_words = (_Bytes * max(len(words), 1))(*map(_lent, words))
+    lent_files = (_File * max(len(files), 1))(*(_File(_lent(name), _lent(held)) for name, held in files.items()))
+    return lent_words, len(words), lent_files, len(files)
+
+
+class _Room:
+    """Room for a text."""
+
+    def __init__(self, room: int) -> None:
+        self.buffer = (ctypes.c_char * room)()
+        self.text = _Text(ctypes.cast(self.buffer, ctypes.POINTER(ctypes.c_char)), room, 0)
+
+    def fits(self) -> bool:
+        """Tells whether the text had room."""
+        return bool(self.text.needed <= self.text.room)
+
+    def taken(self) -> bytes:
+        """Returns the text."""
+        return ctypes.string_at(self.buffer, self.text.needed)
+
+
+def call(words: Words, files: Files, room: int = 1 << 16) -> tuple[int, bytes, bytes]:
+    """Runs the program as one call and returns its status, the reports and the line of a failure.
+
+    `words` are those after its name, `files` has the bytes of each file by its name.
+    """
+    lent = _lent_all(words, files)
+    out, err = _Room(room), _Room(1 << 10)
+    while True:
+        status = _loaded().bootmem_run(*lent, ctypes.byref(out.text), ctypes.byref(err.text))
+        if out.fits() and err.fits():
+            return status, out.taken(), err.taken()
+        out, err = _Room(max(out.text.needed, out.text.room)), _Room(max(err.text.needed, err.text.room))
+
+
+def run(words: Words, files: Files) -> bytes:
+    """Returns the reports.
+
+    # Errors
+    A Refused if there are none.
+    """
+    status, out, err = call(words, files)
+    if status:
+        raise Refused(status, err.decode("utf-8", "replace").rstrip("\n"))
+    return out
+
+
+def _accept(status: int, words: Words, files: Files) -> None:
+    """Raises a Refused, with the program's line, if the status of a call that hands over values isn't 0."""
+    if status:
+        raise Refused(status, call(words, files)[2].decode("utf-8", "replace").rstrip("\n"))
+
+
+def _values(export: str, values: Any, value: Any, words: Words, files: Files, room: int) -> Any:
+    """Returns all values of a call that hands over some."""
+    lent = _lent_all(words, files)
+    while True:
+        places = (value * max(room, 1))()
+        out = values(places, room, 0)
+        _accept(getattr(_loaded(), export)(*lent, ctypes.byref(out)), words, files)
+        if out.count <= room:
+            return places[:out.count]
+        room = out.count
+
+
+def map_runs(words: Words, files: Files, room: int = 1 << 10) -> list[MapRun]:
+    """Returns the map that the kernel works with, ascending.
+
+    # Errors
+    A Refused, as `run`.
+    """
+    runs = _values("bootmem_map", _MapRuns, _MapRun, words, files, room)
+    return [MapRun(one.base, one.size, one.type) for one in runs]
+
+
+def crash_area(words: Words, files: Files) -> CrashArea:
+    """Returns the crash area.
+
+    # Errors
+    A Refused, as `run`.
+    """
+    out = _CrashArea()
+    _accept(_loaded().bootmem_crash(*_lent_all(words, files), ctypes.byref(out)), words, files)
+    return CrashArea(out.base, out.size, out.low_base, out.low_size)
+
+
+def free_blocks(words: Words, files: Files, room: int = 1 << 10) -> list[FreeBlock]:
+    """Returns the free blocks at the handover, ascending.
+
+    # Errors
+    A Refused, as `run`.
+    """
+    blocks = _values("bootmem_blocks", _FreeBlocks, _FreeBlock, words, files, room)
+    return [FreeBlock(block.first, block.order, block.node, block.zone) for block in blocks]
