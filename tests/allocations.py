@@ -10,9 +10,9 @@ sys.dont_write_bytecode = True
 
 from fault_tables.efi import KINDS, efi, in_a_row
 from fault_tables.slit import slit
-from growth import HERE, LOW, MAIN, PC, high, reserves, soft
-from inputs import RAM, machine_files
-from mirrored import FULL, NODES, RESERVES
+from test_growth import HERE, LOW, MAIN, PC, high, reserves, soft
+from support import RAM, machine_files
+from test_mirrored import FULL, NODES, RESERVES
 
 TOP = os.path.dirname(os.path.dirname(os.path.abspath(__file__)))
 EXAMPLES = os.path.join(TOP, "examples")

@@ -36,6 +36,10 @@ ok "make install" installed /opt/it
 is "make install says" "$(cat "$work/said")" ""
 there "the program" "$root/bin/bootmem" "$root/bin/bootmem-collect" "$share/man/man1/bootmem.1" "$share/man/man5/bootmem.5"
 there "the audit" "$root/bin/bootaudit" "$share/man/man1/bootaudit.1" "$share/bash-completion/completions/bootaudit"
+if command -v bash >/dev/null 2>&1; then
+	is "the installed completion" "$(bash -c '. "$1"; COMP_WORDS=(bootmem --sr); COMP_CWORD=1; _bootmem; echo "${COMPREPLY[*]}"' \
+		install.sh "$share/bash-completion/completions/bootmem" 2>/dev/null)" --srat
+fi
 is "the first run" "$("$root/bin/bootmem" --report map "$share/bootmem/examples/first/zp.bin")" "$(cat examples/first/map.txt)"
 
 for report in map owners blocks; do
@@ -71,7 +75,7 @@ if [ -f libbootmem.a ]; then
 	cp -r libbootmem.* include bindings "$work/tree" && rm -rf "$work/tree/bindings/rust/target"
 	ok "make install with the library" installed /opt/it
 	there "the library" "$root/lib/libbootmem.a" "$root/lib/libbootmem.so" "$root/include/bootmem.h" "$share/bootmem/bindings/c/check_table.c" \
-		"$share/bootmem/bindings/rust/src/lib.rs" "$share/bootmem/bindings/python/bootmem.py"
+		"$share/bootmem/bindings/rust/src/lib.rs"
 	if command -v pkg-config >/dev/null 2>&1 && command -v cc >/dev/null 2>&1; then
 		flags=$(PKG_CONFIG_SYSROOT_DIR=$work/root PKG_CONFIG_PATH=$root/lib/pkgconfig pkg-config --cflags --libs bootmem)
 		# shellcheck disable=SC2086 # a word each

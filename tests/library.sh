@@ -29,6 +29,8 @@ values() {
 	ok "$folder: the values of $report, of $*" cmp "$work/got" "$work/out"
 }
 
+reports=$(sed -n 's/^report //p' tools/bootmem_tools/words.txt)
+
 # of the names in the archive the exports alone are seen, and they are those of the header
 is "names" "$(nm -g --defined-only libbootmem.a | sed -n 's/.* T //p' | sort | tr '\n' ' ')" \
 	"$(sed -n 's/^[a-z0-9_]* \(bootmem_[a-z]*\)(.*/\1/p' include/bootmem.h | sort | tr '\n' ' ')"
@@ -41,7 +43,7 @@ if has "${CC:-cc}" "the program's bytes and the example in C"; then
 		[ -f "$folder/zp.bin" ] || continue
 		words=zp.bin
 		[ ! -f "$folder/words" ] || words=$(cat "$folder/words")
-		for report in map options nodes memory reserved owners journal crash sections zones script tables buddyinfo blocks pages pagesinfo zonelists summary; do
+		for report in $reports; do
 			# shellcheck disable=SC2086 # the words are separated by blanks
 			(cd "$folder" && "$program" --report "$report" $words >"$work/out" 2>"$work/err"; echo "status $?" >>"$work/err")
 			# shellcheck disable=SC2086
@@ -77,7 +79,7 @@ if has cargo "the tests in Rust"; then
 	ok "cargo test" env BOOTMEM_LIB_DIR="$top" CARGO_TARGET_DIR="$work/target" cargo test --offline --quiet --manifest-path bindings/rust/Cargo.toml
 fi
 if has python3 "the tests in Python"; then
-	ok "python3 -m unittest" env BOOTMEM_LIB="$top/libbootmem.so" PYTHONDONTWRITEBYTECODE=1 python3 -m unittest discover -s bindings/python
+	ok "python3 -m unittest" env BOOTMEM_LIB="$top/libbootmem.so" PYTHONDONTWRITEBYTECODE=1 python3 -m unittest discover -s tests -p test_library.py
 fi
 version=$(sed -n 's/^VERSION := //p' Makefile)
 is "the crate's version" "$(sed -n 's/^version = "\(.*\)"/\1/p' bindings/rust/Cargo.toml)" "$version"

@@ -2,7 +2,8 @@
 """rooms.py: whether docs/ARCHITECTURE.md has each crate once, standing on what crates.txt says it stands on.
 
 A row is `| crate | what | stands on | what it says |`; of what it stands on, crates of the repository come first, and those of the toolchain's kit
-behind `of the kit`. The two drawings above the table, of the way of the data and of its storeys, name each crate, too. Crates of cases are in neither.
+behind `of the kit`. The two drawings above the table, of the way of the data and of its storeys, name each crate, too. Crates of
+cases are in neither.
 Prints a line for each difference, and how many crates there are.
 """
 

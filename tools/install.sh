@@ -7,7 +7,7 @@
 #   PREFIX/share/doc/bootmem  the documents
 #   PREFIX/lib/python3*/*-packages/bootmem_tools  the Python package of the tools: in the folder there that python3 looks into, if it
 #                             looks into one, else in lib/python3/dist-packages, which the installed tools name
-#   PREFIX/share/bootmem      the machines of examples/
+#   PREFIX/share/bootmem      the machines of examples/, and words.txt for the completions
 #   PREFIX/share/bash-completion/completions/bootmem, bootaudit
 #   PREFIX/lib, PREFIX/include  where libbootmem.a is there: the library, its header and lib/pkgconfig/bootmem.pc, and in
 #                             PREFIX/share/bootmem/bindings what calls it; VERSION is that of the library
@@ -55,7 +55,7 @@ tools() {
 		sed "s|^sys.dont_write_bytecode = True\$|&\nsys.path.insert(0, sys.path[0] + \"/../$packages\")|" "tools/$tool" >"$bin/$tool"
 		chmod 755 "$bin/$tool"
 	done
-	install -m 644 tools/bootmem_tools/*.py "$bin/../$packages/bootmem_tools"
+	install -m 644 tools/bootmem_tools/*.* "$bin/../$packages/bootmem_tools"
 }
 
 # library: what a program needs that calls the library
@@ -91,6 +91,8 @@ install_all() {
 		install -d "$share/bash-completion/completions"
 		install -m 644 "tools/$program.bash-completion" "$share/bash-completion/completions/$program"
 	done
+	# the completions read the words there
+	install -m 644 tools/bootmem_tools/words.txt "$share/bootmem/words.txt"
 	install -m 644 bootmem.1 bootaudit.1 "$man/man1"
 	install -m 644 bootmem.5 "$man/man5/bootmem.5"
 	for tool in bootmem-collect $tools; do

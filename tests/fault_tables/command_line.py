@@ -1,7 +1,7 @@
 """The command line: its faults, in their order: too long, line too long, open quote, a word's own, of which the lowest word's is told,
 and user map."""
 
-from inputs import encoded
+from support import encoded
 
 INPUT = "cmdline"
 OPTION = "--cmdline"

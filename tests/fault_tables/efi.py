@@ -2,7 +2,7 @@
 descriptors make of a map."""
 import struct
 
-from inputs import RAM, RESERVED
+from support import RAM, RESERVED
 
 INPUT = "efi"
 OPTION = "--efi"

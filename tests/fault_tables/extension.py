@@ -1,5 +1,5 @@
 """The E820 extension: its faults, in their order: too long, header, length, an entry too far."""
-from inputs import RAM, RESERVED, extension
+from support import RAM, RESERVED, extension
 
 INPUT = "e820ext"
 OPTION = "--e820ext"

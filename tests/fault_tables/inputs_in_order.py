@@ -1,6 +1,6 @@
 """Each input is read and judged before the next one is read: zero page, extension, command line, SRAT, script, page script, SLIT, EFI
 memory map."""
-from inputs import MACHINE, extension, srat, zero_page
+from support import MACHINE, extension, srat, zero_page
 
 from . import efi, slit
 

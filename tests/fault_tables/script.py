@@ -1,7 +1,7 @@
 """The early script: its faults; of the lowest line that has one the first of: form, number, alignment, zero size, second sections, too
 far."""
 
-from inputs import encoded
+from support import encoded
 
 INPUT = "script"
 OPTION = "--script"
@@ -18,7 +18,8 @@ BAD_FORMS = [
 BAD_NUMBERS = [
     "free x", "free -1", "free 1x", "free 1KK", "free 0x", "free 08", "free 0b1", "free 1,", "free 16E", "free 18446744073709551616",
     "free 4294967296", "free 4G", "alloc 4294967296 4K 4K", "alloc x 4K 4K", "alloc 1 x 4K", "alloc 1 16E 4K",
-    "alloc 1 4K x", "alloc 1 4K 16E", "alloc 1 4K 4K min x", "alloc 1 4K 4K min 16E", "alloc 1 4K 4K max x", "alloc 1 4K 4K max 16E", "alloc 1 4K 4K node x",
+    "alloc 1 4K x", "alloc 1 4K 16E", "alloc 1 4K 4K min x", "alloc 1 4K 4K min 16E", "alloc 1 4K 4K max x", "alloc 1 4K 4K max 16E",
+    "alloc 1 4K 4K node x",
     "alloc 1 4K 4K node 1024", "alloc 1 4K 4K node exact",
     "alloc 1 4K 4K node 1K exact", "reserve 4294967296 1M 4K", "reserve x 1M 4K", "reserve 1 x 4K",
     "reserve 1 16E 4K", "reserve 1 1M x", "reserve 1 1M 16E", "trim 4294967296 4K", "trim x 4K", "trim 1 x", "trim 1 16E",

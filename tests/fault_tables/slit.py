@@ -1,7 +1,7 @@
 """The SLIT: its faults, in their order: too long, short, signature, length, checksum, localities."""
 import struct
 
-from inputs import sealed, unsealed
+from support import sealed, unsealed
 
 INPUT = "slit"
 OPTION = "--slit"

@@ -2,7 +2,7 @@
 of an entry and a range too far."""
 import struct
 
-from inputs import memory_of, sealed, srat, unsealed
+from support import memory_of, sealed, srat, unsealed
 
 INPUT = "srat"
 OPTION = "--srat"

@@ -1,6 +1,6 @@
 """The zero page: its faults, in their order: too long, wrong length, too few entries, too many entries, an entry too far, the
 initrd too far."""
-from inputs import LOW, MACHINE, MAIN, RAM, RESERVED, zero_page
+from support import LOW, MACHINE, MAIN, RAM, RESERVED, zero_page
 
 INPUT = "zeropage"
 OPTION = None

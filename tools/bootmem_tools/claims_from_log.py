@@ -6,7 +6,7 @@ import argparse
 import os
 import re
 import struct
-from typing import Iterable, Iterator, NamedTuple, NoReturn, Optional, Sequence
+from typing import Iterable, NamedTuple, NoReturn, Optional
 
 from bootmem_tools import inputs, ranges, tool
 from bootmem_tools.ranges import Range, common, joined, without
@@ -19,7 +19,7 @@ ABOUT = """Makes inputs of bootmem from what a kernel logged with memblock=debug
 bootmem does; what it claimed before the crash area becomes an extension, whose entries of type 2 lie over the zero
 page and take that memory away, so that the crash area and tables that grow lie where the kernel has them. What it
 claimed later becomes a script that begins with `sections`. The words for bootmem are printed."""
-EPILOG = f"""What bootmem claims by itself is left out: the kernel's image, the first MiB, the initrd, soft reserved memory, the data
+EPILOG = """What bootmem claims by itself is left out: the kernel's image, the first MiB, the initrd, soft reserved memory, the data
 of nodes, the tables of memblock, the crash area, the sections. Memory is in whole frames: of a frame that was claimed in
 part nothing is left. `memmap=exactmap` would forget the extension again.
 

@@ -481,7 +481,9 @@ def crash_said(raw: str, words: Sequence[Word], texts: list[str], total: Totals,
             texts[index] = ""
             changes.append(f"word {index + 1}: {word.text}: left out: {why_unused(forms, places, faults)}")
     for form, text in found.items():
-        where = f"the kernel finds it in the raw line, from byte {places[form] - len(KEY) + 1} on" if form in places else "the low part that swiotlb= asks for"
+        where = "the low part that swiotlb= asks for"
+        if form in places:
+            where = f"the kernel finds it in the raw line, from byte {places[form] - len(KEY) + 1} on"
         changes.append(f"{text}: put in: {where}{why_size(raw[places[form]:].split(' ')[0], total) if form in places else ''}")
     return list(found.values())
 

@@ -56,7 +56,6 @@ class Column(NamedTuple):
     lanes: list[list[Row]]
 
 
-
 HEADS = {"map": "map", "owners": "owners", "nodes": "nodes", "zones": "zones", "blocks": "free blocks"}
 
 STRUCTURES = "page structures of section "  # what the owner `map N` has

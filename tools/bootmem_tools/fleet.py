@@ -67,8 +67,6 @@ class Answer(NamedTuple):
     said: list[str]
 
 
-
-
 def read_words(words: list[str]) -> argparse.Namespace:
     """The tool's words."""
     parser = tool.new_parser(NAME, USAGE, ABOUT, EPILOG)

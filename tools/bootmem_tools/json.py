@@ -6,6 +6,7 @@ import json
 from typing import NoReturn
 
 from bootmem_tools import objects, reports, runner, tool
+from bootmem_tools.words import REPORTS
 
 NAME = "bootmem-json"
 USAGE = """bootmem-json [--compact] [--report NAME] [FILE]
@@ -27,7 +28,7 @@ examples:
   bootmem-json --report crash,zones -- --kernel 16M,52M zp.bin
   bootmem --report summary zp.bin | bootmem-json --compact"""
 
-WANTED = [name for name in objects.REPORTS if name not in ("script", "blocks", "pages", "pagesinfo")]
+WANTED = [name for name in REPORTS if name not in ("script", "blocks", "pages", "pagesinfo")]
 
 
 def read_words(words: list[str]) -> tuple[bool, reports.Texts]:
@@ -41,8 +42,8 @@ def read_words(words: list[str]) -> tuple[bool, reports.Texts]:
     given = parser.parse_args(own)
     names = given.report.split(",") if given.report is not None else None
     for name in names or []:
-        if name not in objects.REPORTS:
-            parser.error(f"{name}: no report: one of {', '.join(objects.REPORTS)}")
+        if name not in REPORTS:
+            parser.error(f"{name}: no report: one of {', '.join(REPORTS)}")
     if program_words is not None:
         if given.file is not None:
             parser.error("a FILE and words behind -- at once")

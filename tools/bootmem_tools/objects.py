@@ -8,7 +8,7 @@ from __future__ import annotations
 
 from typing import Any, Callable, Iterator, Mapping
 
-from bootmem_tools.grammar import FIELDS, GRAMMAR, Line, read_lines
+from bootmem_tools.grammar import FIELDS, Line, read_lines
 from bootmem_tools.reports import Texts
 
 # A value of JSON: a text, a number, true or false, null, a list or an object.
@@ -173,7 +173,6 @@ MAKERS: dict[str, Callable[[Iterator[Line]], Value]] = {
     "crash": of_crash, "sections": of_sections, "script": of_script, "tables": of_tables, "buddyinfo": of_buddyinfo, "pages": of_script,
     "pagesinfo": of_buddyinfo, "zonelists": of_zonelists, "summary": of_summary,
 }
-REPORTS = tuple(GRAMMAR)
 
 
 def as_object(texts: Texts) -> Object:

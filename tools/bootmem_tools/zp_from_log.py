@@ -20,7 +20,7 @@ serial console; with time stamps or without):
 or from lines of a base, a size and a type, its name or its number:
 
     0x100000 2046M usable"""
-EPILOG = f"""LOG is a file, or standard input where there is none or it is -. Types by name: usable, reserved, ACPI data, ACPI NVS,
+EPILOG = """LOG is a file, or standard input where there is none or it is -. Types by name: usable, reserved, ACPI data, ACPI NVS,
 unusable, persistent (type 7), persistent (type 12), soft reserved, type N.
 
 Lines `extended: [mem ..]`, which the kernel prints where the boot loader handed over an extension, have the whole

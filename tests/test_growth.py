@@ -1,15 +1,12 @@
-#!/usr/bin/env python3
-"""growth.py [PROGRAM]: the two tables where they need a new place and there is hardly one: no place at all, the only one, one
+"""The two tables where they need a new place and there is hardly one: no place at all, the only one, one
 that needs the other table to grow as well, and a place that is left and can't be given back.
 
 Each case has a name that says what it shows. The lines are those of the journal, or what came of a script's lines, by their
-numbers; or the whole report `tables`. Prints a line for each difference, and 'N passed, M failed' at its end.
+numbers; or the whole report `tables`.
 """
-import sys
+import unittest
 
-sys.dont_write_bytecode = True
-
-from inputs import MACHINE, RAM, RESERVED, SOFT, machine_files, run_all
+from support import MACHINE, RAM, RESERVED, SOFT, Case, machine_files, run_over
 
 LOW = (0x0, 0xA0000, RAM)
 MAIN = (0x100000, 0x7F00000, RAM)
@@ -212,20 +209,22 @@ def numbered(report, text):
     return "".join(line for line in report.splitlines(keepends=True) if line.split(":")[0] in numbers)
 
 
-def stopped(runs):
-    for name, entries, line in STOPPED:
-        words, files = machine_files(entries)
-        got = runs.run(["--report", "map", *words, "zp"], files)
-        runs.compare(name, got, (6, "", line + "\n"))
+class Growth(Case):
+    """Where the tables find a new place, or none."""
 
+    def test_stopped(self):
+        for name, entries, line in STOPPED:
+            words, files = machine_files(entries)
+            got = run_over(files, ["--report", "map", *words, "zp"])
+            self.check(name, got, (6, "", line + "\n"))
 
-def went_on(runs):
-    for name, entries, script, report, text in WENT_ON:
-        words, files = machine_files(entries)
-        files["script"] = script.encode()
-        status, out, line = runs.run(["--script", "script", "--report", report, *words, "zp"], files)
-        runs.compare(name, (status, out if report == "tables" else numbered(out, text), line), (0, text, ""))
+    def test_went_on(self):
+        for name, entries, script, report, text in WENT_ON:
+            words, files = machine_files(entries)
+            files["script"] = script.encode()
+            status, out, line = run_over(files, ["--script", "script", "--report", report, *words, "zp"])
+            self.check(name, (status, out if report == "tables" else numbered(out, text), line), (0, text, ""))
 
 
 if __name__ == "__main__":
-    sys.exit(run_all(stopped, went_on))
+    unittest.main()

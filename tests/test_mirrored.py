@@ -1,16 +1,12 @@
-#!/usr/bin/env python3
-"""mirrored.py [PROGRAM]: ranges of mirrored memory that begin or end amid a record or a frame, over a node's border, outside memory and
-twice over the same bytes; those of an EFI memory map; how many ranges there may be; and the growth of both tables where memory is mirrored, and from below.
+"""Ranges of mirrored memory that begin or end amid a record or a frame, over a node's border, outside memory and twice over the same bytes;
+those of an EFI memory map; how many ranges there may be; and the growth of both tables if memory is mirrored, and from below.
 
-Each case has a name that says what it shows. Its text is the whole report, or of `journal` the lines with these words. Prints a line for
-each difference, and 'N passed, M failed' at its end.
+Each case has a name that says what it shows. Its text is the whole report, or of `journal` the lines with these words.
 """
-import sys
-
-sys.dont_write_bytecode = True
+import unittest
 
 from fault_tables.efi import MORE_RELIABLE, WB, descriptor, efi
-from inputs import MACHINE, RAM, RESERVED, machine_files, memory_of, run_all, srat
+from support import MACHINE, RAM, RESERVED, Case, machine_files, memory_of, run_over, srat
 
 PC = MACHINE + [(0x7FE0000, 0x20000, RESERVED)]
 # the same as QEMU's firmware tells it whole
@@ -131,32 +127,34 @@ def with_words(text, wanted):
     return "".join(line for line in text.splitlines(keepends=True) if line.split()[1] in wanted.split())
 
 
-def told(runs):
-    for name, entries, words, script, report, lines, text in CASES:
-        more, files = machine_files(entries)
-        files["script"] = script.encode()
-        if "--srat" in words:
-            files["srat"] = NODES
-        if "--efi" in words:
-            files |= {"efi": EFI, "efi-16m": EFI_16_MIB}
-        status, out, line = runs.run(["--report", report, "--script", "script", *words, *more, "zp"], files)
-        runs.compare(name, (status, with_words(out, lines), line), (0, text, ""))
+class Mirrored(Case):
+    """Mirrored memory."""
 
+    def test_told(self):
+        for name, entries, words, script, report, lines, text in CASES:
+            more, files = machine_files(entries)
+            files["script"] = script.encode()
+            if "--srat" in words:
+                files["srat"] = NODES
+            if "--efi" in words:
+                files |= {"efi": EFI, "efi-16m": EFI_16_MIB}
+            status, out, line = run_over(files, ["--report", report, "--script", "script", *words, *more, "zp"])
+            self.check(name, (status, with_words(out, lines), line), (0, text, ""))
 
-def many(runs):
-    """64 ranges may be named, 65 may not, and each is two sizes."""
-    _, files = machine_files(PC)
-    for name, value, status, line in (
-            ("64 ranges", ":".join(["4K,4K"] * 64), 0, ""),
-            ("65 ranges", ":".join(["4K,4K"] * 65), 2, "bootmem: usage\n"),
-            ("a range that ends at 2^64 - 1", "0xffffffffffffe000,0x1fff", 0, ""),
-            ("a range that ends a byte further", "0xffffffffffffe000,0x2000", 2, "bootmem: usage\n"),
-            ("no range", "", 2, "bootmem: usage\n"),
-            ("an empty one at the end", "4K,4K:", 2, "bootmem: usage\n"),
-            ("no size", "4K", 2, "bootmem: usage\n")):
-        got = runs.run(["--report", "map", f"--mirror={value}", "zp"], files)
-        runs.compare(name, (got[0], got[2]), (status, line))
+    def test_many(self):
+        """64 ranges may be named, 65 may not, and each is two sizes."""
+        _, files = machine_files(PC)
+        for name, value, status, line in (
+                ("64 ranges", ":".join(["4K,4K"] * 64), 0, ""),
+                ("65 ranges", ":".join(["4K,4K"] * 65), 2, "bootmem: usage\n"),
+                ("a range that ends at 2^64 - 1", "0xffffffffffffe000,0x1fff", 0, ""),
+                ("a range that ends a byte further", "0xffffffffffffe000,0x2000", 2, "bootmem: usage\n"),
+                ("no range", "", 2, "bootmem: usage\n"),
+                ("an empty one at the end", "4K,4K:", 2, "bootmem: usage\n"),
+                ("no size", "4K", 2, "bootmem: usage\n")):
+            got = run_over(files, ["--report", "map", f"--mirror={value}", "zp"])
+            self.check(name, (got[0], got[2]), (status, line))
 
 
 if __name__ == "__main__":
-    sys.exit(run_all(told, many))
+    unittest.main()

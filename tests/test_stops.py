@@ -1,17 +1,14 @@
-#!/usr/bin/env python3
-"""stops.py [PROGRAM]: each stop of a boot but those of the two tables (growth.py), and beside it the machine that has just enough to go on to
+"""Each stop of a boot but those of the two tables (growth.py), and beside it the machine that has just enough to go on to
 the next stage, for either width; the greatest memory that a boot takes; and what the script sees of a table's bytes.
 
 Above 1 MiB, of which the boot claims all, a machine needs 172 KiB of node data, a table of roots (16 KiB, or 1 MiB where addresses have 52
 bits), a frame of roots of section 0 and one of which its usage takes 40 bytes, and 2 MiB at a multiple of 2 MiB for its map.
 
-Each case has a name that says what it shows. Prints a line for each difference, and 'N passed, M failed' at its end.
+Each case has a name that says what it shows.
 """
-import sys
+import unittest
 
-sys.dont_write_bytecode = True
-
-from inputs import MACHINE, RAM, RESERVED, machine_files, run_all
+from support import MACHINE, RAM, RESERVED, Case, machine_files, run_over
 
 ACPI = 3
 LOW = (0x0, 0xA0000, RAM)
@@ -99,26 +96,29 @@ blocks 4128763
 9: keep too large
 10: taken
 """),
-    ("a place that a table left has zeros alone", [(0x0, 0x9F000, RAM), MACHINE[1], *((0x8000000 + place * 0x2000, 0x1000, RAM) for place in range(1, 254))],
+    ("a place that a table left has zeros alone",
+     [(0x0, 0x9F000, RAM), MACHINE[1], *((0x8000000 + place * 0x2000, 0x1000, RAM) for place in range(1, 254))],
      "sections\n" + "".join(f"peek 0x{0x9d000 + 64 * place:x} 64\n" for place in range(96)), "script",
      "".join(f"{place + 2}: bytes {'00' * 64}\n" for place in range(96))),
 ]
 
 
-def stopped(runs):
-    for name, entries, extra, line in STOPPED:
-        words, files = machine_files(entries)
-        got = runs.run(["--report", "map", *extra, *words, "zp"], files)
-        runs.compare(name, got, (6, "", f"bootmem: stopped: {line}\n"))
+class Stops(Case):
+    """Boots that stop, and their neighbours that go on."""
 
+    def test_stopped(self):
+        for name, entries, extra, line in STOPPED:
+            words, files = machine_files(entries)
+            got = run_over(files, ["--report", "map", *extra, *words, "zp"])
+            self.check(name, got, (6, "", f"bootmem: stopped: {line}\n"))
 
-def went_on(runs):
-    for name, entries, script, report, text in WENT_ON:
-        words, files = machine_files(entries)
-        files["script"] = script.encode()
-        got = runs.run(["--script", "script", "--report", report, *words, "zp"], files)
-        runs.compare(name, got, (0, text, ""))
+    def test_went_on(self):
+        for name, entries, script, report, text in WENT_ON:
+            words, files = machine_files(entries)
+            files["script"] = script.encode()
+            got = run_over(files, ["--script", "script", "--report", report, *words, "zp"])
+            self.check(name, got, (0, text, ""))
 
 
 if __name__ == "__main__":
-    sys.exit(run_all(stopped, went_on))
+    unittest.main()

@@ -1,0 +1,90 @@
+"""Stand-ins for what the kernels of examples/ show of their machines: folders sys and proc, and folders as collect.sh keeps them."""
+
+import os
+import re
+import shutil
+
+from support import bytes_of, example, has_file, text_of, words_of, write
+
+RESOURCES = {"usable": "System RAM", "reserved": "Reserved", "ACPI data": "ACPI Tables", "ACPI NVS": "ACPI Non-volatile Storage",
+             "unusable": "Unusable memory", "persistent legacy": "Persistent Memory (legacy)", "soft reserved": "Soft Reserved",
+             "persistent": "Persistent Memory", "other": "Unknown E820 type"}
+
+
+def stand_in(work, name):
+    """Folders sys and proc as the kernel of a machine shows them, by its log's map and zones."""
+    for part in ("sys/kernel/boot_params", "sys/firmware/acpi/tables", "proc"):
+        os.makedirs(os.path.join(work, name, part))
+    shutil.copy(example(name, "zp.bin"), os.path.join(work, name, "sys/kernel/boot_params/data"))
+    shutil.copy(example(name, "cmdline"), os.path.join(work, name, "proc/cmdline"))
+    if has_file(name, "srat.bin"):
+        shutil.copy(example(name, "srat.bin"), os.path.join(work, name, "sys/firmware/acpi/tables/SRAT"))
+    if has_file(name, "e820ext.bin"):
+        data = bytes_of(example(name, "e820ext.bin"))
+        folder = os.path.join(work, name, "sys/kernel/boot_params/setup_data/0")
+        os.makedirs(folder)
+        write(os.path.join(folder, "data"), data[16:])
+        write(os.path.join(folder, "type"), b"0x1\n")
+    lines = []
+    for line in text_of(example(name, "map.txt")).splitlines():
+        match = re.fullmatch(r"0x(\w+)\.\.0x(\w+) \d+ (.*)", line)
+        first, last = (int(part, 16) for part in match.groups()[:2])
+        lines.append(f"{first:08x}-{last:08x} : {RESOURCES[match.group(3)]}\n")
+        if first <= 0x1000000 <= last:
+            lines += ["  01000000-022090c7 : Kernel code\n", "  03b34000-043fffff : Kernel bss\n"]
+    lines.append("fed00000-fed003ff : HPET 0\n  fed00000-fed003ff : PNP0103:00\n")
+    write(os.path.join(work, name, "proc/iomem"), ("".join(lines) + crash_lines(name)).encode())
+    zones = []
+    for line in text_of(example(name, "zones.txt")).splitlines():
+        node, zone, start, end, present = re.match(r"Node (\d+), zone (\w+) start (\d+) end (\d+) present (\d+)", line).groups()
+        zones.append(f"Node {node}, zone {zone:>8}\n  per-node stats\n      nr_mapped    30\n  pages free     38\n"
+                     f"        spanned  {int(end) - int(start)}\n        present  {present}\n        managed  38\n"
+                     f"  node_unreclaimable:  0\n  start_pfn:           {start}\n")
+    zones.append("Node 0, zone  Movable\n  pages free     0\n        spanned  0\n        present  0\n")
+    write(os.path.join(work, name, "proc/zoneinfo"), "".join(zones).encode())
+    return os.path.join(work, name)
+
+
+def crash_lines(name):
+    """The lines of iomem for the crash area that the kernel of a machine took, where its log tells it."""
+    if not has_file(name, "crash.txt"):
+        return ""
+    found = re.findall(r"0x0*([0-9a-f]+)\.\.0x0*([0-9a-f]+)", text_of(example(name, "crash.txt")))
+    return "".join(f"  {first}-{last} : Crash kernel\n" for first, last in found)
+
+
+def folder_of(case, name):
+    """A folder as collect.sh keeps one of a boot: its inputs, the place of its kernel, and what its kernel shows as far as its log
+    tells it. The kernel of a boot with UEFI took the area that memblock answered to its own search for it."""
+    folder = case.path(name)
+    if has_file(name, "zones.txt"):
+        place = stand_in(case.path("kernels"), name)
+        os.mkdir(folder)
+        for file in ("iomem", "zoneinfo"):
+            shutil.copy(os.path.join(place, "proc", file), folder)
+    else:
+        zones = example(name, "zones.txt")
+        os.mkdir(folder)
+        lines = [re.fullmatch(r"0x(\w+)\.\.0x(\w+) (\d+) .*", line).groups() for line in text_of(example(name, "map.txt")).splitlines()]
+        write(os.path.join(folder, "iomem"), "".join(f"{first}-{last} : {'System RAM' if kind == '1' else 'Reserved'}\n"
+                                                     for first, last, kind in lines).encode() + taken_by(name).encode())
+        case.check(f"{name}: no zones", os.path.exists(zones), False)
+    for file in ("zp.bin", "cmdline", "e820ext.bin", "srat.bin"):
+        if has_file(name, file):
+            shutil.copy(example(name, file), folder)
+    write(os.path.join(folder, "kernel"), (words_of(name)[words_of(name).index("--kernel") + 1] + "\n").encode())
+    return folder
+
+
+def taken_by(name):
+    """The lines of iomem for the crash area of a boot."""
+    if has_file(name, "crash.txt"):
+        found = re.findall(r"0x(\w+)\.\.0x(\w+)", text_of(example(name, "crash.txt")))
+    elif "crashkernel=" in text_of(example(name, "cmdline")):
+        lines = text_of(example(name, "replay/script")).splitlines()
+        number = next(number for number, line in enumerate(lines, 1) if re.match(r"alloc \d+ 134217728 16777216 ", line))
+        start = int(re.search(rf"^{number}: at 0x(\w+)", text_of(example(name, "replay/script.txt")), re.MULTILINE).group(1), 16)
+        found = [(f"{start:08x}", f"{start + 134217728 - 1:08x}")]
+    else:
+        found = []
+    return "".join(f"  {first}-{last} : Crash kernel\n" for first, last in found)

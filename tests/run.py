@@ -1,0 +1,93 @@
+#!/usr/bin/env python3
+"""run.py [PROGRAM [TEST..]]: runs every test of this folder over the program, ./bootmem if none is named, or the tests that the words name: a module
+without its test_, such as draw, or a script, such as shown.sh.
+
+A module prints a line with how many tests and comparisons it has; so does a script that counts. A failure prints its test, what was compared, the
+command that ran before it, and what came and what was wanted. A test that lacks a tool of the system is left out, with a line. The status is 0 if
+none failed. It needs no root and no network.
+"""
+
+import glob
+import io
+import multiprocessing
+import os
+import re
+import subprocess
+import sys
+import unittest
+
+sys.dont_write_bytecode = True
+HERE = os.path.dirname(os.path.abspath(__file__))
+TOP = os.path.dirname(HERE)
+# Scripts with the words of each; those that need more than the program are left out if it isn't there.
+SCRIPTS = {"pins.py": [], "rooms.py": [], "definitions.py": [], "real_boots.sh": ["PROGRAM"], "map_alone.sh": ["PROGRAM"],
+           "audits.sh": ["PROGRAM", "AUDIT"], "outside.sh": ["PROGRAM"], "collect.sh": [], "install.sh": [], "shown.sh": ["PROGRAM"],
+           "library.sh": ["PROGRAM"]}
+NEEDED = {"library.sh": ["libbootmem.a"], "audits.sh": ["bootaudit"], "install.sh": ["bootmem", "bootaudit"], "shown.sh": ["bootaudit"]}
+
+
+class Result(unittest.TextTestResult):
+    """A result whose failures are their own words, without a traceback."""
+
+    def _exc_info_to_string(self, err, test):
+        """A comparison's failure as it says it; of anything else the traceback."""
+        text = super()._exc_info_to_string(err, test)
+        return str(err[1]) + "\n" if issubclass(err[0], AssertionError) and "\n    ran " in str(err[1]) else text
+
+
+def run_module(name):
+    """Runs the tests of a module: its line, what failed or was left out, and whether all is well."""
+    sys.path.insert(0, HERE)
+    from support import Counted
+    before, said = Counted.checks, io.StringIO()
+    suite = unittest.defaultTestLoader.loadTestsFromName(f"test_{name}")
+    result = unittest.TextTestRunner(stream=said, resultclass=Result, verbosity=0).run(suite)
+    lines = [f"{name}: left out: {why}" for _, why in result.skipped]
+    for test, text in result.failures + result.errors:
+        lines.append(f"{name}: {test.id().partition('.')[2]}: {text.rstrip()}")
+    wrong = len(result.failures) + len(result.errors)
+    checks = Counted.checks - before
+    return f"{name}: {result.testsRun} tests, {checks} comparisons, {wrong} failed", lines, wrong == 0, checks
+
+
+def run_script(name):
+    """Runs a script: its last line, what it says else, and whether its status is 0."""
+    lacks = [file for file in NEEDED.get(name, []) if not os.path.exists(os.path.join(TOP, file))]
+    if lacks:
+        return f"{name}: left out: there is no ./{lacks[0]}", [], True, 0
+    words = [{"PROGRAM": os.environ["BOOTMEM_TESTED"], "AUDIT": os.path.join(TOP, "bootaudit")}.get(word, word) for word in SCRIPTS[name]]
+    done = subprocess.run([os.path.join(HERE, name), *words], stdout=subprocess.PIPE, stderr=subprocess.STDOUT, cwd=TOP, check=False)
+    lines = done.stdout.decode("utf-8", "replace").splitlines()
+    passed = re.match(r"(\d+) passed", lines[-1]) if lines else None
+    return f"{name}: {lines[-1] if lines else 'no word'}", lines[:-1], done.returncode == 0, int(passed.group(1)) if passed else 0
+
+
+def run_one(name):
+    """Runs a module or a script."""
+    return run_script(name) if name in SCRIPTS else run_module(name)
+
+
+def main(words):
+    """Runs the tests, as many at once as there are processors, and prints what each came to; the status."""
+    program = os.path.abspath(words[0] if words else os.path.join(TOP, "bootmem"))
+    if not os.access(program, os.X_OK):
+        print(f"run.py: there is no program {program}: 'make bootmem' builds it", file=sys.stderr)
+        return 2
+    os.environ["BOOTMEM_TESTED"] = program
+    modules = sorted(os.path.basename(path)[len("test_"):-len(".py")] for path in glob.glob(os.path.join(HERE, "test_*.py")))
+    names = words[1:] or [*SCRIPTS, *modules]
+    unknown = [name for name in names if name not in SCRIPTS and name not in modules]
+    if unknown:
+        print(f"run.py: there is no test {unknown[0]}: {', '.join([*SCRIPTS, *modules])}", file=sys.stderr)
+        return 2
+    well, total = True, 0
+    with multiprocessing.Pool(len(os.sched_getaffinity(0)), maxtasksperchild=1) as pool:
+        for line, lines, passed, checks in pool.imap(run_one, names, chunksize=1):
+            print("\n".join([*lines, line]), flush=True)
+            well, total = well and passed, total + checks
+    print(f"{total} comparisons in {len(names)} tests: {'all as they should be' if well else 'some failed'}")
+    return 0 if well else 1
+
+
+if __name__ == "__main__":
+    sys.exit(main(sys.argv[1:]))

@@ -1,0 +1,103 @@
+"""Every tool: its --help and the examples that it shows, words that it doesn't know, and how it is installed."""
+
+import os
+import re
+import shutil
+import subprocess
+import unittest
+
+from kernels import folder_of, stand_in
+from support import PROGRAM, TOP, Case, example, last_line, program, tool, words_of, write
+from test_where import WHERE
+
+
+def shown_examples(name):
+    """The commands under `example:` or `examples:` of a tool's --help."""
+    match = re.search(r"^examples?:\n((?:  .+\n)+)", tool(name, "--help")[1], re.MULTILINE)
+    return [line.strip() for line in match.group(1).splitlines()] if match else []
+
+
+class Commands(Case):
+    """What all tools have in common."""
+
+    def test_help(self):
+        """Each tool tells how it is used and that it isn't proved; words that it doesn't know are refused."""
+        for name in ("bootmem-draw", "bootmem-where", "bootmem-diff", "bootmem-live", "zp-from-log", "collect.sh", "bootmem-json",
+                     "bootmem-fleet", "claims-from-log", "bootmem-line", "bootmem-crash"):
+            status, out, err = tool(name, "--help")
+            self.check(f"{name} --help", (status, err), (0, ""))
+            self.has(f"{name} --help", out, "isn't proved")
+            self.check(f"{name} --help: lines of 80 letters", max(len(line) for line in out.splitlines()) <= 80, True)
+            status, out, err = tool(name, "--unknown")
+            self.check(f"{name} --unknown", (status, out, err == ""), (2, "", False))
+
+    def test_examples(self):
+        """The commands that --help shows run where the files that they name are those of a machine, and complain of nothing."""
+        commands = self.path("bin")
+        os.makedirs(commands)
+        os.symlink(PROGRAM, os.path.join(commands, "bootmem"))
+        shutil.copy(example("q35-8g-numa2", "log"), self.work)
+        write(os.path.join(commands, "dmesg"), f"#!/bin/sh\ncat '{self.work}/log'\n".encode())
+        os.chmod(os.path.join(commands, "dmesg"), 0o755)
+        names = ("bootmem-draw", "bootmem-where", "bootmem-diff", "zp-from-log", "bootmem-json", "bootmem-fleet", "claims-from-log")
+        for name in names:
+            os.symlink(os.path.join(TOP, "tools", name), os.path.join(commands, name))
+        ran = 0
+        for name in names:
+            folder = self.path(name)
+            shutil.copytree(example("q35-8g-numa2"), folder)
+            for file, source in (("old.txt", example("q35-8g-numa2", "map.txt")), ("new.txt", example("q35-4g-mem2g", "map.txt")),
+                                 ("1", example("q35-8g-numa2", "cmdline")), ("2", example("q35-4g-mem2g", "cmdline"))):
+                shutil.copy(source, os.path.join(folder, file))
+            write(os.path.join(folder, "reports.txt"),
+                  program(folder, "--report", "map,memory,owners,journal,tables,nodes,zones,sections,blocks", "zp.bin").encode())
+            shutil.copytree(example("pc-128m"), os.path.join(folder, "host1"))
+            for command in shown_examples(name):
+                ran += 1
+                done = subprocess.run(["sh", "-c", command], stdin=subprocess.DEVNULL, stdout=subprocess.PIPE, stderr=subprocess.PIPE,
+                                      cwd=folder, env={**os.environ, "BOOTMEM": "", "PATH": commands + os.pathsep + os.environ["PATH"]},
+                                      check=False)
+                wanted = 1 if name == "bootmem-diff" else 0
+                self.check(f"example: {command}", (done.returncode, done.stderr.decode()), (wanted, ""))
+                self.check(f"example: {command}: it prints or writes", bool(done.stdout) != ("--output" in command), True)
+        self.check("examples of --help", ran, 15)
+
+    def test_examples_of_a_folder(self):
+        """The commands that --help of each tool shows run in a folder that bootmem-collect gathered, and print or write."""
+        commands = self.path("bin")
+        os.mkdir(commands)
+        for name in ("bootmem-line", "bootmem-crash", "bootmem-live"):
+            os.symlink(os.path.join(TOP, "tools", name), os.path.join(commands, name))
+        folder = folder_of(self, "q35-8g-numa2")
+        os.symlink(".", os.path.join(folder, "here"))
+        wanted = {"bootmem-line": [0, 1, 1], "bootmem-crash": [0, 0, 0], "bootmem-live": [0]}
+        for name, statuses in wanted.items():
+            # the machine that the test runs on isn't looked at
+            shown = [command for command in shown_examples(name) if command not in ("bootmem-live", "bootmem-live --keep here")]
+            self.check(f"{name}: examples", len(shown), len(statuses))
+            for command, status in zip(shown, statuses):
+                path = commands + os.pathsep + os.environ["PATH"]
+                got, out, _ = tool("/bin/sh", "-c", command, folder=folder, variables={"PATH": path})
+                self.check(f"example: {command}", (got, bool(out)), (status, ">" not in command))
+
+    def test_installed(self):
+        """The tools as they are installed: beside the program in bin, with their package in lib."""
+        subprocess.run([os.path.join(TOP, "tools", "install.sh"), "tools", "", self.work, self.path("man")], check=True)
+        os.symlink(PROGRAM, self.path("bin", "bootmem"))
+        path = {"BOOTMEM": "", "PATH": self.path("bin") + os.pathsep + os.environ["PATH"]}
+        status, out, err = tool(self.path("bin", "bootmem-where"), "0x17be00040", "--", *words_of("q35-8g-numa2"),
+                                folder=example("q35-8g-numa2"), variables={"BOOTMEM": ""})
+        self.check("installed: beside", (status, out, err), (0, WHERE, ""))
+        os.rename(self.path("bin", "bootmem-diff"), self.path("bootmem-diff"))
+        shutil.copytree(os.path.join(TOP, "tools", "bootmem_tools"), self.path("bootmem_tools"))
+        for variables, wanted in ((path, 0), ({**path, "BOOTMEM": "/nowhere/bootmem"}, 2)):
+            self.check("installed: on the PATH", tool(self.path("bootmem-diff"), "--a", "zp.bin", "--b", "zp.bin",
+                                                 folder=example("q35-1g"), variables=variables)[:2], (wanted, ""))
+        place = stand_in(self.work, "pc-128m")
+        status, out, err = tool(self.path("bin", "bootmem-live"), "--sys", os.path.join(place, "sys"), "--proc",
+                                os.path.join(place, "proc"), variables={"BOOTMEM": ""})
+        self.check("installed: bootmem-collect", (status, err, last_line(out)[:8]), (0, "", "4 agree,"))
+
+
+if __name__ == "__main__":
+    unittest.main()

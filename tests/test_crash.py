@@ -1,0 +1,95 @@
+"""bootmem-crash: the kernels' own crash areas, the greatest sizes, why one doesn't fit, and boots that panic."""
+
+import os
+import re
+import unittest
+
+from support import BOOTS, GIB, MIB, Case, example, has_file, machine_of, memory_of, srat, text_of, tool, words_of, write, zero_page
+
+
+def crash(name, *words):
+    """What bootmem-crash answers for a boot, without what is noted of its line."""
+    place = words_of(name)[words_of(name).index("--kernel") + 1]
+    status, out, err = tool("bootmem-crash", "--kernel", place, *words, ".", folder=example(name))
+    return status, out, re.sub(r"bootmem-crash: word \d+: log_buf_len=.*\n", "", err)
+
+
+PANICS = {
+    "uncovered": ([], [(0, 0, 256 * MIB), (1, 256 * MIB + 0xC000, 800 * MIB)], "12 frames of memory are in no block of the SRAT"),
+    "type 128": ([(GIB, 64 * MIB, 128)], [], "the last memory has type 128"),
+    "2^46": ([((1 << 46) - 4096, 8192, 1)], [], "there is memory at 2^46 or above"),
+}
+
+
+class Crash(Case):
+    """Crash areas that fit."""
+
+    def test_fits(self):
+        """What the boots' own lines ask for lies where their kernels had it; the greatest sizes, and no more, fit."""
+        for name in BOOTS:
+            if not has_file(name, "crash.txt"):
+                continue
+            status, out, err = crash(name)
+            told = re.findall(r"0x\w{16}", text_of(example(name, "crash.txt")))
+            asked = re.search(r"^line .* fits (.*)", out, re.MULTILINE)
+            self.check(f"crash {name}", (status, err, re.findall(r"0x\w{16}", asked.group(1)) if asked else None), (0, "", told))
+            for form, suffix in (("plain", ""), ("high", ",high")):
+                size = int(re.search(rf"^{form} +at most (\d+)M", out, re.MULTILINE).group(1))
+                self.check(f"crash {name} {form}: {size}M", crash(name, "--size", f"{size}M{suffix}")[0], 0)
+                self.check(f"crash {name} {form}: {size + 1}M", crash(name, "--size", f"{size + 1}M{suffix}")[0], 1)
+        # between the kernel's image, up to 0x43fffff, and node data, from 0x1feb9000 on, at multiples of 16 MiB
+        self.check("crash, greatest", crash("pc-512m-crash64m")[1].splitlines()[0],
+                   "plain  at most 430M, at 0x0000000005000000-0x000000001fdfffff")
+        self.check("crash, below 4 GiB", crash("q35-8g-numa2")[1].splitlines()[1],
+                   "       below 4 GiB at most 1966M, at 0x0000000005000000-0x000000007fdfffff")
+
+    def test_why(self):
+        """Why an area doesn't fit, and what is warned of."""
+        status, out, err = crash("q35-8g-numa2", "--size", "512M", "--size", "8G", "--size", "8G,high")
+        self.check("crash, sizes", (status, err, [line for line in out.splitlines() if line[0] != " "]),
+                   (1, "", ["size   crashkernel=512M fits at 0x000000005f000000-0x000000007effffff", "size   crashkernel=8G doesn't fit",
+                            "size   crashkernel=8G,high doesn't fit"]))
+        # the image ends at 0x43fffff, the initrd begins at 0x7fed4000; the gap above is cut by the nodes, at 6 GiB
+        self.has("crash, below 4 GiB", out, "       from 16 MiB on and below 4 GiB the greatest gap has room for 1966M: "
+                 "0x0000000004400000-0x000000007fed3fff, between kernel and initrd\n")
+        self.has("crash, above", out, "between another node and node-data 1\n")
+        status, out, err = crash("q35-1g", "--size", "64M@16M")
+        self.check("crash, in use", (status, out, err), (1, "size   crashkernel=64M@16M doesn't fit\n       of the place kernel has bytes\n", ""))
+        write(self.path("low"), b"crashkernel=3G,low crashkernel=1G,high\n")
+        status, out, _ = crash("q35-8g-numa2", "--cmdline", self.path("low"), "--size", "1G,high")
+        self.check("crash, no low part", (status, "its low part hasn't: below 4 GiB the greatest gap" in out), (1, True))
+        status, out, err = tool("bootmem-crash", "zp.bin", folder=example("q35-1g"))
+        self.check("crash, assumed", (status, err), (0, "bootmem-crash: the kernel's place isn't known, so 16 MiB to 48 MiB is assumed; "
+                                                   "--kernel BASE,SIZE tells it\n"))
+        self.has("crash, UEFI", crash("ovmf-4g-numa2")[2], "the firmware is UEFI: the kernel claims more before the area there")
+        write(self.path("line"), b"crashkernel=auto\n")
+        self.has("crash, as the kernel reads it", crash("q35-1g", "--cmdline", self.path("line"))[2], "word 1: crashkernel=auto: left out")
+        for words in (["--size", "x"], ["--size", "0"], ["--size", "1M,low"], ["--size", "1M@2M,high"]):
+            self.check(f"crash {words}", tool("bootmem-crash", *words, "zp.bin", folder=example("q35-1g"))[:2], (2, ""))
+        self.check("crash, no machine", tool("bootmem-crash", "nothing", folder=self.work)[:2], (2, ""))
+        self.check("crash, no zero page", tool("bootmem-crash", "cmdline", folder=example("q35-1g"))[:2], (2, ""))
+
+    def test_panics(self):
+        """Boots on which Linux 6.1 is known to panic are told by both tools; their neighbours aren't."""
+        for what, (entries, blocks, part) in PANICS.items():
+            folder = self.path(what.replace(" ", ""))
+            os.mkdir(folder)
+            write(os.path.join(folder, "zp.bin"), zero_page(machine_of(GIB) + entries))
+            write(os.path.join(folder, "iomem"), b"00001000-0009fbff : System RAM\n00100000-3ffdefff : System RAM\n")
+            if blocks:
+                write(os.path.join(folder, "srat.bin"), srat(*(memory_of(*block) for block in blocks)))
+            self.has(f"panics, {what}: crash", tool("bootmem-crash", "--size", "1M", folder)[2], f"Linux 6.1 panics on this boot: {part}")
+            self.has(f"panics, {what}: live", tool("bootmem-live", folder)[1], f"panics   {part}")
+        for what, entries, blocks in (("covered", [], [(0, 0, 256 * MIB), (1, 256 * MIB, 800 * MIB)]),
+                                      ("not covered", [], [(0, 0, 255 * MIB), (1, 256 * MIB, 800 * MIB)]),
+                                      ("type 128 below", [(8 * GIB, MIB, 1), (GIB, 64 * MIB, 128)], []),
+                                      ("below 2^46", [((1 << 46) - 4096, 4096, 1)], [])):
+            write(self.path("zp"), zero_page(machine_of(GIB) + entries))
+            write(self.path("srat"), srat(*(memory_of(*block) for block in blocks)))
+            words = ["--srat", self.path("srat")] if blocks else []
+            status, _, err = tool("bootmem-crash", "--size", "1M", *words, self.path("zp"))
+            self.check(f"panics, {what}", (status, "panics" in err), (0, False))
+
+
+if __name__ == "__main__":
+    unittest.main()

@@ -1,0 +1,54 @@
+"""bootmem-fleet: lines and objects of machines, folders with faults, changed lines, a thousand folders."""
+
+import json
+import os
+import shutil
+import unittest
+
+from schema import SCHEMA, fits
+from support import EXAMPLES, PROGRAM, Case, bytes_of, example, tool, write
+
+FLEET = """q35-1g\t0\t-\t10\t262013\t244146\tnone\t-\tabsent\t1
+q35-8g-crashhighlow\t0\t-\t11\t2097021\t1903026\t0x000000025f000000..0x000000027effffff\t0x000000007b000000..0x000000007effffff\tabsent\t1
+srat-overlap\t0\t-\t6\t1048222\t1018067\tnone\t-\toverlap 0 1\t1
+"""
+
+FOLDERS = 1000
+
+
+class Fleet(Case):
+    """Many machines."""
+
+    def test_fleet(self):
+        """Lines and objects of machines, folders with what is wrong, changed lines, and how long a thousand folders take."""
+        names = [line.split("\t")[0] for line in FLEET.splitlines()]
+        self.check("fleet", tool("bootmem-fleet", *names, folder=EXAMPLES), (0, FLEET, ""))
+        status, out, err = tool("bootmem-fleet", "--json", "--jobs", "2", *sorted(os.listdir(EXAMPLES)), folder=EXAMPLES)
+        rows = [json.loads(line) for line in out.splitlines()]
+        self.check("fleet --json", (status, [fits(row, SCHEMA["$defs"]["machine"]) for row in rows]), (1, [None] * len(rows)))
+        self.check("fleet --json: a file is no folder", [row["line"] for row in rows if row["status"]], ["no folder"])
+        self.check("fleet: no place of an image", (err.count("\n"), "of 1 of" in err), (1, True))
+        os.makedirs(self.path("empty"))
+        shutil.copytree(example("q35-1g"), self.path("bad"))
+        write(self.path("bad", "cmdline"), b"quiet mem=4GB\n")
+        write(self.path("bad", "kernel"), b"0x1000000,0x3400000\n")
+        status, out, err = tool("bootmem-fleet", "--kernel", "16M,32M", "empty", "bad", "none", folder=self.work)
+        self.check("fleet: trouble", (status, err, [line.split("\t")[1:4] for line in out.splitlines()]),
+                   (1, "", [["3", "bootmem: cannot read zp.bin", "-"], ["5", "bootmem: cmdline: word 2: mem", "-"], ["2", "no folder", "-"]]))
+        for words, wanted in ((("--cmdline-drop", "mem"), "none"), (("--cmdline-drop", "mem", "--cmdline-add", "crashkernel=512M,high"),
+                                                                   "0x000000001f000000..0x000000003effffff"),
+                              (("--cmdline-drop", "mem", "--cmdline-add", "crashkernel=2G,high"), "no area")):
+            status, out, err = tool("bootmem-fleet", *words, "bad", folder=self.work)
+            self.check(f"fleet {words}", (status, out.split("\t")[6], err), (0, wanted, ""))
+        self.check("fleet, no folder", tool("bootmem-fleet")[:2], (2, ""))
+        self.check("fleet, no program", tool("bootmem-fleet", "--program", "/nowhere", "bad", folder=self.work)[:2], (2, ""))
+        if b"__asan_init" in bytes_of(PROGRAM):
+            return  # a sanitizer's program takes its own time
+        for number in range(FOLDERS):
+            os.symlink(example("q35-8g-numa2"), self.path(f"host{number}"))
+        status, out, _ = tool("bootmem-fleet", *(f"host{number}" for number in range(FOLDERS)), folder=self.work)
+        self.check("fleet: a thousand folders", (status, out.count("\n")), (0, FOLDERS))
+
+
+if __name__ == "__main__":
+    unittest.main()

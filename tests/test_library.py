@@ -1,0 +1,100 @@
+"""The library from Python: the calls of a VMM's author, and each status. Skipped if there is no libbootmem.so."""
+
+import threading
+import unittest
+
+import support
+from bootmem_tools import library
+from bootmem_tools.inputs import RAM, RESERVED, zero_page
+
+PAGE = zero_page([(0, 0x9FC00, RAM), (0x100000, 0x3FF00000, RAM)])
+NO_RAM = zero_page([(0, 4096, RESERVED), (0x100000, 4096, RESERVED)])
+MAP = b"0x0000000000001000..0x000000000009fbff 1 usable\n0x0000000000100000..0x000000003fffffff 1 usable\n"
+
+
+def example(name, file):
+    """The bytes of a file of a machine."""
+    return support.bytes_of(support.example(name, file))
+
+
+@unittest.skipUnless(support.use_library(), "there is no libbootmem.so ('make lib')")
+class Calls(unittest.TestCase):
+    """Calls with words and files."""
+
+    def test_a_map(self):
+        out = library.run(["--report", "map", "zp.bin"], {"zp.bin": PAGE})
+        self.assertEqual([line for line in out.splitlines() if b"usable" in line], MAP.splitlines())
+
+    def test_values(self):
+        runs = library.map_runs(["zp.bin"], {"zp.bin": PAGE})
+        self.assertEqual(
+            [run for run in runs if run.type == RAM],
+            [(0x1000, 0x9EC00, RAM), (0x100000, 0x3FF00000, RAM)],
+        )
+        files = {"zp.bin": PAGE, "line": b"crashkernel=64M"}
+        self.assertEqual(library.crash_area(["zp.bin"], files), (0, 0, 0, 0))
+        self.assertEqual(library.crash_area(["--cmdline", "line", "zp.bin"], files).size, 64 << 20)
+        for block in library.free_blocks(["zp.bin"], {"zp.bin": PAGE}):
+            base, size = 4096 * block.first, 4096 << block.order
+            self.assertTrue(any(run.base <= base and base + size <= run.base + run.size for run in runs if run.type == RAM))
+            self.assertEqual(block.zone == library.DMA, base < 16 << 20)
+
+    def test_values_with_little_room(self):
+        page = example("q35-1g", "zp.bin")
+        for values in library.map_runs, library.free_blocks:
+            with self.subTest(values=values):
+                self.assertEqual(values(["zp.bin"], {"zp.bin": page}, room=0), values(["zp.bin"], {"zp.bin": page}))
+
+    def test_values_of_a_refusal(self):
+        for values in library.map_runs, library.crash_area, library.free_blocks:
+            with self.subTest(values=values), self.assertRaises(library.Refused) as refused:
+                values(["zp.bin"], {"zp.bin": NO_RAM})
+            self.assertEqual((refused.exception.reason, str(refused.exception)), ("stopped", "bootmem: stopped: no usable frame"))
+
+    def test_a_real_machine(self):
+        page = example("first", "zp.bin")
+        self.assertEqual(library.run(["--report", "map", "zp.bin"], {"zp.bin": page}), example("first", "map.txt"))
+
+    def test_more_room_is_asked_for(self):
+        page = example("q35-1g", "zp.bin")
+        words = ["--report", "blocks", "--kernel", "0x1000000,0x3400000", "zp.bin"]
+        status, out, err = library.call(words, {"zp.bin": page}, room=10)
+        self.assertEqual((status, err), (0, b""))
+        self.assertEqual(out, library.run(words, {"zp.bin": page}))
+
+    def test_each_status(self):
+        for status, line, words, files in [
+            (2, "bootmem: usage", ["--nothing"], {}),
+            (2, "", [b"\xff"], {}),
+            (3, "bootmem: cannot read zp.bin", ["zp.bin"], {"zp": PAGE}),
+            (5, "bootmem: zeropage: wrong length", ["zp.bin"], {"zp.bin": PAGE[1:]}),
+            (5, "bootmem: zeropage: too few entries", ["zp.bin"], {"zp.bin": zero_page([(0, 1 << 30, RAM)])}),
+            (6, "bootmem: stopped: no usable frame", ["zp.bin"], {"zp.bin": NO_RAM}),
+        ]:
+            with self.subTest(words=words), self.assertRaises(library.Refused) as refused:
+                library.run(words, files)
+            self.assertEqual((refused.exception.status, str(refused.exception)), (status, line))
+
+    def test_the_first_of_a_name_counts(self):
+        # two files of one name can't stand in a dict, but a name can be bytes or text
+        files = {"zp.bin": PAGE, b"zp.bin": b""}
+        self.assertTrue(library.run(["--report", "map", "zp.bin"], files))
+
+    def test_threads(self):
+        answers = []
+        threads = [
+            threading.Thread(target=lambda: answers.append(library.run(["--report", "summary", "zp.bin"], {"zp.bin": PAGE})))
+            for _ in range(8)
+        ]
+        for thread in threads:
+            thread.start()
+        for thread in threads:
+            thread.join()
+        self.assertEqual((len(answers), len(set(answers))), (8, 1))
+
+    def test_the_version(self):
+        self.assertEqual(library.version(), (0, 1, 0))
+
+
+if __name__ == "__main__":
+    unittest.main()

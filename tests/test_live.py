@@ -1,0 +1,153 @@
+"""bootmem-live: machines on which the kernel has what the program says, and differences of every kind."""
+
+import os
+import re
+import shutil
+import unittest
+
+from kernels import folder_of, stand_in
+from support import BOOTS, TOP, Case, example, has_file, last_line, text_of, tool, write
+
+
+HULL = b"""Node 0, zone      DMA
+        spanned  4095
+        present  3998
+  start_pfn:           1
+Node 0, zone    DMA32
+        spanned  1044480
+        present  520159
+  start_pfn:           4096
+Node 0, zone   Normal
+        spanned  524288
+        present  524288
+  start_pfn:           1048576
+Node 1, zone   Normal
+        spanned  1048576
+        present  1048576
+  start_pfn:           1572864
+"""
+
+
+def live(place, *words):
+    """What bootmem-live answers for a stand-in."""
+    return tool("bootmem-live", "--sys", os.path.join(place, "sys"), "--proc", os.path.join(place, "proc"), *words)
+
+
+class Live(Case):
+    """A running kernel against the program."""
+
+    def edit(self, place, name, before, after):
+        """What bootmem-live answers where a part of a file of /proc is another."""
+        path = os.path.join(place, "proc", name)
+        text = text_of(path)
+        self.check(f"live: {before!r} stands in {name}", text.count(before) >= 1, True)
+        write(path, text.replace(before, after).encode())
+        answer = live(place)
+        write(path, text.encode())
+        return answer
+
+    def test_agrees(self):
+        """Machines on which the kernel has what the program tells, and differences of every kind."""
+        for name in ("q35-1g", "q35-2g-numa2", "zp-holes129", "pc-1g-memmapmix", "srat-slit"):
+            status, out, err = live(stand_in(self.work, name))
+            kinds = [line.split()[0] for line in out.splitlines()[1:-1]]
+            zones = text_of(example(name, "zones.txt")).count("\n")
+            self.check(f"live {name}", (status, err, kinds), (0, "", ["noted"] + ["agrees"] * (2 + zones)))
+            self.check(f"live {name}: end", last_line(out),
+                       f"{2 + zones} agree, 0 differ as docs/KERNEL.md says, 0 differ, 0 can't be compared")
+        place = self.path("q35-1g")
+        self.has("live: the image by iomem", live(place)[1], "bootmem --cmdline cmdline --kernel 0x1000000,0x3400000 zp.bin\n")
+        self.has("live --kernel", live(place, "--kernel", "0x2000000,0x3400000")[1], "--kernel 0x2000000,0x3400000 zp.bin\n")
+        status, out, _ = self.edit(place, "iomem", "00100000-3ffdefff : System RAM", "00100000-3fedefff : System RAM")
+        self.check("live: less RAM", (status, [line[:71] for line in out.splitlines() if line.startswith("differs")]),
+                   (1, ["differs  iomem 0x000000003fedf000-0x000000003ffdefff (1 MiB): usable by"]))
+        status, out, _ = self.edit(place, "iomem", "fed00000-fed003ff : HPET 0\n",
+                              "240000000-24fffffff : System RAM\n250000000-27fffffff : System RAM\n")
+        self.check("live: more RAM", status, 1)
+        self.has("live: more RAM", out, "differs  iomem 0x0000000240000000-0x000000027fffffff (1 GiB): System RAM here, ")
+        status, out, _ = self.edit(place, "iomem", "fed00000-fed003ff : HPET 0\n", "240000000-27fffffff : System RAM (kmem)\n")
+        self.check("live: a driver's RAM", (status, "passed   iomem 0x0000000240000000-0x000000027fffffff" in out), (0, True))
+        status, out, _ = self.edit(place, "zoneinfo", "present  258015", "present  258014")
+        self.check("live: a zone with other frames", (status, "start 4096 spanned 258015 present 258014 here" in out), (1, True))
+        status, out, _ = self.edit(place, "zoneinfo", "Movable\n  pages free     0\n        spanned  0\n        present  0\n",
+                              "Movable\n  pages free     9\n        spanned  9\n        present  9\n")
+        self.check("live: frames in Movable", (status, "node 0 Movable: start unknown spanned 9 present 9 here, no such zone" in out), (1, True))
+        status, out, _ = self.edit(place, "zoneinfo", "Movable\n  pages free     0\n        spanned  0\n",
+                              "Device\n  pages free     0\n        spanned  9\n")
+        self.check("live: a zone without frames", (status, "passed   zoneinfo node 0 Device: start unknown spanned 9 present 0: it" in out),
+                   (0, True))
+
+    def test_hidden(self):
+        """Addresses that are hidden, and what isn't there at all."""
+        place = stand_in(self.work, "q35-1g")
+        write(os.path.join(place, "proc/iomem"), re.sub(r"[0-9a-f]+-[0-9a-f]+ :", "00000000-00000000 :",
+                                                        text_of(os.path.join(place, "proc/iomem"))).encode())
+        status, out, _ = live(place)
+        self.check("live: hidden addresses", (status, "passed   iomem: it isn't there, or its addresses are hidden; root sees" in out), (0, True))
+        self.has("live: hidden addresses", out, "passed   kernel: the kernel's place isn't known, so 16 MiB to 48 MiB is assumed")
+        os.remove(os.path.join(place, "proc/zoneinfo"))
+        self.check("live: nothing to compare", live(place)[0], 2)
+        os.remove(os.path.join(place, "sys/kernel/boot_params/data"))
+        self.check("live: no zero page", live(place)[:2], (2, ""))
+
+    def test_hull(self):
+        """A zone that reaches to its border in the kernel, since its node goes on behind a hole, is the one that bootmem tells."""
+        name = "q35-8g-numa2"
+        for part in ("sys/kernel/boot_params", "sys/firmware/acpi/tables", "proc"):
+            os.makedirs(self.path(name, part))
+        shutil.copy(example(name, "zp.bin"), self.path(name, "sys/kernel/boot_params/data"))
+        shutil.copy(example(name, "cmdline"), self.path(name, "proc/cmdline"))
+        shutil.copy(example(name, "srat.bin"), self.path(name, "sys/firmware/acpi/tables/SRAT"))
+        write(self.path(name, "proc/zoneinfo"), HULL)
+        status, out, _ = live(self.path(name))
+        self.check("live: a node's hull", (status, last_line(out)),
+                   (0, "4 agree, 0 differ as docs/KERNEL.md says, 0 differ, 2 can't be compared"))
+
+    def test_folders(self):
+        """The kept folder of every boot: all agrees but for the area of the boot with UEFI, whose row of KERNEL.md is named."""
+        rows = text_of(os.path.join(TOP, "docs", "KERNEL.md"))
+        for name in BOOTS:
+            status, out, err = tool("bootmem-live", folder_of(self, name))
+            kinds = [line.split()[0] for line in out.splitlines()[1:-1] if not line.startswith(("noted", "passed   zoneinfo"))]
+            known = ["known"] if name == "ovmf-4g-numa2" else []
+            zones = text_of(example(name, "zones.txt")).count("\n") if has_file(name, "zones.txt") else 0
+            self.check(f"live {name}", (status, err, sorted(kinds)), (0, "", ["agrees"] * (2 + zones - len(known)) + known))
+            for found in re.findall(r"KERNEL\.md, row ([^:);]*)", out):
+                self.check(f"live {name}: row {found}", all(f"`{part}`" in rows for part in re.findall(r"\w+_\w+", found)), True)
+        self.has("live, 32 MiB lower", tool("bootmem-live", self.path("ovmf-4g-numa2"))[1],
+                 "known    crash area: 0x0000000073000000-0x000000007affffff (128 MiB) here, 0x0000000075000000-0x000000007cffffff (128 MiB) "
+                 "by bootmem: the kernel claims more before it: docs/KERNEL.md, row efi_init, efi_reserve_boot_services\n")
+
+    def test_crash_areas(self):
+        """Crash areas that differ, lines that the kernel reads otherwise, what doesn't stand beside a folder; what --keep keeps."""
+        folder = folder_of(self, "q35-8g-numa2")
+        shown = text_of(os.path.join(folder, "iomem"))
+        for before, after, status, part in (
+                ("000000006f000000-000000007effffff : Crash", "000000006d000000-000000007cffffff : Crash", 0, "known    crash area: "),
+                ("000000006f000000-000000007effffff : Crash", "0000000070000000-000000007fffffff : Crash", 1, "differs  crash area: "),
+                ("000000006f000000-000000007effffff : Crash", "000000006f000000-0000000076ffffff : Crash", 1, "differs  crash area: "),
+                ("  000000006f000000-000000007effffff : Crash kernel\n", "", 1, "differs  crash area: none here, ")):
+            self.check(f"live: {before!r} stands there", before in shown, True)
+            write(os.path.join(folder, "iomem"), shown.replace(before, after).encode())
+            got, out, _ = tool("bootmem-live", folder)
+            self.check(f"live: {after!r}", (got, part in out), (status, True))
+        write(os.path.join(folder, "iomem"), shown.encode())
+        line = text_of(os.path.join(folder, "cmdline")).replace("crashkernel=256M", "crashkernel=1G-8G:64M,8G-:256M mem=1TB")
+        write(os.path.join(folder, "cmdline"), line.encode())
+        status, out, _ = tool("bootmem-live", folder)
+        self.check("live, by bootmem-line", (status, out.splitlines()[0], "noted    word 9: mem=1TB: read as mem=1T\n" in out,
+                                        "agrees   crash area: 0x000000006f000000-0x000000007effffff (256 MiB)\n" in out),
+              (0, "bootmem-line cmdline zp.bin > line", True, True))
+        self.has("live, by bootmem-line", out, "bootmem --cmdline line --srat srat.bin --kernel 0x1000000,0x3400000 zp.bin\n")
+        self.check("live, a folder and --keep", tool("bootmem-live", "--keep", folder, folder)[:2], (2, ""))
+        self.check("live, no folder", tool("bootmem-live", self.path("nothing"))[:2], (2, ""))
+        place = stand_in(self.work, "pc-128m")
+        kept = self.path("kept")
+        shown = tool("bootmem-live", "--sys", os.path.join(place, "sys"), "--proc", os.path.join(place, "proc"), "--keep", kept)
+        self.check("live --keep", (shown[0], last_line(shown[1])[:8], sorted(os.listdir(kept))),
+                   (0, "4 agree,", ["cmdline", "iomem", "kernel", "release", "zoneinfo", "zp.bin"]))
+        self.check("live, what was kept", tool("bootmem-live", kept), shown)
+
+
+if __name__ == "__main__":
+    unittest.main()

@@ -1,0 +1,63 @@
+"""bootmem-where: one address by a run, by its frame's number, by a file and by standard input."""
+
+import re
+import unittest
+
+from support import Case, example, text_of, tool, words_of
+
+WHERE = """address  0x000000017be00040 (5.9 GiB), frame 1555968
+map      usable 0x0000000100000000-0x000000027fffffff
+memory   0x0000000100000000-0x000000017fffffff
+owner    map 0 0x000000017be00000-0x000000017fdfffff
+claimed  journal 19: claim map 0 0x000000017be00000..0x000000017fdfffff
+node     0 0x0000000000000000-0x000000017fffffff
+zone     Normal of node 0, frames 1048576 to 1572863
+section  47 of node 0, map at 0x000000017fc00000, page structure at 0x000000017fcf8000
+block    none: not free
+"""
+
+
+class Where(Case):
+    """What becomes of an address."""
+
+    def test_where(self):
+        """One address by run, by its frame's number, by a file and by standard input; a table of memblock; a hole; refusals."""
+        folder, words = example("q35-8g-numa2"), words_of("q35-8g-numa2")
+        self.check("where", tool("bootmem-where", "0x17be00040", "--", *words, folder=folder), (0, WHERE, ""))
+        for address in ("1M", "0x100000", "1048576", "1024K"):
+            status, out, err = tool("bootmem-where", address, "--", *words, folder=folder)
+            self.check(f"where {address}", (status, err), (0, ""))
+            self.has(f"where {address}", out, "block    order 8 0x0000000000100000-0x00000000001fffff, free\n")
+            self.has(f"where {address}", out, "claimed  never\n")
+        self.has("where --frame", tool("bootmem-where", "--frame", "256", "--", *words, folder=folder)[1], "(1 MiB), frame 256\n")
+        # record 1 of the memory table, whose place is 8,192 bytes below the end of the kernel's image
+        self.has("where, a table", tool("bootmem-where", "0x43fe018", "--", *words, folder=folder)[1],
+                 "table    memory of memblock, record 1\n")
+        # the newest claim decides; the kernel claims the first 64 KiB, and later the first MiB
+        self.has("where, claimed twice", tool("bootmem-where", "0", "--", *words, folder=folder)[1], "claimed  journal 10: claim low-1m ")
+        self.has("where, the last byte", tool("bootmem-where", "0xffff", "--", *words, folder=folder)[1], "claimed  journal 10: claim low-1m ")
+        self.has("where, the last byte of an entry", tool("bootmem-where", "0x7ffdefff", "map.txt", folder=folder)[1], "map      usable ")
+        hole = tool("bootmem-where", "3G", "--", *words, folder=folder)[1]
+        for part in ("map      none\n", "memory   none\n", "owner    none\n", "zone     none\n", "section  24, which has no memory\n"):
+            self.has("where, a hole", hole, part)
+        alone = "address  0x000000007fff0000 (2.0 GiB), frame 524272\nmap      reserved 0x000000007ffdf000-0x000000007fffffff\n"
+        self.check("where FILE", tool("bootmem-where", "0x7fff0000", "map.txt", folder=folder), (0, alone, ""))
+        self.check("where -", tool("bootmem-where", "0x7fff0000", "-", given=text_of(example("q35-8g-numa2", "map.txt"))), (0, alone, ""))
+        with open(self.path("script"), "w", encoding="utf-8") as file:
+            file.write("alloc 1 64K 4K max 16M\nfree 1\n")
+        freed = tool("bootmem-where", "0xff0000", "--", "--script", self.path("script"), "zp.bin", folder=example("q35-1g"))[1]
+        self.check("where, freed", re.findall(r"^(?:owner|freed|claimed) .*", re.sub(r"journal \d+", "journal N", freed), re.MULTILINE),
+                   ["owner    none", "freed    journal N: free 0x0000000000ff0000..0x0000000000ffffff"])
+        for bad in ("0xg", "12Q", "-5", "0x10000000000000000", "16777216T"):
+            self.check(f"where {bad}", tool("bootmem-where", bad, "map.txt", folder=folder)[:2], (2, ""))
+        self.check("where, --report", tool("bootmem-where", "0", "--", "--report", "map", "zp.bin", folder=folder)[:2], (2, ""))
+        status, out, err = tool("bootmem-where", "0", "zp.bin", folder=folder)
+        self.check("where, no reports", (status, out, err.endswith("words behind --\n")), (1, "", True))
+        status, out, err = tool("bootmem-where", "0", "--", "cmdline", folder=folder)
+        self.check("where, refused", (status, out), (1, ""))
+        self.has("where, refused", err, "bootmem: zeropage: wrong length")
+        self.check("where, no program", tool("bootmem-where", "0", "--program", "/nowhere", "--", "zp.bin", folder=folder)[:2], (1, ""))
+
+
+if __name__ == "__main__":
+    unittest.main()

@@ -1,0 +1,122 @@
+"""The words of tools/bootmem_tools/words.txt are those of the program: its definitions have the same options, reports and inputs, the program
+takes each and no other, and so have README.md, the manual pages, docs/FORMATS.md, the tools' grammar and what the completions for bash answer."""
+
+import os
+import re
+import shutil
+import subprocess
+import unittest
+
+from bootmem_tools import grammar, words
+from support import MACHINE, TOP, Case, example, run_over, text_of, zero_page
+
+OPTIONS = sorted(f"--{name}" for name in words.OPTIONS)
+AUDIT = sorted(f"--{name}" for name in words.AUDIT_OPTIONS)
+REPORTS = sorted(words.REPORTS)
+# A value that each option takes, but those for files, which get bytes that no input may have: the line of the fault names the input.
+VALUES = {"RANGES": "64M,16M", "BASE,SIZE": "0x1000000,0x3400000", "LIST": "map", "N": "3"}
+
+
+def text(*names):
+    """The text of a file, by its path from the top."""
+    return text_of(os.path.join(TOP, *names))
+
+
+def options_in(page):
+    """The long options that a text has, each once."""
+    return sorted(set(re.findall(r"--[a-z][a-z0-9-]*", page.replace("\\-", "-"))))
+
+
+def section(program, name):
+    """The section of that name of a program's manual page."""
+    return re.search(rf"^\.SH {name}\n(.*?)(?=^\.SH |\Z)", text(f"{program}.1"), re.MULTILINE | re.DOTALL).group(1)
+
+
+def marked_options(program):
+    """The options of which the section OPTIONS of a manual page has an entry."""
+    return options_in("\n".join(re.findall(r"^\.BI? .*", section(program, "OPTIONS"), re.MULTILINE)))
+
+
+def synopsis(program, *names):
+    """The options in the lines of a document that begin with four blanks and the program's name."""
+    return options_in("\n".join(re.findall(rf"^    {program} \[.*", text(*names), re.MULTILINE)))
+
+
+def codes_in(crate, name, form):
+    """The words of a definition, in their order: what `codes` has in the parts of its file that have this form."""
+    found = re.findall(form, text("crates", crate, "specs", f"{name}.antt"), re.MULTILINE | re.DOTALL)
+    return [word for part in found for word in re.findall(r'codes "([a-z0-9-]+)"', part)]
+
+
+class Words(Case):
+    """One list of words for all."""
+
+    def test_definitions(self):
+        """The definitions by which the program is proved have these words, in this order."""
+        self.check("options of Grammar.antt", codes_in("program_words", "Grammar", r"^options =\n(.*?)∷ \[\]"), list(words.OPTIONS))
+        self.check("flags of Grammar.antt", re.findall(r'codes "([a-z0-9-]+)", SetTrue', text("crates/program_words/specs/Grammar.antt")),
+                   [name for name, value in words.OPTIONS.items() if not value])
+        self.check("reports of Report.antt", codes_in("debugfs_reports", "Report", r"^(name_of reports.*?)$"), list(words.REPORTS))
+        self.check("inputs of Input.antt", codes_in("boot_inputs", "Input", r"^(word_for inputs.*?)$"), list(words.INPUTS))
+        self.check("options of bootaudit's Words.antt", codes_in("boot_audit", "Words", r"^(accepted .*?)$"), AUDIT)
+
+    def test_program(self):
+        """The program takes each option and each report, and names each input; it takes none with a letter more."""
+        files = {"zp": zero_page(MACHINE), "faulty": b"mem=x"}
+        for name, value in words.OPTIONS.items():
+            given = [] if not value else [VALUES.get(value, "faulty")]
+            page = [] if name == "make" else ["zp"]
+            status, _, line = run_over(files, [f"--{name}", *given, *page])
+            wanted = (5, f"bootmem: {name}: ") if value == "FILE" else (0, "")
+            self.check(f"--{name}", (status, line[:len(wanted[1])]), wanted)
+            self.check(f"--{name}x", run_over(files, [f"--{name}x", *given, *page]), (2, "", "bootmem: usage\n"))
+        for name in words.REPORTS:
+            self.check(f"--report {name}", run_over(files, ["--report", name, "zp"])[::2], (0, ""))
+            self.check(f"--report {name}x", run_over(files, ["--report", f"{name}x", "zp"]), (2, "", "bootmem: usage\n"))
+        named = [name for name, value in words.OPTIONS.items() if value == "FILE"]
+        self.check("the inputs are the zero page and the options' files", sorted(words.INPUTS), sorted(["zeropage", *named]))
+
+    def test_documents(self):
+        """README, manual pages and FORMATS.md have the options and the reports."""
+        self.check("synopsis of README.md", synopsis("bootmem", "README.md"), OPTIONS)
+        self.check("SYNOPSIS of bootmem.1", options_in(section("bootmem", "SYNOPSIS")), OPTIONS)
+        self.check("OPTIONS of bootmem.1", marked_options("bootmem"), OPTIONS)
+        self.check("grammar of docs/FORMATS.md", synopsis("bootmem", "docs", "FORMATS.md"), OPTIONS)
+        shown = re.search(r"^\.SH REPORTS\n(.*?)^\.SH ", text("bootmem.5"), re.MULTILINE | re.DOTALL).group(1)
+        self.check("REPORTS of bootmem.5", sorted(set(re.findall(r"^\.SS ([a-z]*)$", shown, re.MULTILINE))), REPORTS)
+        named = re.search(r"^LIST is one or more.*?^$", text("README.md"), re.MULTILINE | re.DOTALL).group()
+        self.check("reports of README.md", sorted(set(re.findall(r"`([a-z]*)`", re.sub("with a comma.*", "", named)))), REPORTS)
+        self.check("synopsis of bootaudit in README.md", synopsis("bootaudit", "README.md"), AUDIT)
+        self.check("SYNOPSIS of bootaudit.1", options_in(section("bootaudit", "SYNOPSIS")), AUDIT)
+        self.check("OPTIONS of bootaudit.1", marked_options("bootaudit"), AUDIT)
+        self.check("grammar of bootaudit in docs/FORMATS.md", synopsis("bootaudit", "docs", "FORMATS.md"), AUDIT)
+
+    def test_tools(self):
+        """The tools' grammar has a table for each report."""
+        self.check("reports of the grammar", sorted(grammar.GRAMMAR), REPORTS)
+
+
+@unittest.skipUnless(shutil.which("bash"), "there is no bash: what the completions answer isn't tried")
+class Completions(Case):
+    """What bash proposes for the last of some words, in the folder of a machine."""
+
+    def completed(self, program, *line):
+        """The proposals, sorted."""
+        script = '. "$1"; shift; COMP_WORDS=("$@"); COMP_CWORD=$(($# - 1)); "_$1"; printf "%s\\n" "${COMPREPLY[@]}"'
+        done = subprocess.run(["bash", "-c", script, "test_words.py", os.path.join(TOP, "tools", f"{program}.bash-completion"), program, *line],
+                              stdout=subprocess.PIPE, stderr=subprocess.DEVNULL, cwd=example("first"), check=False)
+        return sorted(set(done.stdout.decode().split()))
+
+    def test_completions(self):
+        """Options, reports, files, and nothing."""
+        for line, wanted in ((["--"], OPTIONS), (["--s"], ["--script", "--slit", "--srat"]), (["--report", "m"], ["map", "memory"]),
+                             (["--report", ""], REPORTS), (["--report", "map,bu"], ["map,buddyinfo"]),
+                             (["--report", "=", "z"], ["zonelists", "zones"]), (["--cmdline", "z"], ["zp.bin"]),
+                             (["--script", "=", "z"], ["zp.bin"]), (["--report", "map", "z"], ["zp.bin"]), (["--make", ""], [])):
+            self.check(f"bootmem {' '.join(line)}", self.completed("bootmem", *line), wanted)
+        for line, wanted in ((["--"], AUDIT), (["--la57", "z"], ["zp.bin"]), (["zp.bin", "--"], [])):
+            self.check(f"bootaudit {' '.join(line)}", self.completed("bootaudit", *line), wanted)
+
+
+if __name__ == "__main__":
+    unittest.main()
