@@ -22,8 +22,8 @@ import subprocess
 import sys
 import time
 
-BENCH = os.path.dirname(os.path.abspath(__file__))
-TOP = os.path.abspath(os.path.join(BENCH, ".."))
+HERE = os.path.dirname(os.path.abspath(__file__))
+TOP = os.path.abspath(os.path.join(HERE, "..", ".."))
 SLOWER = 20
 CHECK = ("check", "--jobs", "1")
 NAME = re.compile(r"(?:(?:abbrev|unfoldable|pub) )*(?:ruleset |record |data )?([^\s:]+)(?= |$)")
@@ -116,7 +116,7 @@ class Crate:
         if not self.gate:
             return ["rt", *words]
         flags = ["--fix-imports"] if words[0] == "tidy" else [word for word in words[1:] if word not in CHECK]
-        return [f"{BENCH}/prove.py", self.gate, self.name, "--progress", *flags]
+        return [f"{HERE}/prove.py", self.gate, self.name, "--progress", *flags]
 
     def run(self, *words):
         """The status of `rt` in the crate's folder, what it says, the seconds until it was done with each function after the one before, and those of a

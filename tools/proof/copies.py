@@ -15,7 +15,7 @@ import re
 import subprocess
 import sys
 
-TOP = os.path.abspath(os.path.join(os.path.dirname(os.path.abspath(__file__)), ".."))
+TOP = os.path.abspath(os.path.join(os.path.dirname(os.path.abspath(__file__)), "..", ".."))
 LEAST = 40
 HEAD = re.compile(r"(?:(?:pub|abbrev|unfoldable) )*([^\s:(){}]+) : ")
 BOUND = re.compile(r"[({]([^(){}:]+) : |λ ([^.(){}]+)\.")
