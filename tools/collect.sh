@@ -93,6 +93,14 @@ for name in zp.bin e820ext.bin cmdline srat.bin efi.bin slit.bin release kernel 
 	rm -f "$folder/$name" || exit 1
 done
 
+# no file that a kernel shows is longer, in bytes; it may be one that never ends
+most=67108864
+
+# first FILE: its first bytes, one more than any file may have
+first() {
+	head -c $((most + 1)) "$1"
+}
+
 # size NAME: the number of bytes of a file of the folder
 size() {
 	wc -c <"$folder/$1" | tr -d ' '
@@ -103,7 +111,12 @@ take() {
 	if [ ! -e "$1" ]; then
 		complain "$2: no $3 here ($1)"
 		return 1
-	elif cat "$1" >"$folder/$2" 2>/dev/null; then
+	elif first "$1" >"$folder/$2" 2>/dev/null; then
+		if [ "$(size "$2")" -gt $most ]; then
+			rm -f "$folder/$2"
+			complain "$2: $1 is longer than $most bytes"
+			return 1
+		fi
 		echo "$2: $3, $(size "$2") bytes"
 	else
 		rm -f "$folder/$2"
@@ -133,6 +146,11 @@ little() {
 	done
 }
 
+# word FILE: the first line of a file of one number
+word() {
+	head -c 64 "$1" 2>/dev/null | tr -d '\0' | head -n 1 | grep .
+}
+
 # The descriptors that the kernel shows, of 48 bytes each; where they lie in its own addresses is left out.
 descriptors() {
 	shown=$sys/firmware/efi/runtime-map
@@ -143,13 +161,13 @@ descriptors() {
 		number 1
 	} >"$data"
 	for node in $(cd "$shown" && printf '%s\n' * | sort -n); do
-		if ! kind=$(cat "$shown/$node/type" 2>/dev/null) || ! first=$(cat "$shown/$node/phys_addr" 2>/dev/null) ||
-			! pages=$(cat "$shown/$node/num_pages" 2>/dev/null) || ! attributes=$(cat "$shown/$node/attribute" 2>/dev/null); then
+		if ! kind=$(word "$shown/$node/type") || ! address=$(word "$shown/$node/phys_addr") ||
+			! pages=$(word "$shown/$node/num_pages") || ! attributes=$(word "$shown/$node/attribute"); then
 			complain "efi.bin: can't read $shown/$node; try it as root"
 			rm -f "$data"
 			return 1
 		fi
-		for value in "$kind" "$first" 0 "$pages" "$attributes" 0; do
+		for value in "$kind" "$address" 0 "$pages" "$attributes" 0; do
 			little "$value"
 		done >>"$data"
 	done
@@ -166,8 +184,8 @@ extension() {
 	# nodes are numbered from 0 in the order of the list
 	for node in $(cd "$sys/kernel/boot_params/setup_data" 2>/dev/null && printf '%s\n' * | sort -n); do
 		node=$sys/kernel/boot_params/setup_data/$node
-		[ "$(cat "$node/type" 2>/dev/null)" = 0x1 ] || continue
-		if cat "$node/data" >>"$data" 2>/dev/null; then
+		[ "$(word "$node/type")" = 0x1 ] || continue
+		if first "$node/data" >>"$data" 2>/dev/null; then
 			nodes=$((nodes + 1))
 		else
 			complain "e820ext.bin: can't read $node/data; try it as root"
@@ -200,7 +218,7 @@ place() {
 
 # What the kernel shows of itself: resources where they have addresses, zones, free blocks.
 shows() {
-	if [ -e "$proc/iomem" ] && ! grep -q '^ *[0-9a-f-]*[1-9a-f][0-9a-f-]* : ' "$proc/iomem" 2>/dev/null; then
+	if [ -e "$proc/iomem" ] && ! first "$proc/iomem" 2>/dev/null | grep -aq '^ *[0-9a-f-]*[1-9a-f][0-9a-f-]* : '; then
 		complain "iomem: $proc/iomem hides its addresses; try it as root"
 	else
 		take "$proc/iomem" iomem "resources"

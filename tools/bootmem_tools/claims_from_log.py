@@ -42,12 +42,12 @@ examples:
 
 MIB = ranges.MIB
 CRASH_ALIGNS = (16 * MIB, MIB)  # without a base, and with one
-LONGEST_EXTENSION = 61456  # bytes
+EXTENSION = tool.Kind("extension", 61456, is_text=False)
 NODE_DATA = 0x2B000  # what bootmem claims for the data of a node
-LONGEST_LOG = 256 << 20  # bytes
 HEAD = "BIOS-provided physical RAM map:"
 # newer kernels tell node and flags, too
 CALL = re.compile(r"(memblock_(?:add|reserve|phys_free|free)): \[0x([0-9a-f]+)-0x([0-9a-f]+)\](?: nid=-?\d+)?(?: flags=\w+)? (\w+)")
+BEGUN = re.compile(r"memblock_(?:add|reserve|phys_free|free): \[")
 REQUEST = re.compile(r"memblock_\w*alloc\w*: (\d+) bytes align=0x([0-9a-f]+)(?: nid=(-?\d+))? from=0x([0-9a-f]+) "
                      r"max_addr=0x([0-9a-f]+) (\w+)")
 RECORD = re.compile(r"(memory|reserved)\[0x[0-9a-f]+\]\s+\[0x([0-9a-f]+)-0x([0-9a-f]+)\], 0x[0-9a-f]+ bytes"
@@ -136,6 +136,8 @@ def read_log(lines: Iterable[str]) -> Log:
         if match:
             pending = read_call(log, match, dumps, pending)
             continue
+        if BEGUN.search(line):
+            raise tool.Trouble(f"no whole call of memblock: {tool.quoted(line)}")
         read_fact(log, line)
     settle(log, pending)
     if not log.reserved:
@@ -341,7 +343,7 @@ def kernel_text(image: Range) -> str:
 
 def old_entries(path: str) -> list[inputs.Entry]:
     """The entries of an extension's file."""
-    data = tool.read_bytes(path, LONGEST_EXTENSION, "extension")
+    data = tool.read_bytes(path, EXTENSION)
     if len(data) < 16 or struct.unpack_from("<II", data, 8) != (1, len(data) - 16) or (len(data) - 16) % 20:
         raise tool.Trouble(f"{path}: no extension")
     return [(base, size, kind) for base, size, kind in struct.iter_unpack("<QQI", data[16:])]
@@ -392,7 +394,7 @@ def read_words(words: list[str]) -> argparse.Namespace:
 def main(words: list[str]) -> int:
     """Writes what the words ask for."""
     given = read_words(words)
-    text = re.sub(r"\x1b\[[0-9;]*[mK]", "", tool.read_text(given.log, what="text of a log", limit=LONGEST_LOG))
+    text = re.sub(r"\x1b\[[0-9;]*[mK]", "", tool.read_text(given.log, kind=tool.LOG))
     lines = last_boot(text.splitlines())
     log = read_log(lines)
     image = given.kernel or image_of(log)

@@ -18,7 +18,7 @@ from bootmem_tools import ranges, reports, runner, tool
 
 LONGEST = 2047  # bytes of a line (COMMAND_LINE_SIZE without its end)
 ROUND = 128 << 20  # total memory is rounded up to this (parse_crashkernel_mem)
-LONGEST_FILE = 1 << 20  # bytes of a file with a line
+FILE = tool.Kind("command line", 1 << 20, is_text=False)
 TOP = ranges.TOP
 LOW_LEAST = 256 << 20  # the low part without a form `S,low` (reserve_crashkernel_low)
 KEY = "crashkernel="
@@ -595,7 +595,7 @@ def read_file(path: str) -> bytes:
     # Errors
     A Trouble if there are more bytes than any boot loader hands over.
     """
-    return tool.read_bytes(path, LONGEST_FILE, "command line")
+    return tool.read_bytes(path, FILE)
 
 
 def write_line(path: str, line: str) -> None:

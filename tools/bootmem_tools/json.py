@@ -50,7 +50,7 @@ def read_words(words: list[str]) -> tuple[bool, reports.Texts]:
         return given.compact, runner.run_for(NAME, runner.find_program(given.program), names or WANTED, program_words)
     if names is None:
         return given.compact, reports.read_reports(given.file or "-", behind=True)
-    lines = tool.read_text(given.file or "-", what="text of reports").splitlines()
+    lines = tool.read_text(given.file or "-").splitlines()
     if len(names) > 1 or any(line.startswith("== ") for line in lines):
         parser.error("--report names one report whose text has no line `== NAME`")
     return given.compact, {names[0]: lines}

@@ -293,13 +293,14 @@ def tell(given: argparse.Namespace, folder: str) -> collections.Counter[str]:
     """Prints the commands and the findings for a folder; how many there are of each kind."""
     reading = machine.line_in(given.program, folder)
     words, texts = run(given, folder, reading)
+    findings = [Finding("noted", said) for said in reading.changes + reading.notes]
+    findings += compare(given, folder, words, texts)
     if reading.changes:
         extension = words[words.index("--e820ext"):][:2] if "--e820ext" in words else []
         print(" ".join(["bootmem-line", *extension, "cmdline", "zp.bin > line"]))
     print(f"bootmem {' '.join(words)}")
     counts: collections.Counter[str] = collections.Counter()
-    findings = [Finding("noted", said) for said in reading.changes + reading.notes]
-    for finding in findings + list(compare(given, folder, words, texts)):
+    for finding in findings:
         counts[finding.kind] += 1
         print(f"{finding.kind:<8} {finding.text}")
     return counts

@@ -12,13 +12,13 @@ from bootmem_tools.ranges import FRAME
 from bootmem_tools.reports import MEMORY, Texts, memory_of, spans
 from bootmem_tools.grammar import read_lines
 from bootmem_tools.inputs import PAGE_SIZE
-from bootmem_tools.tool import read_text
+from bootmem_tools.tool import Kind, read_text
 
 FILES = (("--e820ext", "e820ext.bin"), ("--srat", "srat.bin"), ("--efi", "efi.bin"))
 REACH = 1 << 46  # of page tables of four levels
 FEW = 256  # frames: fewer that no block covers pass numa_meminfo_cover_memory
 SIGNATURE = 0x1C0  # of efi_info in the zero page: EL64 or EL32 if the firmware is UEFI
-LONGEST = 64 << 20  # bytes of a text of a machine's folder
+SHOWN = Kind("text of a kernel", 64 << 20)  # a text in a machine's folder
 
 
 class Resource(NamedTuple):
@@ -53,7 +53,7 @@ def image_place(resources: list[Resource]) -> str | None:
 def text_in(folder: str, name: str) -> str | None:
     """Returns the text of a file of the folder, or None if there is none."""
     path = os.path.join(folder, name)
-    return read_text(path, limit=LONGEST) if os.path.exists(path) and not os.path.isdir(path) else None
+    return read_text(path, kind=SHOWN) if os.path.exists(path) and not os.path.isdir(path) else None
 
 
 def kernel_in(folder: str) -> str | None:

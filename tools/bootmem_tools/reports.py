@@ -6,7 +6,7 @@ from typing import Iterable, Mapping, NamedTuple
 
 from bootmem_tools import grammar
 from bootmem_tools.ranges import FRAME, SECTION, Range, joined
-from bootmem_tools.tool import BEHIND, Trouble, read_text, shown_name
+from bootmem_tools.tool import BEHIND, LONGEST, Kind, Trouble, read_text, shown_name
 
 # The lines of each report, by its name.
 Texts = dict[str, list[str]]
@@ -32,10 +32,16 @@ def read_reports(path: str, behind: bool = False) -> Texts:
     # Errors
     A Trouble if there is no report in it.
     """
-    reports = split_reports(read_text(path, behind, "text of reports"))
+    reports = split_reports(read_text(path, behind, Kind("text of reports", LONGEST, judge=judge_reports)))
     if not reports:
         raise Trouble(f"{shown_name(path)}: no report of bootmem in it{BEHIND if behind else ''}")
     return reports
+
+
+def judge_reports(first: bytes) -> str | None:
+    """Returns why a text that begins with these bytes has no report, or None if its first line is one of a report or names one."""
+    line = first[:4096].split(b"\n")[0].decode("utf-8", "replace")
+    return None if line.startswith("== ") or grammar.report_of(line.rstrip("\r")) else "no report of bootmem in it"
 
 
 def split_reports(text: str) -> Texts:

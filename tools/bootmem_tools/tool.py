@@ -11,7 +11,7 @@ import stat
 import sys
 import tempfile
 import textwrap
-from typing import BinaryIO, Callable, Mapping, NoReturn, Sequence
+from typing import BinaryIO, Callable, Mapping, NamedTuple, NoReturn, Optional, Sequence
 
 WIDTH = 80  # of help, in letters
 LONGEST = 1 << 30  # bytes of a text: the report blocks of 16 TiB in single frames has half as many
@@ -110,39 +110,59 @@ def shown_name(path: str) -> str:
     return "standard input" if path == "-" else path
 
 
-def read_limited(file: BinaryIO, name: str, limit: int, what: str, hint: str = "") -> bytes:
-    """Returns all bytes of a file, up to a limit. `what` the file should be, and a hint, are words for the error.
+# What judges the first bytes of a file: why the rest isn't worth reading, or None.
+Judge = Callable[[bytes], Optional[str]]
+
+
+class Kind(NamedTuple):
+    """What a file should be: its name for errors, its greatest length in bytes, whether it is a text, and what judges its first bytes."""
+
+    what: str
+    limit: int
+    is_text: bool = True
+    judge: Judge | None = None
+
+
+TEXT = Kind("text", LONGEST)
+LOG = Kind("text of a log", 64 << 20)  # no kernel's log buffer is longer
+
+
+def read_limited(file: BinaryIO, name: str, kind: Kind, hint: str = "") -> bytes:
+    """Returns all bytes of a file, up to the limit of its kind; a hint goes into the error.
 
     # Errors
-    A Trouble if there are more bytes than the limit, or if a text has a zero byte.
+    A Trouble if there are more bytes than the limit, if a text has a zero byte, or if its first bytes are refused.
     """
     parts: list[bytes] = []
     size = 0
     while True:
-        part = file.read(min(1 << 20, limit + 1 - size))
+        part = file.read(min(1 << 20, kind.limit + 1 - size))
         if not part:
             return b"".join(parts)
         size += len(part)
-        if size > limit:
-            raise Trouble(f"{name}: no {what}: longer than {limit} bytes{hint}")
-        if what.startswith("text") and b"\0" in part:
-            raise Trouble(f"{name}: no {what}: it has a zero byte{hint}")
+        if size > kind.limit:
+            raise Trouble(f"{name}: no {kind.what}: longer than {kind.limit} bytes{hint}")
+        if kind.is_text and b"\0" in part:
+            raise Trouble(f"{name}: no {kind.what}: it has a zero byte{hint}")
+        why = kind.judge(part) if kind.judge and not parts else None
+        if why:
+            raise Trouble(f"{name}: {why}{hint}")
         parts.append(part)
 
 
-def read_bytes(path: str, limit: int, what: str, hint: str = "") -> bytes:
+def read_bytes(path: str, kind: Kind, hint: str = "") -> bytes:
     """Returns the bytes of a file, or of standard input if the path is `-`.
 
     # Errors
     As `read_limited`.
     """
     if path == "-":
-        return read_limited(sys.stdin.buffer, shown_name(path), limit, what, hint)
+        return read_limited(sys.stdin.buffer, shown_name(path), kind, hint)
     with open(path, "rb") as file:
-        return read_limited(file, path, limit, what, hint)
+        return read_limited(file, path, kind, hint)
 
 
-def read_text(path: str, behind: bool = False, what: str = "text", limit: int = LONGEST) -> str:
+def read_text(path: str, behind: bool = False, kind: Kind = TEXT) -> str:
     """Returns the text of a file, or of standard input if the path is `-`; `behind` says that the program's words may stand after `--`.
 
     # Errors
@@ -151,7 +171,7 @@ def read_text(path: str, behind: bool = False, what: str = "text", limit: int = 
     hint = BEHIND if behind else ""
     if path == "-" and sys.stdin.isatty():
         raise Trouble(f"nothing to read: name a file{hint}", 2)
-    return read_bytes(path, limit, what, hint).decode("utf-8", "replace")
+    return read_bytes(path, kind, hint).decode("utf-8", "replace")
 
 
 def write_files(files: Mapping[str, bytes]) -> None:

@@ -51,7 +51,6 @@ TYPES = {"usable": 1, "reserved": 2, "ACPI data": 3, "ACPI NVS": 4, "unusable": 
 Numbered = list[tuple[int, str]]
 # A descriptor: its type, address, pages and attributes.
 Descriptor = tuple[int, int, int, int]
-LONGEST_LOG = 256 << 20  # bytes
 HEAD = "BIOS-provided physical RAM map:"
 ENTRY = r"\[mem 0x([0-9a-f]+)-0x([0-9a-f]+)\] (.+)"
 DESCRIPTOR = r"efi: mem(\d+): \[(.+?)\] range=\[0x([0-9a-f]+)-0x([0-9a-f]+)\]"
@@ -102,6 +101,8 @@ def entries_of_log(lines: Numbered) -> list[Entry]:
     for number, line in lines:
         match = re.search(r"(BIOS-e820|extended): " + ENTRY, line)
         if match is None:
+            if re.search(r"(BIOS-e820|extended): \[mem", line):
+                raise tool.Trouble(f"line {number}: no whole entry: {tool.quoted(line)}")
             continue
         table, first, last = match.group(1), int(match.group(2), 16), int(match.group(3), 16)
         if found[table] and first <= found[table][-1][0]:
@@ -230,7 +231,7 @@ def check_entries(entries: Sequence[Entry], given: argparse.Namespace) -> None:
 def main(words: list[str]) -> int:
     """Writes the zero page, and the extension where it is named."""
     given = read_words(words)
-    lines = [(number, clean(line)) for number, line in enumerate(tool.read_text(given.log, what="text of a log", limit=LONGEST_LOG).splitlines(), 1)]
+    lines = [(number, clean(line)) for number, line in enumerate(tool.read_text(given.log, kind=tool.LOG).splitlines(), 1)]
     is_log = any("BIOS-e820" in line for _, line in lines)
     if is_log:
         lines = last_boot(lines)

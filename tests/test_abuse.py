@@ -1,0 +1,169 @@
+"""Each tool over input that it can't use: missing, unreadable, empty, truncated, binary and endless. It says one line, ends with its own status, and
+leaves nothing written; no run takes long or ends by a traceback."""
+
+import os
+import shutil
+import subprocess
+import time
+import unittest
+
+from support import MACHINE, PROGRAM, TOP, Case, Counted, bytes_of, command_text, example, text_of, write, zero_page
+
+MAP = text_of(example("first", "map.txt"))
+LOG = "BIOS-provided physical RAM map:\nBIOS-e820: [mem 0x0-0x9fbff] usable\nBIOS-e820: [mem 0x100000-0x7fdffff] usable\n"
+CLAIMS = "MEMBLOCK configuration:\n reserved[0x0]\t[0x0-0xffff], 0x10000 bytes flags: 0x0\nmemblock_reserve: [0x9f000-0x9ffff] f+0x1/0x2\n"
+SECONDS = 60  # of a run
+
+# Bytes that no input of a tool has: of none, of no text, and of a text that is something else.
+EMPTY, BINARY, LETTERS = b"", bytes(range(256)) * 16, b"\xff\xfe" * 3000
+
+# A tool with its words, in which INPUT is the input, its status for it, and a whole input.
+READERS = [
+    ("bootmem-where", ["1M", "INPUT"], 1, MAP),
+    ("bootmem-draw", ["--output", "out", "INPUT"], 1, MAP),
+    ("bootmem-draw", ["--text", "--output", "out", "INPUT"], 1, MAP),
+    ("bootmem-diff", ["INPUT", "map"], 2, MAP),
+    ("bootmem-diff", ["map", "INPUT"], 2, MAP),
+    ("bootmem-json", ["INPUT"], 1, MAP),
+    ("zp-from-log", ["--output", "out", "--e820ext", "ext", "--no-initrd", "INPUT"], 1, LOG),
+    ("claims-from-log", ["--e820ext", "out", "--script", "script", "INPUT"], 1, CLAIMS),
+    ("claims-from-log", ["--replay", "folder", "INPUT"], 1, CLAIMS),
+]
+# The same for files that aren't texts: any bytes but those of such a file are refused.
+FILES = [
+    ("claims-from-log", ["--e820ext", "out", "--over", "INPUT", "--kernel", "16M,32M", "claims"], 1),
+    ("bootmem-line", ["--e820ext", "INPUT", "ranges", "zp"], 2),
+    ("bootmem-line", ["ranges", "INPUT"], 2),
+    ("bootmem-crash", ["--kernel", "16M,52M", "INPUT"], 2),
+    ("bootmem-crash", ["--kernel", "16M,52M", "--srat", "INPUT", "zp"], 2),
+    ("bootmem-crash", ["--kernel", "16M,52M", "--e820ext", "INPUT", "zp"], 2),
+    ("bootmem-where", ["1M", "--", "--kernel", "16M,52M", "INPUT"], 1),
+    ("bootmem-draw", ["--output", "out", "--", "--kernel", "16M,52M", "INPUT"], 1),
+    ("bootmem-json", ["--", "--kernel", "16M,52M", "INPUT"], 1),
+    ("bootmem-diff", ["--a", "--kernel 16M,52M zp", "--b", "--kernel 16M,52M INPUT"], 2),
+]
+# Any bytes are a command line, so only what can't be read, or never ends, is refused.
+LINES = [
+    ("bootmem-line", ["INPUT"], 2),
+    ("bootmem-crash", ["--kernel", "16M,52M", "--cmdline", "INPUT", "zp"], 2),
+]
+
+
+class Abuse(Case):
+    """Inputs that no tool can use."""
+
+    def setUp(self):
+        super().setUp()
+        write(self.path("zp"), zero_page(MACHINE))
+        write(self.path("map"), MAP)
+        write(self.path("claims"), CLAIMS)
+        write(self.path("ranges"), b"crashkernel=1G-:64M")
+        os.mkdir(self.path("a folder"))
+        for name, held in (("empty", EMPTY), ("binary", BINARY), ("letters", LETTERS)):
+            write(self.path(name), held)
+
+    def run_tool(self, name, words, given=None):
+        """Status, standard output and standard error of a tool, with the seconds that it took."""
+        command, begun = [os.path.join(TOP, "tools", name), *words], time.monotonic()
+        Counted.last = command_text(command, self.work)
+        done = subprocess.run(command, stdin=given or subprocess.DEVNULL, stdout=subprocess.PIPE, stderr=subprocess.PIPE, cwd=self.work,
+                              env={**os.environ, "BOOTMEM": PROGRAM}, timeout=10 * SECONDS, check=False)
+        return done.returncode, done.stdout.decode("utf-8", "replace"), done.stderr.decode("utf-8", "replace"), time.monotonic() - begun
+
+    def is_refused(self, name, words, status, given=None):
+        """The tool says one line in its name, ends with its status in time, and writes nothing."""
+        what = f"{name} {' '.join(words)}"
+        before = sorted(os.listdir(self.work))
+        got, out, err, seconds = self.run_tool(name, words, given)
+        lines = err.splitlines()
+        self.check(f"{what}: status and output", (got, out), (status, ""))
+        self.check(f"{what}: one line", [line.startswith(f"{name}: ") for line in lines] if len(lines) == 1 else err, [True])
+        self.check(f"{what}: nothing is written", sorted(os.listdir(self.work)), before)
+        self.check(f"{what}: in time", seconds < SECONDS, True)
+
+    def test_readers(self):
+        """Tools that read a text, from a file and from standard input."""
+        for name, words, status, whole in READERS:
+            write(self.path("truncated"), whole[:-len(whole.splitlines(keepends=True)[-1]) // 2])
+            for made in ("missing", "/proc/self/mem", "a folder", "empty", "binary", "letters", "truncated", "/dev/zero"):
+                self.is_refused(name, [made if word == "INPUT" else word for word in words], status)
+            with open("/dev/zero", "rb") as endless:
+                self.is_refused(name, ["-" if word == "INPUT" else word for word in words], status, endless)
+            with subprocess.Popen(["yes"], stdout=subprocess.PIPE) as yes:
+                self.is_refused(name, ["-" if word == "INPUT" else word for word in words], status, yes.stdout)
+                yes.kill()
+
+    def test_files(self):
+        """Tools that read files of bytes themselves, or hand them to the program."""
+        for name, words, status in FILES:
+            for made in ("missing", "/proc/self/mem", "binary", "letters", "empty", "/dev/zero"):
+                self.is_refused(name, [word.replace("INPUT", made) for word in words], status)
+
+    def test_lines(self):
+        """Command lines: any bytes are one, as far as a kernel reads them."""
+        for name, words, status in LINES:
+            for made in ("missing", "/proc/self/mem", "a folder", "/dev/zero"):
+                self.is_refused(name, [made if word == "INPUT" else word for word in words], status)
+            for made in ("binary", "letters", "empty"):
+                got, _, err, seconds = self.run_tool(name, [made if word == "INPUT" else word for word in words])
+                self.check(f"{name} {made}", (got in (0, 1), "Traceback" in err, seconds < SECONDS), (True, False, True))
+
+    def test_folders(self):
+        """Tools that read what collect.sh gathered, of which one file after another can't be used."""
+        for file in ("zp.bin", "cmdline", "srat.bin", "e820ext.bin", "kernel", "iomem", "zoneinfo"):
+            for made in ("binary", "/dev/zero", "/proc/self/mem"):
+                folder = self.path("machine")
+                shutil.copytree(example("q35-8g-numa2"), folder)
+                write(os.path.join(folder, "iomem"), "00001000-0009fbff : System RAM\n")
+                if os.path.exists(os.path.join(folder, file)):
+                    os.remove(os.path.join(folder, file))
+                os.symlink(self.path(made), os.path.join(folder, file))
+                what = f"{file} of a folder: {made}"
+                for name, words in (("bootmem-live", ["machine"]), ("bootmem-crash", ["--size", "1M", "machine"])):
+                    got, out, err, seconds = self.run_tool(name, words)
+                    refused = got == 2 and out == "" and len(err.splitlines()) == 1
+                    self.check(f"{name}, {what}", (refused or got in (0, 1), "Traceback" in err, seconds < SECONDS), (True, False, True))
+                    if made != "binary" and not (name == "bootmem-crash" and file in ("iomem", "zoneinfo")):
+                        self.check(f"{name}, {what}: it is refused", (got, out, err.count("\n")), (2, "", 1))
+                got, out, err, seconds = self.run_tool("bootmem-fleet", ["--cmdline-add", "quiet", "machine"])
+                self.check(f"bootmem-fleet, {what}", (got in (0, 1), out.count("\n"), "Traceback" in err, seconds < SECONDS),
+                           (True, 1, False, True))
+                shutil.rmtree(folder)
+
+    def test_collect(self):
+        """collect.sh over files that never end or can't be read: it says so of each, and ends."""
+        for made in ("/dev/zero", "/proc/self/mem", "a folder"):
+            for file in ("sys/kernel/boot_params/data", "proc/cmdline", "sys/firmware/acpi/tables/SRAT", "proc/iomem", "proc/zoneinfo",
+                         "sys/kernel/boot_params/setup_data/0/type", "sys/kernel/boot_params/setup_data/0/data"):
+                place = self.path("kernel")
+                for folder in ("sys/kernel/boot_params/setup_data/0", "sys/firmware/acpi/tables", "proc"):
+                    os.makedirs(os.path.join(place, folder))
+                write(os.path.join(place, "sys/kernel/boot_params/data"), zero_page(MACHINE))
+                write(os.path.join(place, "sys/kernel/boot_params/setup_data/0/type"), "0x1\n")
+                write(os.path.join(place, "sys/kernel/boot_params/setup_data/0/data"), bytes(20))
+                write(os.path.join(place, "proc/cmdline"), "quiet\n")
+                if os.path.exists(os.path.join(place, file)):
+                    os.remove(os.path.join(place, file))
+                os.symlink(self.path(made), os.path.join(place, file))
+                status, _, err, seconds = self.run_tool("collect.sh", ["--sys", "kernel/sys", "--proc", "kernel/proc", "gathered"])
+                self.check(f"collect.sh, {file}: {made}", (status in (0, 1), seconds < SECONDS), (True, True))
+                name = {"data": "zp.bin", "cmdline": "cmdline", "SRAT": "srat.bin", "iomem": "iomem", "zoneinfo": "zoneinfo"}.get(file.split("/")[-1])
+                if name and "setup_data" not in file:
+                    self.check(f"collect.sh, {file}: {made}: it is told, and not there",
+                               (f"collect.sh: {name}: " in err, os.path.exists(self.path("gathered", name))), (True, False))
+                shutil.rmtree(place)
+                shutil.rmtree(self.path("gathered"))
+
+    def test_outputs(self):
+        """What can't be written leaves nothing, and what was there stays."""
+        write(self.path("log"), LOG)
+        write(self.path("there"), b"old")
+        for name, words in (("zp-from-log", ["--output", "there", "--e820ext", "none/ext", "--no-initrd", "log"]),
+                            ("zp-from-log", ["--output", "there", "--e820ext", "a folder", "--no-initrd", "log"]),
+                            ("bootmem-draw", ["--output", "none/out", "map"]), ("bootmem-draw", ["--output", "/dev/full", "map"])):
+            self.is_refused(name, words, 1)
+        self.check("what was there", bytes_of(self.path("there")), b"old")
+
+
+if __name__ == "__main__":
+    unittest.main()
