@@ -106,7 +106,9 @@ class Abuse(Case):
                 self.is_refused(name, [made if word == "INPUT" else word for word in words], status)
             for made in ("binary", "letters", "empty"):
                 got, _, err, seconds = self.run_tool(name, [made if word == "INPUT" else word for word in words])
-                self.check(f"{name} {made}", (got in (0, 1), "Traceback" in err, seconds < SECONDS), (True, False, True))
+                # with crashkernel= behind it a line of 2,047 bytes is too long
+                is_well = got in (0, 1) or got == 2 and err.count("\n") == 1
+                self.check(f"{name} {made}", (is_well, "Traceback" in err, seconds < SECONDS), (True, False, True))
 
     def test_folders(self):
         """Tools that read what collect.sh gathered, of which one file after another can't be used."""

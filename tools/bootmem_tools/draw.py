@@ -5,19 +5,19 @@ from __future__ import annotations
 import argparse
 import collections
 import math
-import re
 import shutil
 import textwrap
-from typing import Iterable, Iterator, NamedTuple, NoReturn, Sequence
+from typing import Iterator, NoReturn, Sequence
 from xml.sax.saxutils import escape
 
-from bootmem_tools import ranges, reports, runner, tool
+from bootmem_tools import page, ranges, reports, runner, tool
+from bootmem_tools.columns import DRAWN, STRUCTURES, Column, Row, columns_of
 
 NAME = "bootmem-draw"
-DRAWN = ["map", "owners", "nodes", "zones", "blocks"]
 USAGE = """bootmem-draw [--text] [--title TEXT] [--output FILE] [FILE]
        bootmem-draw [--text] [--title TEXT] [--output FILE] [--program P]
-                    -- WORDS"""
+                    -- WORDS
+       bootmem-draw --html FILE [--title TEXT] [--program P] [A [B]] [-- WORDS]"""
 ABOUT = """Draws reports of bootmem side by side over one axis of addresses, the lowest on top, as an SVG picture or, with
 --text, as a table for a terminal. Gaps of the map are folded: heights grow with the logarithm of the size.
 Neighbouring blocks of one order, node and zone are one row with their number. The owner `map N` is drawn as the page
@@ -26,6 +26,10 @@ EPILOG = f"""Behind -- stand the words of the program but --report; it is run wi
 
 Else the text of reports is read from FILE, or from standard input where there is none or it is -; those of
 {', '.join(DRAWN)} that are there are drawn. In a viewer that shows tool tips each row tells its exact range.
+
+--html writes a page of the same columns, which needs no network: it zooms into a range, tells the exact range and owner
+of the address under the pointer, and finds an address. Of two texts A and B, or of A and a run for WORDS, it shows both
+boots beside one another; what is the same in both is pale, and a list has what changed.
 
 A table keeps within $COLUMNS, or else the terminal's width, or else {tool.WIDTH}: columns without room there stand in a table of
 their own below.
@@ -36,132 +40,37 @@ exit status: 0; 1 where the reports couldn't be had or the picture not be writte
 
 examples:
   bootmem-draw --output machine.svg -- --kernel 16M,52M zp.bin
-  bootmem --report map,zones zp.bin | bootmem-draw --text"""
+  bootmem --report map,zones zp.bin | bootmem-draw --text
+  bootmem-draw --html machine.html -- --kernel 16M,52M zp.bin
+  bootmem-draw --html changed.html old.txt new.txt"""
+
+Boots = list[tuple[str, reports.Texts]]  # each with its name
 
 
-class Row(NamedTuple):
-    """A row of the picture: its bytes, its name, its colour, None for a gap, and the text of its tool tip."""
-
-    first: int
-    last: int
-    name: str
-    colour: str | None
-    tip: str
-
-
-class Column(NamedTuple):
-    """A column: its head, and its rows in lanes, each without rows that overlap."""
-
-    head: str
-    lanes: list[list[Row]]
-
-
-HEADS = {"map": "map", "owners": "owners", "nodes": "nodes", "zones": "zones", "blocks": "free blocks"}
-
-STRUCTURES = "page structures of section "  # what the owner `map N` has
-
-# Light enough for dark text; the two nearest ones stay apart (by 10 in CIELAB) for each kind of colour-blindness, too.
-BLUE, CYAN, MINT, PEAR = "#9ec5ed", "#b4e9f7", "#72c4ab", "#c2d163"
-YELLOW, ORANGE, PINK, GREY = "#faeea0", "#f2a973", "#eda5cd", "#d8d8d8"
-COLOURS = {
-    "usable": MINT, "usable kernel": MINT, "reserved": GREY, "ACPI data": YELLOW, "ACPI NVS": ORANGE, "unusable": PINK,
-    "persistent": PEAR, "persistent legacy": PEAR, "soft reserved": CYAN,
-    "kernel": ORANGE, "low-64k": GREY, "low-1m": GREY, "initrd": YELLOW, "soft-reserved": CYAN, "table-memory": PEAR,
-    "table-reserved": PEAR, "node-data": CYAN, "crash": PINK, "crash-low": PINK, "roots": MINT, "root": MINT,
-    "usage": MINT, "map": BLUE, "script": PEAR,
-    "DMA": ORANGE, "DMA32": YELLOW, "Normal": BLUE,
-}
-NODES = [BLUE, YELLOW, MINT, PINK, CYAN, ORANGE, PEAR]
-
-
-def read_words(words: list[str]) -> tuple[argparse.Namespace, reports.Texts]:
-    """What the words ask for, and the reports to draw."""
+def read_words(words: list[str]) -> tuple[argparse.Namespace, Boots]:
+    """Returns what the words ask for, and the reports to draw: those of one boot, or for a page of two."""
     own, program_words = tool.split_words(words)
     parser = tool.new_parser(NAME, USAGE, ABOUT, EPILOG)
-    parser.add_argument("file", metavar="FILE", nargs="?", help="a text of reports; - is standard input")
+    parser.add_argument("files", metavar="FILE", nargs="*", help="a text of reports; - is standard input")
+    parser.add_argument("--html", metavar="FILE", help="write a page to FILE, also of two boots")
     parser.add_argument("--text", action="store_true", help="a table for a terminal")
     parser.add_argument("--title", metavar="TEXT", help="a line above the picture")
     parser.add_argument("--output", metavar="FILE", help="write to FILE; without it to standard output")
     runner.add_program(parser)
     given = parser.parse_args(own)
-    if program_words is None:
-        return given, reports.read_reports(given.file or "-", behind=True)
-    if given.file is not None:
-        parser.error("a FILE and words behind -- at once")
-    return given, runner.run_for(NAME, runner.find_program(given.program), DRAWN, program_words)
-
-
-def colour_of(report: str, span: reports.Span) -> str:
-    """The colour of a row: of a node by its number, of a block by its order, else by its name."""
-    if report == "nodes":
-        return NODES[int(span.fields["node"]) % len(NODES)]
-    if report == "blocks":
-        part = int(span.fields["order"]) / 10
-        low, high = (238, 245, 252), (139, 184, 228)
-        return "#" + "".join(f"{round(a + (b - a) * part):02x}" for a, b in zip(low, high))
-    name = span.fields["zone"] if report == "zones" else span.name
-    return COLOURS.get(name, COLOURS.get(name.split()[0], GREY))
-
-
-def joined_blocks(found: Iterable[reports.Span]) -> list[reports.Span]:
-    """The blocks, in which neighbours of one order, node and zone are one span with the number of blocks in its name."""
-    runs: list[list[reports.Span]] = []
-    for span in found:
-        before = runs[-1][-1] if runs else None
-        if before and before.last + 1 == span.first and all(before.fields[key] == span.fields[key] for key in ("order", "node", "zone")):
-            runs[-1].append(span)
-        else:
-            runs.append([span])
-    return [run[0]._replace(last=run[-1].last, name=f"{len(run)} \u00d7 order {run[0].fields['order']}") for run in runs]
-
-
-def name_of(report: str, span: reports.Span) -> str:
-    """A row's name: the report's own, but for the map of a section, which isn't the firmware's map."""
-    return re.sub(r"^map (?=\d+$)", STRUCTURES, span.name) if report == "owners" else span.name
-
-
-def tip_of(report: str, span: reports.Span) -> str:
-    """What a tool tip tells: range, size, name and what else the report says."""
-    more = {"zones": "present {present} free {free} frames", "blocks": "node {node} zone {zone}", "map": "type {type}"}
-    text = f"{ranges.range_text(span.first, span.last)}, {ranges.size_text(span.last + 1 - span.first)}: {name_of(report, span)}"
-    return f"{text}, {more[report].format(**span.fields)}" if report in more else text
-
-
-def lanes_of(rows: Iterable[Row]) -> list[list[Row]]:
-    """The rows, each in the first lane in which none before it lies over it."""
-    lanes: list[list[Row]] = []
-    for row in sorted(rows):
-        for lane in lanes:
-            if lane[-1].last < row.first:
-                lane.append(row)
-                break
-        else:
-            lanes.append([row])
-    return lanes or [[]]
-
-
-def gaps_of(rows: Iterable[Row]) -> Iterator[Row]:
-    """Rows without a colour for what no row says between the first address and the last."""
-    after = 0
-    for row in sorted(rows):
-        if row.first > after:
-            yield Row(after, row.first - 1, "gap", None, f"{ranges.range_text(after, row.first - 1)}: nothing in the map")
-        after = max(after, row.last + 1)
-
-
-def columns_of(texts: reports.Texts) -> list[Column]:
-    """The columns of the reports that are drawn, in their order."""
-    columns = []
-    for report in DRAWN:
-        if report in texts:
-            found = reports.spans(report, texts[report])
-            found = joined_blocks(found) if report == "blocks" else found
-            rows = [Row(span.first, span.last, name_of(report, span), colour_of(report, span), tip_of(report, span)) for span in found]
-            rows += list(gaps_of(rows)) if report == "map" else []
-            columns.append(Column(HEADS[report], lanes_of(rows)))
-    if not any(lane for column in columns for lane in column.lanes):
-        raise tool.Trouble(f"none of the reports {', '.join(DRAWN)} is there with a line")
-    return columns
+    if given.html is not None and (given.text or given.output is not None):
+        parser.error("--html beside --text or --output")
+    most = 2 if given.html is not None else 1
+    if len(given.files) + (program_words is not None) > most:
+        parser.error(f"more than {most} of FILE and words behind --")
+    if given.files.count("-") > 1:
+        parser.error("two texts from standard input")
+    named = given.files or (["-"] if program_words is None else [])
+    boots = [(tool.shown_name(file), reports.read_reports(file, behind=True)) for file in named]
+    if program_words is not None:
+        found = runner.run_for(NAME, runner.find_program(given.program), DRAWN, program_words)
+        boots.append((f"bootmem {' '.join(program_words)}", found))
+    return given, boots
 
 
 # The picture's measures, in pixels.
@@ -284,9 +193,14 @@ def table(columns: Sequence[Column], title: str | None, width: int) -> str:
 
 
 def main(words: list[str]) -> int:
-    """Writes the picture or the table."""
-    given, texts = read_words(words)
-    columns = columns_of(texts)
+    """Writes the page, the picture or the table."""
+    given, boots = read_words(words)
+    if not all(any(texts.get(report) for report in DRAWN) for _, texts in boots):
+        raise tool.Trouble(f"none of the reports {', '.join(DRAWN)} is there with a line")
+    if given.html is not None:
+        tool.write_output(page.page(boots, given.title), given.html)
+        return 0
+    columns = columns_of(boots[0][1])
     text = table(columns, given.title, shutil.get_terminal_size((tool.WIDTH, 24)).columns) if given.text else draw(columns, given.title)
     tool.write_output(text, given.output)
     return 0

@@ -80,15 +80,6 @@ def compiled(form: str) -> re.Pattern[str]:
 ROWS = {name: {kind: compiled(form) for kind, form in rows.items()} for name, rows in GRAMMAR.items()}
 
 
-def read_line(name: str, number: int, text: str) -> Line | None:
-    """Returns the line of this report, by the first row that fits it, or None if none does."""
-    for kind, form in ROWS[name].items():
-        match = form.fullmatch(text)
-        if match:
-            return Line(number, kind, match.groupdict(), text)
-    return None
-
-
 def read_lines(name: str, texts: Iterable[str]) -> Iterator[Line]:
     """Yields the lines of a report.
 
@@ -97,13 +88,17 @@ def read_lines(name: str, texts: Iterable[str]) -> Iterator[Line]:
     """
     if name not in ROWS:
         raise Trouble(f"{quoted(name)}: no report of bootmem")
+    rows = list(ROWS[name].items())
     for number, text in enumerate(texts, 1):
-        line = read_line(name, number, text)
-        if line is None:
+        for kind, form in rows:
+            match = form.fullmatch(text)
+            if match:
+                yield Line(number, kind, match.groupdict(), text)
+                break
+        else:
             raise Trouble(f"report {name}: line {number} isn't of its form: {quoted(text)}")
-        yield line
 
 
 def report_of(text: str) -> str | None:
     """Returns the name of the first report that may have a line like this one, or None if none may."""
-    return next((name for name in ROWS if read_line(name, 1, text)), None)
+    return next((name for name, rows in ROWS.items() if any(form.fullmatch(text) for form in rows.values())), None)

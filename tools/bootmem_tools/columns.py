@@ -1,0 +1,114 @@
+"""The columns that bootmem-draw draws of reports: their rows with names and colours, for a picture, a table and a page."""
+
+from __future__ import annotations
+
+import re
+from typing import Iterable, Iterator, NamedTuple
+
+from bootmem_tools import ranges, reports
+
+DRAWN = ["map", "owners", "nodes", "zones", "blocks"]
+HEADS = {"map": "map", "owners": "owners", "nodes": "nodes", "zones": "zones", "blocks": "free blocks"}
+
+STRUCTURES = "page structures of section "  # what the owner `map N` has
+
+# Light enough for dark text; the two nearest ones stay apart (by 10 in CIELAB) for each kind of colour-blindness, too.
+BLUE, CYAN, MINT, PEAR = "#9ec5ed", "#b4e9f7", "#72c4ab", "#c2d163"
+YELLOW, ORANGE, PINK, GREY = "#faeea0", "#f2a973", "#eda5cd", "#d8d8d8"
+COLOURS = {
+    "usable": MINT, "usable kernel": MINT, "reserved": GREY, "ACPI data": YELLOW, "ACPI NVS": ORANGE, "unusable": PINK,
+    "persistent": PEAR, "persistent legacy": PEAR, "soft reserved": CYAN,
+    "kernel": ORANGE, "low-64k": GREY, "low-1m": GREY, "initrd": YELLOW, "soft-reserved": CYAN, "table-memory": PEAR,
+    "table-reserved": PEAR, "node-data": CYAN, "crash": PINK, "crash-low": PINK, "roots": MINT, "root": MINT,
+    "usage": MINT, "map": BLUE, "script": PEAR,
+    "DMA": ORANGE, "DMA32": YELLOW, "Normal": BLUE,
+}
+NODES = [BLUE, YELLOW, MINT, PINK, CYAN, ORANGE, PEAR]
+
+
+class Row(NamedTuple):
+    """A row of the picture: its bytes, its name, its colour, None for a gap, and the text of its tool tip."""
+
+    first: int
+    last: int
+    name: str
+    colour: str | None
+    tip: str
+
+
+class Column(NamedTuple):
+    """A column: its head, and its rows in lanes, each without rows that overlap."""
+
+    head: str
+    lanes: list[list[Row]]
+
+
+def colour_of(report: str, span: reports.Span) -> str:
+    """The colour of a row: of a node by its number, of a block by its order, else by its name."""
+    if report == "nodes":
+        return NODES[int(span.fields["node"]) % len(NODES)]
+    if report == "blocks":
+        part = int(span.fields["order"]) / 10
+        low, high = (238, 245, 252), (139, 184, 228)
+        return "#" + "".join(f"{round(a + (b - a) * part):02x}" for a, b in zip(low, high))
+    name = span.fields["zone"] if report == "zones" else span.name
+    return COLOURS.get(name, COLOURS.get(name.split()[0], GREY))
+
+
+def joined_blocks(found: Iterable[reports.Span]) -> list[reports.Span]:
+    """The blocks, in which neighbours of one order, node and zone are one span with the number of blocks in its name."""
+    runs: list[list[reports.Span]] = []
+    for span in found:
+        before = runs[-1][-1] if runs else None
+        if before and before.last + 1 == span.first and all(before.fields[key] == span.fields[key] for key in ("order", "node", "zone")):
+            runs[-1].append(span)
+        else:
+            runs.append([span])
+    return [run[0]._replace(last=run[-1].last, name=f"{len(run)} \u00d7 order {run[0].fields['order']}") for run in runs]
+
+
+def name_of(report: str, span: reports.Span) -> str:
+    """A row's name: the report's own, but for the map of a section, which isn't the firmware's map."""
+    return re.sub(r"^map (?=\d+$)", STRUCTURES, span.name) if report == "owners" else span.name
+
+
+def tip_of(report: str, span: reports.Span) -> str:
+    """What a tool tip tells: range, size, name and what else the report says."""
+    more = {"zones": "present {present} free {free} frames", "blocks": "node {node} zone {zone}", "map": "type {type}"}
+    text = f"{ranges.range_text(span.first, span.last)}, {ranges.size_text(span.last + 1 - span.first)}: {name_of(report, span)}"
+    return f"{text}, {more[report].format(**span.fields)}" if report in more else text
+
+
+def lanes_of(rows: Iterable[Row]) -> list[list[Row]]:
+    """The rows, each in the first lane in which none before it lies over it."""
+    lanes: list[list[Row]] = []
+    for row in sorted(rows):
+        for lane in lanes:
+            if lane[-1].last < row.first:
+                lane.append(row)
+                break
+        else:
+            lanes.append([row])
+    return lanes or [[]]
+
+
+def gaps_of(rows: Iterable[Row]) -> Iterator[Row]:
+    """Rows without a colour for what no row says between the first address and the last."""
+    after = 0
+    for row in sorted(rows):
+        if row.first > after:
+            yield Row(after, row.first - 1, "gap", None, f"{ranges.range_text(after, row.first - 1)}: nothing in the map")
+        after = max(after, row.last + 1)
+
+
+def columns_of(texts: reports.Texts) -> list[Column]:
+    """The columns of the reports that are drawn, in their order."""
+    columns = []
+    for report in DRAWN:
+        if report in texts:
+            found = reports.spans(report, texts[report])
+            found = joined_blocks(found) if report == "blocks" else found
+            rows = [Row(span.first, span.last, name_of(report, span), colour_of(report, span), tip_of(report, span)) for span in found]
+            rows += list(gaps_of(rows)) if report == "map" else []
+            columns.append(Column(HEADS[report], lanes_of(rows)))
+    return columns
