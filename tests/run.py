@@ -1,6 +1,7 @@
 #!/usr/bin/env python3
 """run.py [PROGRAM [TEST..]]: runs every test of this folder over the program, ./bootmem if none is named, or the tests that the words name: a module
-without its test_, such as draw, or a script, such as shown.sh.
+without its test_, such as draw, a script, such as shown.sh, or `modules`, all modules. `run.py --sources` runs those that need no program: they
+compare documents with sources.
 
 A module prints a line with how many tests and comparisons it has; so does a script that counts. A failure prints its test, what was compared, the
 command that ran before it, and what came and what was wanted. A test that lacks a tool of the system is left out, with a line. The status is 0 if
@@ -14,6 +15,7 @@ import os
 import re
 import subprocess
 import sys
+import traceback
 import unittest
 
 sys.dont_write_bytecode = True
@@ -23,6 +25,7 @@ TOP = os.path.dirname(HERE)
 SCRIPTS = {"pins.py": [], "rooms.py": [], "definitions.py": [], "real_boots.sh": ["PROGRAM"], "map_alone.sh": ["PROGRAM"],
            "audits.sh": ["PROGRAM", "AUDIT"], "outside.sh": ["PROGRAM"], "collect.sh": [], "install.sh": [], "shown.sh": ["PROGRAM"],
            "library.sh": ["PROGRAM"]}
+SOURCES = ["pins.py", "rooms.py", "definitions.py", "words"]
 NEEDED = {"library.sh": ["libbootmem.a"], "audits.sh": ["bootaudit"], "install.sh": ["bootmem", "bootaudit"], "shown.sh": ["bootaudit"]}
 
 
@@ -40,7 +43,10 @@ def run_module(name):
     sys.path.insert(0, HERE)
     from support import Counted
     before, said = Counted.checks, io.StringIO()
-    suite = unittest.defaultTestLoader.loadTestsFromName(f"test_{name}")
+    try:
+        suite = unittest.defaultTestLoader.loadTestsFromName(f"test_{name}")
+    except Exception:  # whatever a module fails with is told, and the others run
+        return f"{name}: it can't be loaded", traceback.format_exc().splitlines(), False, 0
     result = unittest.TextTestRunner(stream=said, resultclass=Result, verbosity=0).run(suite)
     lines = [f"{name}: left out: {why}" for _, why in result.skipped]
     for test, text in result.failures + result.errors:
@@ -68,18 +74,26 @@ def run_one(name):
 
 
 def main(words):
-    """Runs the tests, as many at once as there are processors, and prints what each came to; the status."""
+    """Runs the tests that the words name; the status."""
+    if words == ["--sources"]:
+        return run_all(SOURCES)
     program = os.path.abspath(words[0] if words else os.path.join(TOP, "bootmem"))
     if not os.access(program, os.X_OK):
         print(f"run.py: there is no program {program}: 'make bootmem' builds it", file=sys.stderr)
         return 2
     os.environ["BOOTMEM_TESTED"] = program
     modules = sorted(os.path.basename(path)[len("test_"):-len(".py")] for path in glob.glob(os.path.join(HERE, "test_*.py")))
-    names = words[1:] or [*SCRIPTS, *modules]
+    names = [name for word in words[1:] or ["scripts", "modules"] for name in
+             {"scripts": list(SCRIPTS), "modules": modules}.get(word, [word])]
     unknown = [name for name in names if name not in SCRIPTS and name not in modules]
     if unknown:
         print(f"run.py: there is no test {unknown[0]}: {', '.join([*SCRIPTS, *modules])}", file=sys.stderr)
         return 2
+    return run_all(names)
+
+
+def run_all(names):
+    """Runs these tests, as many at once as there are processors, and prints what each came to; the status."""
     well, total = True, 0
     with multiprocessing.Pool(len(os.sched_getaffinity(0)), maxtasksperchild=1) as pool:
         for line, lines, passed, checks in pool.imap(run_one, names, chunksize=1):

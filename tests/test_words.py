@@ -8,7 +8,7 @@ import subprocess
 import unittest
 
 from bootmem_tools import grammar, words
-from support import MACHINE, TOP, Case, example, run_over, text_of, zero_page
+from support import MACHINE, PROGRAM, TOP, Case, example, run_over, text_of, zero_page
 
 OPTIONS = sorted(f"--{name}" for name in words.OPTIONS)
 AUDIT = sorted(f"--{name}" for name in words.AUDIT_OPTIONS)
@@ -60,6 +60,7 @@ class Words(Case):
         self.check("inputs of Input.antt", codes_in("boot_inputs", "Input", r"^(word_for inputs.*?)$"), list(words.INPUTS))
         self.check("options of bootaudit's Words.antt", codes_in("boot_audit", "Words", r"^(accepted .*?)$"), AUDIT)
 
+    @unittest.skipUnless(os.access(PROGRAM, os.X_OK), "there is no program: it isn't asked for its words")
     def test_program(self):
         """The program takes each option and each report, and names each input; it takes none with a letter more."""
         files = {"zp": zero_page(MACHINE), "faulty": b"mem=x"}

@@ -1,15 +1,13 @@
-#!/usr/bin/env python3
-"""worked.py [PROGRAM]: worked examples of whole boots: inputs, words and the reports that the program prints for them.
+"""Worked examples of whole boots: inputs, words and the reports that the program prints for them.
 
 A row of the table is one run. A report is compared whole, or by the lines that a row names (`Lines`), which stand one after another in it. Each row
-has a name that says what it shows. Prints a line for each difference, and 'N passed, M failed' at its end.
+has a name that says what it shows.
 """
-import sys
 
-sys.dont_write_bytecode = True
+import unittest
 
 from fault_tables.slit import slit
-from inputs import MACHINE, RAM, RESERVED, SOFT, extension, memory_of, run_all, srat, zero_page
+from support import MACHINE, RAM, RESERVED, SOFT, Case, machine_files, memory_of, run_over, srat, zero_page
 
 FOUR_GIB = 1 << 32
 MIB = 1 << 20
@@ -53,9 +51,7 @@ def reserves(count, base):
 
 def machine(entries, **inputs):
     """The files of a machine, by the names of their options: a text is a file's bytes in ASCII."""
-    files = {"zp": zero_page(entries[:128])}
-    if len(entries) > 128:
-        files["e820ext"] = extension(entries[128:])
+    files = {{"ext": "e820ext"}.get(name, name): held for name, held in machine_files(entries)[1].items()}
     return files | {name: held.encode() if isinstance(held, str) else held for name, held in inputs.items()}
 
 
@@ -255,21 +251,25 @@ def parts(text, names):
     return found
 
 
-def printed(runs):
-    for name, files, more, reports in PRINTED:
-        names = list(reports)
-        status, out, err = runs.run(words_for(files, names, more), files)
-        runs.compare(name, (status, err), (0, ""))
-        told = parts(out, names)
-        for report, text in reports.items():
-            got = told.get(report, "no such report")
-            runs.compare(f"{name}: {report}", text if isinstance(text, Lines) and text.fit(got) else got, text)
+class Worked(Case):
+    """Whole boots, worked out by hand."""
 
+    def test_printed(self):
+        """The reports of each boot."""
+        for name, files, more, reports in PRINTED:
+            names = list(reports)
+            status, out, err = run_over(files, words_for(files, names, more))
+            self.check(name, (status, err), (0, ""))
+            told = parts(out, names)
+            for report, text in reports.items():
+                got = told.get(report, "no such report")
+                self.check(f"{name}: {report}", text if isinstance(text, Lines) and text.fit(got) else got, text)
 
-def ended(runs):
-    for name, files, more, status, line in ENDED:
-        runs.compare(name, runs.run(words_for(files, ["map"], more), files), (status, "", line + "\n"))
+    def test_ended(self):
+        """Boots that end with a line."""
+        for name, files, more, status, line in ENDED:
+            self.check(name, run_over(files, words_for(files, ["map"], more)), (status, "", line + "\n"))
 
 
 if __name__ == "__main__":
-    sys.exit(run_all(printed, ended))
+    unittest.main()
