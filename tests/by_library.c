@@ -97,51 +97,33 @@ static void put_block(const struct bootmem_free_block *block)
 	printf("node %" PRIu32 " zone %s order %" PRIu32 " 0x%016" PRIx64 "\n", block->node, names[block->zone], block->order, 4096 * block->first);
 }
 
-static int put_map(void)
-{
-	struct bootmem_map_run none[1];
-	struct bootmem_map_runs out = {none, 0, 7};
-	int first = bootmem_map(words, words_len, files, files_len, &out), status;
-	size_t count = out.count, half = count / 2;
-	struct bootmem_map_run *part = malloc((count + 1) * sizeof *part), *all = malloc((count + 1) * sizeof *all);
+/* defines a function that prints the values of a call, which it asks for without room, with half of what is needed, and with all of it */
+#define PUT_VALUES(name, call, value, values, put) \
+	static int name(void) \
+	{ \
+		struct value none[1]; \
+		struct values out = {none, 0, 7}; \
+		int first = call(words, words_len, files, files_len, &out), status; \
+		size_t count = out.count, half = count / 2; \
+		struct value *part = malloc((count + 1) * sizeof *part), *all = malloc((count + 1) * sizeof *all); \
+\
+		if (!part || !all) \
+			return BOOTMEM_MEMORY; \
+		memset(part, UNTOUCHED, (count + 1) * sizeof *part); \
+		out = (struct values){part, half, 7}; \
+		if (call(words, words_len, files, files_len, &out) != first || out.count != count || !is_untouched(part + half, part + count + 1)) \
+			return 1; \
+		out = (struct values){all, count, 7}; \
+		status = call(words, words_len, files, files_len, &out); \
+		if (status != first || out.count != count) \
+			return 1; \
+		for (size_t i = 0; i < count; i++) \
+			put(i < half ? part + i : all + i); \
+		return status; \
+	}
 
-	if (!part || !all)
-		return BOOTMEM_MEMORY;
-	memset(part, UNTOUCHED, (count + 1) * sizeof *part);
-	out = (struct bootmem_map_runs){part, half, 7};
-	if (bootmem_map(words, words_len, files, files_len, &out) != first || out.count != count || !is_untouched(part + half, part + count + 1))
-		return 1;
-	out = (struct bootmem_map_runs){all, count, 7};
-	status = bootmem_map(words, words_len, files, files_len, &out);
-	if (status != first || out.count != count)
-		return 1;
-	for (size_t i = 0; i < count; i++)
-		put_run(i < half ? part + i : all + i);
-	return status;
-}
-
-static int put_blocks(void)
-{
-	struct bootmem_free_block none[1];
-	struct bootmem_free_blocks out = {none, 0, 7};
-	int first = bootmem_blocks(words, words_len, files, files_len, &out), status;
-	size_t count = out.count, half = count / 2;
-	struct bootmem_free_block *part = malloc((count + 1) * sizeof *part), *all = malloc((count + 1) * sizeof *all);
-
-	if (!part || !all)
-		return BOOTMEM_MEMORY;
-	memset(part, UNTOUCHED, (count + 1) * sizeof *part);
-	out = (struct bootmem_free_blocks){part, half, 7};
-	if (bootmem_blocks(words, words_len, files, files_len, &out) != first || out.count != count || !is_untouched(part + half, part + count + 1))
-		return 1;
-	out = (struct bootmem_free_blocks){all, count, 7};
-	status = bootmem_blocks(words, words_len, files, files_len, &out);
-	if (status != first || out.count != count)
-		return 1;
-	for (size_t i = 0; i < count; i++)
-		put_block(i < half ? part + i : all + i);
-	return status;
-}
+PUT_VALUES(put_map, bootmem_map, bootmem_map_run, bootmem_map_runs, put_run)
+PUT_VALUES(put_blocks, bootmem_blocks, bootmem_free_block, bootmem_free_blocks, put_block)
 
 static int put_crash(void)
 {

@@ -207,3 +207,10 @@ def use_library():
     if os.path.exists(path):
         os.environ["BOOTMEM_LIB"] = path
     return os.path.exists(path)
+
+
+def rows_of(text):
+    """The rows of a table in a text: a line each, with ` | ` between fields, in which escapes stand for letters as in Python. A line that
+    ends with ` |` has an empty last field."""
+    lines = [line + " " if line.endswith(" |") else line for line in text.strip("\n").split("\n")]
+    return [tuple(field.encode("latin-1").decode("unicode_escape") for field in line.split(" | ")) for line in lines]

@@ -1,7 +1,7 @@
 """The command line: its faults, in their order: too long, line too long, open quote, a word's own, of which the lowest word's is told,
 and user map."""
 
-from support import encoded
+from support import encoded, rows_of
 
 INPUT = "cmdline"
 OPTION = "--cmdline"
@@ -53,7 +53,26 @@ USER_MAP = [
 ]
 
 # Each a line that has two faults, and the one that is told.
-TWO = [
+TWO = rows_of(r"""
+a wrong word before an open quotation | mem=0 " | open quote
+a wrong word inside an open quotation | "mem=0 | open quote
+a user map before an open quotation | memmap=exactmap " | open quote
+an open quotation behind -- | -- " | open quote
+mem before memmap | mem=0 memmap= | word 1: mem
+memmap before mem | memmap= mem=0 | word 1: memmap
+memmap before crashkernel | memmap= crashkernel= | word 1: memmap
+crashkernel before memmap | crashkernel= memmap= | word 1: crashkernel
+crashkernel before numa | crashkernel= numa= | word 1: crashkernel
+numa before crashkernel | numa= crashkernel= | word 1: numa
+numa before mem | numa= mem=0 | word 1: numa
+two of one name | quiet mem=0 mem= | word 2: mem
+a user map before mem | memmap=exactmap mem=0 | word 2: mem
+a user map before memmap | memmap=exactmap memmap= | word 2: memmap
+a user map before a wrong piece of its own word | memmap=exactmap,x | word 1: memmap
+a user map before crashkernel | memmap=exactmap crashkernel= | word 2: crashkernel
+a user map before numa | memmap=exactmap numa=on | word 2: numa
+numa before a user map | numa=on memmap=exactmap | word 1: numa
+""") + [
     ("a file too long, whose line is too", "a" * 4097, "too long"),
     ("a file too long, of an open quotation", '"'.ljust(4097, "\0"), "too long"),
     ("a file too long, of a word that is wrong", "mem=0".ljust(4097, "\0"), "too long"),
@@ -61,40 +80,23 @@ TWO = [
     ("a line too long with an open quotation", '"'.ljust(2048), "line too long"),
     ("a line too long with a word that is wrong", "mem=0".ljust(2048), "line too long"),
     ("a line too long with a user map", "memmap=exactmap".ljust(2048), "line too long"),
-    ("a wrong word before an open quotation", 'mem=0 "', "open quote"),
-    ("a wrong word inside an open quotation", '"mem=0', "open quote"),
-    ("a user map before an open quotation", 'memmap=exactmap "', "open quote"),
-    ("an open quotation behind --", '-- "', "open quote"),
-    ("mem before memmap", "mem=0 memmap=", "word 1: mem"),
-    ("memmap before mem", "memmap= mem=0", "word 1: memmap"),
-    ("memmap before crashkernel", "memmap= crashkernel=", "word 1: memmap"),
-    ("crashkernel before memmap", "crashkernel= memmap=", "word 1: crashkernel"),
-    ("crashkernel before numa", "crashkernel= numa=", "word 1: crashkernel"),
-    ("numa before crashkernel", "numa= crashkernel=", "word 1: numa"),
-    ("numa before mem", "numa= mem=0", "word 1: numa"),
-    ("two of one name", "quiet mem=0 mem=", "word 2: mem"),
-    ("a user map before mem", "memmap=exactmap mem=0", "word 2: mem"),
-    ("a user map before memmap", "memmap=exactmap memmap=", "word 2: memmap"),
-    ("a user map before a wrong piece of its own word", "memmap=exactmap,x", "word 1: memmap"),
-    ("a user map before crashkernel", "memmap=exactmap crashkernel=", "word 2: crashkernel"),
-    ("a user map before numa", "memmap=exactmap numa=on", "word 2: numa"),
-    ("numa before a user map", "numa=on memmap=exactmap", "word 1: numa"),
 ]
 
-COUNTED = [
-    ("each separator", "a b\tc\nd\ve\ff\rg mem=0", "word 8: mem"),
-    ("separators in a row and at the head", " \t mem=64M \n\n mem=0", "word 2: mem"),
-    ("a quotation is one word", '"a b" c="d e" mem=0', "word 3: mem"),
-    ("words of other names", "memory=0 mem64M=0 memmaps= MEM=0 =mem mem=0", "word 6: mem"),
-    ("a name in quotation marks", 'quiet "numa=on"', "word 2: numa"),
+COUNTED = rows_of(r"""
+each separator | a b\tc\nd\x0be\x0cf\rg mem=0 | word 8: mem
+separators in a row and at the head |  \t mem=64M \n\n mem=0 | word 2: mem
+a quotation is one word | "a b" c="d e" mem=0 | word 3: mem
+words of other names | memory=0 mem64M=0 memmaps= MEM=0 =mem mem=0 | word 6: mem
+a name in quotation marks | quiet "numa=on" | word 2: numa
+one quotation mark | " | open quote
+three quotation marks | a="b" c=" | open quote
+a quotation that the zero byte cuts | "a\x00" | open quote
+""") + [
     ("the least line that is too long", "a" * 2048, "line too long"),
     ("the least line that is too long, and a newline", "a" * 2048 + "\n", "line too long"),
     ("a line of 2,047 bytes and two newlines", "a" * 2047 + "\n\n", "line too long"),
     ("a newline behind the zero byte", "a" * 2048 + "\0\n", "line too long"),
     ("the least file that is too long", "quiet".ljust(4097, "\0"), "too long"),
-    ("one quotation mark", '"', "open quote"),
-    ("three quotation marks", 'a="b" c="', "open quote"),
-    ("a quotation that the zero byte cuts", '"a\0"', "open quote"),
 ]
 
 

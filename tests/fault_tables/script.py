@@ -1,7 +1,7 @@
 """The early script: its faults; of the lowest line that has one the first of: form, number, alignment, zero size, second sections, too
 far."""
 
-from support import encoded
+from support import encoded, rows_of
 
 INPUT = "script"
 OPTION = "--script"
@@ -37,38 +37,39 @@ TOO_FAR = [
 ]
 
 # Each a line that has two faults, and the one that is told.
-ON_ONE_LINE = [
-    ("no form, and a number", "free x 1", "form"),
-    ("no form, and an alignment", "alloc 1 4K 3 exact", "form"),
-    ("no form, and a zero size", "trim 1 0 0", "form"),
-    ("no form, and too far", "reserve 1 0xffffffffffffffff 1 1", "form"),
-    ("a number, and an alignment", "alloc x 4K 3", "number"),
-    ("a number behind an alignment", "alloc 1 4K 3 node 1024", "number"),
-    ("a number behind a zero size", "alloc 1 0 4K max x", "number"),
-    ("a number, and a zero size", "trim x 0", "number"),
-    ("a number, and a zero length", "peek x 0", "number"),
-    ("a number, and too far", "reserve x 0xffffffffffffffff 1", "number"),
-    ("a length above its bound, and too far", "peek 0xffffffffffffffff 65", "number"),
-    ("an alignment, and a zero size", "alloc 1 0 3", "alignment"),
-    ("an alignment of 0, and a zero size", "alloc 1 0 0", "alignment"),
-]
-OVER_LINES = [
-    ("the second line", "free 1\nfree\n", "line 2: form"),
-    ("a last line without a newline", "free 1\nfree", "line 2: form"),
-    ("lines that are passed over count", "# free\n\n \t\r\n#\nfree 1\n\nfree", "line 7: form"),
-    ("a comment that isn't at the head", "free 1 # x", "line 1: form"),
-    ("a second line `sections`", "sections\nsections", "line 2: second sections"),
-    ("a third line `sections`", "sections\n\nsections\nsections\n", "line 3: second sections"),
-    ("a second `sections` of no form", "sections\nsections 1", "line 2: form"),
-    ("a number before no form", "free x\nfree", "line 1: number"),
-    ("no form before a number", "free\nfree x", "line 1: form"),
-    ("an alignment before a number", "alloc 1 4K 3\nfree x", "line 1: alignment"),
-    ("a zero size before an alignment", "trim 1 0\nalloc 1 4K 3", "line 1: zero size"),
-    ("a second `sections` before a zero size", "sections\nsections\ntrim 1 0", "line 2: second sections"),
-    ("a zero size before a second `sections`", "sections\ntrim 1 0\nsections", "line 2: zero size"),
-    ("too far before a second `sections`", "sections\nreserve 1 8E 8E\nsections", "line 2: too far"),
-    ("too far before no form", "peek 0xffffffffffffffff 1\nfree", "line 1: too far"),
-    ("a second `sections` before too far", "sections\nsections\nreserve 1 8E 8E", "line 2: second sections"),
+ON_ONE_LINE = rows_of(r"""
+no form, and a number | free x 1 | form
+no form, and an alignment | alloc 1 4K 3 exact | form
+no form, and a zero size | trim 1 0 0 | form
+no form, and too far | reserve 1 0xffffffffffffffff 1 1 | form
+a number, and an alignment | alloc x 4K 3 | number
+a number behind an alignment | alloc 1 4K 3 node 1024 | number
+a number behind a zero size | alloc 1 0 4K max x | number
+a number, and a zero size | trim x 0 | number
+a number, and a zero length | peek x 0 | number
+a number, and too far | reserve x 0xffffffffffffffff 1 | number
+a length above its bound, and too far | peek 0xffffffffffffffff 65 | number
+an alignment, and a zero size | alloc 1 0 3 | alignment
+an alignment of 0, and a zero size | alloc 1 0 0 | alignment
+""")
+OVER_LINES = rows_of(r"""
+the second line | free 1\nfree\n | line 2: form
+a last line without a newline | free 1\nfree | line 2: form
+lines that are passed over count | # free\n\n \t\r\n#\nfree 1\n\nfree | line 7: form
+a comment that isn't at the head | free 1 # x | line 1: form
+a second line `sections` | sections\nsections | line 2: second sections
+a third line `sections` | sections\n\nsections\nsections\n | line 3: second sections
+a second `sections` of no form | sections\nsections 1 | line 2: form
+a number before no form | free x\nfree | line 1: number
+no form before a number | free\nfree x | line 1: form
+an alignment before a number | alloc 1 4K 3\nfree x | line 1: alignment
+a zero size before an alignment | trim 1 0\nalloc 1 4K 3 | line 1: zero size
+a second `sections` before a zero size | sections\nsections\ntrim 1 0 | line 2: second sections
+a zero size before a second `sections` | sections\ntrim 1 0\nsections | line 2: zero size
+too far before a second `sections` | sections\nreserve 1 8E 8E\nsections | line 2: too far
+too far before no form | peek 0xffffffffffffffff 1\nfree | line 1: too far
+a second `sections` before too far | sections\nsections\nreserve 1 8E 8E | line 2: second sections
+""") + [
     ("the least file that is too long", "free 1\n#".ljust(2**20 + 1, "-"), "too long"),
     ("a file too long, of no form", "free\n".ljust(2**20 + 1), "too long"),
     ("a file too long, of a number", "free x\n".ljust(2**20 + 1), "too long"),
