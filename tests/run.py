@@ -26,7 +26,8 @@ SCRIPTS = {"pins.py": [], "rooms.py": [], "definitions.py": [], "real_boots.sh":
            "audits.sh": ["PROGRAM", "AUDIT"], "outside.sh": ["PROGRAM"], "collect.sh": [], "install.sh": [], "shown.sh": ["PROGRAM"],
            "library.sh": ["PROGRAM"]}
 SOURCES = ["pins.py", "rooms.py", "definitions.py", "words"]
-NEEDED = {"library.sh": ["libbootmem.a"], "audits.sh": ["bootaudit"], "install.sh": ["bootmem", "bootaudit"], "shown.sh": ["bootaudit"]}
+NEEDED = {"map_alone.sh": ["crates/e820_map/out/e820_map"], "library.sh": ["libbootmem.a"], "audits.sh": ["bootaudit"],
+          "install.sh": ["bootmem", "bootaudit"], "shown.sh": ["bootaudit"]}
 
 
 class Result(unittest.TextTestResult):

@@ -17,7 +17,8 @@ NAME = "bootmem-draw"
 USAGE = """bootmem-draw [--text] [--title TEXT] [--output FILE] [FILE]
        bootmem-draw [--text] [--title TEXT] [--output FILE] [--program P]
                     -- WORDS
-       bootmem-draw --html FILE [--title TEXT] [--program P] [A [B]] [-- WORDS]"""
+       bootmem-draw --html FILE [--title TEXT] [--program P] [A [B]]
+                    [-- WORDS]"""
 ABOUT = """Draws reports of bootmem side by side over one axis of addresses, the lowest on top, as an SVG picture or, with
 --text, as a table for a terminal. Gaps of the map are folded: heights grow with the logarithm of the size.
 Neighbouring blocks of one order, node and zone are one row with their number. The owner `map N` is drawn as the page
