@@ -23,17 +23,17 @@ EPILOG = """What bootmem claims by itself is left out: the kernel's image, the f
 of nodes, the tables of memblock, the crash area, the sections. Memory is in whole frames: of a frame that was claimed in
 part nothing is left. `memmap=exactmap` would forget the extension again.
 
-OLD is the extension that the machine has already; its entries stand in front. In SCRIPT each claim is a line `alloc` as
+OLD is the extension that the machine has already; its entries come first. In SCRIPT each claim is a line `alloc` as
 the kernel asked for it, so that it finds its place anew where other words move it; with --places it is a line `reserve`
 of the place that it had. A line # names the function that asked.
 
 --replay writes a whole boot into FOLDER instead: a zero page of the log's memory, an SRAT with its nodes, and every claim
-as one script; `words` has the words for bootmem, and `places` the lines of the report script that tell a place, as the
+as one script; `words` has the words for bootmem, and `places` the lines of the report script that have a place, as the
 kernel's own log has them.
 
-The image lies where the log tells, or where --kernel does. Of a log with several boots the last is taken.
+The place of the image is that of the log, or of --kernel. Of a log with several boots the last is taken.
 
-exit status: 0; 1 where the log doesn't tell; 2 for words that aren't those above.
+exit status: 0; 1 if the log lacks it; 2 for words that aren't those above.
 
 examples:
   dmesg | claims-from-log --e820ext early.bin --script later
@@ -45,7 +45,7 @@ CRASH_ALIGNS = (16 * MIB, MIB)  # without a base, and with one
 EXTENSION = tool.Kind("extension", 61456, is_text=False)
 NODE_DATA = 0x2B000  # what bootmem claims for the data of a node
 HEAD = "BIOS-provided physical RAM map:"
-# newer kernels tell node and flags, too
+# newer kernels print node and flags, too
 CALL = re.compile(r"(memblock_(?:add|reserve|phys_free|free)): \[0x([0-9a-f]+)-0x([0-9a-f]+)\](?: nid=-?\d+)?(?: flags=\w+)? (\w+)")
 BEGUN = re.compile(r"memblock_(?:add|reserve|phys_free|free): \[")
 REQUEST = re.compile(r"memblock_\w*alloc\w*: (\d+) bytes align=0x([0-9a-f]+)(?: nid=(-?\d+))? from=0x([0-9a-f]+) "
@@ -78,12 +78,12 @@ class Claim(NamedTuple):
     caller: str
 
 
-# The places that a script tells: the number of its line, and the address or None.
+# The places in a report of a script: the number of its line, and the address or None.
 Places = list[tuple[int, Optional[int]]]
 
 
 class Log:
-    """What a log tells: the first and the newest dump of memblock, what was added before, the claims behind the first dump."""
+    """What a log has: the first and the newest dump of memblock, what was added before, and the claims after the first dump."""
 
     def __init__(self) -> None:
         self.added: list[Range] = []
@@ -99,7 +99,7 @@ class Log:
 
 
 def last_boot(lines: list[str]) -> list[str]:
-    """The lines of the last boot of a log."""
+    """Returns the lines of the last boot of a log."""
     heads = [place for place, line in enumerate(lines) if HEAD in line]
     if len(heads) > 1:
         tool.complain(NAME, f"the log has {len(heads)} boots: the last is taken")
@@ -107,14 +107,14 @@ def last_boot(lines: list[str]) -> list[str]:
 
 
 def request_of(match: re.Match[str]) -> Request:
-    """The request of a line that asks for memory."""
+    """Returns the request of a line that asks for memory."""
     size, align, node, low, high, _ = match.groups()
     return Request(int(size), int(align, 16), int(node) if node and int(node) >= 0 else None, int(low, 16), int(high, 16),
                    "exact_nid" in match.group(0))
 
 
 def read_log(lines: Iterable[str]) -> Log:
-    """The Log of these lines."""
+    """Returns the Log of these lines."""
     log, dumps = Log(), 0
     pending: Claim | None = None
     for line in lines:
@@ -146,13 +146,13 @@ def read_log(lines: Iterable[str]) -> Log:
 
 
 def settle(log: Log, pending: Claim | None) -> None:
-    """A request that was followed by no place found none."""
+    """Keeps a request that is still pending: no place followed, so it found none."""
     if pending:
         log.claims.append(pending)
 
 
 def read_record(log: Log, match: re.Match[str], dumps: int) -> None:
-    """A record of a dump: those of the first, and the newest ones of memory with their nodes."""
+    """Keeps a record of a dump: those of the first, and the newest ones of memory with their nodes."""
     first, last = int(match.group(2), 16), int(match.group(3), 16)
     if dumps == 1:
         (log.memory if match.group(1) == "memory" else log.reserved).append((first, last))
@@ -161,7 +161,7 @@ def read_record(log: Log, match: re.Match[str], dumps: int) -> None:
 
 
 def read_call(log: Log, match: re.Match[str], dumps: int, pending: Claim | None) -> Claim | None:
-    """A call that names a range; answers the request that still waits for its place."""
+    """Returns a call that names a range; answers the request that still waits for its place."""
     deed, first, last, caller = match.group(1), int(match.group(2), 16), int(match.group(3), 16), match.group(4)
     if caller == "memblock_double_array":
         return pending
@@ -181,7 +181,7 @@ def read_call(log: Log, match: re.Match[str], dumps: int, pending: Claim | None)
 
 
 def read_fact(log: Log, line: str) -> None:
-    """A line that tells of a grown table, a node's data or the initrd."""
+    """Keeps what a line says of a grown table, a node's data or the initrd."""
     match = DOUBLED.search(line)
     if match:
         log.tables.append((int(match.group(1), 16), int(match.group(2), 16)))
@@ -199,7 +199,7 @@ def read_fact(log: Log, line: str) -> None:
 
 
 def image_of(log: Log) -> Range | None:
-    """First and last byte of the kernel's image: what lies below its brk in one range of the first dump; None where it isn't told."""
+    """Returns first and last byte of the kernel's image: what lies below its brk in one range of the first dump; None if the log doesn't have it."""
     for first, last in log.before:
         for low, high in log.reserved:
             if MIB <= low < first and last == high:
@@ -208,20 +208,20 @@ def image_of(log: Log) -> Range | None:
 
 
 def low_alone(claim: Claim) -> bool:
-    """Whether a claim lies in the first MiB, which bootmem claims whole."""
+    """Tells whether a claim lies in the first MiB, which bootmem claims whole."""
     if claim.place is not None:
         return claim.place[1] < MIB
     return claim.request is not None and 0 < claim.request.high <= MIB
 
 
 def is_crash(claim: Claim) -> bool:
-    """Whether a claim is for the crash area: asked for by reserve_crashkernel, which may be part of setup_arch in a build."""
+    """Tells whether a claim is for the crash area: asked for by reserve_crashkernel, which may be part of setup_arch in a build."""
     return claim.caller.startswith("reserve_crashkernel") or (
         claim.caller == "setup_arch" and claim.request is not None and claim.request.align in CRASH_ALIGNS)
 
 
 def split_claims(log: Log) -> tuple[list[Claim], list[Claim]]:
-    """The claims before the crash area, and those behind it that bootmem doesn't make by itself."""
+    """Returns the claims before the crash area, and those after it that bootmem doesn't make by itself."""
     claims = [claim for claim in log.claims if not low_alone(claim)]
     own = [place for place, claim in enumerate(claims) if is_crash(claim) or claim.caller.startswith("sparse_")]
     edge = own[0] if own else len(claims)
@@ -229,7 +229,7 @@ def split_claims(log: Log) -> tuple[list[Claim], list[Claim]]:
 
 
 def early_ranges(log: Log, early: Iterable[Claim], image: Range) -> list[Range]:
-    """The memory that was claimed before the crash area and that bootmem doesn't claim by itself, in whole frames."""
+    """Returns the memory that was claimed before the crash area and that bootmem doesn't claim by itself, in whole frames."""
     held = joined(log.reserved)
     for claim in early:
         if claim.place is None:
@@ -242,19 +242,19 @@ def early_ranges(log: Log, early: Iterable[Claim], image: Range) -> list[Range]:
 
 
 def alloc_line(number: int, request: Request) -> str:
-    """The script's line for a request."""
+    """Returns the script's line for a request."""
     size, align, node, low, high, exact = request
     window = (f" min {low:#x}" if low else "") + (f" max {high:#x}" if high else "")
     return f"alloc {number} {size} {align}{window}" + (f" node {node}" if node is not None else "") + (" exact" if exact else "")
 
 
 def reserve_line(number: int, place: Range) -> str:
-    """The script's line for a range."""
+    """Returns the script's line for a range."""
     return f"reserve {number} {place[0]:#x} {place[1] + 1 - place[0]:#x}"
 
 
 def give_back(number: int, place: Range, live: dict[int, Range]) -> list[str]:
-    """The lines that give a range back: of an allocation that began or ended with it, else of a range of its own."""
+    """Returns the lines that give a range back: of an allocation that began or ended with it, else of a range of its own."""
     for own, (first, last) in list(live.items()):
         if (first, last) == place:
             del live[own]
@@ -266,7 +266,7 @@ def give_back(number: int, place: Range, live: dict[int, Range]) -> list[str]:
 
 
 def later_script(claims: Iterable[Claim], places: bool) -> list[str]:
-    """The lines of the script for the claims behind the crash area."""
+    """Returns the lines of the script for the claims after the crash area."""
     lines, before = ["sections"], None
     live: dict[int, Range] = {}
     for number, claim in enumerate(claims, 1):
@@ -286,7 +286,7 @@ def later_script(claims: Iterable[Claim], places: bool) -> list[str]:
 
 
 def replay_script(log: Log) -> tuple[list[str], Places]:
-    """The lines of a whole boot's script, and the numbers of those that tell a place, with the place or None."""
+    """Returns the lines of a whole boot's script, and the numbers of those that have a place, with the place or None."""
     lines: list[str] = []
     places: Places = []
     at_once = [Claim("reserve", None, place, "") for place in log.reserved]
@@ -301,7 +301,7 @@ def replay_script(log: Log) -> tuple[list[str], Places]:
 
 
 def phantoms(log: Log) -> dict[int, int]:
-    """Memory above all other, of a frame's room for each node's data, so that what bootmem claims for it moves nothing: by node."""
+    """Returns memory above all other, of a frame's room for each node's data, so that what bootmem claims for it moves nothing: by node."""
     top = max(last + 1 for _, last in log.memory)
     return {node: ((top >> 30) + 2 + place << 30) for place, node in enumerate(sorted(log.data) or [0])}
 
@@ -332,17 +332,17 @@ def write_replay(log: Log, image: Range, folder: str) -> None:
 
 
 def text_of(lines: Iterable[str]) -> bytes:
-    """The bytes of these lines."""
+    """Returns the bytes of these lines."""
     return "".join(f"{line}\n" for line in lines).encode()
 
 
 def kernel_text(image: Range) -> str:
-    """The image's first and last byte as bootmem reads them."""
+    """Returns the image's first and last byte as bootmem reads them."""
     return f"{image[0]:#x},{image[1] + 1 - image[0]:#x}"
 
 
 def old_entries(path: str) -> list[inputs.Entry]:
-    """The entries of an extension's file."""
+    """Returns the entries of an extension's file."""
     data = tool.read_bytes(path, EXTENSION)
     if len(data) < 16 or struct.unpack_from("<II", data, 8) != (1, len(data) - 16) or (len(data) - 16) % 20:
         raise tool.Trouble(f"{path}: no extension")
@@ -366,7 +366,7 @@ def write_parts(log: Log, image: Range, given: argparse.Namespace) -> None:
 
 
 def read_words(words: list[str]) -> argparse.Namespace:
-    """The tool's words."""
+    """Returns the tool's words."""
     parser = tool.new_parser(NAME, USAGE, ABOUT, EPILOG)
     parser.add_argument("log", metavar="LOG", nargs="?", default="-", help="the kernel's log; without it standard input")
     parser.add_argument("--e820ext", metavar="EXT", help="the file of the extension: what was claimed before the crash area")

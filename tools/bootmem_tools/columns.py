@@ -44,7 +44,7 @@ class Column(NamedTuple):
 
 
 def colour_of(report: str, span: reports.Span) -> str:
-    """The colour of a row: of a node by its number, of a block by its order, else by its name."""
+    """Returns the colour of a row: of a node by its number, of a block by its order, else by its name."""
     if report == "nodes":
         return NODES[int(span.fields["node"]) % len(NODES)]
     if report == "blocks":
@@ -56,7 +56,7 @@ def colour_of(report: str, span: reports.Span) -> str:
 
 
 def joined_blocks(found: Iterable[reports.Span]) -> list[reports.Span]:
-    """The blocks, in which neighbours of one order, node and zone are one span with the number of blocks in its name."""
+    """Returns the blocks, in which neighbours of one order, node and zone are one span with the number of blocks in its name."""
     runs: list[list[reports.Span]] = []
     for span in found:
         before = runs[-1][-1] if runs else None
@@ -68,19 +68,19 @@ def joined_blocks(found: Iterable[reports.Span]) -> list[reports.Span]:
 
 
 def name_of(report: str, span: reports.Span) -> str:
-    """A row's name: the report's own, but for the map of a section, which isn't the firmware's map."""
+    """Returns a row's name: the report's own, except for the map of a section, which isn't the firmware's map."""
     return re.sub(r"^map (?=\d+$)", STRUCTURES, span.name) if report == "owners" else span.name
 
 
 def tip_of(report: str, span: reports.Span) -> str:
-    """What a tool tip tells: range, size, name and what else the report says."""
+    """Returns the text of a tool tip: range, size, name and what else the report says."""
     more = {"zones": "present {present} free {free} frames", "blocks": "node {node} zone {zone}", "map": "type {type}"}
     text = f"{ranges.range_text(span.first, span.last)}, {ranges.size_text(span.last + 1 - span.first)}: {name_of(report, span)}"
     return f"{text}, {more[report].format(**span.fields)}" if report in more else text
 
 
 def lanes_of(rows: Iterable[Row]) -> list[list[Row]]:
-    """The rows, each in the first lane in which none before it lies over it."""
+    """Returns the rows, each in the first lane in which none before it lies over it."""
     lanes: list[list[Row]] = []
     for row in sorted(rows):
         for lane in lanes:
@@ -93,7 +93,7 @@ def lanes_of(rows: Iterable[Row]) -> list[list[Row]]:
 
 
 def gaps_of(rows: Iterable[Row]) -> Iterator[Row]:
-    """Rows without a colour for what no row says between the first address and the last."""
+    """Yields rows without a colour for the addresses between 0 and the last row that no row has."""
     after = 0
     for row in sorted(rows):
         if row.first > after:
@@ -102,7 +102,7 @@ def gaps_of(rows: Iterable[Row]) -> Iterator[Row]:
 
 
 def columns_of(texts: reports.Texts) -> list[Column]:
-    """The columns of the reports that are drawn, in their order."""
+    """Returns the columns of the reports that are drawn, in their order."""
     columns = []
     for report in DRAWN:
         if report in texts:

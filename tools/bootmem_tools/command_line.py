@@ -1,8 +1,8 @@
-"""What a command line says to Linux 6.1, said so that bootmem reads it alike.
+"""Command lines as Linux 6.1 reads them, and lines that bootmem reads alike.
 
 The kernel reads words as `next_arg` splits them, but looks for `crashkernel=` in the raw line (`get_last_crashkernel`); it takes
 of a value what it understands, warns of what it doesn't and goes on, where bootmem refuses the line. `read_line` gives a line of
-which bootmem understands what the kernel does of the given one, and tells each change. Texts are bytes as Latin-1. Nothing here is
+which bootmem understands what the kernel does of the given one, and prints each change. Texts are bytes as Latin-1. Nothing here is
 proved.
 """
 
@@ -25,7 +25,7 @@ KEY = "crashkernel="
 NAMES = ("mem", "memmap", "crashkernel", "numa")
 EFI = "add_efi_memmap"  # with any value, and without one (setup_add_efi_memmap)
 
-# Words that bootmem passes over though the kernel acts on them before the free lists, and on what.
+# Words that bootmem ignores though the kernel acts on them before the free lists, and on what.
 PASSED = {
     "movable_node": "the kernel searches from below for a while (memblock_set_bottom_up)",
     "kernelcore": "memory goes to zone Movable, and mirrored memory is taken first",
@@ -73,7 +73,7 @@ class Total(NamedTuple):
 
 # Total memory of the machine.
 Totals = Callable[[], Total]
-# Where the value of each form stands in the raw line, and by this place why the kernel passes it over.
+# Where the value of each form is in the raw line, and by this place why the kernel ignores it.
 Places = dict[str, int]
 Faults = dict[int, str]
 # A range of the plain form: its start, its end or None, and the size.
@@ -81,11 +81,11 @@ Sized = tuple[int, Optional[int], int]
 
 
 class Malformed(Exception):
-    """Why the kernel passes a value over, in the words of its warning where it has one."""
+    """Why the kernel ignores a value, in the words of its warning if it has one."""
 
 
 def memparse(text: str, place: int) -> tuple[int, int]:
-    """The number at a place, as `memparse` takes it, and the place behind it: at most one suffix, wrapping at 2^64."""
+    """Returns the number at a place, as `memparse` takes it, and the place after it: at most one suffix, wrapping at 2^64."""
     number, behind = number_at(text, place)
     suffix = text[behind:behind + 1].upper()
     if suffix and suffix in "KMGTPE":
@@ -94,7 +94,7 @@ def memparse(text: str, place: int) -> tuple[int, int]:
 
 
 def number_at(text: str, place: int) -> tuple[int, int]:
-    """The number at a place without a suffix, and the place behind its last digit (simple_strtoull with base 0)."""
+    """Returns the number at a place without a suffix, and the place after its last digit (simple_strtoull with base 0)."""
     for form, base in ((r"0[xX]([0-9a-fA-F]+)", 16), (r"(0[0-7]*)", 8), (r"([0-9]+)", 10)):
         match = re.compile(form).match(text, place)
         if match:
@@ -103,14 +103,14 @@ def number_at(text: str, place: int) -> tuple[int, int]:
 
 
 def size_said(text: str, first: int, behind: int) -> str:
-    """A size as bootmem reads it alike: what stands there, or its value where that has no digit or passes 2^64 - 1."""
+    """Returns a size as bootmem reads it alike: the text itself, or its value if the text has no digit or exceeds 2^64 - 1."""
     token = text[first:behind]
     value = memparse(text, first)[0]
     return token if plain_size(token) == value else size_text(value)
 
 
 def plain_size(token: str) -> int | None:
-    """The value of a text that is one size for bootmem, or None."""
+    """Returns the value of a text that is one size for bootmem, or None."""
     if not re.fullmatch(r"(0[xX][0-9a-fA-F]+|0[0-7]*|[1-9][0-9]*)[kKmMgGtTpPeE]?", token):
         return None
     digits = token.rstrip("kKmMgGtTpP") if token[:2] in ("0x", "0X") else token.rstrip("kKmMgGtTpPeE")
@@ -120,7 +120,7 @@ def plain_size(token: str) -> int | None:
 
 
 def size_text(value: int) -> str:
-    """A size with the greatest suffix that leaves no fraction; without one in hexadecimal, where it isn't small."""
+    """Returns a size with the greatest suffix that leaves no fraction; without one in hexadecimal, unless it is small."""
     for power, suffix in ((4, "T"), (3, "G"), (2, "M"), (1, "K")):
         if value and value % (1 << 10 * power) == 0:
             return f"{value >> 10 * power}{suffix}"
@@ -128,7 +128,7 @@ def size_text(value: int) -> str:
 
 
 def mem_said(value: str | None) -> str:
-    """What `mem=` says to the kernel, as bootmem reads it alike (parse_memopt)."""
+    """Returns what `mem=` says to the kernel, as bootmem reads it alike (parse_memopt)."""
     if value is None:
         raise Malformed("it has no value")
     if value == "nopentium":
@@ -140,7 +140,7 @@ def mem_said(value: str | None) -> str:
 
 
 def memmap_said(value: str | None) -> str:
-    """What `memmap=` says to the kernel, map option by map option (parse_memmap_opt)."""
+    """Returns what `memmap=` says to the kernel, map option by map option (parse_memmap_opt)."""
     said = []
     for part in (value or "").split(","):
         try:
@@ -153,7 +153,7 @@ def memmap_said(value: str | None) -> str:
 
 
 def map_option_said(part: str) -> str:
-    """What one map option says (parse_memmap_one)."""
+    """Returns what one map option says (parse_memmap_one)."""
     if part.startswith("exactmap"):
         return "exactmap"
     size, behind = memparse(part, 0)
@@ -173,7 +173,7 @@ def map_option_said(part: str) -> str:
 
 
 def types_said(text: str) -> tuple[str, bool]:
-    """The types of `S%A-f+t`, which are cut to 32 bits, and whether it adds memory."""
+    """Returns the types of `S%A-f+t`, which are cut to 32 bits, and whether it adds memory."""
     said, place, types = "", 0, {"-": 0, "+": 0}
     for mark in "-+":
         if text[place:place + 1] == mark:
@@ -190,7 +190,7 @@ def types_said(text: str) -> tuple[str, bool]:
 
 
 def numa_said(value: str | None) -> str:
-    """What `numa=` says to the kernel (numa_setup); without an SRAT all memory is node 0, as with `off`."""
+    """Returns what `numa=` says to the kernel (numa_setup); without an SRAT all memory is node 0, as with `off`."""
     if value is None:
         raise Malformed("it has no value")
     if value.startswith(("off", "noacpi")):
@@ -204,13 +204,13 @@ SAID = {"mem": mem_said, "memmap": memmap_said, "numa": numa_said}
 
 
 def raw_line(data: bytes) -> str:
-    """The line of a file, as the kernel has it: before the first zero byte, without one newline at its end, uncut."""
+    """Returns the line of a file, as the kernel has it: before the first zero byte, without one newline at its end, uncut."""
     line = data.split(b"\0", 1)[0]
     return (line[:-1] if line.endswith(b"\n") else line).decode("latin-1")
 
 
 def settled_line(line: str, changes: list[str]) -> str:
-    """The line without what splits words in the kernel alone: a quotation that isn't closed, and bytes 0xA0."""
+    """Returns the line without what splits words in the kernel alone: a quotation that isn't closed, and bytes 0xA0."""
     letters: list[str] = []
     quoted = False
     for letter in line:
@@ -225,7 +225,7 @@ def settled_line(line: str, changes: list[str]) -> str:
 
 
 def words_of(line: str) -> tuple[list[Word], int]:
-    """The words of a line up to `--`, as `next_arg` splits it, and where `--` or else the line's end is."""
+    """Returns the words of a line up to `--`, as `next_arg` splits it, and where `--` or else the line's end is."""
     found: list[Word] = []
     for match in re.finditer(r'(?:[^ \t\n\v\f\r"]|"[^"]*")+', line):
         text = match.group()
@@ -237,7 +237,7 @@ def words_of(line: str) -> tuple[list[Word], int]:
 
 
 def kernel_word(text: str) -> tuple[str, str | None]:
-    """Name and value of a word in the kernel, which takes one closing mark from a word and its value together (next_arg)."""
+    """Returns name and value of a word in the kernel, which takes one closing mark from a word and its value together (next_arg)."""
     quoted = text.startswith('"')
     text = text[1:] if quoted else text
     place = text.find("=", 1)
@@ -250,18 +250,18 @@ def kernel_word(text: str) -> tuple[str, str | None]:
 
 
 def program_word(text: str) -> tuple[str, str | None]:
-    """Name and value of a word in bootmem: the word loses its quotation marks once, and its value once more."""
+    """Returns name and value of a word in bootmem: the word loses its quotation marks once, and its value once more."""
     name, equals, value = unquoted(text).partition("=")
     return name, unquoted(value) if equals else None
 
 
 def unquoted(text: str) -> str:
-    """The text without a first quotation mark, and then without a last one."""
+    """Returns the text without a first quotation mark, and then without a last one."""
     return text[1:].removesuffix('"') if text.startswith('"') else text
 
 
 def options_said(words: Sequence[Word], changes: list[str]) -> list[str]:
-    """The text that stands for each word, but for `crashkernel=`; an empty one where it is left out."""
+    """Returns the text for each word except `crashkernel=`; an empty one if the word is left out."""
     texts = []
     for number, word in enumerate(words, 1):
         name, value = program_word(word.text)
@@ -285,7 +285,8 @@ def options_said(words: Sequence[Word], changes: list[str]) -> list[str]:
 
 
 def last_crash(raw: str, suffix: str) -> tuple[int, int] | None:
-    """Where the value of the last `crashkernel=` of a form begins in the raw line and where its word ends, or None (get_last_crashkernel)."""
+    """Returns where the value of the last `crashkernel=` of a form begins in the raw line and where its word ends, or None
+    (get_last_crashkernel)."""
     found = None
     for match in re.finditer(KEY, raw):
         end = raw.find(" ", match.start())
@@ -297,7 +298,7 @@ def last_crash(raw: str, suffix: str) -> tuple[int, int] | None:
 
 
 def suffixed(raw: str, place: int, suffix: str) -> int:
-    """The size of a form high or low (parse_crashkernel_suffix)."""
+    """Returns the size of a form high or low (parse_crashkernel_suffix)."""
     size, behind = memparse(raw, place)
     if behind == place:
         raise Malformed("memory value expected")
@@ -308,7 +309,7 @@ def suffixed(raw: str, place: int, suffix: str) -> int:
 
 
 def simple(raw: str, place: int) -> tuple[int, int]:
-    """Size and base of the plain form without ranges (parse_crashkernel_simple)."""
+    """Returns size and base of the plain form without ranges (parse_crashkernel_simple)."""
     size, behind = memparse(raw, place)
     if behind == place:
         raise Malformed("memory value expected")
@@ -320,7 +321,7 @@ def simple(raw: str, place: int) -> tuple[int, int]:
 
 
 def size_at(raw: str, place: int) -> tuple[int, int]:
-    """A size that has to be there, and the place behind it."""
+    """Returns a size that has to be there, and the place after it."""
     value, behind = memparse(raw, place)
     if behind == place:
         raise Malformed("Memory value expected")
@@ -328,14 +329,14 @@ def size_at(raw: str, place: int) -> tuple[int, int]:
 
 
 def mark_at(raw: str, place: int, mark: str) -> int:
-    """The place behind a mark that has to be there."""
+    """Returns the place after a mark that has to be there."""
     if raw[place:place + 1] != mark:
         raise Malformed(f"'{mark}' expected")
     return place + 1
 
 
 def ranged(raw: str, place: int, total: int) -> tuple[int, int]:
-    """Size and base of the plain form by ranges, for this total of bytes, rounded already (parse_crashkernel_mem)."""
+    """Returns size and base of the plain form by ranges, for this total of bytes, rounded already (parse_crashkernel_mem)."""
     while True:
         start, place = size_at(raw, place)
         place, end = mark_at(raw, place, "-"), TOP
@@ -356,13 +357,13 @@ def ranged(raw: str, place: int, total: int) -> tuple[int, int]:
 
 
 def round_up(total: int) -> int:
-    """Total memory as the kernel compares it with ranges."""
+    """Returns total memory as the kernel compares it with ranges, rounded up to 128 MiB."""
     return -(-total // ROUND) * ROUND
 
 
 def kernel_crash(raw: str, words: Sequence[Word], total: Totals) -> tuple[Crash, Places, Faults]:
-    """What the raw line says of the crash area (parse_crashkernel, reserve_crashkernel); for each form where its value stands in the
-    raw line; and by this place why the kernel passes it over, where it does."""
+    """Returns what the raw line says of the crash area (parse_crashkernel, reserve_crashkernel); for each form where its value is in the
+    raw line; and by this place why the kernel ignores it, if it does."""
     plain = 0, 0
     said: dict[str, int] = {}
     places: Places = {}
@@ -386,7 +387,7 @@ def kernel_crash(raw: str, words: Sequence[Word], total: Totals) -> tuple[Crash,
 
 
 def asked(size: int, base: int, high: int, low: int | None, default: int) -> Crash:
-    """What is asked for: the form high counts where the plain one has no size, and a low part only where one of them has."""
+    """Returns what is asked for: the form high counts if the plain one has no size, and a low part only if one of them has."""
     if size:
         high = 0
     elif high:
@@ -397,7 +398,7 @@ def asked(size: int, base: int, high: int, low: int | None, default: int) -> Cra
 
 
 def low_default(words: Iterable[Word]) -> int:
-    """The size of the low part without a form `S,low`: 256 MiB, or what `swiotlb=` asks for and 8 MiB (reserve_crashkernel_low)."""
+    """Returns the size of the low part without a form `S,low`: 256 MiB, or what `swiotlb=` asks for and 8 MiB (reserve_crashkernel_low)."""
     slabs = 0
     for word in words:
         if word.name == "swiotlb" and word.value and word.value[0].isdigit():
@@ -409,7 +410,7 @@ SIZE = r"(?:0[xX][0-9a-fA-F]+|[0-9]+)[kKmMgGtTpPeE]?"
 
 
 def program_plain(value: str) -> tuple[list[Sized], int] | None:
-    """Ranges (start, end or None, size) and base of the plain form for bootmem, or None where it refuses it."""
+    """Returns ranges (start, end or None, size) and base of the plain form for bootmem, or None if it refuses it."""
     body, _, base = value.partition("@")
     parts = body.split(",")
     found: list[Sized] = []
@@ -428,7 +429,7 @@ def program_plain(value: str) -> tuple[list[Sized], int] | None:
 
 
 def program_crash(words: Iterable[Word], total: Totals) -> Crash | None:
-    """What bootmem takes the words for, or None where it refuses one."""
+    """Returns what bootmem takes the words for, or None if it refuses one."""
     found: list[Sized] = []
     base = 0
     said: dict[str, int] = {}
@@ -451,7 +452,7 @@ def program_crash(words: Iterable[Word], total: Totals) -> Crash | None:
 
 
 def crash_words(crash: Crash) -> dict[str, str]:
-    """The words that ask bootmem for this area, by the form whose value they have."""
+    """Returns the words that ask bootmem for this area, by the form whose value they have."""
     found = {}
     if crash.size:
         found["plain"] = f"crashkernel={size_text(crash.size)}" + (f"@{size_text(crash.base)}" if crash.base else "")
@@ -463,7 +464,7 @@ def crash_words(crash: Crash) -> dict[str, str]:
 
 
 def crash_said(raw: str, words: Sequence[Word], texts: list[str], total: Totals, changes: list[str]) -> list[str]:
-    """The texts with `crashkernel=` as the kernel reads it, and the words that are put in behind them."""
+    """Returns the texts with `crashkernel=` as the kernel reads it, and the words that are added after them."""
     wanted, places, faults = kernel_crash(raw, words, total)
     if program_crash(words, total) == wanted:
         return []
@@ -489,7 +490,7 @@ def crash_said(raw: str, words: Sequence[Word], texts: list[str], total: Totals,
 
 
 def why_size(text: str, total: Totals) -> str:
-    """Why a form by ranges has another size in the kernel; empty for the others."""
+    """Returns why a form by ranges has another size in the kernel; empty for the others."""
     if ":" not in text:
         return ""
     have = total().kernel
@@ -497,14 +498,14 @@ def why_size(text: str, total: Totals) -> str:
 
 
 def why_unused(forms: Iterable[str], places: Places, faults: Faults) -> str:
-    """Why the kernel takes no size from a word."""
+    """Returns why the kernel takes no size from a word."""
     for form in forms:
         return faults.get(places[form], "it asks for nothing there")
     return "the kernel takes a later one, or none"
 
 
 def words_noted(words: Iterable[Word]) -> Iterator[str]:
-    """What bootmem passes over though the kernel acts on it, what wants a file, and names that are nearly its own."""
+    """Yields what bootmem ignores though the kernel acts on it, what needs a file, and names that are nearly its own."""
     for number, word in enumerate(words, 1):
         name = word.name.replace("-", "_")
         if name in PASSED:
@@ -518,7 +519,7 @@ def words_noted(words: Iterable[Word]) -> Iterator[str]:
 
 
 def near(name: str) -> str | None:
-    """The one of bootmem's own names that differs from this one by case, by a sign `_` or `-`, or by one letter or two; else None."""
+    """Returns the one of bootmem's own names that differs from this one by case, by a sign `_` or `-`, or by one letter or two; else None."""
     plain = name.lower().replace("_", "").replace("-", "")
     for own, most in (("crashkernel", 2), ("memmap", 1), ("numa", 1), ("mem", 0)):
         if distance(plain, own) <= most:
@@ -527,7 +528,7 @@ def near(name: str) -> str | None:
 
 
 def distance(one: str, two: str) -> int:
-    """How many letters are to be added, taken away, replaced or swapped with the next, from one text to the other."""
+    """Returns how many letters are to be added, taken away, replaced or swapped with the next, from one text to the other."""
     before: list[int] = []
     row = list(range(len(two) + 1))
     for i, letter in enumerate(one, 1):
@@ -540,7 +541,7 @@ def distance(one: str, two: str) -> int:
 
 
 def read_line(data: bytes, total: Callable[[str], Total] | None = None) -> Reading:
-    """A line that bootmem reads as the kernel reads the file's bytes. `total` gives total memory, of type Total, for a line without
+    """Returns a line that bootmem reads as the kernel reads the file's bytes. `total` gives total memory, of type Total, for a line without
     `crashkernel=`; it is called where a size depends on it."""
     changes: list[str] = []
     raw = raw_line(data)
@@ -558,13 +559,17 @@ def read_line(data: bytes, total: Callable[[str], Total] | None = None) -> Readi
 
 
 def shown(text: str) -> str:
-    """A text of the line for a terminal: as UTF-8, and nothing that moves the cursor."""
+    """Returns a text of the line for a terminal: as UTF-8, and nothing that moves the cursor."""
     decoded = text.encode("latin-1").decode("utf-8", "replace")
     return "".join(letter if letter.isprintable() else f"\\x{ord(letter):02x}" for letter in decoded)
 
 
 def total_for(total: Callable[[str], Total] | None, line: str) -> Total:
-    """Total memory for a line, where something tells it."""
+    """Returns total memory for a line.
+
+    # Errors
+    A Trouble if nothing tells it.
+    """
     if total is None:
         raise tool.Trouble("crashkernel= has ranges, so its size depends on how much memory there is: "
                               "name the zero page, or --total", 2)

@@ -13,20 +13,20 @@ NAME = "bootmem-crash"
 USAGE = """bootmem-crash [--size SIZE].. [--kernel BASE,SIZE] [--cmdline FILE]
                      [--e820ext FILE] [--srat FILE] [--program P]
                      FOLDER|ZEROPAGE"""
-ABOUT = """Tells the greatest size of crashkernel= that fits on a machine in each form, plain and high, in whole MiB, and where it
-would lie; what the machine's own line asks for; and of each SIZE whether it fits, where, or why not: the greatest gap,
+ABOUT = """Prints the greatest size of crashkernel= that fits on a machine in each form, plain and high, in whole MiB, and where it
+would lie; what the machine's own line asks for; and for each SIZE whether it fits, where, or why not: the greatest gap,
 and who cuts it."""
 EPILOG = f"""FOLDER is what bootmem-collect (collect.sh) gathered of a machine; or a zero page is named, and the other files by the
 options, which count before those of FOLDER. SIZE is S, S@BASE or S,high as in crashkernel=. The
-line is read as the kernel reads it (bootmem-line); its crashkernel= but for a form S,low gives way to what is tried.
+line is read as the kernel reads it (bootmem-line); the tool replaces its crashkernel=, except a form S,low, by what it tries.
 
 What is found holds for a boot that claims no more before the area than bootmem does. A kernel with UEFI firmware does,
-which is said.
+and the tool says so.
 
 {runner.FINDING}
 
-exit status: 0 where each SIZE fits (without one: what the line asks for, or anything where it asks for nothing), 1
-where one doesn't, 2 for trouble.
+exit status: 0 if each SIZE fits (without one: what the line asks for, or anything if it asks for nothing), 1
+if one doesn't, 2 for trouble.
 
 examples:
   bootmem-crash --kernel 0x1000000,0x3400000 zp.bin
@@ -59,7 +59,7 @@ class Gap(NamedTuple):
 
 
 def read_words(words: list[str]) -> argparse.Namespace:
-    """The tool's words."""
+    """Returns the tool's words."""
     parser = tool.new_parser(NAME, USAGE, ABOUT, EPILOG)
     parser.add_argument("machine", metavar="FOLDER|ZEROPAGE", help="the machine")
     parser.add_argument("--size", metavar="SIZE", action="append", default=[], help="try this size: S, S@BASE or S,high")
@@ -94,12 +94,12 @@ class Machine:
 
     @staticmethod
     def beside(folder: str | None, name: str) -> str | None:
-        """The path of a file of the folder, where it is there."""
+        """Returns the path of a file of the folder, if it is there."""
         path = os.path.join(folder or "", name)
         return path if folder and os.path.exists(path) else None
 
     def split_line(self) -> None:
-        """What the line asks for apart from the rest of it, with which the low part stays."""
+        """Splits what the line asks for from the rest of it, with which the low part stays."""
         words, end = command_line.words_of(self.reading.line)
         asking = [word.text for word in words if command_line.program_word(word.text)[0] == "crashkernel"]
         low = [text for text in asking if text.rstrip('"').endswith(",low")]
@@ -108,14 +108,14 @@ class Machine:
         self.behind = self.reading.line[end:]
 
     def run(self, asked: str, names: list[str]) -> tuple[reports.Texts, str | None]:
-        """The reports of these names for a line that asks for this besides, or why the boot stops."""
+        """Returns the reports of these names for a line that asks for this besides, or why the boot stops."""
         with tempfile.TemporaryDirectory() as work:
             path = os.path.join(work, "line")
             command_line.write_line(path, " ".join(self.rest + ([asked] if asked else []) + [self.behind]))
             return runner.run_or_stop(self.program, names, ["--cmdline", path] + self.words)
 
     def tried(self, asked: str) -> Tried:
-        """What comes of asking for an area."""
+        """Returns the outcome of asking for an area."""
         texts, stop = self.run(asked, ["crash"])
         if stop:
             return Tried([], stop)
@@ -124,7 +124,7 @@ class Machine:
 
 
 def greatest(own: Machine, suffix: str, most: int, end: int = HIGH) -> tuple[int, Tried]:
-    """The greatest number of MiB that fits with this suffix and begins below an end, and what came of it; 0 where none does."""
+    """Returns the greatest number of MiB that fits with this suffix and begins below an end, and its outcome; 0 if none does."""
     fits, fails, best = 0, most + 1, Tried([], "")
     while fails - fits > 1:
         middle = (fits + fails) // 2
@@ -137,7 +137,7 @@ def greatest(own: Machine, suffix: str, most: int, end: int = HIGH) -> tuple[int
 
 
 def area_text(found: Sequence[ranges.Range]) -> str:
-    """The area, and its low part where it has one."""
+    """Returns the area, and its low part if it has one."""
     area = f"at {ranges.range_text(*found[-1])}"
     if len(found) == 1:
         return area
@@ -146,7 +146,7 @@ def area_text(found: Sequence[ranges.Range]) -> str:
 
 
 def claims(lines: Iterable[str]) -> list[Claim]:
-    """Who has what when the area is looked for, ascending: the journal's claims up to those of the sections."""
+    """Returns who has what when the kernel looks for the area, ascending: the journal's claims up to those of the sections."""
     found: list[Claim] = []
     for item in reports.spans("journal", lines):
         if item.fields.get("owner") == "roots":
@@ -159,7 +159,7 @@ def claims(lines: Iterable[str]) -> list[Claim]:
 
 
 def parts_outside(one: Claim, item: reports.Span) -> Iterator[Claim]:
-    """What a range leaves of a claim."""
+    """Yields what a range leaves of a claim."""
     first, last, owner = one
     if first < item.first:
         yield first, min(last, item.first - 1), owner
@@ -168,7 +168,7 @@ def parts_outside(one: Claim, item: reports.Span) -> Iterator[Claim]:
 
 
 def gaps(memory: Iterable[reports.Span], claimed: Iterable[Claim], low: int, high: int) -> Iterator[Gap]:
-    """The gaps of memory from `low` on and below `high`."""
+    """Yields the gaps of memory from `low` on and below `high`."""
     memory, claimed = list(memory), list(claimed)
     starts, ends = {record.first for record in memory}, {record.last + 1 for record in memory}
     for record in memory:
@@ -183,7 +183,7 @@ def gaps(memory: Iterable[reports.Span], claimed: Iterable[Claim], low: int, hig
 
 
 def cut_gap(gap: Gap, low: int, high: int) -> Gap:
-    """The part of a gap from `low` on and below `high`."""
+    """Returns the part of a gap from `low` on and below `high`."""
     if gap.first < low:
         gap = gap._replace(first=low, below=ranges.size_text(low))
     if gap.last >= high:
@@ -192,12 +192,12 @@ def cut_gap(gap: Gap, low: int, high: int) -> Gap:
 
 
 def room(gap: Gap) -> int:
-    """How many bytes an area has in a gap, from the first multiple of 16 MiB in it on."""
+    """Returns how many bytes an area has in a gap, from the first multiple of 16 MiB in it on."""
     return max(0, gap.last + 1 - -(-gap.first // ALIGN) * ALIGN)
 
 
 def gap_text(texts: reports.Texts, low: int, high: int, where: str) -> str:
-    """The greatest gap of a window, and who cuts it."""
+    """Returns the greatest gap of a window, and who cuts it."""
     found = max(gaps(reports.spans("memory", texts["memory"]), claims(texts["journal"]), low, high), key=room, default=None)
     if found is None or room(found) == 0:
         return f"{where} there is no gap at a multiple of 16 MiB"
@@ -206,7 +206,7 @@ def gap_text(texts: reports.Texts, low: int, high: int, where: str) -> str:
 
 
 def taken_text(texts: reports.Texts, asked: str) -> str:
-    """Who has bytes of the place that is asked for."""
+    """Returns who has bytes of the place that the line asks for."""
     said = command_line.program_plain(asked.split("crashkernel=")[-1])
     parts, base = said if said and len(said[0]) == 1 else ([], 0)
     owners = [owner for first, last, owner in claims(texts["journal"]) if parts and first < base + parts[0][2] and base <= last]
@@ -216,7 +216,7 @@ def taken_text(texts: reports.Texts, asked: str) -> str:
 
 
 def reasons(own: Machine, asked: str, tried: Tried) -> Iterator[str]:
-    """Why an area doesn't fit, a line each."""
+    """Yields why an area doesn't fit, a line each."""
     if tried.why not in ("no area", "low failed", "in use"):
         yield f"the boot stops behind it: {without_stop(tried.why)}"
         return
@@ -240,8 +240,8 @@ def without_stop(said: str) -> str:
     return said[len("stopped: "):] if said.startswith("stopped: ") else said
 
 
-def tell(own: Machine, head: str, asked: str) -> bool:
-    """Prints what comes of asking for an area; whether it fits."""
+def print_outcome(own: Machine, head: str, asked: str) -> bool:
+    """Prints the outcome of asking for an area; whether it fits."""
     tried = own.tried(asked)
     if tried.ranges:
         print(f"{head:<6} {asked} fits {area_text(tried.ranges)}")
@@ -266,7 +266,7 @@ def tell_greatest(own: Machine, form: str, suffix: str, most: int) -> bool:
 
 
 def warn(own: Machine, texts: reports.Texts) -> None:
-    """What is to be known before the answers are believed."""
+    """Prints what a reader should know before believing the answers."""
     for said in own.reading.changes + own.reading.notes:
         tool.complain(NAME, said)
     if own.kernel is None:
@@ -287,10 +287,10 @@ def main(words: list[str]) -> int:
         raise tool.Trouble(f"the boot stops without a crash area: {without_stop(stop)}")
     warn(own, texts)
     if given.size:
-        return 0 if all([tell(own, "size", f"crashkernel={size}") for size in given.size]) else 1
+        return 0 if all([print_outcome(own, "size", f"crashkernel={size}") for size in given.size]) else 1
     most = machine.memory_size(texts) // MIB
     fits = [tell_greatest(own, form, suffix, most) for form, suffix in (("plain", ""), ("high", ",high"))]
-    return 0 if (tell(own, "line", own.asked) if own.asked else any(fits)) else 1
+    return 0 if (print_outcome(own, "line", own.asked) if own.asked else any(fits)) else 1
 
 
 def command() -> NoReturn:

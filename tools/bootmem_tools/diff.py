@@ -21,16 +21,16 @@ one line for each range in which they differ:
 
     0x0000000000100000-0x00000000001fffff usable -> reserved
 
-`none` stands where one of them says nothing of the range. Where several reports are compared, the lines of each
+`none` means that one of them says nothing of the range. If several reports are compared, the lines of each
 follow a line `== NAME`."""
-EPILOG = f"""A and B are files, of which one may be - for standard input. Each has one report, or several with their lines
+EPILOG = f"""A and B are files; one of them may be - for standard input. Each has one report, or several with their lines
 `== NAME`. Without --report the reports map and owners are compared, as far as both sides have them.
 
-WORDS are the program's words in one argument, quoted as for a shell, but for --report.
+WORDS are the program's words in one argument, quoted as for a shell, without --report.
 
 {runner.FINDING}
 
-exit status: 0 where there is no difference, 1 where there is one, 2 where they can't be compared.
+exit status: 0 if there is no difference, 1 if there is one, 2 if they can't be compared.
 
 examples:
   bootmem-diff old.txt new.txt
@@ -38,7 +38,7 @@ examples:
 
 
 def read_words(words: list[str]) -> Sides:
-    """What the words ask for: both sides' reports, and the names of the reports to compare, or None."""
+    """Returns both sides' reports, and the names of the reports to compare, or None."""
     parser = tool.new_parser(NAME, USAGE, ABOUT, EPILOG)
     parser.add_argument("files", metavar="A B", nargs="*", help="the two texts of reports")
     parser.add_argument("--report", metavar="LIST", help=f"compare these, of {','.join(COMPARED)}")
@@ -65,7 +65,7 @@ def read_words(words: list[str]) -> Sides:
 
 
 def run(program: str, names: list[str], text: str) -> tuple[list[str], reports.Texts]:
-    """The words in one text, quoted as for a shell, and the program's reports for them."""
+    """Returns the words in one text, quoted as for a shell, and the program's reports for them."""
     try:
         words = shlex.split(text)
     except ValueError as error:
@@ -74,7 +74,7 @@ def run(program: str, names: list[str], text: str) -> tuple[list[str], reports.T
 
 
 def changes(name: str, before: Iterable[str], after: Iterable[str]) -> list[Change]:
-    """The ranges in which the two sides of a report differ: first, last, what was said, what is."""
+    """Returns the ranges in which the two sides of a report differ: first, last, what A says, what B says."""
     found: list[Change] = []
     for first, last, sides in ranges.sweep(reports.spans(name, before), reports.spans(name, after)):
         was, now = (", ".join(span.name for span in side) or "none" for side in sides)
@@ -87,7 +87,7 @@ def changes(name: str, before: Iterable[str], after: Iterable[str]) -> list[Chan
 
 
 def chosen(names: list[str] | None, before: reports.Texts, after: reports.Texts) -> list[str]:
-    """The reports to compare: the named ones, which both sides must have, or what both have of map and owners."""
+    """Returns the reports to compare: the named ones, which both sides must have, or what both have of map and owners."""
     for name in names or []:
         for side, have in (("A", before), ("B", after)):
             if name not in have:

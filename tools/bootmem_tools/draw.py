@@ -23,21 +23,21 @@ ABOUT = """Draws reports of bootmem side by side over one axis of addresses, the
 --text, as a table for a terminal. Gaps of the map are folded: heights grow with the logarithm of the size.
 Neighbouring blocks of one order, node and zone are one row with their number. The owner `map N` is drawn as the page
 structures of section N, which it is."""
-EPILOG = f"""Behind -- stand the words of the program but --report; it is run with --report {','.join(DRAWN)}.
+EPILOG = f"""After -- come the words of the program, without --report; the tool runs it with --report {','.join(DRAWN)}.
 
-Else the text of reports is read from FILE, or from standard input where there is none or it is -; those of
-{', '.join(DRAWN)} that are there are drawn. In a viewer that shows tool tips each row tells its exact range.
+Otherwise the tool reads the text of reports from FILE, or from standard input if there is none or it is -; those of
+{', '.join(DRAWN)} that are there are drawn. In a viewer that shows tool tips each row shows its exact range.
 
---html writes a page of the same columns, which needs no network: it zooms into a range, tells the exact range and owner
+--html writes a page of the same columns, which needs no network: it zooms into a range, shows the exact range and owner
 of the address under the pointer, and finds an address. Of two texts A and B, or of A and a run for WORDS, it shows both
 boots beside one another; what is the same in both is pale, and a list has what changed.
 
-A table keeps within $COLUMNS, or else the terminal's width, or else {tool.WIDTH}: columns without room there stand in a table of
+A table keeps within $COLUMNS, or else the terminal's width, or else {tool.WIDTH}: columns without room there come in a table of
 their own below.
 
 {runner.FINDING}
 
-exit status: 0; 1 where the reports couldn't be had or the picture not be written; 2 for words that aren't those above.
+exit status: 0; 1 if the reports couldn't be had or the picture not be written; 2 for words that aren't those above.
 
 examples:
   bootmem-draw --output machine.svg -- --kernel 16M,52M zp.bin
@@ -91,7 +91,7 @@ STYLE = """text { font: 11px "DejaVu Sans", Verdana, "Segoe UI", Helvetica, Aria
 
 
 def heights(columns: Sequence[Column]) -> dict[int, int]:
-    """The place of each end of a row below the first, so that each row has room for its text and each address for its own."""
+    """Returns the place of each end of a row below the first, so that each row has room for its text and each address for its own."""
     rows = [row for column in columns for lane in column.lanes for row in lane]
     by_end: dict[int, list[Row]] = collections.defaultdict(list)
     for row in rows:
@@ -108,23 +108,23 @@ def heights(columns: Sequence[Column]) -> dict[int, int]:
 
 
 def lane_width(lane: Sequence[Row], head: str) -> int:
-    """The width that the longest text of a lane needs."""
+    """Returns the width that the longest text of a lane needs."""
     longest = max([len(row.name) + len(size_of(row)) + 2 for row in lane] + [len(head) + 1])
     return math.ceil(longest * LETTER + 2 * PADDING)
 
 
 def size_of(row: Row) -> str:
-    """The text of a row's size."""
+    """Returns the text of a row's size."""
     return ranges.size_text(row.last + 1 - row.first)
 
 
 def text_at(x: float, y: float, text: str, kind: str = "") -> str:
-    """An SVG text in one of the classes of STYLE."""
+    """Returns an SVG text in one of the classes of STYLE."""
     return f'<text x="{x}" y="{y}"{f" class={chr(34)}{kind}{chr(34)}" if kind else ""}>{escape(text)}</text>'
 
 
 def draw_row(row: Row, x: int, top: int, bottom: int, width: int) -> Iterator[str]:
-    """The lines of one row of the picture."""
+    """Yields the lines of one row of the picture."""
     middle = (top + bottom) / 2 + 4
     look = 'fill="none" stroke="#bbb" stroke-dasharray="3 3"' if row.colour is None else f'fill="{row.colour}" stroke="#8c8c8c"'
     kind = "gap" if row.colour is None else ""
@@ -135,7 +135,7 @@ def draw_row(row: Row, x: int, top: int, bottom: int, width: int) -> Iterator[st
 
 
 def draw(columns: Sequence[Column], title: str | None) -> str:
-    """The text of the SVG picture."""
+    """Returns the text of the SVG picture."""
     place = heights(columns)
     axis = math.ceil(max(len(f"{end:#x}") for end in place) * DIGIT)
     top = MARGIN + (24 if title else 0) + HEAD
@@ -162,13 +162,13 @@ def draw(columns: Sequence[Column], title: str | None) -> str:
 
 
 def cell_of(row: Row, first: int) -> str:
-    """What stands in the table for a row at the address `first`."""
+    """Returns the cell of the table for a row at the address `first`."""
     name = row.name.replace("\u00d7", "x").replace(STRUCTURES, "page structures ")
     return f"{name} {size_of(row)}" if row.first == first else "|"
 
 
 def table_lines(lanes: Sequence[tuple[str, list[Row]]]) -> list[str]:
-    """The lines of a table of lanes, each with its column's head: one for each address at which something begins or ends."""
+    """Returns the lines of a table of lanes, each with its column's head: one for each address at which something begins or ends."""
     before = [""] + [head for head, _ in lanes]
     lines = [["address"] + ["" if head == left else head for (head, _), left in zip(lanes, before)]]
     after = 0
@@ -182,7 +182,7 @@ def table_lines(lanes: Sequence[tuple[str, list[Row]]]) -> list[str]:
 
 
 def table(columns: Sequence[Column], title: str | None, width: int) -> str:
-    """The text of the tables for a terminal of this width: as few as have room for all lanes; a line that still has none is cut."""
+    """Returns the text of the tables for a terminal of this width: as few as have room for all lanes; a line that still has none is cut."""
     groups: list[list[tuple[str, list[Row]]]] = []
     for lane in [(column.head, lane) for column in columns for lane in column.lanes if lane]:
         if groups and max(map(len, table_lines(groups[-1] + [lane]))) <= width:

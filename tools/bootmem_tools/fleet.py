@@ -1,4 +1,4 @@
-"""bootmem-fleet: what bootmem tells of many machines, a line each."""
+"""bootmem-fleet: what bootmem says of many machines, a line each."""
 
 from __future__ import annotations
 
@@ -19,28 +19,28 @@ ABOUT = """Runs bootmem over folders that bootmem-collect (collect.sh) gathered,
 prints a line for each, in the order of the words, with a tab between each two columns:
 
   folder   as it was given
-  status   that of bootmem; 0 where it printed its reports
+  status   that of bootmem; 0 if it printed its reports
   line     what it said on standard error, or -
   runs     of the map
   usable   frames of 4,096 bytes
   free     of them in free blocks
-  crash    the area, or what came of it: none, no area, in use, low failed
+  crash    the area, or why there is none: none, no area, in use, low failed
   low      the area's low part
   numa     whether the SRAT is used, or why not
   nodes    how many have memory
 
-Where bootmem ended with another status than 0, or there is nothing to tell, a column has -."""
-EPILOG = f"""A folder has zp.bin, and where they are there e820ext.bin, cmdline, srat.bin, efi.bin, and kernel (or words, as under examples)
-with the place of the kernel's image; where nothing tells the place, 16 MiB to 48 MiB is assumed, which is said.
+If bootmem ended with another status than 0, or a folder has no such thing, a column has -."""
+EPILOG = f"""A folder has zp.bin, and if they are there e820ext.bin, cmdline, srat.bin, efi.bin, and kernel (or words, as under examples)
+with the place of the kernel's image; without it the tool assumes 16 MiB to 48 MiB, and says so.
 
 --cmdline-drop takes the words NAME and NAME=.. out of each line, --cmdline-add appends WORDS. A line that was changed
-is read as the machine's kernel would read it (bootmem-line); --verbose tells what that changes.
+is read as the machine's kernel would read it (bootmem-line); --verbose prints what that changes.
 
 --json prints one JSON object a line instead (FORMATS.md of the documents: "A fleet as JSON").
 
 {runner.FINDING}
 
-exit status: 0 where each run ended with 0, 1 where one didn't, 2 for words that aren't those above.
+exit status: 0 if each run ended with 0, 1 if one didn't, 2 for words that aren't those above.
 
 examples:
   bootmem-fleet host*/
@@ -68,7 +68,7 @@ class Answer(NamedTuple):
 
 
 def read_words(words: list[str]) -> argparse.Namespace:
-    """The tool's words."""
+    """Returns the tool's words."""
     parser = tool.new_parser(NAME, USAGE, ABOUT, EPILOG)
     parser.add_argument("folders", metavar="FOLDER", nargs="+", help="what bootmem-collect gathered of a machine")
     parser.add_argument("--json", action="store_true", help="one JSON object a line")
@@ -85,7 +85,7 @@ def read_words(words: list[str]) -> argparse.Namespace:
 
 
 def kernel_words(folder: str, plan: Plan) -> list[str]:
-    """The words that tell where the kernel's image lies, as far as the words, or the folder's kernel or words, tell it."""
+    """Returns the words that tell where the kernel's image lies, as far as the words, or the folder's kernel or words, tell it."""
     if plan.kernel:
         return ["--kernel", plan.kernel]
     told = machine.text_in(folder, "kernel")
@@ -96,7 +96,7 @@ def kernel_words(folder: str, plan: Plan) -> list[str]:
 
 
 def dropped(line: str, names: list[str]) -> str:
-    """The line without the words of these names; words are parted by blanks outside quotation marks."""
+    """Returns the line without the words of these names; blanks outside quotation marks separate words."""
     words, quoted = [""], False
     for letter in line:
         quoted ^= letter == '"'
@@ -131,7 +131,7 @@ def changed_line(folder: str, plan: Plan, file: IO[bytes]) -> list[str]:
 
 
 def run(folder: str, plan: Plan, words: list[str]) -> tuple[int, str, objects.Object | None]:
-    """The program's status, what it said, and its reports for these words in the folder."""
+    """Returns the program's status, what it said, and its reports for these words in the folder."""
     done = subprocess.run([plan.program, "--report", ",".join(ASKED), *words, "zp.bin"], stdin=subprocess.DEVNULL,
                           stdout=subprocess.PIPE, stderr=subprocess.PIPE, cwd=folder, check=False)
     said = done.stderr.decode("utf-8", "replace").strip()
@@ -140,19 +140,19 @@ def run(folder: str, plan: Plan, words: list[str]) -> tuple[int, str, objects.Ob
     return 0, said, objects.as_object(reports.split_reports(done.stdout.decode()))
 
 
-def tell(work: tuple[str, Plan]) -> Answer:
-    """The answer for one folder of the plan."""
+def answer_of(work: tuple[str, Plan]) -> Answer:
+    """Returns the answer for one folder of the plan."""
     folder, plan = work
     if not os.path.isdir(folder):
         return Answer(row_of(folder, 2, "no folder", None), False, [])
     words = [word for option, name in FILES if os.path.exists(os.path.join(folder, name)) for word in (option, name)]
     try:
-        return told(folder, plan, words, kernel_words(folder, plan))
+        return run_folder(folder, plan, words, kernel_words(folder, plan))
     except (tool.Trouble, OSError) as trouble:
         return Answer(row_of(folder, 2, tool.printable(str(trouble)), None), False, [])
 
 
-def told(folder: str, plan: Plan, words: list[str], kernel: list[str]) -> Answer:
+def run_folder(folder: str, plan: Plan, words: list[str], kernel: list[str]) -> Answer:
     """Returns the answer for one folder, whose files these words name."""
     said: list[str] = []
     with tempfile.NamedTemporaryFile() as file:
@@ -167,7 +167,7 @@ def told(folder: str, plan: Plan, words: list[str], kernel: list[str]) -> Answer
 
 
 def row_of(folder: str, status: int, line: str, found: objects.Object | None) -> objects.Object:
-    """What is told of a folder, by column."""
+    """Returns the columns of a folder."""
     row: objects.Object = {"folder": folder, "status": status, "line": line or None, "runs": None, "usable": None, "free": None, "crash": None,
            "numa": None, "nodes": None}
     if found:
@@ -178,12 +178,12 @@ def row_of(folder: str, status: int, line: str, found: objects.Object | None) ->
 
 
 def range_of(found: objects.Object) -> str:
-    """A range as the reports have it."""
+    """Returns a range as the reports have it."""
     return f"{found['first']}..{found['last']}"
 
 
 def columns(row: objects.Object) -> list[str]:
-    """The texts of a row."""
+    """Returns the texts of a row."""
     crash, numa = row["crash"], row["numa"]
     texts = [row[name] for name in ("folder", "status", "line", "runs", "usable", "free")]
     texts += [crash and (range_of(crash) if crash["outcome"] == "at" else crash["outcome"]), crash and crash["low"] and range_of(crash["low"])]
@@ -198,7 +198,7 @@ def main(words: list[str]) -> int:
     jobs = min(given.jobs or len(os.sched_getaffinity(0)), len(given.folders))
     failed, assumed = False, 0
     with multiprocessing.get_context("fork").Pool(jobs) as pool:
-        for answer in pool.imap(tell, [(folder, plan) for folder in given.folders], chunksize=max(1, min(16, len(given.folders) // jobs))):
+        for answer in pool.imap(answer_of, [(folder, plan) for folder in given.folders], chunksize=max(1, min(16, len(given.folders) // jobs))):
             print(json.dumps(answer.row) if given.json else "\t".join(columns(answer.row)))
             failed = failed or answer.row["status"] != 0
             assumed += answer.assumed

@@ -12,17 +12,17 @@ NAME = "bootmem-json"
 USAGE = """bootmem-json [--compact] [--report NAME] [FILE]
        bootmem-json [--compact] [--report LIST] [--program P] -- WORDS"""
 ABOUT = """Turns reports of bootmem into one JSON object with a member for each report, by its name, in the order in which they
-stand there. FORMATS.md of the documents has the form ("Reports as JSON"). An address or a size in bytes is a string,
+appear. FORMATS.md of the documents has the form ("Reports as JSON"). An address or a size in bytes is a string,
 as in the reports, since many readers of JSON cut numbers above 2^53; frames, records and the like are numbers."""
-EPILOG = f"""Behind -- stand the words of the program but --report, which is LIST, or else all reports but script, blocks, pages and pagesinfo.
+EPILOG = f"""After -- come the words of the program, without --report, which is LIST, or else all reports except script, blocks, pages and pagesinfo.
 
-Else the text of reports is read from FILE, or from standard input where there is none or it is -. A text of one report
-without its line `== NAME` is known by its first line; --report NAME tells it where that may be another's (reserved, which
+Otherwise the tool reads the text of reports from FILE, or from standard input if there is none or it is -. A text of one report
+without its line `== NAME` is known by its first line; --report NAME names it if that may be another's (reserved, which
 looks like memory, pages like script, pagesinfo like buddyinfo, or a text without a line).
 
 {runner.FINDING}
 
-exit status: 0; 1 where the reports couldn't be had; 2 for words that aren't those above.
+exit status: 0; 1 if the reports couldn't be had; 2 for words that aren't those above.
 
 examples:
   bootmem-json --report crash,zones -- --kernel 16M,52M zp.bin
@@ -32,7 +32,7 @@ WANTED = [name for name in REPORTS if name not in ("script", "blocks", "pages", 
 
 
 def read_words(words: list[str]) -> tuple[bool, reports.Texts]:
-    """Whether the text is to be one line, and the reports."""
+    """Returns whether the output is one line, and the reports."""
     own, program_words = tool.split_words(words)
     parser = tool.new_parser(NAME, USAGE, ABOUT, EPILOG)
     parser.add_argument("file", metavar="FILE", nargs="?", help="a text of reports; - is standard input")

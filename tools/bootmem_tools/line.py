@@ -1,4 +1,4 @@
-"""bootmem-line: a kernel's command line, said so that bootmem reads it as that kernel does."""
+"""bootmem-line: a kernel's command line, printed so that bootmem reads it as that kernel does."""
 
 from __future__ import annotations
 
@@ -14,27 +14,27 @@ USAGE = """bootmem-line [--e820ext FILE] [--total SIZE] [--program P]
 ABOUT = """Reads a command line as Linux 6.1 reads it and prints one that bootmem reads alike. What it changed goes to standard
 error, a line each. bootmem refuses a malformed option and reads crashkernel= by rules of its own; the kernel warns and
 goes on, looks for crashkernel= in the raw line, and rounds total memory up before it picks a range."""
-EPILOG = f"""CMDLINE is a file, or standard input where there is none or it is -. Where crashkernel= has ranges, as in
+EPILOG = f"""CMDLINE is a file, or standard input if there is none or it is -. If crashkernel= has ranges, as in
 1G-4G:192M,4G-:256M, the size depends on total memory: that of ZEROPAGE (and --e820ext) under the line's own mem= and
 memmap=, by the program's report map, or --total.
 
 What is changed:
   crashkernel=      the last value of each form in the raw line counts, also
-                    behind -- and inside other words; ranges become the size
+                    after -- and inside other words; ranges become the size
                     that the kernel picks; malformed ones are left out
   mem=, memmap=     read as far as the kernel reads them (mem=4GB is 4G, and
                     memmap=64MG is 64M), or left out
   numa=             off stays; fake= and the like are left out
-  swiotlb=          where it asks for more than 248 MiB, the low part is larger
-  the line          cut behind 2,047 bytes; an open quotation mark is closed
+  swiotlb=          if it asks for more than 248 MiB, the low part is larger
+  the line          cut after 2,047 bytes; an open quotation mark is closed
 
-Words that bootmem passes over though the kernel acts on them (movable_node, kernelcore=, cma=, log_buf_len=, ..), and
-names that are nearly one of bootmem's own, are told as passed over; they stay, and aren't a change. A line with which
+Words that bootmem ignores though the kernel acts on them (movable_node, kernelcore=, cma=, log_buf_len=, ..), and
+names that are nearly one of bootmem's own, are printed as passed over; they stay, and aren't a change. A line with which
 the kernel stops, or never settles its map, is trouble.
 
 {runner.FINDING}
 
-exit status: 0 where nothing had to be changed, 1 where something was, 2 for trouble.
+exit status: 0 if nothing had to be changed, 1 if something was, 2 for trouble.
 
 examples:
   bootmem-line cmdline zp.bin > line
@@ -43,7 +43,7 @@ examples:
 
 
 def read_words(words: list[str]) -> argparse.Namespace:
-    """The tool's words."""
+    """Returns the tool's words."""
     parser = tool.new_parser(NAME, USAGE, ABOUT, EPILOG)
     parser.add_argument("cmdline", metavar="CMDLINE", nargs="?", default="-", help="the file with the line")
     parser.add_argument("zeropage", metavar="ZEROPAGE", nargs="?", help="the machine's zero page")
@@ -57,7 +57,7 @@ def read_words(words: list[str]) -> argparse.Namespace:
 
 
 def total_of(given: argparse.Namespace) -> Callable[[str], command_line.Total] | None:
-    """What tells total memory, or None."""
+    """Returns a function that gives total memory for a line, or None."""
     if given.total is not None:
         size = ranges.parse_size(given.total) or 0
         return lambda _: command_line.Total(size, size)

@@ -18,28 +18,28 @@ NAME = "bootmem-live"
 USAGE = """bootmem-live [--kernel BASE,SIZE] [--program P] FOLDER
        bootmem-live [--kernel BASE,SIZE] [--program P] [--keep FOLDER]
                     [--sys DIR] [--proc DIR]"""
-ABOUT = """Compares what bootmem tells of a machine with what its kernel shows: the map's usable ranges with the System RAM of
+ABOUT = """Compares what bootmem says of a machine with what its kernel shows: the map's usable ranges with the System RAM of
 /proc/iomem, the crash area with its Crash kernel, and start, spanned and present frames of each zone with
 /proc/zoneinfo. Each difference is one line, with what may explain it."""
 EPILOG = f"""The machine is the one that this runs on, or that of FOLDER, as bootmem-collect (collect.sh) gathered it. Root sees
 more: the addresses of /proc/iomem are 0 for others, and ACPI's SRAT can't be read by them. Where the kernel's image
-lies is taken from /proc/iomem, or from FOLDER, where --kernel isn't there. What is gathered is removed at the end, or
+lies is taken from /proc/iomem, or from FOLDER, unless there is --kernel. What is gathered is removed at the end, or
 kept by --keep, with all that it is compared with.
 
 The command line is read as the kernel reads it, by what bootmem-line does. A zone is compared by the kernel's own rule:
 the hull of its node's memory, cut by the zone's borders.
 
 A line begins with
-  noted    what the kernel reads otherwise, or what bootmem passes over
+  noted    what the kernel reads otherwise, or what bootmem ignores
   panics   why Linux 6.1 is known to panic on this boot
-  agrees   the kernel has what bootmem tells
+  agrees   the kernel has what bootmem says
   known    it differs as a row of docs/KERNEL.md says, which is named
   differs  it differs in another way
   passed   it can't be compared, and why
 
 {runner.FINDING}
 
-exit status: 0 where nothing differs but in a known way, 1 where something does, 2 where nothing could be compared, and
+exit status: 0 if nothing differs except in a known way, 1 if something does, 2 if nothing could be compared, and
 for words that aren't those above.
 
 examples:
@@ -47,14 +47,14 @@ examples:
   bootmem-live --keep here
   bootmem-live here"""
 
-# The first frame of each zone and the one behind its last (zone_sizes_init).
+# The first frame of each zone and the one after its last (zone_sizes_init).
 BORDERS = {"DMA": (0, 4096), "DMA32": (4096, 1 << 20), "Normal": (1 << 20, 1 << 52)}
 GIVEN = "the boot loader's command line isn't /proc/cmdline (built-in words, bootconfig)"
 HOTPLUG = "hotplug, or nodes that bootmem wasn't told of (an SRAT that root alone reads, numa=fake)"
 
 
 class Zone(NamedTuple):
-    """A zone of /proc/zoneinfo or of the report, in frames; None where the kernel shows no number."""
+    """A zone of /proc/zoneinfo or of the report, in frames; None if the kernel shows no number."""
 
     start: int | None
     spanned: int
@@ -74,12 +74,12 @@ Texts = reports.Texts
 
 
 def row(*functions: str) -> str:
-    """A row of the table in KERNEL.md, by the functions that it begins with."""
+    """Returns a row of the table in KERNEL.md, by the functions that it begins with."""
     return "docs/KERNEL.md, row " + ", ".join(functions)
 
 
 def read_words(words: list[str]) -> argparse.Namespace:
-    """The tool's words."""
+    """Returns the tool's words."""
     parser = tool.new_parser(NAME, USAGE, ABOUT, EPILOG)
     parser.add_argument("folder", metavar="FOLDER", nargs="?", help="what bootmem-collect gathered of a machine")
     parser.add_argument("--kernel", metavar="BASE,SIZE", help="where the kernel's image lies, as bootmem reads it")
@@ -110,7 +110,7 @@ def collect(given: argparse.Namespace, folder: str) -> None:
 
 
 def read_zoneinfo(text: str) -> Zones:
-    """The zones of /proc/zoneinfo that have frames, by node and name; a start that isn't shown is None."""
+    """Returns the zones of /proc/zoneinfo that have frames, by node and name; a start that isn't shown is None."""
     found = {}
     for part in re.split(r"^(?=Node \d+, zone)", text, flags=re.MULTILINE):
         head = re.match(r"Node (\d+), zone +(\S+)", part)
@@ -129,7 +129,7 @@ def number_in(name: str, part: str) -> int | None:
 
 
 def ram_finding(first: int, last: int, here: bool, image: ranges.Range | None) -> Finding:
-    """The finding for a range that is RAM on one side alone; `here` says that the kernel has it as System RAM."""
+    """Returns the finding for a range that is RAM on one side alone; `here` says that the kernel has it as System RAM."""
     where = f"iomem {ranges.range_text(first, last)} ({ranges.size_text(last + 1 - first)}): "
     if not here:
         return Finding("differs", f"{where}usable by bootmem, no System RAM here: taken back later (see 'e820: update' and "
@@ -143,7 +143,7 @@ def ram_finding(first: int, last: int, here: bool, image: ranges.Range | None) -
 
 
 def compare_ram(resources: Sequence[machine.Resource], entries: Iterable[reports.Span]) -> Iterator[Finding]:
-    """The findings for System RAM."""
+    """Yields the findings for System RAM."""
     ram = [one for one in resources if one.name == "System RAM"]
     for one in resources:
         if one.name.startswith("System RAM ("):
@@ -170,12 +170,12 @@ def compare_ram(resources: Sequence[machine.Resource], entries: Iterable[reports
 
 
 def area_text(found: Iterable[ranges.Range]) -> str:
-    """The crash area and its low part."""
+    """Returns the crash area and its low part."""
     return " and ".join(f"{ranges.range_text(first, last)} ({ranges.size_text(last + 1 - first)})" for first, last in found) or "none"
 
 
 def compare_crash(resources: Iterable[machine.Resource], lines: Sequence[str], uefi: bool) -> Finding:
-    """The finding for the crash area."""
+    """Returns the finding for the crash area."""
     here = sorted((one.first, one.last) for one in resources if one.name == "Crash kernel")
     told = reports.crash_ranges(lines)
     if here == told:
@@ -192,7 +192,7 @@ def compare_crash(resources: Iterable[machine.Resource], lines: Sequence[str], u
 
 
 def told_zones(spans: Iterable[reports.Span]) -> Zones:
-    """The zones of the report, by node and name, by the kernel's rule: the node's hull cut by the zone's borders, with the same
+    """Returns the zones of the report, by node and name, by the kernel's rule: the node's hull cut by the zone's borders, with the same
     present frames (zone_spanned_pages_in_node)."""
     own = {(int(one.fields["node"]), one.fields["zone"]): {key: int(one.fields[key]) for key in ("start_frame", "end_frame", "present")}
            for one in spans}
@@ -207,17 +207,17 @@ def told_zones(spans: Iterable[reports.Span]) -> Zones:
 
 
 def zone_text(zone: Zone) -> str:
-    """Start, spanned and present frames of a zone."""
+    """Returns start, spanned and present frames of a zone."""
     return f"start {'unknown' if zone.start is None else zone.start} spanned {zone.spanned} present {zone.present}"
 
 
 def why_untold(name: str) -> str:
-    """What may explain a zone of the kernel that bootmem doesn't tell of."""
+    """Returns what may explain a zone of the kernel that bootmem doesn't have."""
     return {"Movable": "kernelcore=, movablecore=, movable_node or hotplug", "Device": "memory of a driver"}.get(name, HOTPLUG)
 
 
 def why_other(node: int, name: str, here: Zone, told: Zones) -> str:
-    """What may explain a zone of the kernel that is another than bootmem's."""
+    """Returns what may explain a zone of the kernel that is another than bootmem's."""
     zone, below = told[node, name], told.get((node, "DMA"))
     if name == "DMA32" and below and here.present == zone.present + below.present:
         return "a kernel without the zone DMA (CONFIG_ZONE_DMA)"
@@ -229,7 +229,7 @@ def why_other(node: int, name: str, here: Zone, told: Zones) -> str:
 
 
 def zone_finding(node: int, name: str, here: Zone, told: Zones) -> Finding:
-    """The finding for a zone that the kernel shows, by the zones that bootmem tells."""
+    """Returns the finding for a zone that the kernel shows, by the zones of bootmem."""
     where = f"zoneinfo node {node} {name}: {zone_text(here)}"
     zone = told.get((node, name))
     if zone is None:
@@ -244,7 +244,7 @@ def zone_finding(node: int, name: str, here: Zone, told: Zones) -> Finding:
 
 
 def compare_zones(shown: Zones, told: Zones) -> Iterator[Finding]:
-    """The findings for the zones that the kernel shows and for those that bootmem alone tells of."""
+    """Yields the findings for the zones that the kernel shows and for those that bootmem alone has."""
     for node, name in sorted(shown):
         yield zone_finding(node, name, shown[node, name], told)
     for node, name in sorted(set(told) - set(shown)):
@@ -255,7 +255,7 @@ def compare_zones(shown: Zones, told: Zones) -> Iterator[Finding]:
 
 
 def run(given: argparse.Namespace, folder: str, reading: command_line.Reading) -> tuple[list[str], Texts]:
-    """The words of the program for the inputs in the folder, as they are told, and its reports for them."""
+    """Returns the words of the program for the inputs in the folder, as they are printed, and its reports for them."""
     kernel = given.kernel or machine.kernel_in(folder)
     words = machine.files_in(folder) + (["--kernel", kernel] if kernel else []) + ["zp.bin"]
     if not os.path.exists(os.path.join(folder, "cmdline")):
@@ -268,7 +268,7 @@ def run(given: argparse.Namespace, folder: str, reading: command_line.Reading) -
 
 
 def compare(given: argparse.Namespace, folder: str, words: Sequence[str], texts: Texts) -> Iterator[Finding]:
-    """All findings, by what the kernel shows."""
+    """Yields all findings, by what the kernel shows."""
     for why in machine.panics(texts):
         yield Finding("panics", why)
     if "--kernel" not in words:
@@ -289,7 +289,7 @@ def compare(given: argparse.Namespace, folder: str, words: Sequence[str], texts:
         yield from compare_zones(read_zoneinfo(zoneinfo), told_zones(reports.spans("zones", texts["zones"])))
 
 
-def tell(given: argparse.Namespace, folder: str) -> collections.Counter[str]:
+def print_findings(given: argparse.Namespace, folder: str) -> collections.Counter[str]:
     """Prints the commands and the findings for a folder; how many there are of each kind."""
     reading = machine.line_in(given.program, folder)
     words, texts = run(given, folder, reading)
@@ -314,7 +314,7 @@ def main(words: list[str]) -> int:
         folder = given.folder or given.keep or temporary
         if not given.folder:
             collect(given, folder)
-        counts = tell(given, folder)
+        counts = print_findings(given, folder)
     print(f"{counts['agrees']} agree, {counts['known']} differ as docs/KERNEL.md says, {counts['differs']} differ, "
           f"{counts['passed']} can't be compared")
     if counts["agrees"] + counts["known"] + counts["differs"] == 0:

@@ -22,11 +22,11 @@ class Ranged(Protocol):
 
     @property
     def first(self) -> int:
-        """The first byte."""
+        """Returns the first byte."""
 
     @property
     def last(self) -> int:
-        """The last byte."""
+        """Returns the last byte."""
 
 
 One = TypeVar("One", bound=Ranged)

@@ -13,18 +13,18 @@ Spans = list[reports.Span]
 NAME = "bootmem-where"
 WANTED = ["map", "memory", "owners", "journal", "tables", "nodes", "zones", "sections", "blocks"]
 USAGE = "bootmem-where [--frame] ADDRESS [FILE]\n       bootmem-where [--frame] [--program P] ADDRESS -- WORDS"
-ABOUT = """Tells of one address: its frame, the entry of the map, whether it is memory, who owns it and the step of the
+ABOUT = """Prints what becomes of one address: its frame, the entry of the map, whether it is memory, who owns it and the step of the
 journal that claimed it, node, zone, section with the place of its map and of the frame's page structure, and
 free block."""
-EPILOG = f"""ADDRESS is hexadecimal or decimal, with K, M, G or T behind it or without. Behind -- stand the words of the
-program but --report; it is run with --report {','.join(WANTED)}.
+EPILOG = f"""ADDRESS is hexadecimal or decimal, with K, M, G or T after it or without. After -- come the words of the
+program, without --report; it is run with --report {','.join(WANTED)}.
 
-Else the text of these reports is read from FILE, or from standard input where there is none or it is -; of a report
-that isn't there nothing is told. A page structure has 64 bytes: the map of a section, of 2 MiB, has 32,768 of them.
+Otherwise the tool reads the text of these reports from FILE, or from standard input if there is none or it is -; it says nothing of a
+report that isn't there. A page structure has 64 bytes: the map of a section, of 2 MiB, has 32,768 of them.
 
 {runner.FINDING}
 
-exit status: 0; 1 where the reports couldn't be had; 2 for words that aren't those above.
+exit status: 0; 1 if the reports couldn't be had; 2 for words that aren't those above.
 
 examples:
   bootmem-where 0x1000000 -- --srat srat.bin --kernel 16M,52M zp.bin
@@ -32,7 +32,7 @@ examples:
 
 
 def read_words(words: list[str]) -> tuple[int, reports.Texts]:
-    """The address and the reports that the words ask for."""
+    """Returns the address and the reports that the words ask for."""
     own, program_words = tool.split_words(words)
     parser = tool.new_parser(NAME, USAGE, ABOUT, EPILOG)
     parser.add_argument("address", metavar="ADDRESS", help="what to tell of: 0x100000, 1048576, 1M")
@@ -53,13 +53,13 @@ def read_words(words: list[str]) -> tuple[int, reports.Texts]:
 
 
 def last_step(steps: Spans, address: int) -> reports.Span | None:
-    """The newest claim or free of the journal that has the address, which decides its owner; None where there is none."""
+    """Returns the newest claim or free of the journal that has the address, which decides its owner; None if there is none."""
     deciding = [step for step in ranges.at(steps, address) if step.kind in ("claim", "free")]
     return deciding[-1] if deciding else None
 
 
 def owner_lines(owners: Spans | None, steps: Spans | None, tables: Spans | None, address: int) -> Sayings:
-    """The lines of who owns the address, since which step, and of the table of memblock that lies there."""
+    """Yields the lines of who owns the address, since which step, and of the table of memblock that lies there."""
     holder = ranges.at(owners or [], address)
     if owners is not None:
         yield "owner", f"{holder[0].name} {ranges.range_text(*holder[0][:2])}" if holder else "none"
@@ -74,7 +74,7 @@ def owner_lines(owners: Spans | None, steps: Spans | None, tables: Spans | None,
 
 
 def place_lines(found: dict[str, Spans], address: int) -> Sayings:
-    """The lines of node, zone and section; a span may have holes, so they are told of addresses without memory, too."""
+    """Yields the lines of node, zone and section; a span may have holes, so addresses without memory have them, too."""
     if "nodes" in found:
         node = ranges.at(found["nodes"], address)
         yield "node", f"{node[-1].fields['node']} {ranges.range_text(*node[-1][:2])}" if node else "none"
@@ -94,15 +94,15 @@ def place_lines(found: dict[str, Spans], address: int) -> Sayings:
 
 
 def section_text(section: reports.Span, address: int) -> str:
-    """A section's number and node, the place of its map, and of the page structure of the address's frame."""
+    """Returns a section's number and node, the place of its map, and of the page structure of the address's frame."""
     place = int(section.fields["map"], 16)
     page = place + (address - section.first) // ranges.FRAME * 64
     return (f"{section.fields['section']} of node {section.fields['node']}, map at {ranges.hex_text(place)}, "
             f"page structure at {ranges.hex_text(page)}")
 
 
-def tell(address: int, found: dict[str, Spans]) -> Sayings:
-    """The lines of what the reports say of the address, each a word and a text."""
+def answer_lines(address: int, found: dict[str, Spans]) -> Sayings:
+    """Yields the lines of what the reports say of the address, each a word and a text."""
     yield "address", f"{ranges.hex_text(address)} ({ranges.size_text(address)}), frame {address // ranges.FRAME}"
     if "map" in found:
         entry = ranges.at(found["map"], address)
@@ -123,7 +123,7 @@ def main(words: list[str]) -> int:
     found = {name: reports.spans(name, lines) for name, lines in texts.items() if name in WANTED}
     if not found:
         raise tool.Trouble(f"none of the reports {', '.join(WANTED)} is there")
-    for word, text in tell(address, found):
+    for word, text in answer_lines(address, found):
         print(f"{word:<8} {text}")
     return 0
 

@@ -20,27 +20,27 @@ serial console; with time stamps or without):
 or from lines of a base, a size and a type, its name or its number:
 
     0x100000 2046M usable"""
-EPILOG = """LOG is a file, or standard input where there is none or it is -. Types by name: usable, reserved, ACPI data, ACPI NVS,
+EPILOG = """LOG is a file, or standard input if there is none or it is -. Types by name: usable, reserved, ACPI data, ACPI NVS,
 unusable, persistent (type 7), persistent (type 12), soft reserved, type N.
 
-Lines `extended: [mem ..]`, which the kernel prints where the boot loader handed over an extension, have the whole
+Lines `extended: [mem ..]`, which the kernel prints if the boot loader handed over an extension, have the whole
 map and are taken instead. Of a log with several boots the last is taken. A kernel's log has the map as the kernel
 settled it: how entries of the firmware lay over one another isn't in it, and the map of bootmem is the same.
 
-A zero page has room for 128 entries; those behind go to EXT, which is always written where it is named.
+A zero page has room for 128 entries; the others go to EXT, which is always written if it is named.
 
 The initrd is that of the log's line `RAMDISK: [mem ..]`, in whole frames, or of --initrd.
 
-Where UEFI firmware handed over its own map, a kernel with efi=debug lists its descriptors; EFI gets them:
+If UEFI firmware handed over its own map, a kernel with efi=debug lists its descriptors; EFI gets them:
 
     efi: mem00: [Conventional| | .. |WB|WT|WC|UC] range=[0x..-0x..] (0MB)
 
 Of what it lists the first list is taken, from mem00 on; a later one is that of the runtime services' addresses.
 
-What a log can't tell: the place of the kernel's image (bootmem's --kernel), the SRAT (--srat). The command line stands
+What a log doesn't have: the place of the kernel's image (bootmem's --kernel), the SRAT (--srat). The command line is
 in its line `Command line:`.
 
-exit status: 0; 1 where no zero page could be made; 2 for words that aren't those above.
+exit status: 0; 1 if no zero page could be made; 2 for words that aren't those above.
 
 example:
   dmesg | zp-from-log --output zp.bin --e820ext ext.bin
@@ -62,7 +62,7 @@ ATTRIBUTES = {"UC": 0x1, "WC": 0x2, "WT": 0x4, "WB": 0x8, "UCE": 0x10, "WP": 0x1
 
 
 def type_of(text: str) -> int | None:
-    """The number of a type by the name that the kernel prints, or by a number; None where it is neither."""
+    """Returns the number of a type by the name that the kernel prints, or by a number; None if it is neither."""
     match = re.fullmatch(r"(?:persistent \(type (\d+)\)|type (\d+)|(0[xX][0-9a-fA-F]+|\d+))", text)
     if match is None:
         return TYPES.get(text)
@@ -72,12 +72,12 @@ def type_of(text: str) -> int | None:
 
 
 def clean(line: str) -> str:
-    """The line without colours and without blanks at its end."""
+    """Returns the line without colours and without blanks at its end."""
     return re.sub(r"\x1b\[[0-9;]*[mK]", "", line).rstrip()
 
 
 def entry_of(number: int, base: int, size: int, name: str) -> Entry:
-    """An entry of line `number`, checked as the program checks it."""
+    """Returns an entry of line `number`, checked as the program checks it."""
     kind = type_of(name)
     if kind is None:
         raise tool.Trouble(f"line {number}: {tool.quoted(name)} is no type that is known")
@@ -87,7 +87,7 @@ def entry_of(number: int, base: int, size: int, name: str) -> Entry:
 
 
 def last_boot(lines: Numbered) -> Numbered:
-    """The numbered lines of the last boot of a log: those from its last line `BIOS-provided physical RAM map:` on."""
+    """Returns the numbered lines of the last boot of a log: those from its last line `BIOS-provided physical RAM map:` on."""
     heads = [place for place, (_, line) in enumerate(lines) if HEAD in line]
     if len(heads) > 1:
         tool.complain(NAME, f"the log has {len(heads)} boots: the last is taken")
@@ -95,7 +95,7 @@ def last_boot(lines: Numbered) -> Numbered:
 
 
 def entries_of_log(lines: Numbered) -> list[Entry]:
-    """The entries of a log's lines `BIOS-e820`, or of the last table of its lines `extended` where it has some."""
+    """Returns the entries of a log's lines `BIOS-e820`, or of the last table of its lines `extended` if it has some."""
     found: dict[str, list[Entry]] = {"BIOS-e820": [], "extended": []}
     headed = any(HEAD in line for _, line in lines)
     for number, line in lines:
@@ -116,7 +116,7 @@ def entries_of_log(lines: Numbered) -> list[Entry]:
 
 
 def entries_of_list(lines: Numbered) -> list[Entry]:
-    """The entries of lines `base size type`; empty lines and those that begin with # are passed over."""
+    """Returns the entries of lines `base size type`; empty lines and those that begin with # are ignored."""
     entries = []
     for number, line in lines:
         words = line.split(None, 2)
@@ -130,7 +130,7 @@ def entries_of_list(lines: Numbered) -> list[Entry]:
 
 
 def attributes_of(number: int, names: Sequence[str]) -> int:
-    """The attributes of a descriptor by the names that the kernel prints, or by `attr=0x..` where it has no name for one of them."""
+    """Returns the attributes of a descriptor by the names that the kernel prints, or by `attr=0x..` if it has no name for one of them."""
     if len(names) == 1 and names[0].startswith("attr=0x"):
         return int(names[0][7:], 16)
     unknown = [name for name in names if name and name not in ATTRIBUTES]
@@ -140,7 +140,7 @@ def attributes_of(number: int, names: Sequence[str]) -> int:
 
 
 def efi_type(number: int, name: str) -> int:
-    """The number of a descriptor's type by the name that the kernel prints, or by `type=N`."""
+    """Returns the number of a descriptor's type by the name that the kernel prints, or by `type=N`."""
     match = re.fullmatch(r"type=(\d+)", name)
     if match:
         return int(match.group(1))
@@ -150,7 +150,7 @@ def efi_type(number: int, name: str) -> int:
 
 
 def descriptors_of_log(lines: Numbered) -> list[Descriptor]:
-    """The descriptors of the first list `efi: mem00 ..` of a log: type, address, pages and attributes of each."""
+    """Returns the descriptors of the first list `efi: mem00 ..` of a log: type, address, pages and attributes of each."""
     found: list[Descriptor] = []
     for number, line in lines:
         match = re.search(DESCRIPTOR, line)
@@ -170,7 +170,7 @@ def descriptors_of_log(lines: Numbered) -> list[Descriptor]:
 
 
 def initrd_of_log(lines: Numbered) -> Initrd | None:
-    """Base and size of the initrd by the log's last line RAMDISK, or None."""
+    """Returns base and size of the initrd by the log's last line RAMDISK, or None."""
     found = None
     for _, line in lines:
         match = re.search(r"RAMDISK: \[mem 0x([0-9a-f]+)-0x([0-9a-f]+)\]", line)
@@ -180,13 +180,13 @@ def initrd_of_log(lines: Numbered) -> Initrd | None:
 
 
 def read_initrd(text: str) -> Initrd | None:
-    """Base and size of a text `BASE,SIZE`, or None."""
+    """Returns base and size of a text `BASE,SIZE`, or None."""
     initrd = ranges.parse_pair(text)
     return initrd if initrd and sum(initrd) <= ranges.TOP - (ranges.FRAME - 1) else None
 
 
 def read_words(words: list[str]) -> argparse.Namespace:
-    """The tool's words."""
+    """Returns the tool's words."""
     parser = tool.new_parser(NAME, USAGE, ABOUT, EPILOG)
     parser.add_argument("log", metavar="LOG", nargs="?", default="-", help="the kernel's log, or a list of entries")
     parser.add_argument("--output", metavar="ZP", required=True, help="the file of the zero page")
@@ -205,7 +205,7 @@ def read_words(words: list[str]) -> argparse.Namespace:
 
 
 def choose_initrd(given: argparse.Namespace, lines: Numbered, is_log: bool) -> Initrd | None:
-    """The initrd of the words or of the log, told on standard error where nobody says."""
+    """Returns the initrd of the words or of the log, with a line on standard error if neither has one."""
     if given.no_initrd or given.initrd:
         named: Optional[Initrd] = given.initrd
         return named
