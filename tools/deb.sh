@@ -50,8 +50,9 @@ depends=$(
 )
 # what a program needs that calls the library goes into a package of its own
 if [ -f "$root/usr/lib/libbootmem.a" ]; then
-	mkdir -p "$dev/usr/share/bootmem" "$dev/usr/share/doc/bootmem-dev"
-	mv "$root/usr/lib" "$root/usr/include" "$dev/usr"
+	mkdir -p "$dev/usr/lib" "$dev/usr/share/bootmem" "$dev/usr/share/doc/bootmem-dev"
+	mv "$root"/usr/lib/libbootmem.* "$root/usr/lib/pkgconfig" "$dev/usr/lib"
+	mv "$root/usr/include" "$dev/usr"
 	mv "$root/usr/share/bootmem/bindings" "$dev/usr/share/bootmem"
 	strip --strip-unneeded "$dev/usr/lib/libbootmem.so.$version"
 	cp "$doc/copyright" "$doc/changelog.gz" "$dev/usr/share/doc/bootmem-dev"
