@@ -1,4 +1,5 @@
-"""A headless Chromium for the tests of pages, by the protocol of its developer tools over a pipe."""
+"""A headless Chromium for the tests of pages, by the protocol of its developer tools over a
+pipe."""
 
 import base64
 import json
@@ -18,7 +19,8 @@ def browser_path():
 
 
 class Browser:
-    """A browser with one page. What the page's console says, and errors that it didn't catch, are in `said`."""
+    """A browser with one page. What the page's console says, and errors that it didn't catch,
+    are in `said`."""
 
     def __init__(self, width=1280, height=800):
         self.profile = tempfile.mkdtemp()

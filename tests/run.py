@@ -1,11 +1,13 @@
 #!/usr/bin/env python3
-"""run.py [PROGRAM [TEST..]]: runs every test of this folder over the program, ./bootmem if none is named, or the tests that the words name: a module
-without its test_, such as draw, a script, such as shown.sh, or `modules`, all modules. `run.py --sources` runs those that need no program: they
-compare documents with sources.
+"""run.py [PROGRAM [TEST..]]: runs every test of this folder over the program, ./bootmem if none
+is named, or the tests that the words name: a module without its test_, such as draw, a script,
+such as shown.sh, or `modules`, all modules. `run.py --sources` runs those that need no program:
+they compare documents with sources.
 
-A module prints a line with how many tests and comparisons it has; so does a script that counts. A failure prints its test, what was compared, the
-command that ran before it, and what came and what was wanted. A test that lacks a tool of the system is left out, with a line. The status is 0 if
-none failed. It needs no root and no network.
+A module prints a line with how many tests and comparisons it has; so does a script that counts.
+A failure prints its test, what was compared, the command that ran before it, and what came and
+what was wanted. A test that lacks a tool of the system is left out, with a line. The status is 0
+if none failed. It needs no root and no network.
 """
 
 import glob
@@ -21,7 +23,8 @@ import unittest
 sys.dont_write_bytecode = True
 HERE = os.path.dirname(os.path.abspath(__file__))
 TOP = os.path.dirname(HERE)
-# Scripts with the words of each; those that need more than the program are left out if it isn't there.
+# Scripts with the words of each; those that need more than the program are left out if it isn't
+# there.
 SCRIPTS = {"pins.py": [], "rooms.py": [], "definitions.py": [], "real_boots.sh": ["PROGRAM"], "map_alone.sh": ["PROGRAM"],
            "audits.sh": ["PROGRAM", "AUDIT"], "outside.sh": ["PROGRAM"], "collect.sh": [], "install.sh": [], "shown.sh": ["PROGRAM"],
            "library.sh": ["PROGRAM"]}
@@ -40,7 +43,8 @@ class Result(unittest.TextTestResult):
 
 
 def run_module(name):
-    """Runs the tests of a module: its line, what failed or was left out, and whether all is well."""
+    """Runs the tests of a module: its line, what failed or was left out, and whether all is
+    well."""
     sys.path.insert(0, HERE)
     from support import Counted
     before, said = Counted.checks, io.StringIO()
@@ -94,7 +98,8 @@ def main(words):
 
 
 def run_all(names):
-    """Runs these tests, as many at once as there are processors, and prints what each came to; the status."""
+    """Runs these tests, as many at once as there are processors, and prints what each came to;
+    the status."""
     well, total = True, 0
     with multiprocessing.Pool(len(os.sched_getaffinity(0)), maxtasksperchild=1) as pool:
         for line, lines, passed, checks in pool.imap(run_one, names, chunksize=1):

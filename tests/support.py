@@ -1,8 +1,8 @@
-"""What the tests of this folder share: runs of the program and of the tools, inputs as bytes, the machines of examples/, and how comparisons
-are counted and reported.
+"""What the tests of this folder share: runs of the program and of the tools, inputs as bytes,
+the machines of examples/, and how comparisons are counted and reported.
 
-`tests/run.py PROGRAM` runs all of them; so does `python3 -m unittest discover -s tests`, with the program that BOOTMEM_TESTED names, else
-./bootmem.
+`tests/run.py PROGRAM` runs all of them; so does `python3 -m unittest discover -s tests`, with
+the program that BOOTMEM_TESTED names, else ./bootmem.
 """
 
 import os
@@ -25,7 +25,8 @@ MIB, GIB = 1 << 20, 1 << 30
 BOOTS = sorted(name for name in os.listdir(EXAMPLES) if os.path.exists(os.path.join(EXAMPLES, name, "cmdline")))
 RAM, RESERVED, ACPI, SOFT = inputs.RAM, inputs.RESERVED, inputs.ACPI, inputs.SOFT_RESERVED
 
-# A machine of 128 MiB, as QEMU gives it, without what lies above it; and the same with the reserved memory at its end.
+# A machine of 128 MiB, as QEMU gives it, without what lies above it; and the same with the reserved
+# memory at its end.
 LOW = (0x0, 0x9FC00, RAM)
 MAIN = (0x100000, 0x7EE0000, RAM)
 MACHINE = [LOW, MAIN]
@@ -40,7 +41,8 @@ class Counted:
 
 
 class Case(unittest.TestCase):
-    """A test with a folder of its own, whose comparisons are counted; one that fails doesn't end it."""
+    """A test with a folder of its own, whose comparisons are counted; one that fails doesn't end
+    it."""
 
     def setUp(self):
         folder = tempfile.TemporaryDirectory()
@@ -94,7 +96,8 @@ def program(folder, *words):
 
 
 def run_over(files, words):
-    """Status, standard output and standard error of the program over these files, by their names."""
+    """Status, standard output and standard error of the program over these files, by their
+    names."""
     with tempfile.TemporaryDirectory() as folder:
         for name, held in files.items():
             write(os.path.join(folder, name), held)
@@ -147,7 +150,8 @@ def words_of(name):
 
 
 def zero_page(entries, count=None, loader=0, image=0, size=0):
-    """A zero page of these entries, of which it states `count`, with an initrd if a loader is named."""
+    """A zero page of these entries, of which it states `count`, with an initrd if a loader is
+    named."""
     page = bytearray(inputs.zero_page(entries, (image, size)))
     page[inputs.COUNT] = len(entries) if count is None else count
     page[inputs.LOADER_TYPE] = loader
@@ -195,14 +199,16 @@ def entries_of(data, count, place):
 
 
 def machine_of(size):
-    """The entries of a virtual machine of this size: its firmware keeps some of it, and from 3 GiB on it goes on at 4 GiB."""
+    """The entries of a virtual machine of this size: its firmware keeps some of it, and from 3
+    GiB on it goes on at 4 GiB."""
     low = min(size, 3 * GIB)
     entries = [(0, 0x9FC00, 1), (0x9FC00, 0x400, 2), (0xF0000, 0x10000, 2), (MIB, low - MIB - 0x21000, 1), (low - 0x21000, 0x21000, 2)]
     return entries + ([(4 * GIB, size - low, 1)] if size > low else [])
 
 
 def use_library():
-    """Whether there is a library: the one that BOOTMEM_LIB names, or that of 'make lib', which it then names."""
+    """Whether there is a library: the one that BOOTMEM_LIB names, or that of 'make lib', which
+    it then names."""
     path = os.environ.get("BOOTMEM_LIB") or os.path.join(TOP, "libbootmem.so")
     if os.path.exists(path):
         os.environ["BOOTMEM_LIB"] = path
@@ -210,7 +216,7 @@ def use_library():
 
 
 def rows_of(text):
-    """The rows of a table in a text: a line each, with ` | ` between fields, in which escapes stand for letters as in Python. A line that
-    ends with ` |` has an empty last field."""
+    """The rows of a table in a text: a line each, with ` | ` between fields, in which escapes
+    stand for letters as in Python. A line that ends with ` |` has an empty last field."""
     lines = [line + " " if line.endswith(" |") else line for line in text.strip("\n").split("\n")]
     return [tuple(field.encode("latin-1").decode("unicode_escape") for field in line.split(" | ")) for line in lines]

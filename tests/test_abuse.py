@@ -1,5 +1,6 @@
-"""Each tool over input that it can't use: missing, unreadable, empty, truncated, binary and endless. It says one line, ends with its own status, and
-leaves nothing written; no run takes long or ends by a traceback."""
+"""Each tool over input that it can't use: missing, unreadable, empty, truncated, binary and
+endless. It says one line, ends with its own status, and leaves nothing written; no run takes
+long or ends by a traceback."""
 
 import os
 import shutil
@@ -111,7 +112,8 @@ class Abuse(Case):
                 self.check(f"{name} {made}", (is_well, "Traceback" in err, seconds < SECONDS), (True, False, True))
 
     def test_folders(self):
-        """Tools that read what collect.sh gathered, of which one file after another can't be used."""
+        """Tools that read what collect.sh gathered, of which one file after another can't be
+        used."""
         for file in ("zp.bin", "cmdline", "srat.bin", "e820ext.bin", "kernel", "iomem", "zoneinfo"):
             for made in ("binary", "/dev/zero", "/proc/self/mem"):
                 folder = self.path("machine")

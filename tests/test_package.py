@@ -1,4 +1,5 @@
-"""The Python package of the tools: its types by mypy and its style by ruff or flake8, if they are there; its commands; pip; its documents."""
+"""The Python package of the tools: its types by mypy and its style by ruff or flake8, if they
+are there; its commands; pip; its documents."""
 
 import doctest
 import os
@@ -9,17 +10,18 @@ import sys
 import unittest
 
 import bootmem_tools
-from bootmem_tools import inputs, reports
+from bootmem_tools import inputs, library, reports
 from support import LOW, MAIN, PROGRAM, TOP, Case, ran, text_of, use_library
 
 TOOLS = os.path.join(TOP, "tools")
 PACKAGE = os.path.join(TOOLS, "bootmem_tools")
 # lines of 150 letters; the continuation of a line stands where it reads best
-STYLE = ["--max-line-length", "150", "--extend-ignore", "E127,E128,E131,E402,W291,W503"]
+STYLE = ["--max-line-length", "150", "--extend-ignore", "E127,E128,E131,E203,E402,W291,W503"]
 
 
 def program_of(*names):
-    """The first of these programs that is there: by its name, or as a module of a Python; None if none is."""
+    """The first of these programs that is there: by its name, or as a module of a Python; None
+    if none is."""
     for name in names:
         if shutil.which(name):
             return [name]
@@ -37,7 +39,8 @@ class Package(Case):
 
     @unittest.skipUnless(MYPY, "there is no mypy: the types aren't checked")
     def test_types(self):
-        """mypy --strict has nothing to say, and the oldest Python that is promised would take the types."""
+        """mypy --strict has nothing to say, and the oldest Python that is promised would take
+        the types."""
         for words in (["-p", "bootmem_tools"], ["build_backend.py"]):
             status, out, err = ran([*MYPY, "--strict", "--python-version", "3.9", "--cache-dir", self.path("cache"), *words], folder=TOOLS)
             self.check("mypy --strict", (status, err), (0, b"") if status == 0 else (0, out.decode()))
@@ -56,7 +59,8 @@ class Package(Case):
                 self.check(f"{name}: without a word", undocumented(text_of(os.path.join(PACKAGE, name))), [])
 
     def test_commands(self):
-        """pyproject.toml, install.sh and the folder have the same commands, and each runs as a module, too."""
+        """pyproject.toml, install.sh and the folder have the same commands, and each runs as a
+        module, too."""
         toml = text_of(os.path.join(TOOLS, "pyproject.toml"))
         named = dict(re.findall(r'^([\w-]+) = "bootmem_tools\.(\w+):command"$', toml, re.MULTILINE))
         installed = re.findall(r"[\w-]+", " ".join(re.findall(r'^tools="(.*)"$', text_of(os.path.join(TOOLS, "install.sh")), re.MULTILINE)))
@@ -87,9 +91,9 @@ class Package(Case):
     @unittest.skipUnless(use_library(), "there is no libbootmem.so ('make lib')")
     def test_examples(self):
         """What the package's own documents show."""
-        for name in (bootmem_tools, bootmem_tools.library):
-            flags = doctest.ELLIPSIS
-            self.check(name.__name__, doctest.testmod(name, optionflags=flags).failed, 0)
+        for module in (bootmem_tools, library):
+            found = doctest.testmod(module)
+            self.check(module.__name__, (found.failed, found.attempted > 3), (0, True))
 
     def test_inputs(self):
         """What is made of entries is what the program reads of them."""
@@ -114,7 +118,8 @@ class Package(Case):
 
 
 def undocumented(text):
-    """The functions and classes of a module that say nothing, and the functions of more than 45 lines."""
+    """The functions and classes of a module that say nothing, and the functions of more than 45
+    lines."""
     import ast
     found = []
     for node in ast.walk(ast.parse(text)):

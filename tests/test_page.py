@@ -1,4 +1,5 @@
-"""bootmem-draw --html: the page's rows against the reports, what is refused, and the page in a headless browser, if there is one."""
+"""bootmem-draw --html: the page's rows against the reports, what is refused, and the page in a
+headless browser, if there is one."""
 
 import json
 import os
@@ -22,7 +23,8 @@ def data_of(page):
 
 
 def pieces_of(held, report):
-    """The ranges of a report's column, with the label and number of each; what was joined in pieces again."""
+    """The ranges of a report's column, with the label and number of each; what was joined in
+    pieces again."""
     kinds, found = held["kinds"], []
     for column in held["columns"]:
         for lane in column["lanes"] if column["report"] == report else []:
@@ -48,7 +50,8 @@ class Page(Case):
         return text_of(path)
 
     def test_rows(self):
-        """Every line of the reports of a machine is on its page, with its exact range; nothing of it comes from elsewhere."""
+        """Every line of the reports of a machine is on its page, with its exact range; nothing
+        of it comes from elsewhere."""
         for name in MACHINES:
             held = data_of(self.page_of(name, "--title", "</script><b>&"))
             self.check(f"page {name}: title", held["title"], "</script><b>&")
@@ -66,7 +69,8 @@ class Page(Case):
             self.check(f"page {name}: no network", re.findall(r"https?:|src=|@import|url\(", page), [])
 
     def test_changes(self):
-        """Two boots: texts of two files, or a file and a run; what changed is what bootmem-diff prints."""
+        """Two boots: texts of two files, or a file and a run; what changed is what bootmem-diff
+        prints."""
         old, new = example("q35-8g-numa2", "map.txt"), example("q35-4g-mem2g", "map.txt")
         self.check("page of two texts", tool("bootmem-draw", "--html", self.path("two"), old, new), (0, "", ""))
         held = data_of(text_of(self.path("two")))
@@ -95,7 +99,8 @@ class Page(Case):
 
 @unittest.skipUnless(browser_path(), "there is no Chromium: the page isn't tried in a browser")
 class InBrowser(Case):
-    """The page in a browser. Pictures go to the folder that BOOTMEM_PICTURES names, if it is set."""
+    """The page in a browser. Pictures go to the folder that BOOTMEM_PICTURES names, if it is
+    set."""
 
     def shot(self, browser, name):
         """A picture of the page, which isn't of one colour."""
@@ -114,7 +119,8 @@ class InBrowser(Case):
         browser.mouse("mouseMoved", left, top + browser.value(f"yOf({address})"))
 
     def test_machines(self):
-        """Three machines: a picture, a zoom by words, wheel and drag, a search, and what the mouse points at; nothing on the console."""
+        """Three machines: a picture, a zoom by words, wheel and drag, a search, and what the
+        mouse points at; nothing on the console."""
         with Browser() as browser:
             for name in MACHINES:
                 path = self.path(f"{name}.html")

@@ -1,5 +1,6 @@
-"""The words of tools/bootmem_tools/words.txt are those of the program: its definitions have the same options, reports and inputs, the program
-takes each and no other, and so have README.md, the manual pages, docs/FORMATS.md, the tools' grammar and what the completions for bash answer."""
+"""The words of tools/bootmem_tools/words.txt are those of the program: its definitions have the
+same options, reports and inputs, the program takes each and no other, and so have README.md, the
+manual pages, docs/FORMATS.md, the tools' grammar and what the completions for bash answer."""
 
 import os
 import re
@@ -13,7 +14,8 @@ from support import MACHINE, PROGRAM, TOP, Case, example, run_over, text_of, zer
 OPTIONS = sorted(f"--{name}" for name in words.OPTIONS)
 AUDIT = sorted(f"--{name}" for name in words.AUDIT_OPTIONS)
 REPORTS = sorted(words.REPORTS)
-# A value that each option takes, but those for files, which get bytes that no input may have: the line of the fault names the input.
+# A value that each option takes, but those for files, which get bytes that no input may have: the
+# line of the fault names the input.
 VALUES = {"RANGES": "64M,16M", "BASE,SIZE": "0x1000000,0x3400000", "LIST": "map", "N": "3"}
 
 
@@ -43,7 +45,8 @@ def synopsis(program, *names):
 
 
 def codes_in(crate, name, form):
-    """The words of a definition, in their order: what `codes` has in the parts of its file that have this form."""
+    """The words of a definition, in their order: what `codes` has in the parts of its file that
+    have this form."""
     found = re.findall(form, text("crates", crate, "specs", f"{name}.antt"), re.MULTILINE | re.DOTALL)
     return [word for part in found for word in re.findall(r'codes "([a-z0-9-]+)"', part)]
 
@@ -62,7 +65,8 @@ class Words(Case):
 
     @unittest.skipUnless(os.access(PROGRAM, os.X_OK), "there is no program: it isn't asked for its words")
     def test_program(self):
-        """The program takes each option and each report, and names each input; it takes none with a letter more."""
+        """The program takes each option and each report, and names each input; it takes none
+        with a letter more."""
         files = {"zp": zero_page(MACHINE), "faulty": b"mem=x"}
         for name, value in words.OPTIONS.items():
             given = [] if not value else [VALUES.get(value, "faulty")]

@@ -1,4 +1,5 @@
-"""Makes the wheel of bootmem_tools for pip, by the standard library alone (PEP 517), so that no other package has to be fetched."""
+"""Makes the wheel of bootmem_tools for pip, by the standard library alone (PEP 517), so that no
+other package has to be fetched."""
 
 from __future__ import annotations
 
@@ -66,7 +67,8 @@ def digest(data: bytes) -> str:
 
 
 def build_sdist(sdist_directory: str, config_settings: Settings | None = None) -> str:
-    """Writes the archive of the sources into the folder and returns its name (a hook of PEP 517)."""
+    """Writes the archive of the sources into the folder and returns its name (a hook of PEP
+    517)."""
     version = project()[0]
     top = f"{PACKAGE}-{version}"
     with tarfile.open(os.path.join(sdist_directory, f"{top}.tar.gz"), "w:gz") as archive:

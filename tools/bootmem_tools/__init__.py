@@ -1,4 +1,5 @@
-"""The tools beside bootmem, each a module with a `main(words)`, and what they share, for the tests of a virtual machine monitor, too:
+"""The tools beside bootmem, each a module with a `main(words)`, and what they share, for the
+tests of a virtual machine monitor, too:
 
     inputs    zero page, extension, SRAT, SLIT and EFI memory map as bytes
     runner    runs of the program: finding it, and its reports for words
@@ -9,9 +10,11 @@
     ranges    addresses, sizes and ranges
 
     >>> from bootmem_tools import inputs, library, reports
-    >>> files = {"zp.bin": inputs.zero_page([(0, 0x9fc00, inputs.RAM), (0x100000, 0x7ff00000, inputs.RAM)])}
-    >>> texts = reports.split_reports(library.run(["--report", "map,owners", "zp.bin"], files).decode())
-    >>> [(span.first, span.last, span.name) for span in reports.spans("owners", texts["owners"])]
+    >>> page = inputs.zero_page([(0, 0x9fc00, inputs.RAM), (0x100000, 0x7ff00000, inputs.RAM)])
+    >>> text = library.run(["--report", "map,owners", "zp.bin"], {"zp.bin": page}).decode()
+    >>> spans = reports.spans("owners", reports.split_reports(text)["owners"])
+    >>> [(hex(span.first), hex(span.last), span.name) for span in spans][:2]
+    [('0x0', '0xfffff', 'low-1m'), ('0x1000000', '0x2ffffff', 'kernel')]
 
 Nothing here is proved; the program and the library are.
 """

@@ -1,4 +1,5 @@
-"""claims-from-log: the early claims of a kernel, from a log with memblock=debug, as inputs of bootmem."""
+"""claims-from-log: the early claims of a kernel, from a log with memblock=debug, as inputs of
+bootmem."""
 
 from __future__ import annotations
 
@@ -70,7 +71,8 @@ class Request(NamedTuple):
 
 
 class Claim(NamedTuple):
-    """One claim of the log: alloc, reserve or free; a request if one was logged; the place, None if an alloc found none; the caller."""
+    """One claim of the log: alloc, reserve or free; a request if one was logged; the place, None
+    if an alloc found none; the caller."""
 
     deed: str
     request: Request | None
@@ -83,7 +85,8 @@ Places = list[tuple[int, Optional[int]]]
 
 
 class Log:
-    """What a log has: the first and the newest dump of memblock, what was added before, and the claims after the first dump."""
+    """What a log has: the first and the newest dump of memblock, what was added before, and the
+    claims after the first dump."""
 
     def __init__(self) -> None:
         self.added: list[Range] = []
@@ -152,7 +155,8 @@ def settle(log: Log, pending: Claim | None) -> None:
 
 
 def read_record(log: Log, match: re.Match[str], dumps: int) -> None:
-    """Keeps a record of a dump: those of the first, and the newest ones of memory with their nodes."""
+    """Keeps a record of a dump: those of the first, and the newest ones of memory with their
+    nodes."""
     first, last = int(match.group(2), 16), int(match.group(3), 16)
     if dumps == 1:
         (log.memory if match.group(1) == "memory" else log.reserved).append((first, last))
@@ -199,7 +203,8 @@ def read_fact(log: Log, line: str) -> None:
 
 
 def image_of(log: Log) -> Range | None:
-    """Returns first and last byte of the kernel's image: what lies below its brk in one range of the first dump; None if the log doesn't have it."""
+    """Returns first and last byte of the kernel's image: what lies below its brk in one range of
+    the first dump; None if the log doesn't have it."""
     for first, last in log.before:
         for low, high in log.reserved:
             if MIB <= low < first and last == high:
@@ -215,13 +220,15 @@ def low_alone(claim: Claim) -> bool:
 
 
 def is_crash(claim: Claim) -> bool:
-    """Tells whether a claim is for the crash area: asked for by reserve_crashkernel, which may be part of setup_arch in a build."""
+    """Tells whether a claim is for the crash area: asked for by reserve_crashkernel, which may
+    be part of setup_arch in a build."""
     return claim.caller.startswith("reserve_crashkernel") or (
         claim.caller == "setup_arch" and claim.request is not None and claim.request.align in CRASH_ALIGNS)
 
 
 def split_claims(log: Log) -> tuple[list[Claim], list[Claim]]:
-    """Returns the claims before the crash area, and those after it that bootmem doesn't make by itself."""
+    """Returns the claims before the crash area, and those after it that bootmem doesn't make by
+    itself."""
     claims = [claim for claim in log.claims if not low_alone(claim)]
     own = [place for place, claim in enumerate(claims) if is_crash(claim) or claim.caller.startswith("sparse_")]
     edge = own[0] if own else len(claims)
@@ -229,7 +236,8 @@ def split_claims(log: Log) -> tuple[list[Claim], list[Claim]]:
 
 
 def early_ranges(log: Log, early: Iterable[Claim], image: Range) -> list[Range]:
-    """Returns the memory that was claimed before the crash area and that bootmem doesn't claim by itself, in whole frames."""
+    """Returns the memory that was claimed before the crash area and that bootmem doesn't claim
+    by itself, in whole frames."""
     held = joined(log.reserved)
     for claim in early:
         if claim.place is None:
@@ -254,7 +262,8 @@ def reserve_line(number: int, place: Range) -> str:
 
 
 def give_back(number: int, place: Range, live: dict[int, Range]) -> list[str]:
-    """Returns the lines that give a range back: of an allocation that began or ended with it, else of a range of its own."""
+    """Returns the lines that give a range back: of an allocation that began or ended with it,
+    else of a range of its own."""
     for own, (first, last) in list(live.items()):
         if (first, last) == place:
             del live[own]
@@ -286,7 +295,8 @@ def later_script(claims: Iterable[Claim], places: bool) -> list[str]:
 
 
 def replay_script(log: Log) -> tuple[list[str], Places]:
-    """Returns the lines of a whole boot's script, and the numbers of those that have a place, with the place or None."""
+    """Returns the lines of a whole boot's script, and the numbers of those that have a place,
+    with the place or None."""
     lines: list[str] = []
     places: Places = []
     at_once = [Claim("reserve", None, place, "") for place in log.reserved]
@@ -301,7 +311,8 @@ def replay_script(log: Log) -> tuple[list[str], Places]:
 
 
 def phantoms(log: Log) -> dict[int, int]:
-    """Returns memory above all other, of a frame's room for each node's data, so that what bootmem claims for it moves nothing: by node."""
+    """Returns memory above all other, of a frame's room for each node's data, so that what
+    bootmem claims for it moves nothing: by node."""
     top = max(last + 1 for _, last in log.memory)
     return {node: ((top >> 30) + 2 + place << 30) for place, node in enumerate(sorted(log.data) or [0])}
 

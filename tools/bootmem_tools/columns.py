@@ -1,4 +1,5 @@
-"""The columns that bootmem-draw draws of reports: their rows with names and colours, for a picture, a table and a page."""
+"""The columns that bootmem-draw draws of reports: their rows with names and colours, for a
+picture, a table and a page."""
 
 from __future__ import annotations
 
@@ -12,7 +13,8 @@ HEADS = {"map": "map", "owners": "owners", "nodes": "nodes", "zones": "zones", "
 
 STRUCTURES = "page structures of section "  # what the owner `map N` has
 
-# Light enough for dark text; the two nearest ones stay apart (by 10 in CIELAB) for each kind of colour-blindness, too.
+# Light enough for dark text; the two nearest ones stay apart (by 10 in CIELAB) for each kind of
+# colour-blindness, too.
 BLUE, CYAN, MINT, PEAR = "#9ec5ed", "#b4e9f7", "#72c4ab", "#c2d163"
 YELLOW, ORANGE, PINK, GREY = "#faeea0", "#f2a973", "#eda5cd", "#d8d8d8"
 COLOURS = {
@@ -27,7 +29,8 @@ NODES = [BLUE, YELLOW, MINT, PINK, CYAN, ORANGE, PEAR]
 
 
 class Row(NamedTuple):
-    """A row of the picture: its bytes, its name, its colour, None for a gap, and the text of its tool tip."""
+    """A row of the picture: its bytes, its name, its colour, None for a gap, and the text of its
+    tool tip."""
 
     first: int
     last: int
@@ -44,7 +47,8 @@ class Column(NamedTuple):
 
 
 def colour_of(report: str, span: reports.Span) -> str:
-    """Returns the colour of a row: of a node by its number, of a block by its order, else by its name."""
+    """Returns the colour of a row: of a node by its number, of a block by its order, else by its
+    name."""
     if report == "nodes":
         return NODES[int(span.fields["node"]) % len(NODES)]
     if report == "blocks":
@@ -56,7 +60,8 @@ def colour_of(report: str, span: reports.Span) -> str:
 
 
 def joined_blocks(found: Iterable[reports.Span]) -> list[reports.Span]:
-    """Returns the blocks, in which neighbours of one order, node and zone are one span with the number of blocks in its name."""
+    """Returns the blocks, in which neighbours of one order, node and zone are one span with the
+    number of blocks in its name."""
     runs: list[list[reports.Span]] = []
     for span in found:
         before = runs[-1][-1] if runs else None
@@ -68,7 +73,8 @@ def joined_blocks(found: Iterable[reports.Span]) -> list[reports.Span]:
 
 
 def name_of(report: str, span: reports.Span) -> str:
-    """Returns a row's name: the report's own, except for the map of a section, which isn't the firmware's map."""
+    """Returns a row's name: the report's own, except for the map of a section, which isn't the
+    firmware's map."""
     return re.sub(r"^map (?=\d+$)", STRUCTURES, span.name) if report == "owners" else span.name
 
 

@@ -1,9 +1,10 @@
 """Command lines as Linux 6.1 reads them, and lines that bootmem reads alike.
 
-The kernel reads words as `next_arg` splits them, but looks for `crashkernel=` in the raw line (`get_last_crashkernel`); it takes
-of a value what it understands, warns of what it doesn't and goes on, where bootmem refuses the line. `read_line` gives a line of
-which bootmem understands what the kernel does of the given one, and prints each change. Texts are bytes as Latin-1. Nothing here is
-proved.
+The kernel reads words as `next_arg` splits them, but looks for `crashkernel=` in the raw line
+(`get_last_crashkernel`); it takes of a value what it understands, warns of what it doesn't and
+goes on, where bootmem refuses the line. `read_line` gives a line of which bootmem understands
+what the kernel does of the given one, and prints each change. Texts are bytes as Latin-1.
+Nothing here is proved.
 """
 
 from __future__ import annotations
@@ -48,7 +49,8 @@ class Word(NamedTuple):
 
 
 class Crash(NamedTuple):
-    """The crash area that a line asks for: size and base by the plain form, else the size by the form high; and the size of the low part."""
+    """The crash area that a line asks for: size and base by the plain form, else the size by the
+    form high; and the size of the low part."""
 
     size: int
     base: int
@@ -57,7 +59,8 @@ class Crash(NamedTuple):
 
 
 class Reading(NamedTuple):
-    """A line that bootmem reads as the kernel reads the given one, what was changed, and what bootmem ignores."""
+    """A line that bootmem reads as the kernel reads the given one, what was changed, and what
+    bootmem ignores."""
 
     line: str
     changes: list[str]
@@ -85,7 +88,8 @@ class Malformed(Exception):
 
 
 def memparse(text: str, place: int) -> tuple[int, int]:
-    """Returns the number at a place, as `memparse` takes it, and the place after it: at most one suffix, wrapping at 2^64."""
+    """Returns the number at a place, as `memparse` takes it, and the place after it: at most one
+    suffix, wrapping at 2^64."""
     number, behind = number_at(text, place)
     suffix = text[behind:behind + 1].upper()
     if suffix and suffix in "KMGTPE":
@@ -94,7 +98,8 @@ def memparse(text: str, place: int) -> tuple[int, int]:
 
 
 def number_at(text: str, place: int) -> tuple[int, int]:
-    """Returns the number at a place without a suffix, and the place after its last digit (simple_strtoull with base 0)."""
+    """Returns the number at a place without a suffix, and the place after its last digit
+    (simple_strtoull with base 0)."""
     for form, base in ((r"0[xX]([0-9a-fA-F]+)", 16), (r"(0[0-7]*)", 8), (r"([0-9]+)", 10)):
         match = re.compile(form).match(text, place)
         if match:
@@ -103,7 +108,8 @@ def number_at(text: str, place: int) -> tuple[int, int]:
 
 
 def size_said(text: str, first: int, behind: int) -> str:
-    """Returns a size as bootmem reads it alike: the text itself, or its value if the text has no digit or exceeds 2^64 - 1."""
+    """Returns a size as bootmem reads it alike: the text itself, or its value if the text has no
+    digit or exceeds 2^64 - 1."""
     token = text[first:behind]
     value = memparse(text, first)[0]
     return token if plain_size(token) == value else size_text(value)
@@ -120,7 +126,8 @@ def plain_size(token: str) -> int | None:
 
 
 def size_text(value: int) -> str:
-    """Returns a size with the greatest suffix that leaves no fraction; without one in hexadecimal, unless it is small."""
+    """Returns a size with the greatest suffix that leaves no fraction; without one in
+    hexadecimal, unless it is small."""
     for power, suffix in ((4, "T"), (3, "G"), (2, "M"), (1, "K")):
         if value and value % (1 << 10 * power) == 0:
             return f"{value >> 10 * power}{suffix}"
@@ -190,7 +197,8 @@ def types_said(text: str) -> tuple[str, bool]:
 
 
 def numa_said(value: str | None) -> str:
-    """Returns what `numa=` says to the kernel (numa_setup); without an SRAT all memory is node 0, as with `off`."""
+    """Returns what `numa=` says to the kernel (numa_setup); without an SRAT all memory is node
+    0, as with `off`."""
     if value is None:
         raise Malformed("it has no value")
     if value.startswith(("off", "noacpi")):
@@ -204,13 +212,15 @@ SAID = {"mem": mem_said, "memmap": memmap_said, "numa": numa_said}
 
 
 def raw_line(data: bytes) -> str:
-    """Returns the line of a file, as the kernel has it: before the first zero byte, without one newline at its end, uncut."""
+    """Returns the line of a file, as the kernel has it: before the first zero byte, without one
+    newline at its end, uncut."""
     line = data.split(b"\0", 1)[0]
     return (line[:-1] if line.endswith(b"\n") else line).decode("latin-1")
 
 
 def settled_line(line: str, changes: list[str]) -> str:
-    """Returns the line without what splits words in the kernel alone: a quotation that isn't closed, and bytes 0xA0."""
+    """Returns the line without what splits words in the kernel alone: a quotation that isn't
+    closed, and bytes 0xA0."""
     letters: list[str] = []
     quoted = False
     for letter in line:
@@ -225,7 +235,8 @@ def settled_line(line: str, changes: list[str]) -> str:
 
 
 def words_of(line: str) -> tuple[list[Word], int]:
-    """Returns the words of a line up to `--`, as `next_arg` splits it, and where `--` or else the line's end is."""
+    """Returns the words of a line up to `--`, as `next_arg` splits it, and where `--` or else
+    the line's end is."""
     found: list[Word] = []
     for match in re.finditer(r'(?:[^ \t\n\v\f\r"]|"[^"]*")+', line):
         text = match.group()
@@ -237,7 +248,8 @@ def words_of(line: str) -> tuple[list[Word], int]:
 
 
 def kernel_word(text: str) -> tuple[str, str | None]:
-    """Returns name and value of a word in the kernel, which takes one closing mark from a word and its value together (next_arg)."""
+    """Returns name and value of a word in the kernel, which takes one closing mark from a word
+    and its value together (next_arg)."""
     quoted = text.startswith('"')
     text = text[1:] if quoted else text
     place = text.find("=", 1)
@@ -250,7 +262,8 @@ def kernel_word(text: str) -> tuple[str, str | None]:
 
 
 def program_word(text: str) -> tuple[str, str | None]:
-    """Returns name and value of a word in bootmem: the word loses its quotation marks once, and its value once more."""
+    """Returns name and value of a word in bootmem: the word loses its quotation marks once, and
+    its value once more."""
     name, equals, value = unquoted(text).partition("=")
     return name, unquoted(value) if equals else None
 
@@ -261,7 +274,8 @@ def unquoted(text: str) -> str:
 
 
 def options_said(words: Sequence[Word], changes: list[str]) -> list[str]:
-    """Returns the text for each word except `crashkernel=`; an empty one if the word is left out."""
+    """Returns the text for each word except `crashkernel=`; an empty one if the word is left
+    out."""
     texts = []
     for number, word in enumerate(words, 1):
         name, value = program_word(word.text)
@@ -285,8 +299,8 @@ def options_said(words: Sequence[Word], changes: list[str]) -> list[str]:
 
 
 def last_crash(raw: str, suffix: str) -> tuple[int, int] | None:
-    """Returns where the value of the last `crashkernel=` of a form begins in the raw line and where its word ends, or None
-    (get_last_crashkernel)."""
+    """Returns where the value of the last `crashkernel=` of a form begins in the raw line and
+    where its word ends, or None (get_last_crashkernel)."""
     found = None
     for match in re.finditer(KEY, raw):
         end = raw.find(" ", match.start())
@@ -336,7 +350,8 @@ def mark_at(raw: str, place: int, mark: str) -> int:
 
 
 def ranged(raw: str, place: int, total: int) -> tuple[int, int]:
-    """Returns size and base of the plain form by ranges, for this total of bytes, rounded already (parse_crashkernel_mem)."""
+    """Returns size and base of the plain form by ranges, for this total of bytes, rounded
+    already (parse_crashkernel_mem)."""
     while True:
         start, place = size_at(raw, place)
         place, end = mark_at(raw, place, "-"), TOP
@@ -362,8 +377,9 @@ def round_up(total: int) -> int:
 
 
 def kernel_crash(raw: str, words: Sequence[Word], total: Totals) -> tuple[Crash, Places, Faults]:
-    """Returns what the raw line says of the crash area (parse_crashkernel, reserve_crashkernel); for each form where its value is in the
-    raw line; and by this place why the kernel ignores it, if it does."""
+    """Returns what the raw line says of the crash area (parse_crashkernel, reserve_crashkernel);
+    for each form where its value is in the raw line; and by this place why the kernel ignores
+    it, if it does."""
     plain = 0, 0
     said: dict[str, int] = {}
     places: Places = {}
@@ -387,7 +403,8 @@ def kernel_crash(raw: str, words: Sequence[Word], total: Totals) -> tuple[Crash,
 
 
 def asked(size: int, base: int, high: int, low: int | None, default: int) -> Crash:
-    """Returns what is asked for: the form high counts if the plain one has no size, and a low part only if one of them has."""
+    """Returns what is asked for: the form high counts if the plain one has no size, and a low
+    part only if one of them has."""
     if size:
         high = 0
     elif high:
@@ -398,7 +415,8 @@ def asked(size: int, base: int, high: int, low: int | None, default: int) -> Cra
 
 
 def low_default(words: Iterable[Word]) -> int:
-    """Returns the size of the low part without a form `S,low`: 256 MiB, or what `swiotlb=` asks for and 8 MiB (reserve_crashkernel_low)."""
+    """Returns the size of the low part without a form `S,low`: 256 MiB, or what `swiotlb=` asks
+    for and 8 MiB (reserve_crashkernel_low)."""
     slabs = 0
     for word in words:
         if word.name == "swiotlb" and word.value and word.value[0].isdigit():
@@ -410,7 +428,8 @@ SIZE = r"(?:0[xX][0-9a-fA-F]+|[0-9]+)[kKmMgGtTpPeE]?"
 
 
 def program_plain(value: str) -> tuple[list[Sized], int] | None:
-    """Returns ranges (start, end or None, size) and base of the plain form for bootmem, or None if it refuses it."""
+    """Returns ranges (start, end or None, size) and base of the plain form for bootmem, or None
+    if it refuses it."""
     body, _, base = value.partition("@")
     parts = body.split(",")
     found: list[Sized] = []
@@ -464,7 +483,8 @@ def crash_words(crash: Crash) -> dict[str, str]:
 
 
 def crash_said(raw: str, words: Sequence[Word], texts: list[str], total: Totals, changes: list[str]) -> list[str]:
-    """Returns the texts with `crashkernel=` as the kernel reads it, and the words that are added after them."""
+    """Returns the texts with `crashkernel=` as the kernel reads it, and the words that are added
+    after them."""
     wanted, places, faults = kernel_crash(raw, words, total)
     if program_crash(words, total) == wanted:
         return []
@@ -505,7 +525,8 @@ def why_unused(forms: Iterable[str], places: Places, faults: Faults) -> str:
 
 
 def words_noted(words: Iterable[Word]) -> Iterator[str]:
-    """Yields what bootmem ignores though the kernel acts on it, what needs a file, and names that are nearly its own."""
+    """Yields what bootmem ignores though the kernel acts on it, what needs a file, and names
+    that are nearly its own."""
     for number, word in enumerate(words, 1):
         name = word.name.replace("-", "_")
         if name in PASSED:
@@ -519,7 +540,8 @@ def words_noted(words: Iterable[Word]) -> Iterator[str]:
 
 
 def near(name: str) -> str | None:
-    """Returns the one of bootmem's own names that differs from this one by case, by a sign `_` or `-`, or by one letter or two; else None."""
+    """Returns the one of bootmem's own names that differs from this one by case, by a sign `_`
+    or `-`, or by one letter or two; else None."""
     plain = name.lower().replace("_", "").replace("-", "")
     for own, most in (("crashkernel", 2), ("memmap", 1), ("numa", 1), ("mem", 0)):
         if distance(plain, own) <= most:
@@ -528,7 +550,8 @@ def near(name: str) -> str | None:
 
 
 def distance(one: str, two: str) -> int:
-    """Returns how many letters are to be added, taken away, replaced or swapped with the next, from one text to the other."""
+    """Returns how many letters are to be added, taken away, replaced or swapped with the next,
+    from one text to the other."""
     before: list[int] = []
     row = list(range(len(two) + 1))
     for i, letter in enumerate(one, 1):
@@ -541,8 +564,9 @@ def distance(one: str, two: str) -> int:
 
 
 def read_line(data: bytes, total: Callable[[str], Total] | None = None) -> Reading:
-    """Returns a line that bootmem reads as the kernel reads the file's bytes. `total` gives total memory, of type Total, for a line without
-    `crashkernel=`; it is called where a size depends on it."""
+    """Returns a line that bootmem reads as the kernel reads the file's bytes. `total` gives
+    total memory, of type Total, for a line without `crashkernel=`; it is called where a size
+    depends on it."""
     changes: list[str] = []
     raw = raw_line(data)
     if len(raw) > LONGEST:
@@ -577,8 +601,9 @@ def total_for(total: Callable[[str], Total] | None, line: str) -> Total:
 
 
 def total_by(program: str | None, words: Sequence[str], folder: str | None = None) -> Callable[[str], Total]:
-    """Returns a function from a line to total memory by the map of the named program, or of the one that is found: the kernel counts the
-    bytes of frames that are memory in part, if they are beside a whole one (memblock_trim_memory)."""
+    """Returns a function from a line to total memory by the map of the named program, or of the
+    one that is found: the kernel counts the bytes of frames that are memory in part, if they are
+    beside a whole one (memblock_trim_memory)."""
     def total(line: str) -> Total:
         """Returns total memory for this line."""
         with tempfile.TemporaryDirectory() as work:

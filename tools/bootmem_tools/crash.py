@@ -50,7 +50,8 @@ class Tried(NamedTuple):
 
 
 class Gap(NamedTuple):
-    """Memory that nobody has when the kernel looks for the area: its first and last byte, and what lies below and above it."""
+    """Memory that nobody has when the kernel looks for the area: its first and last byte, and
+    what lies below and above it."""
 
     first: int
     last: int
@@ -76,7 +77,8 @@ def read_words(words: list[str]) -> argparse.Namespace:
 
 
 class Machine:
-    """A machine's files, and its line as the kernel reads it, apart from what it asks for of the crash area."""
+    """A machine's files, and its line as the kernel reads it, apart from what it asks for of the
+    crash area."""
 
     def __init__(self, given: argparse.Namespace) -> None:
         folder = given.machine if os.path.isdir(given.machine) else None
@@ -108,7 +110,8 @@ class Machine:
         self.behind = self.reading.line[end:]
 
     def run(self, asked: str, names: list[str]) -> tuple[reports.Texts, str | None]:
-        """Returns the reports of these names for a line that asks for this besides, or why the boot stops."""
+        """Returns the reports of these names for a line that asks for this besides, or why the
+        boot stops."""
         with tempfile.TemporaryDirectory() as work:
             path = os.path.join(work, "line")
             command_line.write_line(path, " ".join(self.rest + ([asked] if asked else []) + [self.behind]))
@@ -124,7 +127,8 @@ class Machine:
 
 
 def greatest(own: Machine, suffix: str, most: int, end: int = HIGH) -> tuple[int, Tried]:
-    """Returns the greatest number of MiB that fits with this suffix and begins below an end, and its outcome; 0 if none does."""
+    """Returns the greatest number of MiB that fits with this suffix and begins below an end, and
+    its outcome; 0 if none does."""
     fits, fails, best = 0, most + 1, Tried([], "")
     while fails - fits > 1:
         middle = (fits + fails) // 2
@@ -146,7 +150,8 @@ def area_text(found: Sequence[ranges.Range]) -> str:
 
 
 def claims(lines: Iterable[str]) -> list[Claim]:
-    """Returns who has what when the kernel looks for the area, ascending: the journal's claims up to those of the sections."""
+    """Returns who has what when the kernel looks for the area, ascending: the journal's claims
+    up to those of the sections."""
     found: list[Claim] = []
     for item in reports.spans("journal", lines):
         if item.fields.get("owner") == "roots":

@@ -74,7 +74,8 @@ def run(program: str, names: list[str], text: str) -> tuple[list[str], reports.T
 
 
 def changes(name: str, before: Iterable[str], after: Iterable[str]) -> list[Change]:
-    """Returns the ranges in which the two sides of a report differ: first, last, what A says, what B says."""
+    """Returns the ranges in which the two sides of a report differ: first, last, what A says,
+    what B says."""
     found: list[Change] = []
     for first, last, sides in ranges.sweep(reports.spans(name, before), reports.spans(name, after)):
         was, now = (", ".join(span.name for span in side) or "none" for side in sides)
@@ -87,7 +88,8 @@ def changes(name: str, before: Iterable[str], after: Iterable[str]) -> list[Chan
 
 
 def chosen(names: list[str] | None, before: reports.Texts, after: reports.Texts) -> list[str]:
-    """Returns the reports to compare: the named ones, which both sides must have, or what both have of map and owners."""
+    """Returns the reports to compare: the named ones, which both sides must have, or what both
+    have of map and owners."""
     for name in names or []:
         for side, have in (("A", before), ("B", after)):
             if name not in have:

@@ -49,7 +49,8 @@ Boots = list[tuple[str, reports.Texts]]  # each with its name
 
 
 def read_words(words: list[str]) -> tuple[argparse.Namespace, Boots]:
-    """Returns what the words ask for, and the reports to draw: those of one boot, or for a page of two."""
+    """Returns what the words ask for, and the reports to draw: those of one boot, or for a page
+    of two."""
     own, program_words = tool.split_words(words)
     parser = tool.new_parser(NAME, USAGE, ABOUT, EPILOG)
     parser.add_argument("files", metavar="FILE", nargs="*", help="a text of reports; - is standard input")
@@ -91,7 +92,8 @@ STYLE = """text { font: 11px "DejaVu Sans", Verdana, "Segoe UI", Helvetica, Aria
 
 
 def heights(columns: Sequence[Column]) -> dict[int, int]:
-    """Returns the place of each end of a row below the first, so that each row has room for its text and each address for its own."""
+    """Returns the place of each end of a row below the first, so that each row has room for its
+    text and each address for its own."""
     rows = [row for column in columns for lane in column.lanes for row in lane]
     by_end: dict[int, list[Row]] = collections.defaultdict(list)
     for row in rows:
@@ -168,7 +170,8 @@ def cell_of(row: Row, first: int) -> str:
 
 
 def table_lines(lanes: Sequence[tuple[str, list[Row]]]) -> list[str]:
-    """Returns the lines of a table of lanes, each with its column's head: one for each address at which something begins or ends."""
+    """Returns the lines of a table of lanes, each with its column's head: one for each address
+    at which something begins or ends."""
     before = [""] + [head for head, _ in lanes]
     lines = [["address"] + ["" if head == left else head for (head, _), left in zip(lanes, before)]]
     after = 0
@@ -182,7 +185,8 @@ def table_lines(lanes: Sequence[tuple[str, list[Row]]]) -> list[str]:
 
 
 def table(columns: Sequence[Column], title: str | None, width: int) -> str:
-    """Returns the text of the tables for a terminal of this width: as few as have room for all lanes; a line that still has none is cut."""
+    """Returns the text of the tables for a terminal of this width: as few as have room for all
+    lanes; a line that still has none is cut."""
     groups: list[list[tuple[str, list[Row]]]] = []
     for lane in [(column.head, lane) for column in columns for lane in column.lanes if lane]:
         if groups and max(map(len, table_lines(groups[-1] + [lane]))) <= width:

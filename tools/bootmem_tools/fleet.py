@@ -60,7 +60,8 @@ class Plan(NamedTuple):
 
 
 class Answer(NamedTuple):
-    """The outcome for a folder: its row, whether the image's place was assumed, and what was changed in its line."""
+    """The outcome for a folder: its row, whether the image's place was assumed, and what was
+    changed in its line."""
 
     row: objects.Object
     assumed: bool
@@ -85,7 +86,8 @@ def read_words(words: list[str]) -> argparse.Namespace:
 
 
 def kernel_words(folder: str, plan: Plan) -> list[str]:
-    """Returns the words that tell where the kernel's image lies, as far as the words, or the folder's kernel or words, tell it."""
+    """Returns the words that tell where the kernel's image lies, as far as the words, or the
+    folder's kernel or words, tell it."""
     if plan.kernel:
         return ["--kernel", plan.kernel]
     told = machine.text_in(folder, "kernel")
@@ -96,7 +98,8 @@ def kernel_words(folder: str, plan: Plan) -> list[str]:
 
 
 def dropped(line: str, names: list[str]) -> str:
-    """Returns the line without the words of these names; blanks outside quotation marks separate words."""
+    """Returns the line without the words of these names; blanks outside quotation marks separate
+    words."""
     words, quoted = [""], False
     for letter in line:
         quoted ^= letter == '"'
@@ -108,7 +111,8 @@ def dropped(line: str, names: list[str]) -> str:
 
 
 def changed_line(folder: str, plan: Plan, file: IO[bytes]) -> list[str]:
-    """Writes the folder's line, changed as the plan says, to the file; returns what reading it as the kernel does changed."""
+    """Writes the folder's line, changed as the plan says, to the file; returns what reading it
+    as the kernel does changed."""
     path = os.path.join(folder, "cmdline")
     line = b""
     if os.path.exists(path):

@@ -1,6 +1,8 @@
-"""The reports' grammar: one table of the lines that each report may have, with the fields of each.
+"""The reports' grammar: one table of the lines that each report may have, with the fields of
+each.
 
-The forms are those of docs/FORMATS.md. All that reads a report goes by this table, and a line that no row of its report fits is an error.
+The forms are those of docs/FORMATS.md. All that reads a report goes by this table, and a line
+that no row of its report fits is an error.
 """
 
 from __future__ import annotations
@@ -19,8 +21,9 @@ FIELDS = {
     "zones": r"(?: \d+/\w+)*", "orders": r"(?: +\d+){11}", "on": "on|off",
 }
 
-# The rows of each report, by the report's name: the kind of a line, and its form, in which <first>..<last> and the like are fields.
-# <field:..> is a field of the values that follow the colon; all else is a regular expression. The order of rows is that in which a line is tried.
+# The rows of each report, by the report's name: the kind of a line, and its form, in which
+# <first>..<last> and the like are fields. <field:..> is a field of the values that follow the
+# colon; all else is a regular expression. The order of rows is that in which a line is tried.
 GRAMMAR = {
     "map": {"run": "<first>..<last> <type> <name>"},
     "options": {
@@ -60,7 +63,8 @@ GRAMMAR = {
 
 
 class Line(NamedTuple):
-    """A line of a report: its number from 1 on, its kind, the text of each of its fields, and the whole text."""
+    """A line of a report: its number from 1 on, its kind, the text of each of its fields, and
+    the whole text."""
 
     number: int
     kind: str
@@ -100,5 +104,6 @@ def read_lines(name: str, texts: Iterable[str]) -> Iterator[Line]:
 
 
 def report_of(text: str) -> str | None:
-    """Returns the name of the first report that may have a line like this one, or None if none may."""
+    """Returns the name of the first report that may have a line like this one, or None if none
+    may."""
     return next((name for name, rows in ROWS.items() if any(form.fullmatch(text) for form in rows.values())), None)

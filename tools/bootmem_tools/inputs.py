@@ -1,4 +1,5 @@
-"""Inputs of bootmem as bytes: zero page, E820 extension, SRAT, SLIT and EFI memory map, for tests of a virtual machine monitor, too.
+"""Inputs of bootmem as bytes: zero page, E820 extension, SRAT, SLIT and EFI memory map, for
+tests of a virtual machine monitor, too.
 
 The forms are those of docs/FORMATS.md. Addresses and sizes are in bytes.
 """
@@ -25,7 +26,8 @@ STRIDE = 48  # bytes of a descriptor that x86 firmware hands over
 
 
 def entry_bytes(entries: Iterable[Entry]) -> bytes:
-    """Returns these entries as the zero page and the extension hold them (struct boot_e820_entry)."""
+    """Returns these entries as the zero page and the extension hold them (struct
+    boot_e820_entry)."""
     return b"".join(struct.pack("<QQI", *entry) for entry in entries)
 
 
@@ -50,7 +52,8 @@ def zero_page(entries: Sequence[Entry], initrd: Initrd | None = None) -> bytes:
 
 
 def extension(entries: Sequence[Entry]) -> bytes:
-    """Returns an extension with these entries, 3,072 at most (struct setup_data of type SETUP_E820_EXT).
+    """Returns an extension with these entries, 3,072 at most (struct setup_data of type
+    SETUP_E820_EXT).
 
     # Errors
     A ValueError if there are more entries than an extension has room for.
@@ -61,7 +64,8 @@ def extension(entries: Sequence[Entry]) -> bytes:
 
 
 def map_files(entries: Sequence[Entry], initrd: Initrd | None = None) -> tuple[bytes, bytes | None]:
-    """Returns a zero page, and an extension with the entries for which it has no room, or None if there are none."""
+    """Returns a zero page, and an extension with the entries for which it has no room, or None
+    if there are none."""
     return zero_page(entries[:ROOM], initrd), extension(entries[ROOM:]) if entries[ROOM:] else None
 
 
@@ -78,7 +82,8 @@ def acpi_table(signature: bytes, body: bytes, revision: int = 1) -> bytes:
 
 
 def memory_affinity(first: int, size: int, domain: int, flags: int = 1) -> bytes:
-    """Returns an SRAT's entry for a range of memory; flag 1 enables it (struct acpi_srat_mem_affinity)."""
+    """Returns an SRAT's entry for a range of memory; flag 1 enables it (struct
+    acpi_srat_mem_affinity)."""
     return struct.pack("<BBIHQQIIQ", 1, 40, domain, 0, first, size, 0, flags, 0)
 
 
@@ -88,7 +93,8 @@ def processor_affinity(domain: int) -> bytes:
 
 
 def srat(blocks: Iterable[tuple[int, int, int]], domains: Iterable[int] = ()) -> bytes:
-    """Returns an SRAT, revision 3: a processor for each of the domains, and these blocks, each a base, a size and a domain."""
+    """Returns an SRAT, revision 3: a processor for each of the domains, and these blocks, each a
+    base, a size and a domain."""
     body = b"".join(map(processor_affinity, domains)) + b"".join(memory_affinity(*block) for block in blocks)
     return acpi_table(b"SRAT", struct.pack("<IQ", 1, 0) + body, 3)
 
@@ -99,6 +105,7 @@ def slit(rows: Sequence[Sequence[int]]) -> bytes:
 
 
 def efi_map(descriptors: Iterable[tuple[int, int, int, int]]) -> bytes:
-    """Returns an EFI memory map of these descriptors, each a type, an address, a number of pages and attributes."""
+    """Returns an EFI memory map of these descriptors, each a type, an address, a number of pages
+    and attributes."""
     return struct.pack("<II", STRIDE, 1) + b"".join(struct.pack("<IIQQQQQ", kind, 0, first, 0, pages, attributes, 0)
                                                     for kind, first, pages, attributes in descriptors)

@@ -1,13 +1,16 @@
-"""Calls of libbootmem: what x86-64 Linux 6.1 makes of a machine's memory at boot, without a process.
+"""Calls of libbootmem: what x86-64 Linux 6.1 makes of a machine's memory at boot, without a
+process.
 
     >>> from bootmem_tools import library
     >>> from bootmem_tools.inputs import RAM, zero_page
     >>> page = zero_page([(0, 0x9fc00, RAM), (0x100000, 0x7ff00000, RAM)])
     >>> library.map_runs(["zp.bin"], {"zp.bin": page})[-1]
     MapRun(base=1048576, size=2146435072, type=1)
-    >>> library.run(["--report", "map", "zp.bin"], {"zp.bin": page}).decode()
+    >>> library.run(["--report", "map", "zp.bin"], {"zp.bin": page}).decode().splitlines()[-1]
+    '0x0000000000100000..0x000000007fffffff 1 usable'
 
-The shared object is libbootmem.so of the system's folders, or the one that the environment's BOOTMEM_LIB names.
+The shared object is libbootmem.so of the system's folders, or the one that the environment's
+BOOTMEM_LIB names.
 """
 
 from __future__ import annotations
@@ -54,7 +57,8 @@ class FreeBlock(NamedTuple):
 
 
 class Refused(Exception):
-    """There is no report: `status` and `reason` say why, and the text is the line that says what is wrong."""
+    """There is no report: `status` and `reason` say why, and the text is the line that says what
+    is wrong."""
 
     def __init__(self, status: int, line: str) -> None:
         super().__init__(line)
@@ -190,7 +194,8 @@ def run(words: Words, files: Files) -> bytes:
 
 
 def _accept(status: int, words: Words, files: Files) -> None:
-    """Raises a Refused, with the program's line, if the status of a call that hands over values isn't 0."""
+    """Raises a Refused, with the program's line, if the status of a call that hands over values
+    isn't 0."""
     if status:
         raise Refused(status, call(words, files)[2].decode("utf-8", "replace").rstrip("\n"))
 

@@ -94,7 +94,8 @@ def read_words(words: list[str]) -> argparse.Namespace:
 
 
 def collect(given: argparse.Namespace, folder: str) -> None:
-    """Gathers the machine's inputs into the folder, by the script beside this tool, else by the one on the PATH."""
+    """Gathers the machine's inputs into the folder, by the script beside this tool, else by the
+    one on the PATH."""
     folders = [os.path.dirname(os.path.realpath(sys.argv[0])), os.path.dirname(os.path.dirname(os.path.realpath(__file__)))]
     scripts = [os.path.join(beside, name) for beside in folders for name in ("collect.sh", "bootmem-collect")]
     script = next((path for path in scripts if os.path.isfile(path)), None) or shutil.which("bootmem-collect")
@@ -110,7 +111,8 @@ def collect(given: argparse.Namespace, folder: str) -> None:
 
 
 def read_zoneinfo(text: str) -> Zones:
-    """Returns the zones of /proc/zoneinfo that have frames, by node and name; a start that isn't shown is None."""
+    """Returns the zones of /proc/zoneinfo that have frames, by node and name; a start that isn't
+    shown is None."""
     found = {}
     for part in re.split(r"^(?=Node \d+, zone)", text, flags=re.MULTILINE):
         head = re.match(r"Node (\d+), zone +(\S+)", part)
@@ -129,7 +131,8 @@ def number_in(name: str, part: str) -> int | None:
 
 
 def ram_finding(first: int, last: int, here: bool, image: ranges.Range | None) -> Finding:
-    """Returns the finding for a range that is RAM on one side alone; `here` says that the kernel has it as System RAM."""
+    """Returns the finding for a range that is RAM on one side alone; `here` says that the kernel
+    has it as System RAM."""
     where = f"iomem {ranges.range_text(first, last)} ({ranges.size_text(last + 1 - first)}): "
     if not here:
         return Finding("differs", f"{where}usable by bootmem, no System RAM here: taken back later (see 'e820: update' and "
@@ -192,8 +195,8 @@ def compare_crash(resources: Iterable[machine.Resource], lines: Sequence[str], u
 
 
 def told_zones(spans: Iterable[reports.Span]) -> Zones:
-    """Returns the zones of the report, by node and name, by the kernel's rule: the node's hull cut by the zone's borders, with the same
-    present frames (zone_spanned_pages_in_node)."""
+    """Returns the zones of the report, by node and name, by the kernel's rule: the node's hull
+    cut by the zone's borders, with the same present frames (zone_spanned_pages_in_node)."""
     own = {(int(one.fields["node"]), one.fields["zone"]): {key: int(one.fields[key]) for key in ("start_frame", "end_frame", "present")}
            for one in spans}
     found = {}
@@ -244,7 +247,8 @@ def zone_finding(node: int, name: str, here: Zone, told: Zones) -> Finding:
 
 
 def compare_zones(shown: Zones, told: Zones) -> Iterator[Finding]:
-    """Yields the findings for the zones that the kernel shows and for those that bootmem alone has."""
+    """Yields the findings for the zones that the kernel shows and for those that bootmem alone
+    has."""
     for node, name in sorted(shown):
         yield zone_finding(node, name, shown[node, name], told)
     for node, name in sorted(set(told) - set(shown)):
@@ -255,7 +259,8 @@ def compare_zones(shown: Zones, told: Zones) -> Iterator[Finding]:
 
 
 def run(given: argparse.Namespace, folder: str, reading: command_line.Reading) -> tuple[list[str], Texts]:
-    """Returns the words of the program for the inputs in the folder, as they are printed, and its reports for them."""
+    """Returns the words of the program for the inputs in the folder, as they are printed, and
+    its reports for them."""
     kernel = given.kernel or machine.kernel_in(folder)
     words = machine.files_in(folder) + (["--kernel", kernel] if kernel else []) + ["zp.bin"]
     if not os.path.exists(os.path.join(folder, "cmdline")):
@@ -307,7 +312,8 @@ def print_findings(given: argparse.Namespace, folder: str) -> collections.Counte
 
 
 def main(words: list[str]) -> int:
-    """Prints the findings and their numbers; the status says whether the kernel differs in a way that isn't known."""
+    """Prints the findings and their numbers; the status says whether the kernel differs in a way
+    that isn't known."""
     given = read_words(words)
     given.program = os.path.abspath(runner.find_program(given.program))
     with tempfile.TemporaryDirectory() as temporary:

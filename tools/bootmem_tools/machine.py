@@ -1,5 +1,5 @@
-"""What several tools know of a machine: a folder of collect.sh, the resources that its kernel shows, the line as the kernel reads it, and
-the boots on which Linux 6.1 is known to panic."""
+"""What several tools know of a machine: a folder of collect.sh, the resources that its kernel
+shows, the line as the kernel reads it, and the boots on which Linux 6.1 is known to panic."""
 
 from __future__ import annotations
 
@@ -41,7 +41,8 @@ def read_iomem(text: str) -> list[Resource]:
 
 
 def image_place(resources: list[Resource]) -> str | None:
-    """Returns the kernel's image as --kernel takes it, `Kernel code` to `Kernel bss` in whole frames, or None if none is shown."""
+    """Returns the kernel's image as --kernel takes it, `Kernel code` to `Kernel bss` in whole
+    frames, or None if none is shown."""
     own = [one for one in resources if one.name.startswith("Kernel ") and one.last]
     if not any(one.name == "Kernel code" for one in own):
         return None
@@ -57,8 +58,8 @@ def text_in(folder: str, name: str) -> str | None:
 
 
 def kernel_in(folder: str) -> str | None:
-    """Returns the kernel's place by a folder of collect.sh: by its file `kernel`, else by `words` (as under examples/), else by its iomem;
-    None if none of them has it."""
+    """Returns the kernel's place by a folder of collect.sh: by its file `kernel`, else by
+    `words` (as under examples/), else by its iomem; None if none of them has it."""
     told = text_in(folder, "kernel")
     words = (text_in(folder, "words") or "").split()
     if told is None and "--kernel" in words[:-1]:
@@ -67,7 +68,8 @@ def kernel_in(folder: str) -> str | None:
 
 
 def files_in(folder: str) -> list[str]:
-    """Returns the program's words for the extension, the SRAT and the EFI memory map of a folder of collect.sh, by their names in it."""
+    """Returns the program's words for the extension, the SRAT and the EFI memory map of a folder
+    of collect.sh, by their names in it."""
     return [word for option, name in FILES if os.path.exists(os.path.join(folder, name)) for word in (option, name)]
 
 
@@ -87,7 +89,8 @@ def is_uefi(path: str) -> bool:
 
 
 def panics(texts: Texts) -> Iterator[str]:
-    """Yields why Linux 6.1 panics on a boot with these reports `map` and `nodes`, where bootmem goes on; nothing if nothing is known."""
+    """Yields why Linux 6.1 panics on a boot with these reports `map` and `nodes`, where bootmem
+    goes on; nothing if nothing is known."""
     memory = [run for run in spans("map", texts["map"]) if run.fields["type"] in MEMORY]
     nodes = list(read_lines("nodes", texts["nodes"]))
     uncovered = sum(int(line.fields["uncovered"]) for line in nodes if line.kind == "uncovered")

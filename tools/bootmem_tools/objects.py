@@ -1,7 +1,8 @@
 """Reports as values of JSON: what bootmem-json prints and bootmem-fleet reads.
 
-The form is that of docs/FORMATS.md, "Reports as JSON": an address or a size in bytes is a string of 0x and 16 digits, as in the
-reports, since many readers of JSON cut numbers above 2^53; whatever is counted is a number.
+The form is that of docs/FORMATS.md, "Reports as JSON": an address or a size in bytes is a string
+of 0x and 16 digits, as in the reports, since many readers of JSON cut numbers above 2^53;
+whatever is counted is a number.
 """
 
 from __future__ import annotations
@@ -41,7 +42,8 @@ def of_records(lines: Iterator[Line]) -> Value:
 
 
 def of_options(lines: Iterator[Line]) -> Value:
-    """Returns the edits in their order, and what the words ask for of the crash area, of nodes and of the EFI map."""
+    """Returns the edits in their order, and what the words ask for of the crash area, of nodes
+    and of the EFI map."""
     edits: list[Object] = []
     crash: Object = {"ranges": [], "high": None, "low": None}
     answer: Object = {"edits": edits, "crash": crash, "numa_off": False, "add_efi": False}
@@ -60,7 +62,8 @@ def of_options(lines: Iterator[Line]) -> Value:
 
 
 def of_nodes(lines: Iterator[Line]) -> Value:
-    """Returns the verdict with its numbers, the domains, the uncovered frames, and the ranges with their nodes."""
+    """Returns the verdict with its numbers, the domains, the uncovered frames, and the ranges
+    with their nodes."""
     answer: Object = {"numa": None, "domains": [], "uncovered": None, "ranges": []}
     for line in lines:
         if line.kind == "overlap":
@@ -130,7 +133,8 @@ def of_script(lines: Iterator[Line]) -> Value:
 
 
 def of_zonelists(lines: Iterator[Line]) -> Value:
-    """Returns whether the distances are used, with the first bad cell, and the list of each node."""
+    """Returns whether the distances are used, with the first bad cell, and the list of each
+    node."""
     lists: list[Object] = []
     answer: Object = {"slit": None, "lists": lists}
     for line in lines:

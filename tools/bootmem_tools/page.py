@@ -1,8 +1,10 @@
-"""The page that bootmem-draw --html writes: the rows of one boot or of two, and what changed between them, in page.html beside this module.
+"""The page that bootmem-draw --html writes: the rows of one boot or of two, and what changed
+between them, in page.html beside this module.
 
-A page has many rows, so they are short: each is its distance from the row before it, its size, and the number of its kind, in hexadecimal,
-with the first number of its pieces and the step from one to the next if they are numbered. A run of neighbouring pieces of one kind, such as
-free blocks of one order or the page structures of sections, is one row.
+A page has many rows, so they are short: each is its distance from the row before it, its size,
+and the number of its kind, in hexadecimal, with the first number of its pieces and the step from
+one to the next if they are numbered. A run of neighbouring pieces of one kind, such as free
+blocks of one order or the page structures of sections, is one row.
 """
 
 from __future__ import annotations
@@ -22,7 +24,8 @@ NONE = -1  # the number of what has none
 
 
 class Kind(NamedTuple):
-    """What rows of one kind have in common: label, colour, what else the report says, and the bytes of a piece or 0."""
+    """What rows of one kind have in common: label, colour, what else the report says, and the
+    bytes of a piece or 0."""
 
     label: str
     colour: str
@@ -31,7 +34,8 @@ class Kind(NamedTuple):
 
 
 class Run(NamedTuple):
-    """A row: its first and last byte, its kind, the number of its first piece, and the step to the next piece's."""
+    """A row: its first and last byte, its kind, the number of its first piece, and the step to
+    the next piece's."""
 
     first: int
     last: int
@@ -75,9 +79,11 @@ def run_of(report: str, span: reports.Span) -> Run:
 
 
 def joined(runs: Iterable[Run]) -> list[Run]:
-    """Returns the rows, ascending, where neighbouring pieces of one kind are one, if their numbers go up or down by one or they have none.
+    """Returns the rows, ascending, where neighbouring pieces of one kind are one, if their
+    numbers go up or down by one or they have none.
 
-    The lines of owners and blocks ascend, so their pieces come one after another; those of other reports have no pieces.
+    The lines of owners and blocks ascend, so their pieces come one after another; those of other
+    reports have no pieces.
     """
     found: list[Run] = []
     for run in runs:
@@ -105,7 +111,8 @@ def lanes_of(runs: Iterable[Run]) -> list[list[Run]]:
 
 
 def lane_text(lane: Iterable[Run], kinds: dict[Kind, int]) -> str:
-    """Returns the rows of a lane, with commas between; each kind gets a number when it comes first."""
+    """Returns the rows of a lane, with commas between; each kind gets a number when it comes
+    first."""
     rows, after = [], 0
     for run in lane:
         kind = kinds.setdefault(run.kind, len(kinds))
@@ -116,7 +123,8 @@ def lane_text(lane: Iterable[Run], kinds: dict[Kind, int]) -> str:
 
 
 def changes_of(boots: Sequence[reports.Texts]) -> dict[str, list[list[str]]]:
-    """Returns by report what changed between two boots: first and last byte, what was there and what is."""
+    """Returns by report what changed between two boots: first and last byte, what was there and
+    what is."""
     if len(boots) < 2:
         return {}
     both = [report for report in DRAWN if all(report in texts for texts in boots)]

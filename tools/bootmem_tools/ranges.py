@@ -38,7 +38,8 @@ def at(found: Iterable[One], address: int) -> list[One]:
 
 
 def sweep(*lists: Sequence[One]) -> Iterator[tuple[int, int, list[list[One]]]]:
-    """Yields each range between two neighbouring ends of these lists, ascending, with the members of each list that have it."""
+    """Yields each range between two neighbouring ends of these lists, ascending, with the
+    members of each list that have it."""
     ends = sorted({one.first for each in lists for one in each} | {one.last + 1 for each in lists for one in each})
     waiting = [sorted(each, key=lambda one: one.first, reverse=True) for each in lists]
     active: list[list[One]] = [[] for _ in lists]
@@ -74,7 +75,8 @@ def common(found: Iterable[Range], others: Sequence[Range]) -> list[Range]:
 
 
 def parse_size(text: str) -> int | None:
-    """Returns the number of a text like 4096, 0x1000, 640K or 0x10M (K, M, G, T, P: powers of 1,024), or None."""
+    """Returns the number of a text like 4096, 0x1000, 640K or 0x10M (K, M, G, T, P: powers of
+    1,024), or None."""
     match = re.fullmatch(r"(0[xX][0-9a-fA-F]+|[0-9]+)([kKmMgGtTpP]?)", text)
     if match is None:
         return None
@@ -95,7 +97,8 @@ def parse_pair(text: str) -> tuple[int, int] | None:
 
 
 def size_text(size: int) -> str:
-    """Returns a size in its greatest unit: 40 B, 4 KiB, 1.9 GiB; a size without a fraction is exact."""
+    """Returns a size in its greatest unit: 40 B, 4 KiB, 1.9 GiB; a size without a fraction is
+    exact."""
     for power, unit in ((4, "TiB"), (3, "GiB"), (2, "MiB"), (1, "KiB")):
         one = 1 << (10 * power)
         if size >= one:

@@ -16,7 +16,8 @@ MEMORY = ("1", "128")  # the types of the map that are memory
 
 
 class Span(NamedTuple):
-    """A line of a report that names a range: its first and last byte, what it says of it, its kind and fields, and the line itself."""
+    """A line of a report that names a range: its first and last byte, what it says of it, its
+    kind and fields, and the line itself."""
 
     first: int
     last: int
@@ -27,7 +28,8 @@ class Span(NamedTuple):
 
 
 def read_reports(path: str, behind: bool = False) -> Texts:
-    """Returns the reports of a file, or of standard input (`-`); `behind` says that the program's words may stand after `--`.
+    """Returns the reports of a file, or of standard input (`-`); `behind` says that the
+    program's words may stand after `--`.
 
     # Errors
     A Trouble if there is no report in it.
@@ -39,13 +41,15 @@ def read_reports(path: str, behind: bool = False) -> Texts:
 
 
 def judge_reports(first: bytes) -> str | None:
-    """Returns why a text that begins with these bytes has no report, or None if its first line is one of a report or names one."""
+    """Returns why a text that begins with these bytes has no report, or None if its first line
+    is one of a report or names one."""
     line = first[:4096].split(b"\n")[0].decode("utf-8", "replace")
     return None if line.startswith("== ") or grammar.report_of(line.rstrip("\r")) else "no report of bootmem in it"
 
 
 def split_reports(text: str) -> Texts:
-    """Returns the reports of a text, which its lines `== NAME` name; one report without such a line is known by its first line."""
+    """Returns the reports of a text, which its lines `== NAME` name; one report without such a
+    line is known by its first line."""
     lines = text.splitlines()
     reports: Texts = {}
     if lines and lines[0].startswith("== "):
@@ -76,7 +80,8 @@ def spans(name: str, texts: Iterable[str]) -> list[Span]:
 
 
 def range_of(name: str, fields: Mapping[str, str]) -> Range | None:
-    """Returns the first and the last byte that a line with these fields names, or None if it names no range."""
+    """Returns the first and the last byte that a line with these fields names, or None if it
+    names no range."""
     if "first" in fields:
         return int(fields["first"], 16), int(fields["last"], 16)
     if name == "zones":
@@ -114,5 +119,6 @@ def memory_of(texts: Texts) -> list[Range]:
 
 
 def crash_ranges(texts: Iterable[str]) -> list[Range]:
-    """Returns the crash area and its low part by the lines of the report `crash`, ascending; none if nothing is claimed."""
+    """Returns the crash area and its low part by the lines of the report `crash`, ascending;
+    none if nothing is claimed."""
     return sorted((span.first, span.last) for span in spans("crash", texts))

@@ -24,7 +24,8 @@ def add_program(parser: argparse.ArgumentParser) -> None:
 
 
 def find_program(named: str | None = None) -> str:
-    """Returns the path of the program: the named one, else $BOOTMEM, else one beside the tools or above them in a clone, else on the PATH.
+    """Returns the path of the program: the named one, else $BOOTMEM, else one beside the tools
+    or above them in a clone, else on the PATH.
 
     # Errors
     A Trouble if there is none, or if the named one can't be run.
@@ -49,7 +50,8 @@ def find_program(named: str | None = None) -> str:
 
 
 def call_program(program: str, names: Sequence[str], words: Sequence[str], folder: str | None = None) -> tuple[int, str, str]:
-    """Returns status, standard output and line of a run that asks for these reports; the words mustn't have --report.
+    """Returns status, standard output and line of a run that asks for these reports; the words
+    mustn't have --report.
 
     Standard input is the program's, since a word may be /dev/stdin.
     """
@@ -83,7 +85,8 @@ def run_program(program: str, names: Sequence[str], words: Sequence[str], folder
 
 
 def run_or_stop(program: str, names: Sequence[str], words: Sequence[str], folder: str | None = None) -> tuple[Texts, str | None]:
-    """Returns the reports of these names and None, or no report and the program's line if the boot stops.
+    """Returns the reports of these names and None, or no report and the program's line if the
+    boot stops.
 
     # Errors
     A Trouble if the program ends with another status than 0 and that of a stop.
@@ -97,12 +100,14 @@ def run_or_stop(program: str, names: Sequence[str], words: Sequence[str], folder
 
 
 def is_place_assumed(names: Iterable[str], words: Iterable[str]) -> bool:
-    """Tells whether one of these reports goes by the kernel's place, and the program's words don't have it."""
+    """Tells whether one of these reports goes by the kernel's place, and the program's words
+    don't have it."""
     return not PLACELESS.issuperset(names) and not any(word == "--kernel" or word.startswith("--kernel=") for word in words)
 
 
 def run_for(tool: str, program: str, names: Sequence[str], words: Sequence[str]) -> Texts:
-    """Returns what `run_program` does, for a tool whose words are its user's: if the kernel's place is assumed, it says so."""
+    """Returns what `run_program` does, for a tool whose words are its user's: if the kernel's
+    place is assumed, it says so."""
     found = run_program(program, names, words)
     if is_place_assumed(names, words):
         complain(tool, ASSUMED)

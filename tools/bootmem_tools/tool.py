@@ -1,4 +1,5 @@
-"""How each tool reads its words and its input, writes its files, and ends: one line on standard error and a status."""
+"""How each tool reads its words and its input, writes its files, and ends: one line on standard
+error and a status."""
 
 from __future__ import annotations
 
@@ -22,7 +23,8 @@ UNPROVED = "This tool isn't proved: it only reads what the proved program prints
 
 
 class Trouble(Exception):
-    """Why a tool ends: one line for standard error, and the exit status where it isn't the tool's own."""
+    """Why a tool ends: one line for standard error, and the exit status where it isn't the
+    tool's own."""
 
     def __init__(self, message: str, status: int | None = None) -> None:
         super().__init__(message)
@@ -30,7 +32,8 @@ class Trouble(Exception):
 
 
 def run_tool(name: str, main: Callable[[list[str]], int], failure: int = 1) -> NoReturn:
-    """Ends the process with the status of main(words); a Trouble is one line on standard error, and the status `failure`."""
+    """Ends the process with the status of main(words); a Trouble is one line on standard error,
+    and the status `failure`."""
     if hasattr(signal, "SIGPIPE"):
         signal.signal(signal.SIGPIPE, signal.SIG_DFL)
     try:
@@ -59,12 +62,14 @@ def complain(name: str, message: str) -> None:
 
 
 def printable(text: str) -> str:
-    """Returns the text with what a terminal would act on, or standard error can't encode, as escapes."""
+    """Returns the text with what a terminal would act on, or standard error can't encode, as
+    escapes."""
     return "".join(letter if letter.isprintable() else letter.encode("unicode_escape").decode() for letter in text)
 
 
 def quoted(line: str) -> str:
-    """Returns a line as an error quotes it: in quotation marks, with escapes, and cut where it is long."""
+    """Returns a line as an error quotes it: in quotation marks, with escapes, and cut where it
+    is long."""
     return repr(line) if len(line) <= SHORT else repr(line[:SHORT]) + ".."
 
 
@@ -98,7 +103,8 @@ def new_parser(name: str, usage: str, description: str, epilog: str) -> Parser:
 
 
 def split_words(words: Sequence[str]) -> tuple[list[str], list[str] | None]:
-    """Returns the tool's own words, and those of the program after the first `--`, or None if there is no `--`."""
+    """Returns the tool's own words, and those of the program after the first `--`, or None if
+    there is no `--`."""
     if "--" not in words:
         return list(words), None
     place = list(words).index("--")
@@ -115,7 +121,8 @@ Judge = Callable[[bytes], Optional[str]]
 
 
 class Kind(NamedTuple):
-    """What a file should be: its name for errors, its greatest length in bytes, whether it is a text, and what judges its first bytes."""
+    """What a file should be: its name for errors, its greatest length in bytes, whether it is a
+    text, and what judges its first bytes."""
 
     what: str
     limit: int
@@ -131,7 +138,8 @@ def read_limited(file: BinaryIO, name: str, kind: Kind, hint: str = "") -> bytes
     """Returns all bytes of a file, up to the limit of its kind; a hint goes into the error.
 
     # Errors
-    A Trouble if there are more bytes than the limit, if a text has a zero byte, or if its first bytes are refused.
+    A Trouble if there are more bytes than the limit, if a text has a zero byte, or if its first
+    bytes are refused.
     """
     parts: list[bytes] = []
     size = 0
@@ -163,7 +171,8 @@ def read_bytes(path: str, kind: Kind, hint: str = "") -> bytes:
 
 
 def read_text(path: str, behind: bool = False, kind: Kind = TEXT) -> str:
-    """Returns the text of a file, or of standard input if the path is `-`; `behind` says that the program's words may stand after `--`.
+    """Returns the text of a file, or of standard input if the path is `-`; `behind` says that
+    the program's words may stand after `--`.
 
     # Errors
     A Trouble if standard input is a terminal, or as `read_limited`.
@@ -175,7 +184,8 @@ def read_text(path: str, behind: bool = False, kind: Kind = TEXT) -> str:
 
 
 def write_files(files: Mapping[str, bytes]) -> None:
-    """Writes all of these files or, if one can't be written, none: each under a name of its own first, then all are renamed.
+    """Writes all of these files or, if one can't be written, none: each under a name of its own
+    first, then all are renamed.
 
     What isn't a plain file, such as a device, is written as it is.
     """
@@ -218,7 +228,8 @@ def remove_quietly(path: str) -> None:
 
 
 def write_output(text: str, path: str | None = None) -> None:
-    """Writes a text to a file whole or not at all, or to standard output if the path is None or `-`."""
+    """Writes a text to a file whole or not at all, or to standard output if the path is None or
+    `-`."""
     if path in (None, "-"):
         sys.stdout.buffer.write(text.encode("utf-8", "surrogateescape"))
     else:

@@ -53,13 +53,15 @@ def read_words(words: list[str]) -> tuple[int, reports.Texts]:
 
 
 def last_step(steps: Spans, address: int) -> reports.Span | None:
-    """Returns the newest claim or free of the journal that has the address, which decides its owner; None if there is none."""
+    """Returns the newest claim or free of the journal that has the address, which decides its
+    owner; None if there is none."""
     deciding = [step for step in ranges.at(steps, address) if step.kind in ("claim", "free")]
     return deciding[-1] if deciding else None
 
 
 def owner_lines(owners: Spans | None, steps: Spans | None, tables: Spans | None, address: int) -> Sayings:
-    """Yields the lines of who owns the address, since which step, and of the table of memblock that lies there."""
+    """Yields the lines of who owns the address, since which step, and of the table of memblock
+    that lies there."""
     holder = ranges.at(owners or [], address)
     if owners is not None:
         yield "owner", f"{holder[0].name} {ranges.range_text(*holder[0][:2])}" if holder else "none"
@@ -74,7 +76,8 @@ def owner_lines(owners: Spans | None, steps: Spans | None, tables: Spans | None,
 
 
 def place_lines(found: dict[str, Spans], address: int) -> Sayings:
-    """Yields the lines of node, zone and section; a span may have holes, so addresses without memory have them, too."""
+    """Yields the lines of node, zone and section; a span may have holes, so addresses without
+    memory have them, too."""
     if "nodes" in found:
         node = ranges.at(found["nodes"], address)
         yield "node", f"{node[-1].fields['node']} {ranges.range_text(*node[-1][:2])}" if node else "none"
@@ -94,7 +97,8 @@ def place_lines(found: dict[str, Spans], address: int) -> Sayings:
 
 
 def section_text(section: reports.Span, address: int) -> str:
-    """Returns a section's number and node, the place of its map, and of the page structure of the address's frame."""
+    """Returns a section's number and node, the place of its map, and of the page structure of
+    the address's frame."""
     place = int(section.fields["map"], 16)
     page = place + (address - section.first) // ranges.FRAME * 64
     return (f"{section.fields['section']} of node {section.fields['node']}, map at {ranges.hex_text(place)}, "

@@ -54,7 +54,8 @@ Descriptor = tuple[int, int, int, int]
 HEAD = "BIOS-provided physical RAM map:"
 ENTRY = r"\[mem 0x([0-9a-f]+)-0x([0-9a-f]+)\] (.+)"
 DESCRIPTOR = r"efi: mem(\d+): \[(.+?)\] range=\[0x([0-9a-f]+)-0x([0-9a-f]+)\]"
-# Types and attributes of descriptors by the names that the kernel prints (efi_md_typeattr_format; UEFI, section 7.2.3).
+# Types and attributes of descriptors by the names that the kernel prints (efi_md_typeattr_format;
+# UEFI, section 7.2.3).
 EFI_TYPES = ("Reserved", "Loader Code", "Loader Data", "Boot Code", "Boot Data", "Runtime Code", "Runtime Data", "Conventional",
              "Unusable", "ACPI Reclaim", "ACPI Mem NVS", "MMIO", "MMIO Port", "PAL Code", "Persistent")
 ATTRIBUTES = {"UC": 0x1, "WC": 0x2, "WT": 0x4, "WB": 0x8, "UCE": 0x10, "WP": 0x1000, "RP": 0x2000, "XP": 0x4000, "NV": 0x8000,
@@ -62,7 +63,8 @@ ATTRIBUTES = {"UC": 0x1, "WC": 0x2, "WT": 0x4, "WB": 0x8, "UCE": 0x10, "WP": 0x1
 
 
 def type_of(text: str) -> int | None:
-    """Returns the number of a type by the name that the kernel prints, or by a number; None if it is neither."""
+    """Returns the number of a type by the name that the kernel prints, or by a number; None if
+    it is neither."""
     match = re.fullmatch(r"(?:persistent \(type (\d+)\)|type (\d+)|(0[xX][0-9a-fA-F]+|\d+))", text)
     if match is None:
         return TYPES.get(text)
@@ -87,7 +89,8 @@ def entry_of(number: int, base: int, size: int, name: str) -> Entry:
 
 
 def last_boot(lines: Numbered) -> Numbered:
-    """Returns the numbered lines of the last boot of a log: those from its last line `BIOS-provided physical RAM map:` on."""
+    """Returns the numbered lines of the last boot of a log: those from its last line
+    `BIOS-provided physical RAM map:` on."""
     heads = [place for place, (_, line) in enumerate(lines) if HEAD in line]
     if len(heads) > 1:
         tool.complain(NAME, f"the log has {len(heads)} boots: the last is taken")
@@ -95,7 +98,8 @@ def last_boot(lines: Numbered) -> Numbered:
 
 
 def entries_of_log(lines: Numbered) -> list[Entry]:
-    """Returns the entries of a log's lines `BIOS-e820`, or of the last table of its lines `extended` if it has some."""
+    """Returns the entries of a log's lines `BIOS-e820`, or of the last table of its lines
+    `extended` if it has some."""
     found: dict[str, list[Entry]] = {"BIOS-e820": [], "extended": []}
     headed = any(HEAD in line for _, line in lines)
     for number, line in lines:
@@ -116,7 +120,8 @@ def entries_of_log(lines: Numbered) -> list[Entry]:
 
 
 def entries_of_list(lines: Numbered) -> list[Entry]:
-    """Returns the entries of lines `base size type`; empty lines and those that begin with # are ignored."""
+    """Returns the entries of lines `base size type`; empty lines and those that begin with # are
+    ignored."""
     entries = []
     for number, line in lines:
         words = line.split(None, 2)
@@ -130,7 +135,8 @@ def entries_of_list(lines: Numbered) -> list[Entry]:
 
 
 def attributes_of(number: int, names: Sequence[str]) -> int:
-    """Returns the attributes of a descriptor by the names that the kernel prints, or by `attr=0x..` if it has no name for one of them."""
+    """Returns the attributes of a descriptor by the names that the kernel prints, or by
+    `attr=0x..` if it has no name for one of them."""
     if len(names) == 1 and names[0].startswith("attr=0x"):
         return int(names[0][7:], 16)
     unknown = [name for name in names if name and name not in ATTRIBUTES]
@@ -140,7 +146,8 @@ def attributes_of(number: int, names: Sequence[str]) -> int:
 
 
 def efi_type(number: int, name: str) -> int:
-    """Returns the number of a descriptor's type by the name that the kernel prints, or by `type=N`."""
+    """Returns the number of a descriptor's type by the name that the kernel prints, or by
+    `type=N`."""
     match = re.fullmatch(r"type=(\d+)", name)
     if match:
         return int(match.group(1))
@@ -150,7 +157,8 @@ def efi_type(number: int, name: str) -> int:
 
 
 def descriptors_of_log(lines: Numbered) -> list[Descriptor]:
-    """Returns the descriptors of the first list `efi: mem00 ..` of a log: type, address, pages and attributes of each."""
+    """Returns the descriptors of the first list `efi: mem00 ..` of a log: type, address, pages
+    and attributes of each."""
     found: list[Descriptor] = []
     for number, line in lines:
         match = re.search(DESCRIPTOR, line)
@@ -205,7 +213,8 @@ def read_words(words: list[str]) -> argparse.Namespace:
 
 
 def choose_initrd(given: argparse.Namespace, lines: Numbered, is_log: bool) -> Initrd | None:
-    """Returns the initrd of the words or of the log, with a line on standard error if neither has one."""
+    """Returns the initrd of the words or of the log, with a line on standard error if neither
+    has one."""
     if given.no_initrd or given.initrd:
         named: Optional[Initrd] = given.initrd
         return named
