@@ -20,7 +20,8 @@ def project() -> tuple[str, str, str, dict[str, str]]:
     """Returns version, Python's least version, description and commands of pyproject.toml."""
     with open(os.path.join(HERE, "pyproject.toml"), encoding="utf-8") as file:
         text = file.read()
-    version, python, what = (re.search(rf'^{key} = "(.*)"$', text, re.MULTILINE) for key in ("version", "requires-python", "description"))
+    version, python, what = (re.search(rf'^{key} = "(.*)"$', text, re.MULTILINE)
+                             for key in ("version", "requires-python", "description"))
     if not version or not python or not what:
         raise ValueError("pyproject.toml lacks version, requires-python or description")
     commands = dict(re.findall(r'^([\w-]+) = "([\w.]+:\w+)"$', text, re.MULTILINE))
@@ -40,16 +41,19 @@ def files() -> dict[str, bytes]:
 
 def metadata(version: str, python: str, what: str) -> bytes:
     """Returns the file METADATA."""
-    return f"Metadata-Version: 2.1\nName: bootmem-tools\nVersion: {version}\nSummary: {what}\nRequires-Python: {python}\n".encode()
+    return (f"Metadata-Version: 2.1\nName: bootmem-tools\nVersion: {version}\nSummary: {what}\n"
+            f"Requires-Python: {python}\n").encode()
 
 
-def build_wheel(wheel_directory: str, config_settings: Settings | None = None, metadata_directory: str | None = None) -> str:
+def build_wheel(wheel_directory: str, config_settings: Settings | None = None,
+                metadata_directory: str | None = None) -> str:
     """Writes the wheel into the folder and returns its name (a hook of PEP 517)."""
     version, python, what, commands = project()
     info = f"{PACKAGE}-{version}.dist-info"
     held = files()
     held[f"{info}/METADATA"] = metadata(version, python, what)
-    held[f"{info}/WHEEL"] = b"Wheel-Version: 1.0\nGenerator: bootmem\nRoot-Is-Purelib: true\nTag: py3-none-any\n"
+    held[f"{info}/WHEEL"] = (b"Wheel-Version: 1.0\nGenerator: bootmem\nRoot-Is-Purelib: true\n"
+                             b"Tag: py3-none-any\n")
     scripts = "".join(f"{name} = {place}\n" for name, place in commands.items())
     held[f"{info}/entry_points.txt"] = f"[console_scripts]\n{scripts}".encode()
     record = "".join(f"{name},sha256={digest(data)},{len(data)}\n" for name, data in held.items())

@@ -16,9 +16,17 @@ ADDRESS, NUMBER, WORD, TEXT = r"0x[0-9a-f]{16}", r"\d+", r"\S+", r".+"
 
 # The fields of lines: what each looks like. A field that isn't named here is a NUMBER.
 FIELDS = {
-    **dict.fromkeys(("first", "last", "place", "start", "size", "base", "map", "usage", "limit"), ADDRESS),
-    "end": rf"{ADDRESS}|-", "name": TEXT, "owner": TEXT, "zone": WORD, "bytes": "[0-9a-f]+", "table": "memory|reserved",
-    "zones": r"(?: \d+/\w+)*", "orders": r"(?: +\d+){11}", "on": "on|off",
+    **dict.fromkeys(("first", "last", "place", "start", "size", "base", "map", "usage", "limit"),
+                    ADDRESS),
+    "end": rf"{ADDRESS}|-",
+    "name": TEXT,
+    "owner": TEXT,
+    "zone": WORD,
+    "bytes": "[0-9a-f]+",
+    "table": "memory|reserved",
+    "zones": r"(?: \d+/\w+)*",
+    "orders": r"(?: +\d+){11}",
+    "on": "on|off",
 }
 
 # The rows of each report, by the report's name: the kind of a line, and its form, in which
@@ -27,38 +35,75 @@ FIELDS = {
 GRAMMAR = {
     "map": {"run": "<first>..<last> <type> <name>"},
     "options": {
-        "add": "add <type> <first>..<last>", "remove": "remove <type> <first>..<last>", "remove-all": "remove-all <first>..<last>",
-        "change": "change <from> <to> <first>..<last>", "clear": "clear", "numa": "numa off", "efi": "efi add",
-        "range": "crash range <start> <end> <size> base <base>", "high": "crash high <size>", "low": "crash low <size>"},
+        "add": "add <type> <first>..<last>",
+        "remove": "remove <type> <first>..<last>",
+        "remove-all": "remove-all <first>..<last>",
+        "change": "change <from> <to> <first>..<last>",
+        "clear": "clear",
+        "numa": "numa off",
+        "efi": "efi add",
+        "range": "crash range <start> <end> <size> base <base>",
+        "high": "crash high <size>",
+        "low": "crash low <size>",
+    },
     "nodes": {
-        "overlap": "numa overlap <one> <other>", "not covered": "numa not covered <frames>", "numa": "numa <name:[a-z ]+>",
-        "domain": "domain <domain> node <node>", "uncovered": "uncovered <uncovered>", "node": "node <node> <first>..<last>"},
+        "overlap": "numa overlap <one> <other>",
+        "not covered": "numa not covered <frames>",
+        "numa": "numa <name:[a-z ]+>",
+        "domain": "domain <domain> node <node>",
+        "uncovered": "uncovered <uncovered>",
+        "node": "node <node> <first>..<last>",
+    },
     "memory": {"record": " *<record>: <first>..<last>"},
     "reserved": {"record": " *<record>: <first>..<last>"},
     "owners": {"owner": " *<record>: <first>..<last> <owner>"},
     "journal": {
-        "mem": "<item>: mem <first>..<last>", "trim": "<item>: trim", "node": "<item>: node <node> <first>..<last>",
-        "claim": "<item>: claim <owner> <first>..<last>", "free": "<item>: free <first>..<last>", "limit": "<item>: limit <limit>",
-        "mirror": "<item>: mirror <first>..<last>", "upward": "<item>: upward <on>",
-        "grown": "<item>: grown <table> <place> room <room>"},
+        "mem": "<item>: mem <first>..<last>",
+        "trim": "<item>: trim",
+        "node": "<item>: node <node> <first>..<last>",
+        "claim": "<item>: claim <owner> <first>..<last>",
+        "free": "<item>: free <first>..<last>",
+        "limit": "<item>: limit <limit>",
+        "mirror": "<item>: mirror <first>..<last>",
+        "upward": "<item>: upward <on>",
+        "grown": "<item>: grown <table> <place> room <room>",
+    },
     "crash": {
-        "at": "crash at <first>..<last>", "low": "crash low <first>..<last>", "outcome": "crash <name:none|no area|in use|low failed>"},
+        "at": "crash at <first>..<last>",
+        "low": "crash low <first>..<last>",
+        "outcome": "crash <name:none|no area|in use|low failed>",
+    },
     "sections": {
-        "roots": "roots <place>", "root": "root <root> <place>", "section": "section <section> node <node> map <map> usage <usage>"},
-    "zones": {"zone": "Node <node>, zone <zone> start <start_frame> end <end_frame> present <present> free <free>"},
+        "roots": "roots <place>",
+        "root": "root <root> <place>",
+        "section": "section <section> node <node> map <map> usage <usage>",
+    },
+    "zones": {"zone": "Node <node>, zone <zone> start <start_frame> end <end_frame> "
+                      "present <present> free <free>"},
     "script": {
-        "at": "<line>: at <place>", "bytes": "<line>: bytes <bytes>",
+        "at": "<line>: at <place>",
+        "bytes": "<line>: bytes <bytes>",
         "no gap for table": "<line>: no gap for table <table> room <room>",
-        "outcome": "<line>: <name:done|no gap|taken|unknown|not whole|table in use|keep too large|fill too large>"},
+        "outcome": "<line>: <name:done|no gap|taken|unknown|not whole|table in use|keep too large|"
+                   "fill too large>",
+    },
     "tables": {"table": "<table> place <place> room <room> records <records>"},
     "buddyinfo": {"zone": "Node <node>, zone +<zone><orders> "},
     "blocks": {"block": "node <node> zone <zone> order <order> <place>"},
-    "pages": {"at": "<line>: at <place>", "outcome": "<line>: <name:done|no block|taken|unknown>"},
+    "pages": {
+        "at": "<line>: at <place>",
+        "outcome": "<line>: <name:done|no block|taken|unknown>",
+    },
     "pagesinfo": {"zone": "Node <node>, zone +<zone><orders> "},
     "zonelists": {
-        "not valid": "slit not valid <row> <column>", "slit": "slit <name:used|absent|no srat>", "list": "Node <node>:<zones>"},
+        "not valid": "slit not valid <row> <column>",
+        "slit": "slit <name:used|absent|no srat>",
+        "list": "Node <node>:<zones>",
+    },
     "summary": {
-        "table": "<table> records <records> room <room>", "count": "<name:runs|usable|free|blocks> <count>"},
+        "table": "<table> records <records> room <room>",
+        "count": "<name:runs|usable|free|blocks> <count>",
+    },
 }
 
 
@@ -81,7 +126,8 @@ def compiled(form: str) -> re.Pattern[str]:
     return re.compile(re.sub(r"<([a-z_]+(?::[^>]+)?)>", field, form.replace("..", r"\.\.")))
 
 
-ROWS = {name: {kind: compiled(form) for kind, form in rows.items()} for name, rows in GRAMMAR.items()}
+ROWS = {name: {kind: compiled(form) for kind, form in rows.items()}
+        for name, rows in GRAMMAR.items()}
 
 
 def read_lines(name: str, texts: Iterable[str]) -> Iterator[Line]:
@@ -106,4 +152,5 @@ def read_lines(name: str, texts: Iterable[str]) -> Iterator[Line]:
 def report_of(text: str) -> str | None:
     """Returns the name of the first report that may have a line like this one, or None if none
     may."""
-    return next((name for name, rows in ROWS.items() if any(form.fullmatch(text) for form in rows.values())), None)
+    return next((name for name, rows in ROWS.items()
+                 if any(form.fullmatch(text) for form in rows.values())), None)

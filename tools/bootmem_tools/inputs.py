@@ -19,8 +19,10 @@ Initrd = tuple[int, int]
 PAGE_SIZE = 4096
 ROOM = 128  # entries of a zero page
 EXTENSION_ROOM = (61456 - 16) // 20  # entries of an extension
-COUNT, ENTRIES = 0x1E8, 0x2D0  # places in the zero page: how many entries there are, and the first of them
-LOADER_TYPE, RAMDISK, RAMDISK_SIZE, HIGH_RAMDISK, HIGH_RAMDISK_SIZE = 0x210, 0x218, 0x21C, 0x0C0, 0x0C4
+# Places in the zero page: the number of entries and the first of them; the loader, and the initrd's
+# address and size, of which the upper halves have places of their own.
+COUNT, ENTRIES = 0x1E8, 0x2D0
+LOADER_TYPE, RAMDISK, HIGH_RAMDISK = 0x210, 0x218, 0x0C0
 LOADER = 0xFF  # a boot loader without a number of its own
 STRIDE = 48  # bytes of a descriptor that x86 firmware hands over
 
@@ -77,7 +79,8 @@ def sealed(table: bytes) -> bytes:
 
 def acpi_table(signature: bytes, body: bytes, revision: int = 1) -> bytes:
     """Returns an ACPI table with this body (struct acpi_table_header)."""
-    head = struct.pack("<4sIBB6s8sI4sI", signature, 36 + len(body), revision, 0, b"x", b"x", 1, b"x", 1)
+    head = struct.pack("<4sIBB6s8sI4sI", signature, 36 + len(body), revision, 0,
+                       b"x", b"x", 1, b"x", 1)
     return sealed(head + body)
 
 
@@ -89,13 +92,15 @@ def memory_affinity(first: int, size: int, domain: int, flags: int = 1) -> bytes
 
 def processor_affinity(domain: int) -> bytes:
     """Returns an SRAT's entry for processor 0 in this domain (struct acpi_srat_cpu_affinity)."""
-    return struct.pack("<BBBBIB", 0, 16, domain & 0xFF, 0, 1, 0) + (domain >> 8).to_bytes(3, "little") + bytes(4)
+    low, high = domain & 0xFF, (domain >> 8).to_bytes(3, "little")
+    return struct.pack("<BBBBIB", 0, 16, low, 0, 1, 0) + high + bytes(4)
 
 
 def srat(blocks: Iterable[tuple[int, int, int]], domains: Iterable[int] = ()) -> bytes:
     """Returns an SRAT, revision 3: a processor for each of the domains, and these blocks, each a
     base, a size and a domain."""
-    body = b"".join(map(processor_affinity, domains)) + b"".join(memory_affinity(*block) for block in blocks)
+    entries = [processor_affinity(domain) for domain in domains]
+    body = b"".join(entries + [memory_affinity(*block) for block in blocks])
     return acpi_table(b"SRAT", struct.pack("<IQ", 1, 0) + body, 3)
 
 
@@ -107,5 +112,6 @@ def slit(rows: Sequence[Sequence[int]]) -> bytes:
 def efi_map(descriptors: Iterable[tuple[int, int, int, int]]) -> bytes:
     """Returns an EFI memory map of these descriptors, each a type, an address, a number of pages
     and attributes."""
-    return struct.pack("<II", STRIDE, 1) + b"".join(struct.pack("<IIQQQQQ", kind, 0, first, 0, pages, attributes, 0)
-                                                    for kind, first, pages, attributes in descriptors)
+    body = [struct.pack("<IIQQQQQ", kind, 0, first, 0, pages, attributes, 0)
+            for kind, first, pages, attributes in descriptors]
+    return struct.pack("<II", STRIDE, 1) + b"".join(body)

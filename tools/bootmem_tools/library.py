@@ -81,7 +81,8 @@ class _File(ctypes.Structure):
 class _Text(ctypes.Structure):
     """struct bootmem_text."""
 
-    _fields_ = [("at", ctypes.POINTER(ctypes.c_char)), ("room", ctypes.c_size_t), ("needed", ctypes.c_size_t)]
+    _fields_ = [("at", ctypes.POINTER(ctypes.c_char)), ("room", ctypes.c_size_t),
+                ("needed", ctypes.c_size_t)]
 
 
 class _MapRun(ctypes.Structure):
@@ -93,7 +94,8 @@ class _MapRun(ctypes.Structure):
 class _MapRuns(ctypes.Structure):
     """struct bootmem_map_runs."""
 
-    _fields_ = [("at", ctypes.POINTER(_MapRun)), ("room", ctypes.c_size_t), ("count", ctypes.c_size_t)]
+    _fields_ = [("at", ctypes.POINTER(_MapRun)), ("room", ctypes.c_size_t),
+                ("count", ctypes.c_size_t)]
 
 
 class _CrashArea(ctypes.Structure):
@@ -105,17 +107,20 @@ class _CrashArea(ctypes.Structure):
 class _FreeBlock(ctypes.Structure):
     """struct bootmem_free_block."""
 
-    _fields_ = [("first", ctypes.c_uint64), ("order", ctypes.c_uint32), ("node", ctypes.c_uint32), ("zone", ctypes.c_uint32)]
+    _fields_ = [("first", ctypes.c_uint64), ("order", ctypes.c_uint32), ("node", ctypes.c_uint32),
+                ("zone", ctypes.c_uint32)]
 
 
 class _FreeBlocks(ctypes.Structure):
     """struct bootmem_free_blocks."""
 
-    _fields_ = [("at", ctypes.POINTER(_FreeBlock)), ("room", ctypes.c_size_t), ("count", ctypes.c_size_t)]
+    _fields_ = [("at", ctypes.POINTER(_FreeBlock)), ("room", ctypes.c_size_t),
+                ("count", ctypes.c_size_t)]
 
 
 _EXPORTS: dict[str, list[type[ctypes.Structure]]] = {
-    "bootmem_run": [_Text, _Text], "bootmem_map": [_MapRuns], "bootmem_crash": [_CrashArea], "bootmem_blocks": [_FreeBlocks]}
+    "bootmem_run": [_Text, _Text], "bootmem_map": [_MapRuns], "bootmem_crash": [_CrashArea],
+    "bootmem_blocks": [_FreeBlocks]}
 _libraries: list[ctypes.CDLL] = []
 
 
@@ -147,7 +152,8 @@ def _lent(text: Text) -> _Bytes:
 def _lent_all(words: Words, files: Files) -> tuple[Any, int, Any, int]:
     """Returns words and files as a call takes them."""
     lent_words = (_Bytes * max(len(words), 1))(*map(_lent, words))
-    lent_files = (_File * max(len(files), 1))(*(_File(_lent(name), _lent(held)) for name, held in files.items()))
+    lent_files = (_File * max(len(files), 1))(
+        *(_File(_lent(name), _lent(held)) for name, held in files.items()))
     return lent_words, len(words), lent_files, len(files)
 
 
@@ -178,7 +184,7 @@ def call(words: Words, files: Files, room: int = 1 << 16) -> tuple[int, bytes, b
         status = _loaded().bootmem_run(*lent, ctypes.byref(out.text), ctypes.byref(err.text))
         if out.fits() and err.fits():
             return status, out.taken(), err.taken()
-        out, err = _Room(max(out.text.needed, out.text.room)), _Room(max(err.text.needed, err.text.room))
+        out, err = (_Room(max(one.text.needed, one.text.room)) for one in (out, err))
 
 
 def run(words: Words, files: Files) -> bytes:

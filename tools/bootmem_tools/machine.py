@@ -36,7 +36,8 @@ def read_iomem(text: str) -> list[Resource]:
     for line in text.splitlines():
         match = re.fullmatch(r"( *)([0-9a-f]{1,16})-([0-9a-f]{1,16}) : (.*)", line)
         if match:
-            found.append(Resource(int(match.group(2), 16), int(match.group(3), 16), len(match.group(1)) // 2, match.group(4)))
+            first, last = int(match.group(2), 16), int(match.group(3), 16)
+            found.append(Resource(first, last, len(match.group(1)) // 2, match.group(4)))
     return found
 
 
@@ -64,13 +65,15 @@ def kernel_in(folder: str) -> str | None:
     words = (text_in(folder, "words") or "").split()
     if told is None and "--kernel" in words[:-1]:
         told = words[words.index("--kernel") + 1]
-    return told.strip() if told is not None else image_place(read_iomem(text_in(folder, "iomem") or ""))
+    if told is not None:
+        return told.strip()
+    return image_place(read_iomem(text_in(folder, "iomem") or ""))
 
 
 def files_in(folder: str) -> list[str]:
     """Returns the program's words for the extension, the SRAT and the EFI memory map of a folder
     of collect.sh, by their names in it."""
-    return [word for option, name in FILES if os.path.exists(os.path.join(folder, name)) for word in (option, name)]
+    return [word for pair in FILES if os.path.exists(os.path.join(folder, pair[1])) for word in pair]
 
 
 def line_in(program: str, folder: str) -> command_line.Reading:
@@ -79,7 +82,8 @@ def line_in(program: str, folder: str) -> command_line.Reading:
     data = command_line.read_file(path) if os.path.exists(path) else b""
     words = files_in(folder)
     extension = words[:2] if "--e820ext" in words else []
-    return command_line.read_line(data, command_line.total_by(program, extension + ["zp.bin"], folder))
+    total = command_line.total_by(program, extension + ["zp.bin"], folder)
+    return command_line.read_line(data, total)
 
 
 def is_uefi(path: str) -> bool:
@@ -96,14 +100,15 @@ def panics(texts: Texts) -> Iterator[str]:
     uncovered = sum(int(line.fields["uncovered"]) for line in nodes if line.kind == "uncovered")
     used = any(line.kind == "numa" and line.fields["name"] == "used" for line in nodes)
     if used and 0 < uncovered < FEW:
-        yield (f"{uncovered} frames of memory are in no block of the SRAT: fewer than 256 pass the kernel's test, "
-               'and it panics later (docs/KERNEL.md, "Nodes")')
+        yield (f"{uncovered} frames of memory are in no block of the SRAT: "
+               "fewer than 256 pass the kernel's test, and it panics later "
+               '(docs/KERNEL.md, "Nodes")')
     if memory and memory[-1].fields["type"] == "128":
         yield ('the last memory has type 128, which the kernel\'s limit leaves out, and it panics '
                '(docs/KERNEL.md, "Memory and the two tables")')
     if memory and memory[-1].last >= REACH:
-        yield ("there is memory at 2^46 or above, out of reach of page tables of four levels, and the kernel panics "
-               '(docs/KERNEL.md, "Memory and the two tables")')
+        yield ("there is memory at 2^46 or above, out of reach of page tables of four levels, "
+               'and the kernel panics (docs/KERNEL.md, "Memory and the two tables")')
 
 
 def memory_size(texts: Texts) -> int:

@@ -53,7 +53,8 @@ def of_options(lines: Iterator[Line]) -> Value:
         elif line.kind == "efi":
             answer["add_efi"] = True
         elif line.kind == "range":
-            crash["ranges"].append({**line.fields, "end": None if line.fields["end"] == "-" else line.fields["end"]})
+            end = None if line.fields["end"] == "-" else line.fields["end"]
+            crash["ranges"].append({**line.fields, "end": end})
         elif line.kind in ("high", "low"):
             crash[line.kind] = line.fields["size"]
         else:
@@ -67,7 +68,8 @@ def of_nodes(lines: Iterator[Line]) -> Value:
     answer: Object = {"numa": None, "domains": [], "uncovered": None, "ranges": []}
     for line in lines:
         if line.kind == "overlap":
-            answer.update(numa=line.kind, blocks=[int(line.fields["one"]), int(line.fields["other"])])
+            blocks = [int(line.fields["one"]), int(line.fields["other"])]
+            answer.update(numa=line.kind, blocks=blocks)
         elif line.kind == "not covered":
             answer.update(numa=line.kind, frames=int(line.fields["frames"]))
         elif line.kind == "numa":
@@ -81,7 +83,8 @@ def of_nodes(lines: Iterator[Line]) -> Value:
 
 def of_owners(lines: Iterator[Line]) -> Value:
     """Returns the ranges with their owners."""
-    return [{**owner(line.fields["owner"]), "first": line.fields["first"], "last": line.fields["last"]} for line in lines]
+    return [{**owner(line.fields["owner"]), "first": line.fields["first"],
+             "last": line.fields["last"]} for line in lines]
 
 
 def of_journal(lines: Iterator[Line]) -> Value:
@@ -141,7 +144,8 @@ def of_zonelists(lines: Iterator[Line]) -> Value:
         found = fields(line.fields)
         if line.kind == "list":
             zones = [one.split("/") for one in line.fields["zones"].split()]
-            lists.append({"node": found["node"], "zones": [{"node": int(node), "zone": zone} for node, zone in zones]})
+            parts = [{"node": int(node), "zone": zone} for node, zone in zones]
+            lists.append({"node": found["node"], "zones": parts})
         else:
             answer["slit"] = found.pop("name", line.kind)
             answer.update(found)
@@ -150,13 +154,14 @@ def of_zonelists(lines: Iterator[Line]) -> Value:
 
 def of_tables(lines: Iterator[Line]) -> Value:
     """Returns the two tables by their names."""
-    return {line.fields["table"]: {key: value for key, value in fields(line.fields).items() if key != "table"} for line in lines}
+    found = [fields(line.fields) for line in lines]
+    return {one.pop("table"): one for one in found}
 
 
 def of_buddyinfo(lines: Iterator[Line]) -> Value:
     """Returns the free blocks of each zone, by order from 0 on."""
-    return [{"node": int(line.fields["node"]), "zone": line.fields["zone"], "blocks": [int(one) for one in line.fields["orders"].split()]}
-            for line in lines]
+    return [{"node": int(line.fields["node"]), "zone": line.fields["zone"],
+             "blocks": [int(one) for one in line.fields["orders"].split()]} for line in lines]
 
 
 def of_summary(lines: Iterator[Line]) -> Value:
@@ -173,8 +178,9 @@ def of_summary(lines: Iterator[Line]) -> Value:
 
 # What makes the value of each report's lines; of the others it is the list of their fields.
 MAKERS: dict[str, Callable[[Iterator[Line]], Value]] = {
-    "options": of_options, "nodes": of_nodes, "memory": of_records, "reserved": of_records, "owners": of_owners, "journal": of_journal,
-    "crash": of_crash, "sections": of_sections, "script": of_script, "tables": of_tables, "buddyinfo": of_buddyinfo, "pages": of_script,
+    "options": of_options, "nodes": of_nodes, "memory": of_records, "reserved": of_records,
+    "owners": of_owners, "journal": of_journal, "crash": of_crash, "sections": of_sections,
+    "script": of_script, "tables": of_tables, "buddyinfo": of_buddyinfo, "pages": of_script,
     "pagesinfo": of_buddyinfo, "zonelists": of_zonelists, "summary": of_summary,
 }
 
@@ -185,4 +191,5 @@ def as_object(texts: Texts) -> Object:
     # Errors
     A Trouble if a report isn't known, or with the number of a line that isn't of its form.
     """
-    return {name: MAKERS.get(name, of_rows)(read_lines(name, lines)) for name, lines in texts.items()}
+    return {name: MAKERS.get(name, of_rows)(read_lines(name, lines))
+            for name, lines in texts.items()}

@@ -52,7 +52,9 @@ def block_runs(texts: Iterable[str]) -> Iterator[Run]:
         kind = kinds.get((node, zone, order))
         if kind is None:
             colour = colour_of("blocks", reports.Span(0, 0, "", line.kind, line.fields, line.text))
-            kind = kinds[node, zone, order] = Kind(f"order {order}", colour, f"node {node} zone {zone}", FRAME << int(order))
+            more = f"node {node} zone {zone}"
+            kind = Kind(f"order {order}", colour, more, FRAME << int(order))
+            kinds[node, zone, order] = kind
         first = int(place, 16)
         yield Run(first, first + kind.piece - 1, kind, NONE, 0)
 
@@ -78,6 +80,17 @@ def run_of(report: str, span: reports.Span) -> Run:
     return Run(span.first, span.last, Kind(label, colour_of(report, span), more, piece), number, 0)
 
 
+def step_to(before: Run, run: Run) -> int | None:
+    """Returns the step of numbers with which a piece goes on the row before it, or None if it is
+    of another kind, apart, or of another number."""
+    if before.kind != run.kind or not run.kind.piece or before.last + 1 != run.first:
+        return None
+    count = (before.last + 1 - before.first) // run.kind.piece
+    step = before.step if count > 1 else run.number - before.number
+    is_next = run.number == before.number + count * step
+    return step if is_next and (run.number == NONE or abs(step) == 1) else None
+
+
 def joined(runs: Iterable[Run]) -> list[Run]:
     """Returns the rows, ascending, where neighbouring pieces of one kind are one, if their
     numbers go up or down by one or they have none.
@@ -88,13 +101,11 @@ def joined(runs: Iterable[Run]) -> list[Run]:
     found: list[Run] = []
     for run in runs:
         before = found[-1] if found else None
-        if before and before.kind == run.kind and before.kind.piece and before.last + 1 == run.first:
-            count = (before.last + 1 - before.first) // run.kind.piece
-            step = before.step if count > 1 else run.number - before.number
-            if run.number == before.number + count * step and (run.number == NONE or abs(step) == 1):
-                found[-1] = before._replace(last=run.last, step=step)
-                continue
-        found.append(run)
+        step = step_to(before, run) if before else None
+        if before and step is not None:
+            found[-1] = before._replace(last=run.last, step=step)
+        else:
+            found.append(run)
     return sorted(found, key=lambda one: (one.first, one.last))
 
 
@@ -140,8 +151,10 @@ def page(boots: Sequence[tuple[str, reports.Texts]], title: str | None) -> str:
         for number, (_, texts) in enumerate(boots):
             if report in texts:
                 lanes = lanes_of(joined(runs_of(report, texts[report])))
-                columns.append({"report": report, "head": HEADS[report], "boot": number, "lanes": [lane_text(lane, kinds) for lane in lanes]})
-    held = {"title": title or "reports of bootmem", "boots": [name for name, _ in boots], "columns": columns,
+                columns.append({"report": report, "head": HEADS[report], "boot": number,
+                                "lanes": [lane_text(lane, kinds) for lane in lanes]})
+    held = {"title": title or "reports of bootmem", "boots": [name for name, _ in boots],
+            "columns": columns,
             "kinds": [[kind.label, kind.colour, kind.more, f"{kind.piece:x}"] for kind in kinds],
             "changes": changes_of([texts for _, texts in boots])}
     with open(PATH, encoding="utf-8") as file:

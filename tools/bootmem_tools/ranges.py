@@ -40,7 +40,7 @@ def at(found: Iterable[One], address: int) -> list[One]:
 def sweep(*lists: Sequence[One]) -> Iterator[tuple[int, int, list[list[One]]]]:
     """Yields each range between two neighbouring ends of these lists, ascending, with the
     members of each list that have it."""
-    ends = sorted({one.first for each in lists for one in each} | {one.last + 1 for each in lists for one in each})
+    ends = sorted({end for each in lists for one in each for end in (one.first, one.last + 1)})
     waiting = [sorted(each, key=lambda one: one.first, reverse=True) for each in lists]
     active: list[list[One]] = [[] for _ in lists]
     for first, after in zip(ends, ends[1:]):
@@ -64,7 +64,8 @@ def joined(found: Iterable[Range]) -> list[Range]:
 
 def without(found: Iterable[Range], first: int, last: int) -> list[Range]:
     """Returns the ranges without the bytes from first to last."""
-    parts = [part for low, high in found for part in ((low, min(high, first - 1)), (max(low, last + 1), high))]
+    parts = [part for low, high in found
+             for part in ((low, min(high, first - 1)), (max(low, last + 1), high))]
     return [part for part in parts if part[0] <= part[1]]
 
 

@@ -34,7 +34,8 @@ def read_reports(path: str, behind: bool = False) -> Texts:
     # Errors
     A Trouble if there is no report in it.
     """
-    reports = split_reports(read_text(path, behind, Kind("text of reports", LONGEST, judge=judge_reports)))
+    kind = Kind("text of reports", LONGEST, judge=judge_reports)
+    reports = split_reports(read_text(path, behind, kind))
     if not reports:
         raise Trouble(f"{shown_name(path)}: no report of bootmem in it{BEHIND if behind else ''}")
     return reports
@@ -44,7 +45,8 @@ def judge_reports(first: bytes) -> str | None:
     """Returns why a text that begins with these bytes has no report, or None if its first line
     is one of a report or names one."""
     line = first[:4096].split(b"\n")[0].decode("utf-8", "replace")
-    return None if line.startswith("== ") or grammar.report_of(line.rstrip("\r")) else "no report of bootmem in it"
+    is_one = line.startswith("== ") or grammar.report_of(line.rstrip("\r"))
+    return None if is_one else "no report of bootmem in it"
 
 
 def split_reports(text: str) -> Texts:
@@ -75,7 +77,8 @@ def spans(name: str, texts: Iterable[str]) -> list[Span]:
     for line in grammar.read_lines(name, texts):
         ends = range_of(name, line.fields)
         if ends is not None:
-            found.append(Span(*ends, value_of(name, line.fields), line.kind, line.fields, line.text))
+            value = value_of(name, line.fields)
+            found.append(Span(*ends, value, line.kind, line.fields, line.text))
     return found
 
 
@@ -115,7 +118,8 @@ def value_of(name: str, fields: Mapping[str, str]) -> str:
 
 def memory_of(texts: Texts) -> list[Range]:
     """Returns the ranges of memory of the report `map`, neighbours joined."""
-    return joined((run.first, run.last) for run in spans("map", texts["map"]) if run.fields["type"] in MEMORY)
+    return joined((run.first, run.last) for run in spans("map", texts["map"])
+                  if run.fields["type"] in MEMORY)
 
 
 def crash_ranges(texts: Iterable[str]) -> list[Range]:

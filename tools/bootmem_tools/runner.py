@@ -7,15 +7,19 @@ import os
 import shutil
 import subprocess
 import sys
-from typing import Iterable, Sequence
+from typing import Iterable, Optional, Sequence
 
 from bootmem_tools.reports import Texts, split_reports
 from bootmem_tools.tool import Trouble, complain
 
 STOPPED = 6  # the status of a boot that stops
 PLACELESS = {"map", "options", "nodes"}  # reports that don't go by the kernel's place
-ASSUMED = "the kernel's place isn't known, so 16 MiB to 48 MiB is assumed; --kernel BASE,SIZE tells it"
-FINDING = "The program is --program, else $BOOTMEM, else bootmem beside this tool, else bootmem on the PATH."
+ASSUMED = ("the kernel's place isn't known, so 16 MiB to 48 MiB is assumed; "
+           "--kernel BASE,SIZE tells it")
+FINDING = ("The program is --program, else $BOOTMEM, else bootmem beside this tool, else bootmem on "
+           "the PATH.")
+# The reports of a run, with the program's line if the boot stops.
+Stopped = tuple[Texts, Optional[str]]
 
 
 def add_program(parser: argparse.ArgumentParser) -> None:
@@ -45,21 +49,25 @@ def find_program(named: str | None = None) -> str:
             return path
     found = shutil.which("bootmem")
     if found is None:
-        raise Trouble("there is no program bootmem beside this tool or on the PATH; --program or BOOTMEM names it")
+        raise Trouble("there is no program bootmem beside this tool or on the PATH; "
+                      "--program or BOOTMEM names it")
     return found
 
 
-def call_program(program: str, names: Sequence[str], words: Sequence[str], folder: str | None = None) -> tuple[int, str, str]:
+def call_program(program: str, names: Sequence[str], words: Sequence[str],
+                 folder: str | None = None) -> tuple[int, str, str]:
     """Returns status, standard output and line of a run that asks for these reports; the words
     mustn't have --report.
 
     Standard input is the program's, since a word may be /dev/stdin.
     """
     if any(word == "--report" or word.startswith("--report=") for word in words):
-        raise Trouble("this tool asks for its own reports: leave --report out of the program's words", 2)
-    done = subprocess.run([program, "--report", ",".join(names), *words], stdout=subprocess.PIPE, stderr=subprocess.PIPE,
-                          cwd=folder, check=False)
-    return done.returncode, done.stdout.decode("utf-8", "replace"), done.stderr.decode("utf-8", "replace").strip()
+        raise Trouble("this tool asks for its own reports: "
+                      "leave --report out of the program's words", 2)
+    done = subprocess.run([program, "--report", ",".join(names), *words], cwd=folder,
+                          stdout=subprocess.PIPE, stderr=subprocess.PIPE, check=False)
+    out, err = (part.decode("utf-8", "replace") for part in (done.stdout, done.stderr))
+    return done.returncode, out, err.strip()
 
 
 def texts_of(names: Sequence[str], text: str) -> Texts:
@@ -72,7 +80,8 @@ def failed(status: int, said: str) -> Trouble:
     return Trouble(f"the program ended with status {status}: {said or 'it said nothing'}")
 
 
-def run_program(program: str, names: Sequence[str], words: Sequence[str], folder: str | None = None) -> Texts:
+def run_program(program: str, names: Sequence[str], words: Sequence[str],
+                folder: str | None = None) -> Texts:
     """Returns the reports of these names for these words, which mustn't have --report.
 
     # Errors
@@ -84,7 +93,8 @@ def run_program(program: str, names: Sequence[str], words: Sequence[str], folder
     return texts_of(names, text)
 
 
-def run_or_stop(program: str, names: Sequence[str], words: Sequence[str], folder: str | None = None) -> tuple[Texts, str | None]:
+def run_or_stop(program: str, names: Sequence[str], words: Sequence[str],
+                folder: str | None = None) -> Stopped:
     """Returns the reports of these names and None, or no report and the program's line if the
     boot stops.
 
@@ -102,7 +112,8 @@ def run_or_stop(program: str, names: Sequence[str], words: Sequence[str], folder
 def is_place_assumed(names: Iterable[str], words: Iterable[str]) -> bool:
     """Tells whether one of these reports goes by the kernel's place, and the program's words
     don't have it."""
-    return not PLACELESS.issuperset(names) and not any(word == "--kernel" or word.startswith("--kernel=") for word in words)
+    has_place = any(word == "--kernel" or word.startswith("--kernel=") for word in words)
+    return not has_place and not PLACELESS.issuperset(names)
 
 
 def run_for(tool: str, program: str, names: Sequence[str], words: Sequence[str]) -> Texts:

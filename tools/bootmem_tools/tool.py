@@ -19,7 +19,8 @@ LONGEST = 1 << 30  # bytes of a text: the report blocks of 16 TiB in single fram
 SHORT = 60  # letters of a line that an error quotes
 
 BEHIND = ", or put the program's own words behind --"
-UNPROVED = "This tool isn't proved: it only reads what the proved program prints, or writes what it reads."
+UNPROVED = ("This tool isn't proved: it only reads what the proved program prints, or writes what it "
+            "reads.")
 
 
 class Trouble(Exception):
@@ -64,7 +65,8 @@ def complain(name: str, message: str) -> None:
 def printable(text: str) -> str:
     """Returns the text with what a terminal would act on, or standard error can't encode, as
     escapes."""
-    return "".join(letter if letter.isprintable() else letter.encode("unicode_escape").decode() for letter in text)
+    return "".join(letter if letter.isprintable() else letter.encode("unicode_escape").decode()
+                   for letter in text)
 
 
 def quoted(line: str) -> str:
@@ -92,14 +94,15 @@ class Parser(argparse.ArgumentParser):
 def filled(text: str) -> str:
     """Returns the text with its paragraphs filled, except those that have an indented line."""
     parts = text.split("\n\n")
-    return "\n\n".join(part if re.search(r"^ ", part, re.MULTILINE) else
-                       textwrap.fill(part, WIDTH, break_long_words=False, break_on_hyphens=False) for part in parts)
+    return "\n\n".join(
+        part if re.search(r"^ ", part, re.MULTILINE) else
+        textwrap.fill(part, WIDTH, break_long_words=False, break_on_hyphens=False) for part in parts)
 
 
 def new_parser(name: str, usage: str, description: str, epilog: str) -> Parser:
     """Returns a parser of a tool's words, whose help ends with what holds for every tool."""
-    return Parser(prog=name, usage=usage, description=filled(description), epilog=filled(f"{epilog}\n\n{UNPROVED}"),
-                  formatter_class=Help, allow_abbrev=False)
+    return Parser(prog=name, usage=usage, description=filled(description),
+                  epilog=filled(f"{epilog}\n\n{UNPROVED}"), formatter_class=Help, allow_abbrev=False)
 
 
 def split_words(words: Sequence[str]) -> tuple[list[str], list[str] | None]:
@@ -197,7 +200,8 @@ def write_files(files: Mapping[str, bytes]) -> None:
                     device.write(data)
                 continue
             try:
-                handle, made[path] = tempfile.mkstemp(prefix=".", dir=os.path.dirname(os.path.realpath(path)))
+                folder = os.path.dirname(os.path.realpath(path))
+                handle, made[path] = tempfile.mkstemp(prefix=".", dir=folder)
             except OSError as error:
                 raise OSError(error.errno, error.strerror, path) from error
             undo.callback(remove_quietly, made[path])
