@@ -37,7 +37,7 @@ from collections import Counter
 from typing import NamedTuple
 
 sys.dont_write_bytecode = True
-TOP = os.path.abspath(os.path.join(os.path.dirname(os.path.abspath(__file__)), ".."))
+TOP = os.path.abspath(os.path.join(os.path.dirname(os.path.abspath(__file__)), "..", ".."))
 sys.path.insert(0, f"{TOP}/tests")
 
 from pins import FORM, PROMISED, read  # noqa: E402
