@@ -18,7 +18,8 @@ from typing import Callable, Dict, List, NamedTuple, Tuple, Union
 TOP = os.path.dirname(os.path.dirname(os.path.abspath(__file__)))
 sys.dont_write_bytecode = True
 sys.path.insert(0, os.path.join(TOP, "tools"))
-from bootmem_tools import free_lists, kernel_lists as lists, reports  # noqa: E402
+from bootmem_tools import free_lists, kernel_lists as lists, tool  # noqa: E402
+from support import Counted  # noqa: E402
 
 EXAMPLES = os.path.join(TOP, "examples")
 MACHINES = sorted(
@@ -63,10 +64,10 @@ BOOTS: Dict[str, Boot] = {}
 def boot_of(name: str) -> Boot:
     """The runs of a machine, each made once."""
     if name not in BOOTS:
-        run = lists.runner(PROGRAM)
+        run = lists.program_runner(PROGRAM)
         machine = os.path.join(EXAMPLES, name)
         folder = os.path.join(machine, "lists")
-        text: str = reports.read_text(os.path.join(folder, "kernel.txt"))
+        text: str = tool.read_text(os.path.join(folder, "kernel.txt"))
         top = lists.top_of(lists.parse_kernel(text))
         BOOTS[name] = Boot(
             text,
@@ -291,13 +292,14 @@ class FreeLists(unittest.TestCase):
                 for result in boot.compare(boot.text):
                     self.assertFalse(result.subject in refused, free_lists.result_text(result))
                     self.counts[result.subject] = self.counts.get(result.subject, 0) + result.equal
+                    Counted.checks += result.equal
                     if result.known:
                         self.known[result.row] = self.known.get(result.row, 0) + result.known
 
     def test_rows(self) -> None:
         """Each row that explains a difference stands in KERNEL.md, in the first column of its
         table."""
-        text = reports.read_text(os.path.join(TOP, "docs", "KERNEL.md"))
+        text = tool.read_text(os.path.join(TOP, "docs", "KERNEL.md"))
         for row in (lists.SPLIT_ROW, lists.SPAN_ROW, lists.DEFERRED_ROW):
             self.assertTrue(
                 re.search(rf"(?m)^\| [^|]*{re.escape(row)}", text), f"KERNEL.md has no row {row}"
@@ -332,7 +334,7 @@ class FreeLists(unittest.TestCase):
             folder = os.path.join(work, "lists")
             shutil.copytree(os.path.join(EXAMPLES, "pc-128m", "lists"), folder)
             path = os.path.join(folder, "kernel.txt")
-            wrong = planted(reports.read_text(path), "blocks", BLOCK + r"\n", "")
+            wrong = planted(tool.read_text(path), "blocks", BLOCK + r"\n", "")
             for text, status, part in (
                 ("", 0, ": 34 blocks agree\n"),
                 (wrong, 1, ": 33 blocks agree, 1 and 0 differ: bootmem alone has node 0 "),
@@ -410,7 +412,7 @@ class FreeLists(unittest.TestCase):
             if result.subject in ("memory records", "reserved records")
         )
         for path in ("README.md", "docs/KERNEL.md", "docs/HEADLINE.md"):
-            text = reports.read_text(os.path.join(TOP, path))
+            text = tool.read_text(os.path.join(TOP, path))
             for part in (
                 f"{len(MACHINES)} machines",
                 f"{blocks:,} blocks",

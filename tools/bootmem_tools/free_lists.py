@@ -12,7 +12,8 @@ import tempfile
 import time
 from typing import Any, Dict, Iterable, List, NamedTuple, Optional, Sequence, Tuple
 
-from bootmem_tools import claims_from_log as claims, kernel_lists as lists, machine, reports
+from bootmem_tools import claims_from_log as claims, kernel_lists as lists
+from bootmem_tools import inputs, ranges, runner, tool
 
 NAME = "free-lists"
 USAGE = """free-lists --vmlinux VMLINUX --output FOLDER [--kernel BASE,SIZE]
@@ -36,7 +37,7 @@ Above the kernel's memory the machine in FOLDER has room of its own in each node
 bootmem claims by itself and is claimed whole by the script. The image lies where the log tells, or
 where --kernel does.
 
-{reports.FINDING}
+{runner.FINDING}
 
 exit status: 0; 1 where something differs without a row of KERNEL.md, or the kernel can't be read;
 2 for words that aren't those above.
@@ -47,7 +48,7 @@ examples:
   free-lists --compare lists"""
 
 MIB = 1 << 20
-SECTION = reports.SECTION
+SECTION = ranges.SECTION
 
 
 class Machine(NamedTuple):
@@ -72,11 +73,12 @@ def read_dump(dump: Dict[str, Any]) -> lists.Kernel:
     # Errors
     Trouble: a page in a list isn't what the list says."""
     if dump["faults"]:
-        raise reports.Trouble(
+        raise tool.Trouble(
             f"the lists contradict themselves {len(dump['faults'])} times: {dump['faults'][0]}"
         )
 
     def table(name: str) -> lists.Table:
+        """One of memblock's two tables."""
         records = [
             lists.Record(base, base + size - 1, node if 0 <= node < 1024 else None, flags)
             for base, size, flags, node in dump[name]["records"]
@@ -84,6 +86,7 @@ def read_dump(dump: Dict[str, Any]) -> lists.Kernel:
         return lists.Table(dump[name]["place"], dump[name]["room"], records)
 
     def blocks(name: str) -> List[lists.Listed]:
+        """The blocks of one dump of the free lists."""
         return [
             lists.Listed(kind, lists.Block(node, zone, order, frame * lists.FRAME))
             for node, zone, order, kind, frame in dump[name]
@@ -198,7 +201,7 @@ def memory_spans(kernel: lists.Kernel) -> List[Span]:
     ]
     odd = [span for span in spans if span.start % lists.FRAME or span.end % lists.FRAME]
     if odd:
-        raise reports.Trouble(
+        raise tool.Trouble(
             f"a record of memory ends inside a frame, at {odd[0].start:#x} or {odd[0].end:#x}: "
             "no such machine can be made"
         )
@@ -272,7 +275,7 @@ class Writer:
             self.reserve(claim.first, claim.last + 1)
         else:
             self.number += 1
-            self.put(claims.alloc_line(self.number, claim), f"at {reports.hex_text(claim.first)}")
+            self.put(claims.alloc_line(self.number, claim), f"at {ranges.hex_text(claim.first)}")
 
 
 class Spare(NamedTuple):
@@ -300,7 +303,7 @@ def spare_memory(kernel: lists.Kernel, log: Any, surplus: Sequence[int]) -> Spar
     room = own_room(memory_spans(kernel), -(-top // SECTION) * SECTION)
     touches = any(record.last + 1 == room[0].start for record in kernel.reserved.records)
     if set(surplus) == {0} and not touches:
-        raise reports.Trouble(
+        raise tool.Trouble(
             "the reserved table grew without a node in it: no such machine can be made"
         )
     count = max([0] + [one - (not touches) for one in surplus])
@@ -319,7 +322,7 @@ def make_machine(
     log = claims.read_log(list(lines))
     image = image or claims.image_of(log)
     if image is None:
-        raise reports.Trouble(
+        raise tool.Trouble(
             "the log doesn't tell where the kernel's image lies: --kernel names the place"
         )
     spans = memory_spans(kernel)
@@ -352,23 +355,23 @@ def machine_files(log: Any, spans: Sequence[Span], spare: Spare) -> Dict[str, by
     """The zero page of the kernel's memory and of the program's own above it, and, if they are
     needed, an extension and an SRAT."""
     entries = sorted(
-        (first, last + 1 - first, 1) for first, last in claims.joined(log.added or log.memory)
+        (first, last + 1 - first, 1) for first, last in ranges.joined(log.added or log.memory)
     )
     entries += [(start, end - start, 1) for start, end in spare.ranges()]
-    if len(entries) > claims.ROOM + claims.EXTENSION_ROOM:
-        raise reports.Trouble(
+    if len(entries) > inputs.ROOM + inputs.EXTENSION_ROOM:
+        raise tool.Trouble(
             f"{len(entries)} ranges of memory: zero page and extension have "
-            f"{claims.ROOM + claims.EXTENSION_ROOM} at most"
+            f"{inputs.ROOM + inputs.EXTENSION_ROOM} at most"
         )
-    files = {"zp.bin": machine.zero_page(entries[: claims.ROOM])}
-    if entries[claims.ROOM :]:
-        files["e820ext.bin"] = machine.extension(entries[claims.ROOM :])
+    files = {"zp.bin": inputs.zero_page(entries[: inputs.ROOM])}
+    if entries[inputs.ROOM :]:
+        files["e820ext.bin"] = inputs.extension(entries[inputs.ROOM :])
     nodes = {span.node for span in spans}
     if nodes != {0}:
         own = spare.room[-1].node
         owned = [Span(place, place + lists.FRAME, own) for place in spare.frames]
         blocks = [(span.start, span.end - 1, span.node) for span in [*spans, *spare.room, *owned]]
-        files["srat.bin"] = claims.srat(blocks, range(max(nodes) + 1))
+        files["srat.bin"] = inputs.srat(blocks, range(max(nodes) + 1))
     return files
 
 
@@ -377,7 +380,7 @@ def memory_table(program: str, files: Dict[str, bytes], words: Sequence[str]) ->
     its last."""
     with tempfile.TemporaryDirectory() as folder:
         write_files(folder, files)
-        told = lists.runner(program)(["tables"], words, folder)
+        told = lists.program_runner(program)(["tables"], words, folder)
     place, room, _ = lists.printed_heads(told["tables"])["memory"]
     return place, place + 24 * room
 
@@ -385,8 +388,7 @@ def memory_table(program: str, files: Dict[str, bytes], words: Sequence[str]) ->
 def write_files(folder: str, files: Dict[str, bytes]) -> None:
     """Writes the files into the folder, which is made if there is none."""
     os.makedirs(folder, exist_ok=True)
-    for name, data in files.items():
-        claims.write(os.path.join(folder, name), data)
+    tool.write_files({os.path.join(folder, name): data for name, data in files.items()})
 
 
 def check_needs(qemu: str, vmlinux: str) -> None:
@@ -395,11 +397,11 @@ def check_needs(qemu: str, vmlinux: str) -> None:
     # Errors
     Trouble: one is missing; its line names it."""
     if shutil.which(qemu) is None:
-        raise reports.Trouble(
+        raise tool.Trouble(
             f"{qemu}: no program that can be run; QEMU is needed (Debian: qemu-system-x86)"
         )
     if shutil.which("gdb") is None:
-        raise reports.Trouble("gdb is needed, and isn't there")
+        raise tool.Trouble("gdb is needed, and isn't there")
     asked = subprocess.run(
         ["gdb", "-nx", "-batch", "-ex", "python print(6 * 7)"],
         stdout=subprocess.PIPE,
@@ -407,9 +409,9 @@ def check_needs(qemu: str, vmlinux: str) -> None:
         check=False,
     )
     if asked.stdout.strip() != b"42":
-        raise reports.Trouble("gdb is there, but has no Python")
+        raise tool.Trouble("gdb is there, but has no Python")
     if not os.path.isfile(vmlinux):
-        raise reports.Trouble(f"{vmlinux}: no such file; it is the kernel with debug symbols")
+        raise tool.Trouble(f"{vmlinux}: no such file; it is the kernel with debug symbols")
 
 
 def boot(qemu: Sequence[str], vmlinux: str, timeout: float) -> Tuple[Dict[str, Any], str]:
@@ -441,19 +443,19 @@ def boot(qemu: Sequence[str], vmlinux: str, timeout: float) -> Tuple[Dict[str, A
                 try:
                     await_stub(emulator, stub)
                     run_gdb(stub, output, vmlinux, timeout)
-                except reports.Trouble as trouble:
-                    raise reports.Trouble(f"{trouble}{end_of(emulator, said.name)}") from None
+                except tool.Trouble as trouble:
+                    raise tool.Trouble(f"{trouble}{end_of(emulator, said.name)}") from None
                 finally:
                     emulator.kill()
         with open(output, encoding="ascii") as file:
-            return json.load(file), reports.read_text(serial)
+            return json.load(file), tool.read_text(serial)
 
 
 def end_of(emulator: "subprocess.Popen[bytes]", said: str) -> str:
     """What to add to a trouble if QEMU has ended by itself: its status and first line."""
     if emulator.poll() is None:
         return ""
-    first = reports.read_text(said).strip().splitlines()[:1]
+    first = tool.read_text(said).strip().splitlines()[:1]
     return f"; QEMU ended with status {emulator.returncode}" + "".join(f": {one}" for one in first)
 
 
@@ -466,9 +468,9 @@ def await_stub(emulator: "subprocess.Popen[bytes]", stub: str) -> None:
         if os.path.exists(stub):
             return
         if emulator.poll() is not None:
-            raise reports.Trouble("QEMU made no stub for gdb")
+            raise tool.Trouble("QEMU made no stub for gdb")
         time.sleep(0.1)
-    raise reports.Trouble("QEMU made no stub for gdb in a minute")
+    raise tool.Trouble("QEMU made no stub for gdb in a minute")
 
 
 def run_gdb(stub: str, output: str, vmlinux: str, timeout: float) -> None:
@@ -486,7 +488,7 @@ def run_gdb(stub: str, output: str, vmlinux: str, timeout: float) -> None:
             check=False,
         )
     except subprocess.TimeoutExpired:
-        raise reports.Trouble(
+        raise tool.Trouble(
             f"the kernel didn't come to its free lists in {timeout:g} seconds: "
             "does its line have nokaslr, and is "
             f"{vmlinux} of its build? --timeout gives it longer"
@@ -497,17 +499,17 @@ def run_gdb(stub: str, output: str, vmlinux: str, timeout: float) -> None:
             for line in done.stdout.decode("utf-8", "replace").splitlines()
             if line and not line.startswith("[Inferior")
         ]
-        raise reports.Trouble(f"gdb read nothing: {said[-1] if said else 'it said nothing'}")
+        raise tool.Trouble(f"gdb read nothing: {said[-1] if said else 'it said nothing'}")
 
 
 def make_folder(given: argparse.Namespace, qemu: Sequence[str]) -> None:
     """Boots the machine and writes its folder."""
-    program = reports.find_program(given.program)
+    program = runner.find_program(given.program)
     check_needs(qemu[0], given.vmlinux)
     dump, log = boot(qemu, given.vmlinux, given.timeout)
     lines = lines_of(log)
     if not any("MEMBLOCK configuration:" in line for line in lines):
-        raise reports.Trouble(
+        raise tool.Trouble(
             "the serial line has no log of memblock: the kernel's line needs memblock=debug "
             "console=ttyS0 ignore_loglevel"
         )
@@ -535,7 +537,7 @@ def result_text(result: lists.Result) -> str:
 
 def compare_folders(given: argparse.Namespace) -> int:
     """Prints what each folder's comparison finds."""
-    run = lists.runner(reports.find_program(given.program))
+    run = lists.program_runner(runner.find_program(given.program))
     status = 0
     for folder in given.folders:
         for result in lists.compare_folder(run, folder):
@@ -546,7 +548,7 @@ def compare_folders(given: argparse.Namespace) -> int:
 
 def read_words(words: List[str], qemu: Optional[List[str]]) -> argparse.Namespace:
     """The tool's words; `qemu` has those behind `--`."""
-    parser: argparse.ArgumentParser = reports.new_parser(NAME, USAGE, ABOUT, EPILOG)
+    parser: argparse.ArgumentParser = tool.new_parser(NAME, USAGE, ABOUT, EPILOG)
     parser.add_argument(
         "folders", metavar="FOLDER", nargs="*", help="with --compare: folders that the tool wrote"
     )
@@ -563,7 +565,7 @@ def read_words(words: List[str], qemu: Optional[List[str]]) -> argparse.Namespac
         default=600.0,
         help="how long the boot may take (600)",
     )
-    reports.add_program(parser)
+    runner.add_program(parser)
     given = parser.parse_args(words)
     if given.compare and (
         given.vmlinux or given.output or given.kernel or qemu or not given.folders
@@ -580,18 +582,18 @@ def read_words(words: List[str], qemu: Optional[List[str]]) -> argparse.Namespac
 
 def image_place(parser: argparse.ArgumentParser, text: str) -> Tuple[int, int]:
     """First and last byte of the image that --kernel names."""
-    numbers = [reports.parse_size(part) for part in text.split(",")]
-    if len(numbers) != 2 or not all(numbers):
+    pair = ranges.parse_pair(text)
+    if pair is None:
         parser.error(
             f"{text}: no place of an image: two sizes with a comma between, "
             "such as 0x1000000,0x3400000"
         )
-    return numbers[0], sum(numbers) - 1
+    return pair[0], sum(pair) - 1
 
 
 def main(words: List[str]) -> int:
     """Does what the words ask for."""
-    own, qemu = reports.split_words(words)
+    own, qemu = tool.split_words(words)
     given = read_words(own, qemu)
     if given.compare:
         return compare_folders(given)
@@ -601,7 +603,7 @@ def main(words: List[str]) -> int:
 
 def command() -> None:
     """Runs the tool as a command."""
-    reports.run_tool(NAME, main)
+    tool.run_tool(NAME, main)
 
 
 if __name__ == "__main__":

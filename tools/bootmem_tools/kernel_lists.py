@@ -11,10 +11,10 @@ import struct
 import tempfile
 from typing import Callable, Dict, Iterable, List, NamedTuple, Optional, Sequence, Set, Tuple
 
-from bootmem_tools import reports
+from bootmem_tools import ranges, reports, runner, tool
 
-FRAME = reports.FRAME
-END = reports.TOP + 1  # of all addresses
+FRAME = ranges.FRAME
+END = ranges.TOP + 1  # of all addresses
 BORDERS = {
     "DMA": (0, 1 << 12),
     "DMA32": (1 << 12, 1 << 20),
@@ -125,14 +125,14 @@ def fields_of(form: "re.Pattern[str]", line: str) -> Tuple[str, ...]:
     Trouble: the line has another form."""
     match = form.fullmatch(line)
     if match is None:
-        raise reports.Trouble(f"kernel.txt: not of its form: {line!r}")
+        raise tool.Trouble(f"kernel.txt: not of its form: {line!r}")
     return match.groups()
 
 
 def read_table(lines: Sequence[str]) -> Table:
     """The table of a section `memory` or `reserved`."""
     if not lines:
-        raise reports.Trouble("kernel.txt: a table without lines")
+        raise tool.Trouble("kernel.txt: a table without lines")
     place, room, count = fields_of(_HEAD, lines[0])
     records = []
     for line in lines[1:]:
@@ -146,7 +146,7 @@ def read_table(lines: Sequence[str]) -> Table:
             )
         )
     if len(records) != int(count):
-        raise reports.Trouble(f"kernel.txt: {len(records)} records, and not {count}")
+        raise tool.Trouble(f"kernel.txt: {len(records)} records, and not {count}")
     return Table(None if place == "initial" else int(place, 16), int(room), records)
 
 
@@ -180,7 +180,7 @@ def parse_kernel(text: str) -> Kernel:
         if not parts.get(name)
     ]
     if missing:
-        raise reports.Trouble(f"kernel.txt: no section {missing[0]}")
+        raise tool.Trouble(f"kernel.txt: no section {missing[0]}")
     zones = [
         Zone(int(node), name, *map(int, rest))
         for node, name, *rest in (fields_of(_ZONE, line) for line in parts["zones"])
@@ -203,12 +203,12 @@ def parse_kernel(text: str) -> Kernel:
 
 def read_kernel(folder: str) -> Kernel:
     """What `kernel.txt` of the folder says."""
-    return parse_kernel(reports.read_text(os.path.join(folder, "kernel.txt")))
+    return parse_kernel(tool.read_text(os.path.join(folder, "kernel.txt")))
 
 
 def table_lines(table: Table) -> List[str]:
     """The lines of a table's section."""
-    place = "initial" if table.place is None else reports.hex_text(table.place)
+    place = "initial" if table.place is None else ranges.hex_text(table.place)
     lines = [f"place {place} room {table.room} records {len(table.records)}"]
     for first, last, node, flags in table.records:
         lines.append(
@@ -224,10 +224,10 @@ def block_lines(blocks: Sequence[Listed]) -> List[str]:
     while at < len(blocks):
         kind, (node, zone, order, place) = blocks[at]
         end = run_end(blocks, at)
-        line = f"node {node} zone {zone} order {order} {kind} {reports.hex_text(place)}"
+        line = f"node {node} zone {zone} order {order} {kind} {ranges.hex_text(place)}"
         if end - at >= 3:
             step = blocks[at + 1].block.place - place
-            line += f"..{reports.hex_text(blocks[end - 1].block.place)} step {step:#x}"
+            line += f"..{ranges.hex_text(blocks[end - 1].block.place)} step {step:#x}"
             at = end
         else:
             at += 1
@@ -265,7 +265,7 @@ def kernel_text(kernel: Kernel) -> str:
             for zone in kernel.zones
         ],
         "deferred": [
-            f"node {node} from {reports.hex_text(first)}"
+            f"node {node} from {ranges.hex_text(first)}"
             for node, first in sorted(kernel.deferred.items())
         ],
         "memory": table_lines(kernel.memory),
@@ -302,13 +302,13 @@ def joined(ranges: Iterable[Tuple[int, int]]) -> List[Tuple[int, int]]:
 
 def range_text(found: Tuple[int, int]) -> str:
     """A range as the reports print it."""
-    return f"{reports.hex_text(found[0])}..{reports.hex_text(found[1])}"
+    return f"{ranges.hex_text(found[0])}..{ranges.hex_text(found[1])}"
 
 
 def block_text(block: Block) -> str:
     """A block as the report `blocks` prints it."""
     return (
-        f"node {block.node} zone {block.zone} order {block.order} {reports.hex_text(block.place)}"
+        f"node {block.node} zone {block.zone} order {block.order} {ranges.hex_text(block.place)}"
     )
 
 
@@ -330,7 +330,7 @@ def printed_blocks(lines: Iterable[str]) -> List[Block]:
 
 def printed_zones(lines: Iterable[str]) -> List[Zone]:
     """The zones of the report `zones`; what it has as free is what the kernel calls managed."""
-    keys = ("start", "end", "present", "free")
+    keys = ("start_frame", "end_frame", "present", "free")
     return [
         Zone(
             int(span.fields["node"]), span.fields["zone"], *(int(span.fields[key]) for key in keys)
@@ -362,6 +362,7 @@ def compare_blocks(kernel: Kernel, printed: Sequence[Block]) -> Result:
     top = top_of(kernel)
 
     def is_early(block: Block) -> bool:
+        """Whether the kernel frees the block at handover."""
         return block.place < min(top, kernel.deferred.get(block.node, END))
 
     return matched(
@@ -432,6 +433,7 @@ def compare_zones(
     ]
 
     def text(node: int, name: str, present: int, managed: int) -> str:
+        """A zone and its numbers of frames, for a comparison."""
         return f"node {node} zone {name} present {present}" + (
             "" if kernel.deferred else f" managed {managed}"
         )
@@ -558,13 +560,14 @@ def compare_spans(theirs: Sequence[Zone], ours: Dict[Tuple[int, str], Zone]) -> 
 Run = Callable[[Sequence[str], Sequence[str], str], Dict[str, List[str]]]
 
 
-def runner(program: str) -> Run:
+def program_runner(program: str) -> Run:
     """A function that runs the program: the reports of these names, for these words, in this
     folder."""
     path = os.path.abspath(program)
 
     def run(names: Sequence[str], words: Sequence[str], folder: str) -> Dict[str, List[str]]:
-        told: Dict[str, List[str]] = reports.run_program(path, list(names), list(words), folder)
+        """The reports of these names for these words, with the files of the folder."""
+        told: Dict[str, List[str]] = runner.run_program(path, list(names), list(words), folder)
         return told
 
     return run
@@ -572,7 +575,7 @@ def runner(program: str) -> Run:
 
 def words_in(folder: str) -> List[str]:
     """The program's words for the inputs of this folder."""
-    text: str = reports.read_text(os.path.join(folder, "words"))
+    text: str = tool.read_text(os.path.join(folder, "words"))
     return text.split()
 
 
@@ -586,7 +589,7 @@ def memory_above(run: Run, folder: str, top: int) -> List[Tuple[int, int, int]]:
         for span in reports.spans("nodes", told["nodes"])
     ]
     if not nodes:
-        nodes = [(0, reports.TOP, 0)]
+        nodes = [(0, ranges.TOP, 0)]
     found = []
     for first, last in (
         (span.first, span.last) for span in reports.spans("memory", told["memory"])
