@@ -65,16 +65,23 @@ def asked_lines(words, place):
     return [f"[    0.000000] {what}: {size} bytes align={align:#x}{node} {window}\n", answer]
 
 
+def first_dump(reserves, kernel):
+    """The reserved records of a kernel's first dump, for the first claims of a script: image and brk touch, so they are one record."""
+    base, size = (int(part, 16) for part in kernel.split(","))
+    return [(base, size + length) if first == base + size else (first, length) for first, length in reserves]
+
+
 def claims_log_of(name):
     """What a kernel with memblock=debug logs of the claims of a machine's replay."""
     memory, nodes = replay_memory(name)
+    kernel = replay_lines(name, "words")[0].split()[1]
     script = [line.split() for line in replay_lines(name, "script")]
     answers = dict(line.split(": ", 1) for line in replay_lines(name, "script.txt"))
     first = next(number for number, words in enumerate(script) if words[0] != "reserve")
     made = [call_line(*{1: ("memblock_add", base, size)}.get(kind, ("memblock_reserve", base, size)), "e820__memblock_setup")
             for base, size, kind in memory]
     lines = made + ["[    0.000000] MEMBLOCK configuration:\n"] + dump_lines("memory", [one[:2] for one in memory if one[2] == 1])
-    lines += dump_lines("reserved", [(int(words[2], 16), int(words[3], 16)) for words in script[:first]])
+    lines += dump_lines("reserved", first_dump([(int(words[2], 16), int(words[3], 16)) for words in script[:first]], kernel))
     for number, words in enumerate(script[first:], first + 1):
         if words[0] == "alloc":
             lines += asked_lines(words, int(answers[str(number)][3:], 16))
@@ -89,9 +96,9 @@ def claims_log_of(name):
 class Claims(Case):
     """Claims of a kernel's log."""
 
-    def same_replay(self, what, name, made, words=True):
+    def same_replay(self, what, name, made):
         """The folder has the replay of the machine, byte for byte, and the kernel's own places."""
-        for file in ["zp.bin", "script", "srat.bin", "e820ext.bin"] + ["words"] * words:
+        for file in ("zp.bin", "script", "srat.bin", "e820ext.bin", "words"):
             paths = [os.path.join(made, file), example(name, os.path.join("replay", file))]
             self.check(f"{what}: {file}", *(bytes_of(path) if os.path.exists(path) else None for path in paths))
         self.check(f"{what}: places", text_of(os.path.join(made, "places")).splitlines(),
@@ -111,8 +118,28 @@ class Claims(Case):
             if has_file(name, "log"):
                 real += 1
                 self.check(f"claims {name}, its log", tool("claims-from-log", "--replay", folder, example(name, "log"))[::2], (0, ""))
-                self.same_replay(f"claims {name}, its log", name, folder, not name.startswith("ovmf"))
+                self.same_replay(f"claims {name}, its log", name, folder)
         self.check("claims: replays, and logs of their kernels", (made, real), (37, 3))
+
+    def test_brk(self):
+        """Each replay claims brk, which follows the image in one record of the first dump."""
+        for name in machines():
+            if has_file(name, "replay/script"):
+                base, size = (int(part, 16) for part in replay_lines(name, "words")[0].split()[1].split(","))
+                brk = [(number, words.split()[3]) for number, words in enumerate(replay_lines(name, "script"), 1)
+                       if words.split()[2:3] == [f"{base + size:#x}"]]
+                self.check(f"{name}: brk", [size for _, size in brk], ["0x11000"])
+                self.check(f"{name}: brk is claimed", f"{brk[0][0]}: done" in replay_lines(name, "script.txt"), True)
+
+    def test_moved_initrd(self):
+        """The line of an initrd that moved (relocate_initrd) doesn't count as that of the initrd's first place."""
+        log, early = text_of(example("pc-1g-crashfixed", "log")), self.path("early")
+        for text in (log, log.replace("Zone ranges:", "Allocated new RAMDISK: [mem 0x3f000000-0x3f0fffff]\n[    0.000000] Zone ranges:", 1)):
+            status, _, err = tool("claims-from-log", "--e820ext", early, given=text)
+            self.check("an initrd that moves: status", (status, err), (0, ""))
+            held = bytes_of(early) if text is log else held
+            self.check("an initrd that moves: extension", bytes_of(early), held)
+            self.check("an initrd that moves: the line", "new RAMDISK" in text, text is not log)
 
     def test_early(self):
         """With a kernel's claims the crash area is where its log has it, and every later claim finds the memory that it had."""

@@ -55,7 +55,8 @@ RECORD = re.compile(r"(memory|reserved)\[0x[0-9a-f]+\]\s+\[0x([0-9a-f]+)-0x([0-9
                     r"(?: on node (\d+))? flags")
 DOUBLED = re.compile(r"memblock: (?:memory|reserved) is doubled to \d+ at \[0x([0-9a-f]+)-0x([0-9a-f]+)\]")
 DATA = re.compile(r"NODE_DATA\((\d+)\) allocated \[mem 0x([0-9a-f]+)-0x([0-9a-f]+)\]")
-RAMDISK = re.compile(r"RAMDISK: \[mem 0x([0-9a-f]+)-0x([0-9a-f]+)\]")
+# not "Allocated new RAMDISK: [mem ..]" of relocate_initrd
+RAMDISK = re.compile(r"^(?:<\d+>)?(?:\[[ \d.]+\] ?)*RAMDISK: \[mem 0x([0-9a-f]+)-0x([0-9a-f]+)\]")
 END = re.compile(r"Memory: \d+K/\d+K available")
 
 
@@ -294,12 +295,14 @@ def later_script(claims: Iterable[Claim], places: bool) -> list[str]:
     return lines
 
 
-def replay_script(log: Log) -> tuple[list[str], Places]:
-    """Returns the lines of a whole boot's script, and the numbers of those that have a place,
-    with the place or None."""
+def replay_script(log: Log, image: Range) -> tuple[list[str], Places]:
+    """Returns the lines of a whole boot's script, and the numbers of those that have a place, with the place or None.
+
+    The image is cut out of the first dump's records: bootmem claims it by itself, and keeps its tables there.
+    """
     lines: list[str] = []
     places: Places = []
-    at_once = [Claim("reserve", None, place, "") for place in log.reserved]
+    at_once = [Claim("reserve", None, place, "") for place in without(log.reserved, *image)]
     for number, claim in enumerate(at_once + [claim for claim in log.claims if not low_alone(claim)], 1):
         if claim.request is not None:
             lines.append(alloc_line(number, claim.request))
@@ -325,7 +328,7 @@ def write_replay(log: Log, image: Range, folder: str) -> None:
     entries += [(place, NODE_DATA, 1) for place in spare.values()]
     if len(entries) > inputs.ROOM + inputs.EXTENSION_ROOM:
         raise tool.Trouble(f"{len(entries)} ranges of memory: zero page and extension have {inputs.ROOM + inputs.EXTENSION_ROOM} at most")
-    lines, places = replay_script(log)
+    lines, places = replay_script(log, image)
     words = ["--kernel", kernel_text(image), "--script", "script"]
     files = {"zp.bin": inputs.zero_page(entries[:inputs.ROOM]), "script": text_of(lines),
              "places": text_of(f"{line}: {'no gap' if place is None else 'at ' + ranges.hex_text(place)}" for line, place in places)}
