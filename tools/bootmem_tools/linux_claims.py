@@ -1,0 +1,195 @@
+"""What Linux 6.1 claims before its crash area and bootmem doesn't, made from a machine's inputs in the kernel's order.
+
+Each claim is a function of inputs that are there; what the inputs don't tell is left out and said. Addresses are in bytes, and a range is
+its first byte and the one past its last.
+"""
+
+from __future__ import annotations
+
+import re
+import struct
+from typing import Iterable, Iterator, NamedTuple, Sequence
+
+from bootmem_tools import inputs
+from bootmem_tools.direct_map import DirectMap, Free, Span, down, is_within, united, up
+from bootmem_tools.ranges import FRAME, MIB, parse_size
+
+BRK = 17 * FRAME  # what brk has in use when it is claimed: page tables, and a page for DMI's texts
+END_AFTER_BRK = 48 * FRAME  # from the image's end to _end: all room of brk
+LOG_LEAST, LOG_MOST = 128 << 10, 1 << 31  # the log buffer that is there, and the longest one (LOG_BUF_LEN_MAX)
+LOG_ALIGN = 8
+DESCRIPTOR, INFO = 24, 88  # bytes of a record's descriptor and its information, one for each 32 bytes of the buffer
+SETUP_DATA, EFI_INFO, LOAD_FLAGS = 0x250, 0x1C0, 0x211  # places in the zero page
+KASLR_FLAG = 2
+BOOT_SERVICES, LOADER_DATA, CONVENTIONAL = (3, 4), 2, 7  # types of EFI descriptors
+SPECIFIC_PURPOSE = 0x40000  # EFI_MEMORY_SP
+
+
+class Claim(NamedTuple):
+    """A range that the kernel claims: its first byte and the one past its last, what it is, and the function that claims it."""
+
+    first: int
+    end: int
+    what: str
+    rule: str
+
+
+class Descriptor(NamedTuple):
+    """A descriptor of an EFI memory map: its type, its range and its attributes."""
+
+    kind: int
+    first: int
+    end: int
+    attributes: int
+
+
+class Machine(NamedTuple):
+    """What the rules of the claims read.
+
+    `memory` is what memblock has after the trim, `end` the end of the last RAM (max_pfn), `soft` what is soft reserved, `image` the
+    kernel's image, `line` the command line, `largest` the largest page of the direct map, `domains` the number of nodes if the
+    distances of a SLIT are kept, else 0.
+    """
+
+    page: bytes
+    line: str
+    memory: list[Span]
+    end: int
+    soft: list[Span]
+    image: Span
+    brk: int
+    efi: list[Descriptor]
+    extension: int
+    largest: int
+    has_five_levels: bool
+    domains: int
+
+
+class Outcome(NamedTuple):
+    """The claims in the kernel's order, the new place of an initrd that moves, and what couldn't be made, a line each."""
+
+    claims: list[Claim]
+    moved: int | None
+    unknown: list[str]
+
+
+def read_descriptors(data: bytes) -> list[Descriptor]:
+    """Returns the descriptors of an EFI memory map; none if its header isn't one."""
+    if len(data) < 8 or struct.unpack_from("<I", data)[0] < 40:
+        return []
+    stride, found = struct.unpack_from("<I", data)[0], []
+    for place in range(8, len(data) - stride + 1, stride):
+        kind, first, pages, attributes = struct.unpack_from("<I4xQ8xQQ", data, place)
+        found.append(Descriptor(kind, first, first + pages * FRAME, attributes))
+    return found
+
+
+def initrd_of(page: bytes) -> Span | None:
+    """Returns the initrd in whole frames, or None (reserve_initrd)."""
+    low, size_low = struct.unpack_from("<II", page, inputs.RAMDISK)
+    high, size_high = struct.unpack_from("<II", page, inputs.HIGH_RAMDISK)
+    first, size = high << 32 | low, size_high << 32 | size_low
+    if not page[inputs.LOADER_TYPE] or not first or not size:
+        return None
+    return down(first, FRAME), up(first + size, FRAME)
+
+
+def move_initrd(page: bytes, place: int) -> bytes:
+    """Returns the zero page with the initrd at this place."""
+    moved = bytearray(page)
+    struct.pack_into("<I", moved, inputs.RAMDISK, place & 0xFFFFFFFF)
+    struct.pack_into("<I", moved, inputs.HIGH_RAMDISK, place >> 32)
+    return bytes(moved)
+
+
+def setup_data(machine: Machine, initrd: Span | None) -> Iterator[Claim]:
+    """Yields the first node of setup_data: the zero page has its address, not its length.
+
+    The extension's file tells the length if it is the node; else EFI's descriptor of loader data has it, up to an initrd there.
+    """
+    first: int = struct.unpack_from("<Q", machine.page, SETUP_DATA)[0]
+    if not first:
+        return
+    end = first + (machine.extension or 16)
+    for one in machine.efi:
+        if one.kind == LOADER_DATA and one.first <= first < one.end and not machine.extension:
+            end = min([one.end] + [initrd[0] for _ in "x" if initrd and initrd[0] > first])
+            break
+    yield Claim(first, end, "setup_data", "memblock_x86_reserve_range_setup_data")
+
+
+def efi_map(machine: Machine) -> Iterator[Claim]:
+    """Yields the bytes of EFI's own memory map, whose place the zero page has (struct efi_info)."""
+    signature, low, size, high = struct.unpack_from("<4s12xII4xI", machine.page, EFI_INFO)
+    if signature in (b"EL64", b"EL32") and (low or high) and size:
+        first = high << 32 | low
+        yield Claim(first, first + size, "EFI's memory map", "efi_memblock_x86_reserve_range")
+
+
+def boot_services(machine: Machine, held: Sequence[Span]) -> Iterator[Claim]:
+    """Yields each descriptor of boot services of which nothing is claimed yet."""
+    taken = Free([(0, 1 << 64)])
+    for first, end in held:
+        taken.claim(first, end)
+    for one in machine.efi:
+        if one.kind in BOOT_SERVICES and is_within(taken.spans, one.first, one.end):
+            taken.claim(one.first, one.end)
+            yield Claim(one.first, one.end, f"boot services, type {one.kind}", "efi_reserve_boot_services")
+
+
+def log_sizes(line: str) -> list[int]:
+    """Returns the sizes of a longer log buffer and its two companions, or none (log_buf_len_update, setup_log_buf)."""
+    length = 0
+    for value in re.findall(r"(?:^|\s)log_buf_len=([0-9A-Za-z]+)", line):
+        size = min(parse_size(value) or 0, LOG_MOST)
+        size = 1 << (size - 1).bit_length() if size else 0
+        length = size if size > LOG_LEAST else length
+    records = length >> 5
+    return [length, DESCRIPTOR * records, INFO * records] if length else []
+
+
+def has_kaslr(page: bytes) -> bool:
+    """Tells whether the decompressor chose places at random (KASLR_FLAG of the boot parameters)."""
+    return bool(page[LOAD_FLAGS] & KASLR_FLAG)
+
+
+def early_claims(machine: Machine) -> Outcome:
+    """Returns what the kernel claims before node data, as far as the inputs tell."""
+    claims: list[Claim] = []
+    unknown: list[str] = []
+    initrd = initrd_of(machine.page)
+    claims += setup_data(machine, initrd)
+    claims += efi_map(machine)
+    claims.append(Claim(machine.image[1], machine.image[1] + machine.brk, "brk", "reserve_brk"))
+    own = [(0, MIB), machine.image, *machine.soft] + ([initrd] if initrd else [])
+    # boot services are looked at before the first MiB is claimed whole
+    early = [(0, 64 << 10), *own[1:], *((one.first, one.end) for one in claims)]
+    claims += boot_services(machine, early)
+    free = Free(machine.memory)
+    for first, end in own + [(one.first, one.end) for one in claims]:
+        free.claim(first, end)
+    tables = DirectMap(machine.memory, free, machine.image[1], machine.largest, machine.has_five_levels, has_kaslr(machine.page))
+    tables.make(machine.end)
+    claims += [Claim(place, place + FRAME, "a page table of the direct map", "alloc_low_pages") for place in tables.pages]
+    for size, what in zip(log_sizes(machine.line), ("the log buffer", "its descriptors", "its records' information")):
+        claims += placed(free, size, LOG_ALIGN, tables.high, what, "setup_log_buf")
+    moved = None
+    if initrd and not is_within(united(tables.mapped), *initrd):  # pfn_range_is_mapped
+        moved = free.take(initrd[1] - initrd[0], FRAME, 0, tables.high) or None
+        free.release((max(low, initrd[0]), min(high, initrd[1])) for low, high in machine.memory if low < initrd[1] and initrd[0] < high)
+    if machine.domains:
+        claims += placed(free, machine.domains ** 2, FRAME, tables.high, "the distances of the SLIT", "numa_alloc_distance")
+    return Outcome(claims, moved, unknown)
+
+
+def placed(free: Free, size: int, align: int, high: int, what: str, rule: str) -> Iterator[Claim]:
+    """Yields the claim of an allocation from the top down; none if it finds no place."""
+    place = free.take(size, align, 0, high)
+    if place:
+        yield Claim(place, place + size, what, rule)
+
+
+def frames_to_cut(claims: Iterable[Claim], memory: Sequence[Span]) -> list[Span]:
+    """Returns the memory of these claims in whole frames, ascending."""
+    whole = united((max(down(one.first, FRAME), MIB), up(one.end, FRAME)) for one in claims)
+    return united((max(low, first), min(high, end)) for low, high in whole for first, end in memory if low < end and first < high)
