@@ -133,13 +133,14 @@ class Claims(Case):
 
     def test_moved_initrd(self):
         """The line of an initrd that moved (relocate_initrd) doesn't count as that of the initrd's first place."""
-        log, early = text_of(example("pc-1g-crashfixed", "log")), self.path("early")
-        for text in (log, log.replace("Zone ranges:", "Allocated new RAMDISK: [mem 0x3f000000-0x3f0fffff]\n[    0.000000] Zone ranges:", 1)):
-            status, _, err = tool("claims-from-log", "--e820ext", early, given=text)
+        log, made = text_of(example("pc-1g-crashfixed", "log")), []
+        moved = log.replace("Zone ranges:", "Allocated new RAMDISK: [mem 0x3f000000-0x3f0fffff]\n[    0.000000] Zone ranges:", 1)
+        self.check("an initrd that moves: its line", moved.count("new RAMDISK"), 1)
+        for text in (log, moved):
+            status, _, err = tool("claims-from-log", "--e820ext", self.path("early"), given=text)
             self.check("an initrd that moves: status", (status, err), (0, ""))
-            held = bytes_of(early) if text is log else held
-            self.check("an initrd that moves: extension", bytes_of(early), held)
-            self.check("an initrd that moves: the line", "new RAMDISK" in text, text is not log)
+            made.append(bytes_of(self.path("early")))
+        self.check("an initrd that moves: extension", made[1], made[0])
 
     def test_early(self):
         """With a kernel's claims the crash area is where its log has it, and every later claim finds the memory that it had."""

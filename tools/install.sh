@@ -21,7 +21,7 @@ include=$2$3/include
 share=$2$3/share
 man=$2$4
 tools="bootmem-draw bootmem-where bootmem-diff bootmem-live zp-from-log"
-tools="$tools bootmem-line bootmem-crash"
+tools="$tools bootmem-line bootmem-crash bootmem-linux"
 tools="$tools bootmem-fleet bootmem-json claims-from-log free-lists"
 
 uninstall() {

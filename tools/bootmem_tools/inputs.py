@@ -65,6 +65,11 @@ def extension(entries: Sequence[Entry]) -> bytes:
     return struct.pack("<QII", 0, 1, 20 * len(entries)) + entry_bytes(entries)
 
 
+def entries_of(data: bytes) -> list[Entry]:
+    """Returns the entries of whole 20 bytes each, as the zero page and the extension hold them."""
+    return [(base, size, kind) for base, size, kind in struct.iter_unpack("<QQI", data)]
+
+
 def map_files(entries: Sequence[Entry], initrd: Initrd | None = None) -> tuple[bytes, bytes | None]:
     """Returns a zero page, and an extension with the entries for which it has no room, or None
     if there are none."""

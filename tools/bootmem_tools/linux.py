@@ -92,6 +92,7 @@ class Boot:
         self.line = ""
         self.texts: Texts = {}
         self.claims: list[linux_claims.Claim] = []
+        self.restored: direct_map.Span = (0, 0)  # the image with brk, if words of the line make it RAM
         pair = ranges.parse_pair(given.options.get("kernel", ""))
         self.image = (pair[0], sum(pair)) if pair else IMAGE
 
@@ -125,7 +126,7 @@ class Boot:
         if data is None or len(data) < 16 or struct.unpack_from("<I", data, 8)[0] != 1:
             return
         size = min(struct.unpack_from("<I", data, 12)[0], len(data) - 16) // 20 * 20
-        entries = list(struct.iter_unpack("<QQI", data[16:16 + size]))
+        entries = inputs.entries_of(data[16:16 + size])
         far = next((place for place, one in enumerate(entries) if one[0] + one[1] > 1 << 64), len(entries))
         if far < len(entries):
             self.say("changed", f"entry {far} of the extension goes beyond 2^64: it is dropped with all that follow (__append_e820_table)")
@@ -194,6 +195,7 @@ class Boot:
             return True
         self.say("changed", f"the kernel's image isn't all RAM: {first:#x} to {end:#x}, with 192 KiB for brk, becomes RAM (e820_add_kernel_range)")
         self.add_words([f"memmap={end - first:#x}%{first:#x}", f"memmap={end - first:#x}@{first:#x}"])
+        self.restored = first, end
         return self.run()
 
     def machine(self) -> linux_claims.Machine:
@@ -223,11 +225,18 @@ class Boot:
         if "uncovered" in verdicts and "srat" in self.files:  # less memory could change the verdict
             self.say("changed", "the SRAT leaves memory uncovered, so it isn't used: it is left out")
             del self.files["srat"]
-        if "exactmap" in self.line:
-            self.add_words([f"memmap={end - first:#x}${first:#x}" for first, end in cut])
+        self.take_away(cut)
+
+    def take_away(self, cut: list[direct_map.Span]) -> None:
+        """Takes these ranges out of memory: by entries of the extension, or by words where the line forgets or changes entries."""
+        by_line = [one for one in cut if "exactmap" in self.line or one[0] < self.restored[1] and self.restored[0] < one[1]]
+        if by_line:
+            self.add_words([f"memmap={end - first:#x}${first:#x}" for first, end in by_line])
+        data = self.files.get("e820ext", bytes(16))
+        entries = inputs.entries_of(data[16:])
+        entries += [(first, end - first, inputs.RESERVED) for first, end in cut if (first, end) not in by_line]
+        if not entries:
             return
-        data = self.files.get("e820ext", b"")
-        entries = list(struct.iter_unpack("<QQI", data[16:])) + [(first, end - first, inputs.RESERVED) for first, end in cut]
         if len(entries) > inputs.EXTENSION_ROOM:
             raise tool.Trouble(f"{len(entries)} entries with the early claims: an extension has {inputs.EXTENSION_ROOM} at most", 2)
         self.files["e820ext"] = inputs.extension(entries)
