@@ -134,7 +134,7 @@ class Claims(Case):
     def test_moved_initrd(self):
         """The line of an initrd that moved (relocate_initrd) doesn't count as that of the initrd's first place."""
         log, made = text_of(example("pc-1g-crashfixed", "log")), []
-        moved = log.replace("Zone ranges:", "Allocated new RAMDISK: [mem 0x3f000000-0x3f0fffff]\n[    0.000000] Zone ranges:", 1)
+        moved = re.sub(r"(.* )(RAMDISK: .*\n)", r"\1\2\1Allocated new RAMDISK: [mem 0x3f000000-0x3f0fffff]\n", log)
         self.check("an initrd that moves: its line", moved.count("new RAMDISK"), 1)
         for text in (log, moved):
             status, _, err = tool("claims-from-log", "--e820ext", self.path("early"), given=text)

