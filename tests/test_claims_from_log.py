@@ -7,6 +7,8 @@ import unittest
 
 from support import Case, bytes_of, entries_of, example, has_file, machines, program, text_of, tool, words_of, write
 
+ROOMS = 1 << 20  # the least number of a line for a room
+
 
 def replay_lines(name, file):
     """The lines of a file of a machine's replay."""
@@ -16,13 +18,13 @@ def replay_lines(name, file):
 def replay_memory(name):
     """Memory and soft reserved ranges of a replay, each a base, a size and a type, and how many nodes it has.
 
-    The last entries, one for each node, stand for node data and are no memory of the machine."""
+    The last entries, one for each node, are room for what the program claims by itself, and no memory of the machine."""
     page = bytes_of(example(name, "replay/zp.bin"))
     entries = entries_of(page, page[0x1E8], 0x2D0)
     if has_file(name, "replay/e820ext.bin"):
         data = bytes_of(example(name, "replay/e820ext.bin"))
         entries += entries_of(data, (len(data) - 16) // 20, 16)
-    nodes = sum(1 for base, size, _ in entries if size == 0x2B000 and base % (1 << 30) == 0)
+    nodes = sum(line.startswith("reserve ") and int(line.split()[1]) >= ROOMS for line in replay_lines(name, "script"))
     return entries[:-nodes], nodes
 
 
@@ -76,15 +78,17 @@ def claims_log_of(name):
     memory, nodes = replay_memory(name)
     kernel = replay_lines(name, "words")[0].split()[1]
     script = [line.split() for line in replay_lines(name, "script")]
-    answers = dict(line.split(": ", 1) for line in replay_lines(name, "script.txt"))
+    script, end = script[nodes:-nodes], [words[0] for words in script[-nodes:]]
+    answers = {int(line.split(": ", 1)[0]) - nodes: line.split(": ", 1)[1] for line in replay_lines(name, "script.txt")}
     first = next(number for number, words in enumerate(script) if words[0] != "reserve")
+    assert end == ["free"] * nodes
     made = [call_line(*{1: ("memblock_add", base, size)}.get(kind, ("memblock_reserve", base, size)), "e820__memblock_setup")
             for base, size, kind in memory]
     lines = made + ["[    0.000000] MEMBLOCK configuration:\n"] + dump_lines("memory", [one[:2] for one in memory if one[2] == 1])
     lines += dump_lines("reserved", first_dump([(int(words[2], 16), int(words[3], 16)) for words in script[:first]], kernel))
     for number, words in enumerate(script[first:], first + 1):
         if words[0] == "alloc":
-            lines += asked_lines(words, int(answers[str(number)][3:], 16))
+            lines += asked_lines(words, int(answers[number][3:], 16))
         elif words[0] == "reserve":
             freed = script[number:number + 1] == [["free", words[1]]]
             lines.append(call_line("memblock_phys_free" if freed else "memblock_reserve", int(words[2], 16), int(words[3], 16), "some_function"))
@@ -130,6 +134,16 @@ class Claims(Case):
                        if words.split()[2:3] == [f"{base + size:#x}"]]
                 self.check(f"{name}: brk", [size for _, size in brk], ["0x11000"])
                 self.check(f"{name}: brk is claimed", f"{brk[0][0]}: done" in replay_lines(name, "script.txt"), True)
+
+    def test_rooms(self):
+        """What the program claims for sections by itself lies in rooms above the machine's memory, so sections count once there."""
+        for name in machines():
+            if has_file(name, "replay/script"):
+                top = max(base + size for base, size, kind in replay_memory(name)[0] if kind == 1)
+                owners = program(example(name, "replay"), "--report", "owners", *replay_lines(name, "words")[0].split())
+                own = re.findall(r"^ *\d+: (0x\w+)\.\.\S+ (?:map|usage|roots?|node-data)\b", owners, re.MULTILINE)
+                self.check(f"{name}: claims of its own below the rooms", [place for place in own if int(place, 16) < top], [])
+                self.check(f"{name}: claims of its own", len(own) > 3, True)
 
     def test_moved_initrd(self):
         """The line of an initrd that moved (relocate_initrd) doesn't count as that of the initrd's first place."""

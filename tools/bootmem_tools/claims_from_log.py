@@ -45,6 +45,8 @@ MIB = ranges.MIB
 CRASH_ALIGNS = (16 * MIB, MIB)  # without a base, and with one
 EXTENSION = tool.Kind("extension", 61456, is_text=False)
 NODE_DATA = 0x2B000  # what bootmem claims for the data of a node
+SECTION_MAP = 2 * MIB  # the page structures of a section
+ROOM_NUMBER = 1 << 20  # the first number of the script's lines for rooms, above those of claims
 HEAD = "BIOS-provided physical RAM map:"
 # newer kernels print node and flags, too
 CALL = re.compile(r"(memblock_(?:add|reserve|phys_free|free)): \[0x([0-9a-f]+)-0x([0-9a-f]+)\](?: nid=-?\d+)?(?: flags=\w+)? (\w+)")
@@ -295,12 +297,14 @@ def later_script(claims: Iterable[Claim], places: bool) -> list[str]:
     return lines
 
 
-def replay_script(log: Log, image: Range) -> tuple[list[str], Places]:
+def replay_script(log: Log, image: Range, rooms: Iterable[Range]) -> tuple[list[str], Places]:
     """Returns the lines of a whole boot's script, and the numbers of those that have a place, with the place or None.
 
-    The image is cut out of the first dump's records: bootmem claims it by itself, and keeps its tables there.
+    The image is cut out of the first dump's records: bootmem claims it by itself, and keeps its tables there. The rooms are kept for bootmem's
+    own claims until the kernel's are made.
     """
-    lines: list[str] = []
+    kept = list(enumerate(rooms, ROOM_NUMBER))
+    lines = [f"reserve {number} {base:#x} {size - NODE_DATA:#x}" for number, (base, size) in kept]
     places: Places = []
     at_once = [Claim("reserve", None, place, "") for place in without(log.reserved, *image)]
     for number, claim in enumerate(at_once + [claim for claim in log.claims if not low_alone(claim)], 1):
@@ -310,31 +314,44 @@ def replay_script(log: Log, image: Range) -> tuple[list[str], Places]:
         elif claim.place is not None:
             lines.append(reserve_line(number, claim.place))
             lines += [f"free {number}"] if claim.deed == "free" else []
-    return lines, places
+    return lines + [f"free {number}" for number, _ in kept], places
 
 
-def phantoms(log: Log) -> dict[int, int]:
-    """Returns memory above all other, of a frame's room for each node's data, so that what
-    bootmem claims for it moves nothing: by node."""
-    top = max(last + 1 for _, last in log.memory)
-    return {node: ((top >> 30) + 2 + place << 30) for place, node in enumerate(sorted(log.data) or [0])}
+def own_room(log: Log, node: int) -> int:
+    """Returns the bytes that bootmem needs on a node for page structures and usage data of its sections and of the room itself."""
+    memory = [(first, last) for first, last, one in log.noded if one == node] if len(log.data) > 1 else log.memory
+    sections = sum(last // ranges.SECTION - first // ranges.SECTION + 1 for first, last in memory)
+    return SECTION_MAP * (sections + sections // 32 + 8)
+
+
+def own_rooms(log: Log) -> dict[int, Range]:
+    """Returns memory above all other, by node: a base and a size in which all that bootmem claims by itself lies, so that it moves nothing.
+
+    The top of each is the node's data, which is claimed before the script; the script claims the rest and frees it at its end, for the sections.
+    """
+    base = (max(last + 1 for _, last in log.memory) >> 30) + 2 << 30
+    found: dict[int, Range] = {}
+    for node in sorted(log.data) or [0]:
+        found[node] = base, own_room(log, node) + NODE_DATA
+        base = (base + found[node][1] >> 30) + 1 << 30
+    return found
 
 
 def write_replay(log: Log, image: Range, folder: str) -> None:
     """Writes the files of a whole boot."""
-    spare = phantoms(log)
+    rooms = own_rooms(log)
     entries = sorted([(first, last + 1 - first, 1) for first, last in joined(log.added or log.memory)]
                      + [(first, last + 1 - first, inputs.SOFT_RESERVED) for first, last in log.soft])
-    entries += [(place, NODE_DATA, 1) for place in spare.values()]
+    entries += [(base, size, 1) for base, size in rooms.values()]
     if len(entries) > inputs.ROOM + inputs.EXTENSION_ROOM:
         raise tool.Trouble(f"{len(entries)} ranges of memory: zero page and extension have {inputs.ROOM + inputs.EXTENSION_ROOM} at most")
-    lines, places = replay_script(log, image)
+    lines, places = replay_script(log, image, rooms.values())
     words = ["--kernel", kernel_text(image), "--script", "script"]
     files = {"zp.bin": inputs.zero_page(entries[:inputs.ROOM]), "script": text_of(lines),
              "places": text_of(f"{line}: {'no gap' if place is None else 'at ' + ranges.hex_text(place)}" for line, place in places)}
     if len({node for _, _, node in log.noded}) > 1:
         blocks = [(first, last + 1 - first, node) for first, last, node in log.noded]
-        files["srat.bin"] = inputs.srat(blocks + [(place, NODE_DATA, node) for node, place in spare.items()], sorted(spare))
+        files["srat.bin"] = inputs.srat(blocks + [(base, size, node) for node, (base, size) in rooms.items()], sorted(rooms))
         words += ["--srat", "srat.bin"]
     if entries[inputs.ROOM:]:
         files["e820ext.bin"] = inputs.extension(entries[inputs.ROOM:])
