@@ -1,4 +1,5 @@
-"""bootmem-linux: over each machine of examples/ the crash area and node data are the kernel's own; each claim of its log has a rule or a reason;
+"""bootmem-linux: over each machine of examples/ the crash area and node data are the kernel's own;
+each claim of its log has a rule or a reason;
 and how the inputs are read."""
 
 import collections
@@ -7,17 +8,42 @@ import resource
 import struct
 import unittest
 
-from support import (GIB, LOW, MIB, PROGRAM, RAM, RESERVED, Case, example, extension, has_file, machine_of, machines, memory_of, program, ran,
-                     rows_of, srat, text_of, tool, unsealed, words_of, write)
+from support import (
+    GIB,
+    LOW,
+    MIB,
+    PROGRAM,
+    RAM,
+    RESERVED,
+    Case,
+    example,
+    extension,
+    has_file,
+    machine_of,
+    machines,
+    memory_of,
+    program,
+    ran,
+    rows_of,
+    srat,
+    text_of,
+    tool,
+    unsealed,
+    words_of,
+    write,
+)
 from test_claims_from_log import ROOMS
 from bootmem_tools import inputs, linux_claims, linux_srat
 from bootmem_tools.direct_map import PMD, PUD, DirectMap, Free
 
 FRAME = 4096
 SETUP_DATA, BOOT_SERVICES = "memblock_x86_reserve_range_setup_data", "efi_reserve_boot_services"
-# Who makes the claims of the kernels' logs, from the first dump of memblock up to the sections: the kernel function by whose rule
-# bootmem-linux makes one, the owner by whom bootmem does, or why neither does; and how many there are.
-RULES = rows_of("""
+# Who makes the claims of the kernels' logs, from the first dump of memblock up to the sections:
+# the kernel function by whose rule
+# bootmem-linux makes one, the owner by whom bootmem does, or why neither does; and how many there
+# are.
+RULES = rows_of(
+    """
 memblock_x86_reserve_range_setup_data | 4
 efi_memblock_x86_reserve_range | 2
 reserve_brk | 37
@@ -32,7 +58,8 @@ bootmem: crash | 10
 reason: given back | 86
 reason: not in memory | 248
 reason: a table of EFI, whose place no input tells | 2
-""")
+"""
+)
 
 
 def boot_words(name):
@@ -44,15 +71,21 @@ def boot_words(name):
 
 
 def kernel_claims(name):
-    """The claims of a kernel up to its sections, in their order: first byte, the one past the last, what asked as words, and whether it was freed."""
+    """The claims of a kernel up to its sections, in their order: first byte, the one past the
+    last, what asked as words, and whether it was freed."""
     script = [line.split() for line in text_of(example(name, "replay/script")).splitlines()]
-    answers = dict(line.split(": ", 1) for line in text_of(example(name, "replay/script.txt")).splitlines())
+    answers = dict(
+        line.split(": ", 1) for line in text_of(example(name, "replay/script.txt")).splitlines()
+    )
     for number, words in enumerate(script, 1):
         if int(words[1]) >= ROOMS:  # room for what the program claims by itself
             continue
-        if words[:1] == ["alloc"] and words[2:4] in (["32768", "64"], ["2097152", "64"]):  # the table of roots
+        if words[:1] == ["alloc"] and words[2:4] in (
+            ["32768", "64"],
+            ["2097152", "64"],
+        ):  # the table of roots
             return
-        freed = words[0] == "reserve" and script[number:number + 1] == [["free", words[1]]]
+        freed = words[0] == "reserve" and script[number : number + 1] == [["free", words[1]]]
         if words[0] == "reserve":
             yield int(words[2], 16), int(words[2], 16) + int(words[3], 16), words, freed
         elif words[0] == "alloc" and answers[str(number)].startswith("at "):
@@ -71,20 +104,42 @@ def is_node_data(words):
 
 
 class Boot:
-    """A machine's boot by bootmem-linux: its status and error, its claims with their rules, the owners, and memory without early claims."""
+    """A machine's boot by bootmem-linux: its status and error, its claims with their rules, the
+    owners, and memory without early claims."""
 
     def __init__(self, name, *more):
-        self.status, owners, self.err = tool("bootmem-linux", "--explain", *more, "--report", "owners", *boot_words(name), folder=example(name))
+        self.status, owners, self.err = tool(
+            "bootmem-linux",
+            "--explain",
+            *more,
+            "--report",
+            "owners",
+            *boot_words(name),
+            folder=example(name),
+        )
         memory = program(example(name), "--report", "memory", *words_of(name))
-        self.claims = [(int(first, 16), int(last, 16) + 1, rule) for first, last, rule
-                       in re.findall(r"claim: (0x\w+)-(0x\w+) .*\((\w+)\)$", self.err, re.MULTILINE)]
-        self.owners = [(int(first, 16), int(last, 16) + 1, owner) for first, last, owner
-                       in re.findall(r"^ *\d+: (0x\w+)\.\.(0x\w+) (.*)$", owners, re.MULTILINE)]
-        self.memory = [(int(first, 16), int(last, 16) + 1) for first, last in re.findall(r"(0x\w+)\.\.(0x\w+)$", memory, re.MULTILINE)]
+        self.claims = [
+            (int(first, 16), int(last, 16) + 1, rule)
+            for first, last, rule in re.findall(
+                r"claim: (0x\w+)-(0x\w+) .*\((\w+)\)$", self.err, re.MULTILINE
+            )
+        ]
+        self.owners = [
+            (int(first, 16), int(last, 16) + 1, owner)
+            for first, last, owner in re.findall(
+                r"^ *\d+: (0x\w+)\.\.(0x\w+) (.*)$", owners, re.MULTILINE
+            )
+        ]
+        self.memory = [
+            (int(first, 16), int(last, 16) + 1)
+            for first, last in re.findall(r"(0x\w+)\.\.(0x\w+)$", memory, re.MULTILINE)
+        ]
 
     def places(self, *owners):
         """The ranges of these owners, without their numbers, ascending."""
-        return sorted((first, end) for first, end, owner in self.owners if owner.split()[0] in owners)
+        return sorted(
+            (first, end) for first, end, owner in self.owners if owner.split()[0] in owners
+        )
 
 
 def frames_of(first, end):
@@ -93,21 +148,29 @@ def frames_of(first, end):
 
 
 def rule_of(claim, boot, given_back):
-    """Who makes a claim of the kernel, as RULES has it; None if nobody does and there is no reason."""
+    """Who makes a claim of the kernel, as RULES has it; None if nobody does and there is no
+    reason."""
     first, end, words, freed = claim
     if freed or (first, end) in given_back:
         return "reason: given back"
     if is_crash(words) or is_node_data(words):
         return "bootmem: crash" if is_crash(words) else "bootmem: node-data"
     for low, high, rule in boot.claims:
-        if (low, high) == (first, end) or rule == SETUP_DATA and frames_of(low, high) == frames_of(first, end):
+        if (
+            (low, high) == (first, end)
+            or rule == SETUP_DATA
+            and frames_of(low, high) == frames_of(first, end)
+        ):
             return rule
     for low, high, owner in boot.owners:
         if low <= first and end <= high and owner.split()[0] in ("low-1m", "initrd"):
             return f"bootmem: {owner.split()[0]}"
     if not any(low < end and first < high for low, high in boot.memory):
         return "reason: not in memory"
-    if any(rule == BOOT_SERVICES and frames_of(low, high) == frames_of(first, end) for low, high, rule in boot.claims):
+    if any(
+        rule == BOOT_SERVICES and frames_of(low, high) == frames_of(first, end)
+        for low, high, rule in boot.claims
+    ):
         return "reason: a table of EFI, whose place no input tells"
     return None
 
@@ -116,13 +179,17 @@ class Linux(Case):
     """Boots as Linux 6.1 makes them."""
 
     def test_boots(self):
-        """Crash area and node data are the kernel's own; each of its claims up to the sections has a rule or a reason."""
+        """Crash area and node data are the kernel's own; each of its claims up to the sections has
+        a rule or a reason."""
         counts, nodes, crashes, over = collections.Counter(), 0, 0, 0
         for name in machines():
             if not has_file(name, "replay/script"):
                 continue
             boot, claims = Boot(name), list(kernel_claims(name))
-            wanted = [sorted((first, end) for first, end, words, _ in claims if asks(words)) for asks in (is_node_data, is_crash)]
+            wanted = [
+                sorted((first, end) for first, end, words, _ in claims if asks(words))
+                for asks in (is_node_data, is_crash)
+            ]
             self.check(f"{name}: status", boot.status, 0)
             self.check(f"{name}: node data", boot.places("node-data"), wanted[0])
             self.check(f"{name}: crash area", boot.places("crash", "crash-low"), wanted[1])
@@ -130,33 +197,65 @@ class Linux(Case):
             given_back = {(first, end) for first, end, _, freed in claims if freed}
             for claim in claims:
                 rule = rule_of(claim, boot, given_back)
-                self.check(f"{name}: who makes {claim[0]:#x}-{claim[1]:#x}, {' '.join(claim[2])}", rule is not None, True)
+                self.check(
+                    f"{name}: who makes {claim[0]:#x}-{claim[1]:#x}, {' '.join(claim[2])}",
+                    rule is not None,
+                    True,
+                )
                 counts[rule] += 1
             logged = {frames_of(first, end) for first, end, _, _ in claims}
-            over += sum(first >= MIB and frames_of(first, end) not in logged for first, end, _ in boot.claims)
-        self.check("linux: node data, crash areas, and claims that the log lacks", (nodes, crashes, over), (51, 10, 0))
-        self.check("linux: who makes the claims", counts, {rule: int(count) for rule, count in RULES})
+            over += sum(
+                first >= MIB and frames_of(first, end) not in logged
+                for first, end, _ in boot.claims
+            )
+        self.check(
+            "linux: node data, crash areas, and claims that the log lacks",
+            (nodes, crashes, over),
+            (51, 10, 0),
+        )
+        self.check(
+            "linux: who makes the claims", counts, {rule: int(count) for rule, count in RULES}
+        )
 
     def test_alone(self):
         """With UEFI firmware the crash area of the program alone lies elsewhere."""
         words = ["--report", "crash", *boot_words("ovmf-4g-numa2")]
         status, out, _ = tool("bootmem-linux", *words, folder=example("ovmf-4g-numa2"))
-        self.check("linux: UEFI", (status, out), (0, "crash at 0x0000000073000000..0x000000007affffff\n"))
-        self.check("linux: without it", program(example("ovmf-4g-numa2"), *words), "crash at 0x0000000075000000..0x000000007cffffff\n")
+        self.check(
+            "linux: UEFI", (status, out), (0, "crash at 0x0000000073000000..0x000000007affffff\n")
+        )
+        self.check(
+            "linux: without it",
+            program(example("ovmf-4g-numa2"), *words),
+            "crash at 0x0000000075000000..0x000000007cffffff\n",
+        )
 
     def test_time(self):
         """A boot of 3,172 entries takes less than half a second of processor time."""
-        entries = [(0, 0x9FC00, RAM)] + [(MIB + place * PMD, PMD - FRAME * (1 + place % 3), RAM) for place in range(20)] + [(64 * MIB, GIB, RAM)]
-        entries += [(2 * GIB + 2 * place * PMD, PMD + FRAME * (place % 7), RAM if place % 2 else RESERVED) for place in range(3150)]
+        entries = (
+            [(0, 0x9FC00, RAM)]
+            + [(MIB + place * PMD, PMD - FRAME * (1 + place % 3), RAM) for place in range(20)]
+            + [(64 * MIB, GIB, RAM)]
+        )
+        entries += [
+            (2 * GIB + 2 * place * PMD, PMD + FRAME * (place % 7), RAM if place % 2 else RESERVED)
+            for place in range(3150)
+        ]
         self.make(entries)
         words = ["--kernel", "80M,52M", "--e820ext", "ext", "zp"]
         took = []
         for _ in range(3):  # the least counts: other programs run beside this one
             before = resource.getrusage(resource.RUSAGE_CHILDREN)
-            status, out, err = tool("bootmem-linux", "--report", "summary", "--explain", *words, folder=self.work)
+            status, out, err = tool(
+                "bootmem-linux", "--report", "summary", "--explain", *words, folder=self.work
+            )
             after = resource.getrusage(resource.RUSAGE_CHILDREN)
             took.append(after.ru_utime + after.ru_stime - before.ru_utime - before.ru_stime)
-            self.check("linux, 3,172 entries", (status, out.splitlines()[0], err.count("page table") > 1000), (0, "runs 3177", True))
+            self.check(
+                "linux, 3,172 entries",
+                (status, out.splitlines()[0], err.count("page table") > 1000),
+                (0, "runs 3177", True),
+            )
         self.check(f"linux, 3,172 entries: {min(took)} s", min(took) < 0.5, True)
 
     def make(self, entries, **files):
@@ -166,38 +265,96 @@ class Linux(Case):
             write(self.path(name), data)
 
     def linux(self, *words):
-        """Status, output and the lines of standard error that say what was changed, of a run in the test's folder."""
+        """Status, output and the lines of standard error that say what was changed, of a run in
+        the test's folder."""
         status, out, err = tool("bootmem-linux", *words, folder=self.work)
-        return status, out, [line.split(": ", 2)[2] for line in err.splitlines() if line.startswith("bootmem-linux: changed: ")]
+        return (
+            status,
+            out,
+            [
+                line.split(": ", 2)[2]
+                for line in err.splitlines()
+                if line.startswith("bootmem-linux: changed: ")
+            ],
+        )
 
     def test_inputs(self):
-        """The line, the extension, EFI's memory of specific purpose, the image: as the kernel reads them."""
+        """The line, the extension, EFI's memory of specific purpose, the image: as the kernel
+        reads them."""
         self.make(machine_of(GIB), line="mem=512MB crashkernel=64Mx")
         status, out, said = self.linux("--report", "map", "--cmdline", "line", "zp")
-        self.check("linux: a malformed size", (status, len(said) > 0, "000000001fffffff 1 usable" in out), (0, True, True))
-        self.check("linux: the program refuses it", ran([PROGRAM, "--cmdline", "line", "zp"], folder=self.work)[0] != 0, True)
+        self.check(
+            "linux: a malformed size",
+            (status, len(said) > 0, "000000001fffffff 1 usable" in out),
+            (0, True, True),
+        )
+        self.check(
+            "linux: the program refuses it",
+            ran([PROGRAM, "--cmdline", "line", "zp"], folder=self.work)[0] != 0,
+            True,
+        )
         far = [(GIB, MIB, RAM), ((1 << 64) - FRAME, 2 * FRAME, RAM), (2 * GIB, MIB, RAM)]
-        for what, data in (("far", extension(far)), ("part", extension(far[:1])[:12] + struct.pack("<I", 27) + extension(far[:1])[16:] + bytes(7))):
+        for what, data in (
+            ("far", extension(far)),
+            (
+                "part",
+                extension(far[:1])[:12]
+                + struct.pack("<I", 27)
+                + extension(far[:1])[16:]
+                + bytes(7),
+            ),
+        ):
             write(self.path("more"), data)
             status, out, said = self.linux("--report", "map", "--e820ext", "more", "zp")
-            self.check(f"linux: an extension, {what}", (status, "0x0000000040000000..0x00000000400fffff 1" in out, "0x0000000080000000" in out,
-                                                       len(said)), (0, True, False, int(what == "far")))
-        self.make([LOW, (MIB, 31 * MIB, RAM), (32 * MIB, 2 * MIB, RESERVED), (34 * MIB, 200 * MIB, RAM)])
+            self.check(
+                f"linux: an extension, {what}",
+                (
+                    status,
+                    "0x0000000040000000..0x00000000400fffff 1" in out,
+                    "0x0000000080000000" in out,
+                    len(said),
+                ),
+                (0, True, False, int(what == "far")),
+            )
+        self.make(
+            [LOW, (MIB, 31 * MIB, RAM), (32 * MIB, 2 * MIB, RESERVED), (34 * MIB, 200 * MIB, RAM)]
+        )
         status, out, said = self.linux("--report", "map", "--kernel", "16M,17M", "zp")
-        self.check("linux: an image outside RAM", (status, len(said), "0x0000000002111000..0x000000000212ffff 1 usable" in out), (0, 1, True))
+        self.check(
+            "linux: an image outside RAM",
+            (status, len(said), "0x0000000002111000..0x000000000212ffff 1 usable" in out),
+            (0, 1, True),
+        )
         write(self.path("efi"), inputs.efi_map([(7, GIB, 256, 0x4000F), (7, 2 * GIB, 256, 0xF)]))
-        wanted = ["0x0000000040000000..0x00000000400fffff 4026531839 soft reserved", "0x0000000080000000..0x00000000800fffff 1 usable"]
+        wanted = [
+            "0x0000000040000000..0x00000000400fffff 4026531839 soft reserved",
+            "0x0000000080000000..0x00000000800fffff 1 usable",
+        ]
         for line, lines in (("", wanted), ("efi=nosoftreserve", [])):
             write(self.path("line"), line)
-            _, out, said = self.linux("--report", "map", "--kernel", "64M,16M", "--efi", "efi", "--cmdline", "line", "zp")
-            self.check(f"linux: specific purpose, {line}", (out.splitlines()[-2:] == wanted, len(said)), (lines == wanted, len(lines) // 2))
+            _, out, said = self.linux(
+                "--report", "map", "--kernel", "64M,16M", "--efi", "efi", "--cmdline", "line", "zp"
+            )
+            self.check(
+                f"linux: specific purpose, {line}",
+                (out.splitlines()[-2:] == wanted, len(said)),
+                (lines == wanted, len(lines) // 2),
+            )
         self.make(machine_of(GIB), line="memmap=exactmap memmap=640K@0 memmap=511M@1M -- x")
         _, out, _ = self.linux("--report", "map", "--cmdline", "line", "zp")
-        self.check("linux: a user map keeps the claims", "0x0000000003000000..0x0000000003010fff 2 reserved" in out, True)
+        self.check(
+            "linux: a user map keeps the claims",
+            "0x0000000003000000..0x0000000003010fff 2 reserved" in out,
+            True,
+        )
         for bad in (["--nonsense"], [], ["zp", "zp"], ["--kernel", "1", "zp"]):
             theirs = ran([PROGRAM, *bad], folder=self.work)
             ours = tool("bootmem-linux", *bad, folder=self.work)
-            self.check(f"linux {bad}", (ours[0], ours[2].splitlines()[-1:]), (theirs[0], theirs[2].decode().splitlines()[-1:]))
+            self.check(
+                f"linux {bad}",
+                (ours[0], ours[2].splitlines()[-1:]),
+                (theirs[0], theirs[2].decode().splitlines()[-1:]),
+            )
         for bad in (["--brk", "much", "zp"], ["--pages", "3M", "zp"]):
             self.check(f"linux {bad}", tool("bootmem-linux", *bad, folder=self.work)[:2], (2, ""))
 
@@ -213,33 +370,54 @@ class Srat(Case):
     """SRATs as the kernel reads them."""
 
     def domains(self, *entries, x2apic=False):
-        """The domains that the table names in the processors' pass, and its blocks; None if it is dropped."""
+        """The domains that the table names in the processors' pass, and its blocks; None if it is
+        dropped."""
         reading = linux_srat.read_table(srat(*entries), x2apic)
         if reading.table is None:
             return None
         self.check("the checksum", sum(reading.table) % 256, 0)
         found = list(linux_srat.read_entries(reading.table))
-        return ([struct.unpack_from("<I", entry, 4)[0] for kind, entry in found if kind == 2],
-                [struct.unpack_from("<QQ", entry, 8) for kind, entry in found if kind == 1])
+        return (
+            [struct.unpack_from("<I", entry, 4)[0] for kind, entry in found if kind == 2],
+            [struct.unpack_from("<QQ", entry, 8) for kind, entry in found if kind == 1],
+        )
 
     def test_srat(self):
-        """Generic initiators, ids that can't be used, domains and lengths that drop the table, blocks past 2^64."""
+        """Generic initiators, ids that can't be used, domains and lengths that drop the table,
+        blocks past 2^64."""
         block, none = memory_of(0, 0, GIB), []
         for what, entries, wanted in (
-                ("two processors", [processor(3), processor(1), block], ([3, 1], [(0, GIB)])),
-                ("an initiator", [processor(3, 5), processor(1), block], ([3, 1], [(0, GIB)])),
-                ("a disabled initiator ends the pass", [processor(1), processor(3, 5, 0), processor(2), block], ([1], [(0, GIB)])),
-                ("an id that can't be used", [processor(1, number=255), processor(2, number=254)], ([2], none)),
-                ("domain 1,023", [processor(1023)], ([1023], none)),
-                ("domain 1,024", [processor(1024), block], None),
-                ("a block of domain 1,024", [memory_of(1024, 0, GIB)], None),
-                ("a longer block", [memory_of(0, 0, GIB, length=44) + bytes(4)], (none, [(0, GIB)])),
-                ("a shorter block", [memory_of(0, 0, GIB, length=32)[:32]], None),
-                ("a processor of 17 bytes", [b"\0\x11" + inputs.processor_affinity(1)[2:] + bytes(1)], None),
-                ("a block past 2^64", [memory_of(0, (1 << 64) - FRAME, 2 * FRAME)], (none, [(0, 0)])),
-                ("a disabled block", [memory_of(0, 0, GIB, flags=0)], (none, none))):
+            ("two processors", [processor(3), processor(1), block], ([3, 1], [(0, GIB)])),
+            ("an initiator", [processor(3, 5), processor(1), block], ([3, 1], [(0, GIB)])),
+            (
+                "a disabled initiator ends the pass",
+                [processor(1), processor(3, 5, 0), processor(2), block],
+                ([1], [(0, GIB)]),
+            ),
+            (
+                "an id that can't be used",
+                [processor(1, number=255), processor(2, number=254)],
+                ([2], none),
+            ),
+            ("domain 1,023", [processor(1023)], ([1023], none)),
+            ("domain 1,024", [processor(1024), block], None),
+            ("a block of domain 1,024", [memory_of(1024, 0, GIB)], None),
+            ("a longer block", [memory_of(0, 0, GIB, length=44) + bytes(4)], (none, [(0, GIB)])),
+            ("a shorter block", [memory_of(0, 0, GIB, length=32)[:32]], None),
+            (
+                "a processor of 17 bytes",
+                [b"\0\x11" + inputs.processor_affinity(1)[2:] + bytes(1)],
+                None,
+            ),
+            ("a block past 2^64", [memory_of(0, (1 << 64) - FRAME, 2 * FRAME)], (none, [(0, 0)])),
+            ("a disabled block", [memory_of(0, 0, GIB, flags=0)], (none, none)),
+        ):
             self.check(f"srat: {what}", self.domains(*entries), wanted)
-        self.check("srat: an id with --x2apic", self.domains(processor(1, number=255), x2apic=True), ([1], none))
+        self.check(
+            "srat: an id with --x2apic",
+            self.domains(processor(1, number=255), x2apic=True),
+            ([1], none),
+        )
         wrong = linux_srat.read_table(unsealed(srat(block)), False)
         self.check("srat: a wrong checksum", (sum(wrong.table) % 256, len(wrong.changes)), (0, 1))
         for text in (b"", b"SRAT", b"SLIT" + bytes(60)):
@@ -256,21 +434,40 @@ class Tables(Case):
         return len(made.pages), (made.brk - brk) // FRAME
 
     def test_pages(self):
-        """By hand: a table for each 2 MiB, 1 GiB and 512 GiB that has no larger page; a page more with KASLR, two with five levels."""
+        """By hand: a table for each 2 MiB, 1 GiB and 512 GiB that has no larger page; a page more
+        with KASLR, two with five levels."""
         memory = [(FRAME, 640 << 10), (MIB, 4 * GIB)]
-        # one table for 512 GiB, one for each GiB, and one for the first 2 MiB, which aren't memory whole; larger pages need less
+        # one table for 512 GiB, one for each GiB, and one for the first 2 MiB, which aren't memory
+        # whole; larger pages need less
         self.check("2 MiB", sum(self.pages(memory, PMD)), 1 + 4 + 1)
         self.check("1 GiB", sum(self.pages(memory, PUD)), 1 + 1 + 1)
         self.check("4 KiB", sum(self.pages(memory, FRAME)), 1 + 4 + 2048)
         self.check("KASLR", sum(self.pages(memory, PMD, random=True)), 1 + 4 + 1 + 1)
         self.check("five levels", sum(self.pages(memory, PMD, five=True)), 1 + 4 + 1 + 1)
-        self.check("five levels, KASLR", sum(self.pages(memory, PMD, True, True)), 1 + 4 + 1 + 1 + 2)
+        self.check(
+            "five levels, KASLR", sum(self.pages(memory, PMD, True, True)), 1 + 4 + 1 + 1 + 2
+        )
 
     def test_log(self):
-        """The log buffer: a power of two above 128 KiB, with 24 and 88 bytes for each 32 bytes of it."""
-        for value, sizes in (("1M", [MIB, 24 * 32768, 88 * 32768]), ("128K", []), ("0", []), ("nonsense", []), ("200K", [262144, 196608, 720896])):
-            self.check(f"log_buf_len={value}", linux_claims.log_sizes(f"quiet log_buf_len={value} x"), sizes)
-        self.check("the last counts", linux_claims.log_sizes("log_buf_len=1M log_buf_len=2M")[:1], [2 * MIB])
+        """The log buffer: a power of two above 128 KiB, with 24 and 88 bytes for each 32 bytes of
+        it."""
+        for value, sizes in (
+            ("1M", [MIB, 24 * 32768, 88 * 32768]),
+            ("128K", []),
+            ("0", []),
+            ("nonsense", []),
+            ("200K", [262144, 196608, 720896]),
+        ):
+            self.check(
+                f"log_buf_len={value}",
+                linux_claims.log_sizes(f"quiet log_buf_len={value} x"),
+                sizes,
+            )
+        self.check(
+            "the last counts",
+            linux_claims.log_sizes("log_buf_len=1M log_buf_len=2M")[:1],
+            [2 * MIB],
+        )
 
     def test_free(self):
         """The search from the top down: aligned, within a window, never at 0."""

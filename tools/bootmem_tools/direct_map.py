@@ -1,4 +1,5 @@
-"""Page tables of the kernel's direct map, and the places that memblock gives them, as Linux 6.1 makes them (arch/x86/mm/init.c).
+"""Page tables of the kernel's direct map, and the places that memblock gives them, as Linux 6.1
+makes them (arch/x86/mm/init.c).
 
 Addresses are in bytes, and a range is its first byte and the one past its last.
 """
@@ -45,7 +46,8 @@ def is_within(spans: list[Span], first: int, end: int) -> bool:
 
 
 class Free:
-    """Memory that nobody has claimed, ascending, as memblock's search sees it (memblock_find_in_range)."""
+    """Memory that nobody has claimed, ascending, as memblock's search sees it
+    (memblock_find_in_range)."""
 
     def __init__(self, memory: Iterable[Span]) -> None:
         self.spans = united(memory)
@@ -67,7 +69,8 @@ class Free:
         self.spans = united(self.spans + list(spans))
 
     def find(self, size: int, align: int, low: int, high: int) -> int:
-        """Returns the highest place of this size and alignment from `low` on that ends by `high`, or 0."""
+        """Returns the highest place of this size and alignment from `low` on that ends by `high`,
+        or 0."""
         low = max(low, FRAME)
         place = bisect.bisect_left(self.spans, (high, 0)) - 1
         while place >= 0 and self.spans[place][1] > low:
@@ -91,18 +94,29 @@ class Exhausted(Exception):
 
 
 class DirectMap:
-    """The direct map while it is made: its tables, what is mapped, and the pages of memblock that became tables.
+    """The direct map while it is made: its tables, what is mapped, and the pages of memblock that
+    became tables.
 
-    Tables come from brk while it lasts. `largest` is the largest page in bytes: 4 KiB, 2 MiB or 1 GiB.
-    """
+    Tables come from brk while it lasts. `largest` is the largest page in bytes: 4 KiB, 2 MiB or
+    1 GiB."""
 
-    def __init__(self, memory: Iterable[Span], free: Free, brk: int, largest: int, has_five_levels: bool, is_random: bool) -> None:
+    def __init__(
+        self,
+        memory: Iterable[Span],
+        free: Free,
+        brk: int,
+        largest: int,
+        has_five_levels: bool,
+        is_random: bool,
+    ) -> None:
         self.memory = united(memory)
         self.free, self.largest = free, largest
         self.has_five_levels, self.is_random = has_five_levels, is_random
         self.brk, self.brk_end = brk, brk + BRK_PAGES * FRAME
         self.may_use_brk = True
-        self.low = self.high = 0  # the window for pages of memblock (min_pfn_mapped, max_pfn_mapped)
+        self.low = (
+            self.high
+        ) = 0  # the window for pages of memblock (min_pfn_mapped, max_pfn_mapped)
         self.tables: set[tuple[int, int]] = set()
         self.large: set[int] = set()  # pages of 1 GiB, by number
         self.pages: list[int] = []
@@ -120,18 +134,24 @@ class DirectMap:
             raise Exhausted
 
     def add_table(self, level: int, number: int) -> None:
-        """Makes a table if it isn't there: level 2 maps one entry of 2 MiB, 3 one of 1 GiB, 4 one of 512 GiB, 5 one of 256 TiB."""
+        """Makes a table if it isn't there: level 2 maps one entry of 2 MiB, 3 one of 1 GiB, 4 one
+        of 512 GiB, 5 one of 256 TiB."""
         if (level, number) not in self.tables:
             self.add_page()
             self.tables.add((level, number))
 
     def parts(self, first: int, end: int) -> list[tuple[int, int, int]]:
-        """Returns the parts of a range, each with the size of its pages (split_mem_range, adjust_range_page_size_mask)."""
+        """Returns the parts of a range, each with the size of its pages (split_mem_range,
+        adjust_range_page_size_mask)."""
         middle = up(first, PMD), down(end, PMD)
         inner = up(first, PUD), down(end, PUD)
         cuts = [first, min(middle[0], end)]
         if middle[0] < middle[1]:
-            cuts += [min(inner[0], middle[1])] + ([inner[1]] if inner[0] < inner[1] else []) + [middle[1]]
+            cuts += (
+                [min(inner[0], middle[1])]
+                + ([inner[1]] if inner[0] < inner[1] else [])
+                + [middle[1]]
+            )
         found: list[tuple[int, int, int]] = []
         for low, high in zip(cuts, cuts[1:] + [end]):
             if low < high:
@@ -142,9 +162,13 @@ class DirectMap:
         return found
 
     def page_size(self, first: int, end: int) -> int:
-        """Returns the largest page for a part: one whose surroundings, rounded to such pages, are memory (memblock_is_region_memory)."""
+        """Returns the largest page for a part: one whose surroundings, rounded to such pages, are
+        memory (memblock_is_region_memory)."""
         for size in (PUD, PMD):
-            if size <= self.largest and (first % size == 0 == end % size or is_within(self.memory, down(first, size), up(end, size))):
+            if size <= self.largest and (
+                first % size == 0 == end % size
+                or is_within(self.memory, down(first, size), up(end, size))
+            ):
                 return size
         return FRAME
 
@@ -162,7 +186,8 @@ class DirectMap:
         self.mapped.append((first, end))
 
     def map_giant(self, first: int, end: int, size: int) -> None:
-        """Maps what a range has of one GiB, by pages of this size (phys_pud_init, phys_pmd_init)."""
+        """Maps what a range has of one GiB, by pages of this size (phys_pud_init,
+        phys_pmd_init)."""
         if self.has_five_levels:
             self.add_table(5, first // PGD)
         self.add_table(4, first // P4D)
@@ -186,7 +211,8 @@ class DirectMap:
             place += 1
 
     def map_memory(self, first: int, end: int) -> int:
-        """Maps the memory between these addresses, and returns its bytes (init_range_memory_mapping)."""
+        """Maps the memory between these addresses, and returns its bytes
+        (init_range_memory_mapping)."""
         size = 0
         for low, high in self.memory_within(first, end):
             # brk pages aren't used while what is mapped has brk's unused pages inside
@@ -197,7 +223,8 @@ class DirectMap:
         return size
 
     def make(self, end: int) -> None:
-        """Maps all memory up to this end, from the top down (init_mem_mapping, memory_map_top_down).
+        """Maps all memory up to this end, from the top down (init_mem_mapping,
+        memory_map_top_down).
 
         # Errors
         Exhausted if no memory is left for a table.
@@ -216,7 +243,9 @@ class DirectMap:
             if size >= step:
                 step <<= 8
             below = bisect.bisect_left(self.memory, (last, 0)) - 1
-            if below >= 0 and MIB < self.memory[below][1] < last:  # steps without memory map nothing
+            if (
+                below >= 0 and MIB < self.memory[below][1] < last
+            ):  # steps without memory map nothing
                 last = self.low = min(last, up(self.memory[below][1], step))
         if top < end:
             self.map_memory(top, end)

@@ -1,8 +1,8 @@
-"""What Linux 6.1 claims before its crash area and bootmem doesn't, made from a machine's inputs in the kernel's order.
+"""What Linux 6.1 claims before its crash area and bootmem doesn't, made from a machine's inputs in
+the kernel's order.
 
-Each claim is a function of inputs that are there; what the inputs don't tell is left out and said. Addresses are in bytes, and a range is
-its first byte and the one past its last.
-"""
+Each claim is a function of inputs that are there; what the inputs don't tell is left out and
+said. Addresses are in bytes, and a range is its first byte and the one past its last."""
 
 from __future__ import annotations
 
@@ -16,9 +16,15 @@ from bootmem_tools.ranges import FRAME, MIB, parse_size
 
 BRK = 17 * FRAME  # what brk has in use when it is claimed: page tables, and a page for DMI's texts
 END_AFTER_BRK = 48 * FRAME  # from the image's end to _end: all room of brk
-LOG_LEAST, LOG_MOST = 128 << 10, 1 << 31  # the log buffer that is there, and the longest one (LOG_BUF_LEN_MAX)
+LOG_LEAST, LOG_MOST = (
+    128 << 10,
+    1 << 31,
+)  # the log buffer that is there, and the longest one (LOG_BUF_LEN_MAX)
 LOG_ALIGN = 8
-DESCRIPTOR, INFO = 24, 88  # bytes of a record's descriptor and its information, one for each 32 bytes of the buffer
+DESCRIPTOR, INFO = (
+    24,
+    88,
+)  # bytes of a record's descriptor and its information, one for each 32 bytes of the buffer
 SETUP_DATA, EFI_INFO, LOAD_FLAGS = 0x250, 0x1C0, 0x211  # places in the zero page
 KASLR_FLAG = 2
 BOOT_SERVICES, LOADER_DATA, CONVENTIONAL = (3, 4), 2, 7  # types of EFI descriptors
@@ -26,7 +32,8 @@ SPECIFIC_PURPOSE = 0x40000  # EFI_MEMORY_SP
 
 
 class Claim(NamedTuple):
-    """A range that the kernel claims: its first byte and the one past its last, what it is, and the function that claims it."""
+    """A range that the kernel claims: its first byte and the one past its last, what it is, and
+    the function that claims it."""
 
     first: int
     end: int
@@ -46,10 +53,10 @@ class Descriptor(NamedTuple):
 class Machine(NamedTuple):
     """What the rules of the claims read.
 
-    `memory` is what memblock has after the trim, `end` the end of the last RAM (max_pfn), `soft` what is soft reserved, `image` the
-    kernel's image, `line` the command line, `largest` the largest page of the direct map, `domains` the number of nodes if the
-    distances of a SLIT are kept, else 0.
-    """
+    `memory` is what memblock has after the trim, `end` the end of the last RAM (max_pfn),
+    `soft` what is soft reserved, `image` the kernel's image, `line` the command line,
+    `largest` the largest page of the direct map, `domains` the number of nodes if the
+    distances of a SLIT are kept, else 0."""
 
     page: bytes
     line: str
@@ -66,7 +73,8 @@ class Machine(NamedTuple):
 
 
 class Outcome(NamedTuple):
-    """The claims in the kernel's order, the new place of an initrd that moves, and what couldn't be made, a line each."""
+    """The claims in the kernel's order, the new place of an initrd that moves, and what couldn't
+    be made, a line each."""
 
     claims: list[Claim]
     moved: int | None
@@ -105,8 +113,8 @@ def move_initrd(page: bytes, place: int) -> bytes:
 def setup_data(machine: Machine, initrd: Span | None) -> Iterator[Claim]:
     """Yields the first node of setup_data: the zero page has its address, not its length.
 
-    The extension's file tells the length if it is the node; else EFI's descriptor of loader data has it, up to an initrd there.
-    """
+    The extension's file tells the length if it is the node; else EFI's descriptor of loader
+    data has it, up to an initrd there."""
     first: int = struct.unpack_from("<Q", machine.page, SETUP_DATA)[0]
     if not first:
         return
@@ -119,7 +127,8 @@ def setup_data(machine: Machine, initrd: Span | None) -> Iterator[Claim]:
 
 
 def efi_map(machine: Machine) -> Iterator[Claim]:
-    """Yields the bytes of EFI's own memory map, whose place the zero page has (struct efi_info)."""
+    """Yields the bytes of EFI's own memory map, whose place the zero page has (struct
+    efi_info)."""
     signature, low, size, high = struct.unpack_from("<4s12xII4xI", machine.page, EFI_INFO)
     if signature in (b"EL64", b"EL32") and (low or high) and size:
         first = high << 32 | low
@@ -134,11 +143,14 @@ def boot_services(machine: Machine, held: Sequence[Span]) -> Iterator[Claim]:
     for one in machine.efi:
         if one.kind in BOOT_SERVICES and is_within(taken.spans, one.first, one.end):
             taken.claim(one.first, one.end)
-            yield Claim(one.first, one.end, f"boot services, type {one.kind}", "efi_reserve_boot_services")
+            yield Claim(
+                one.first, one.end, f"boot services, type {one.kind}", "efi_reserve_boot_services"
+            )
 
 
 def log_sizes(line: str) -> list[int]:
-    """Returns the sizes of a longer log buffer and its two companions, or none (log_buf_len_update, setup_log_buf)."""
+    """Returns the sizes of a longer log buffer and its two companions, or none
+    (log_buf_len_update, setup_log_buf)."""
     length = 0
     for value in re.findall(r"(?:^|\s)log_buf_len=([0-9A-Za-z]+)", line):
         size = min(parse_size(value) or 0, LOG_MOST)
@@ -149,7 +161,8 @@ def log_sizes(line: str) -> list[int]:
 
 
 def has_kaslr(page: bytes) -> bool:
-    """Tells whether the decompressor chose places at random (KASLR_FLAG of the boot parameters)."""
+    """Tells whether the decompressor chose places at random (KASLR_FLAG of the boot
+    parameters)."""
     return bool(page[LOAD_FLAGS] & KASLR_FLAG)
 
 
@@ -168,17 +181,40 @@ def early_claims(machine: Machine) -> Outcome:
     free = Free(machine.memory)
     for first, end in own + [(one.first, one.end) for one in claims]:
         free.claim(first, end)
-    tables = DirectMap(machine.memory, free, machine.image[1], machine.largest, machine.has_five_levels, has_kaslr(machine.page))
+    tables = DirectMap(
+        machine.memory,
+        free,
+        machine.image[1],
+        machine.largest,
+        machine.has_five_levels,
+        has_kaslr(machine.page),
+    )
     tables.make(machine.end)
-    claims += [Claim(place, place + FRAME, "a page table of the direct map", "alloc_low_pages") for place in tables.pages]
-    for size, what in zip(log_sizes(machine.line), ("the log buffer", "its descriptors", "its records' information")):
+    claims += [
+        Claim(place, place + FRAME, "a page table of the direct map", "alloc_low_pages")
+        for place in tables.pages
+    ]
+    for size, what in zip(
+        log_sizes(machine.line), ("the log buffer", "its descriptors", "its records' information")
+    ):
         claims += placed(free, size, LOG_ALIGN, tables.high, what, "setup_log_buf")
     moved = None
     if initrd and not is_within(united(tables.mapped), *initrd):  # pfn_range_is_mapped
         moved = free.take(initrd[1] - initrd[0], FRAME, 0, tables.high) or None
-        free.release((max(low, initrd[0]), min(high, initrd[1])) for low, high in machine.memory if low < initrd[1] and initrd[0] < high)
+        free.release(
+            (max(low, initrd[0]), min(high, initrd[1]))
+            for low, high in machine.memory
+            if low < initrd[1] and initrd[0] < high
+        )
     if machine.domains:
-        claims += placed(free, machine.domains ** 2, FRAME, tables.high, "the distances of the SLIT", "numa_alloc_distance")
+        claims += placed(
+            free,
+            machine.domains**2,
+            FRAME,
+            tables.high,
+            "the distances of the SLIT",
+            "numa_alloc_distance",
+        )
     return Outcome(claims, moved, unknown)
 
 
@@ -192,4 +228,9 @@ def placed(free: Free, size: int, align: int, high: int, what: str, rule: str) -
 def frames_to_cut(claims: Iterable[Claim], memory: Sequence[Span]) -> list[Span]:
     """Returns the memory of these claims in whole frames, ascending."""
     whole = united((max(down(one.first, FRAME), MIB), up(one.end, FRAME)) for one in claims)
-    return united((max(low, first), min(high, end)) for low, high in whole for first, end in memory if low < end and first < high)
+    return united(
+        (max(low, first), min(high, end))
+        for low, high in whole
+        for first, end in memory
+        if low < end and first < high
+    )

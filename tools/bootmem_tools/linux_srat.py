@@ -1,4 +1,5 @@
-"""An SRAT as Linux 6.1 reads it, written as a table that bootmem reads alike (drivers/acpi/numa/srat.c)."""
+"""An SRAT as Linux 6.1 reads it, written as a table that bootmem reads alike
+(drivers/acpi/numa/srat.c)."""
 
 from __future__ import annotations
 
@@ -29,7 +30,7 @@ def read_entries(table: bytes) -> Iterator[tuple[int, bytes]]:
     """Yields the kinds and bytes of the table's entries."""
     place, end = HEAD, min(len(table), struct.unpack_from("<I", table, 4)[0])
     while place + 2 < end and table[place + 1]:
-        yield table[place], table[place:place + table[place + 1]]
+        yield table[place], table[place : place + table[place + 1]]
         place += table[place + 1]
 
 
@@ -51,18 +52,27 @@ def processor_domain(kind: int, entry: bytes, revision: int, has_x2apic: bool) -
     return domain if entry[24] & 1 else None
 
 
-def processors(entries: list[tuple[int, bytes]], revision: int, has_x2apic: bool, changes: list[str]) -> Iterator[bytes]:
-    """Yields the entries of the processors' pass, in table order, as the program reads them (acpi_numa_init)."""
+def processors(
+    entries: list[tuple[int, bytes]], revision: int, has_x2apic: bool, changes: list[str]
+) -> Iterator[bytes]:
+    """Yields the entries of the processors' pass, in table order, as the program reads them
+    (acpi_numa_init)."""
     for kind, entry in entries:
         if kind not in (PROCESSOR, X2APIC, INITIATOR):
             continue
         domain = processor_domain(kind, entry, revision, has_x2apic)
         if kind == INITIATOR and (domain is None or domain >= DOMAINS):
-            changes.append("a generic initiator that is disabled or can't be used ends the processors' pass (acpi_parse_entries_array)")
+            changes.append(
+                "a generic initiator that is disabled or can't be used ends the processors' pass"
+                " (acpi_parse_entries_array)"
+            )
             return
         if domain is None:
             if kind == X2APIC and entry[12] & 1:
-                changes.append("an x2APIC entry whose id can't be used names no domain; --x2apic lets it (acpi_numa_x2apic_affinity_init)")
+                changes.append(
+                    "an x2APIC entry whose id can't be used names no domain; --x2apic lets it"
+                    " (acpi_numa_x2apic_affinity_init)"
+                )
             continue
         if domain >= DOMAINS:
             raise Dropped(f"domain {domain} is 1,024 or more")
@@ -72,7 +82,8 @@ def processors(entries: list[tuple[int, bytes]], revision: int, has_x2apic: bool
 
 
 def blocks(entries: list[tuple[int, bytes]], revision: int, changes: list[str]) -> Iterator[bytes]:
-    """Yields the enabled blocks of memory as the program reads them (acpi_numa_memory_affinity_init)."""
+    """Yields the enabled blocks of memory as the program reads them
+    (acpi_numa_memory_affinity_init)."""
     for kind, entry in entries:
         if kind != MEMORY:
             continue
@@ -85,7 +96,9 @@ def blocks(entries: list[tuple[int, bytes]], revision: int, changes: list[str]) 
             raise Dropped(f"domain {domain} is 1,024 or more")
         first, size = struct.unpack_from("<QQ", entry, 8)
         if first + size >= 1 << 64:
-            changes.append(f"the block at {first:#x} passes 2^64: it is passed over (numa_add_memblk_to)")
+            changes.append(
+                f"the block at {first:#x} passes 2^64: it is passed over (numa_add_memblk_to)"
+            )
             first = size = 0
         if len(entry) > LEAST[MEMORY]:
             changes.append(f"an entry of memory has {len(entry)} bytes: its first 40 are read")
@@ -93,15 +106,20 @@ def blocks(entries: list[tuple[int, bytes]], revision: int, changes: list[str]) 
 
 
 def read_table(table: bytes, has_x2apic: bool) -> Reading:
-    """Returns an SRAT as the kernel reads it; one of less than a header, or of another signature, stays as it is."""
+    """Returns an SRAT as the kernel reads it; one of less than a header, or of another signature,
+    stays as it is."""
     if len(table) < HEAD or table[:4] != b"SRAT":
         return Reading(table, [])
     changes: list[str] = []
     if sum(table) % 256:
-        changes.append("its checksum is wrong: the kernel doesn't look at it that early (acpi_table_parse)")
+        changes.append(
+            "its checksum is wrong: the kernel doesn't look at it that early (acpi_table_parse)"
+        )
     entries = list(read_entries(table))
     try:
-        body = b"".join(processors(entries, table[8], has_x2apic, changes)) + b"".join(blocks(entries, table[8], changes))
+        body = b"".join(processors(entries, table[8], has_x2apic, changes)) + b"".join(
+            blocks(entries, table[8], changes)
+        )
     except Dropped as dropped:
         return Reading(None, changes + [f"it is dropped: {dropped} (bad_srat)"])
     head = struct.pack("<4sIB", b"SRAT", HEAD + len(body), 3)
