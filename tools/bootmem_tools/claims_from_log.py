@@ -58,7 +58,7 @@ RECORD = re.compile(r"(memory|reserved)\[0x[0-9a-f]+\]\s+\[0x([0-9a-f]+)-0x([0-9
 DOUBLED = re.compile(r"memblock: (?:memory|reserved) is doubled to \d+ at \[0x([0-9a-f]+)-0x([0-9a-f]+)\]")
 DATA = re.compile(r"NODE_DATA\((\d+)\) allocated \[mem 0x([0-9a-f]+)-0x([0-9a-f]+)\]")
 # not "Allocated new RAMDISK: [mem ..]" of relocate_initrd
-RAMDISK = re.compile(r"^(?:<\d+>)?(?:\[[ \d.]+\] ?)*RAMDISK: \[mem 0x([0-9a-f]+)-0x([0-9a-f]+)\]")
+RAMDISK = re.compile(r"(?<!Allocated new )RAMDISK: \[mem 0x([0-9a-f]+)-0x([0-9a-f]+)\]")
 END = re.compile(r"Memory: \d+K/\d+K available")
 
 
@@ -298,10 +298,11 @@ def later_script(claims: Iterable[Claim], places: bool) -> list[str]:
 
 
 def replay_script(log: Log, image: Range, rooms: Iterable[Range]) -> tuple[list[str], Places]:
-    """Returns the lines of a whole boot's script, and the numbers of those that have a place, with the place or None.
+    """Returns the lines of a whole boot's script, and the numbers of those that have a place,
+    with the place or None.
 
-    The image is cut out of the first dump's records: bootmem claims it by itself, and keeps its tables there. The rooms are kept for bootmem's
-    own claims until the kernel's are made.
+    The image is cut out of the first dump's records: bootmem claims it by itself, and keeps its
+    tables there. The rooms are kept for bootmem's own claims until the kernel's are made.
     """
     kept = list(enumerate(rooms, ROOM_NUMBER))
     lines = [f"reserve {number} {base:#x} {size - NODE_DATA:#x}" for number, (base, size) in kept]
@@ -318,16 +319,21 @@ def replay_script(log: Log, image: Range, rooms: Iterable[Range]) -> tuple[list[
 
 
 def own_room(log: Log, node: int) -> int:
-    """Returns the bytes that bootmem needs on a node for page structures and usage data of its sections and of the room itself."""
-    memory = [(first, last) for first, last, one in log.noded if one == node] if len(log.data) > 1 else log.memory
+    """Returns the bytes that bootmem needs on a node for page structures and usage data of its
+    sections and of the room itself."""
+    memory = log.memory
+    if len(log.data) > 1:
+        memory = [(first, last) for first, last, one in log.noded if one == node]
     sections = sum(last // ranges.SECTION - first // ranges.SECTION + 1 for first, last in memory)
     return SECTION_MAP * (sections + sections // 32 + 8)
 
 
 def own_rooms(log: Log) -> dict[int, Range]:
-    """Returns memory above all other, by node: a base and a size in which all that bootmem claims by itself lies, so that it moves nothing.
+    """Returns memory above all other, by node: a base and a size in which all that bootmem claims
+    by itself lies, so that it moves nothing.
 
-    The top of each is the node's data, which is claimed before the script; the script claims the rest and frees it at its end, for the sections.
+    The top of each is the node's data, which is claimed before the script; the script claims the
+    rest and frees it at its end, for the sections.
     """
     base = (max(last + 1 for _, last in log.memory) >> 30) + 2 << 30
     found: dict[int, Range] = {}

@@ -21,6 +21,7 @@ LOG_LEAST, LOG_MOST = (
     1 << 31,
 )  # the log buffer that is there, and the longest one (LOG_BUF_LEN_MAX)
 LOG_ALIGN = 8
+LOG_PARTS = ("the log buffer", "its descriptors", "its records' information")
 DESCRIPTOR, INFO = (
     24,
     88,
@@ -73,12 +74,10 @@ class Machine(NamedTuple):
 
 
 class Outcome(NamedTuple):
-    """The claims in the kernel's order, the new place of an initrd that moves, and what couldn't
-    be made, a line each."""
+    """The claims in the kernel's order, and the new place of an initrd that moves."""
 
     claims: list[Claim]
     moved: int | None
-    unknown: list[str]
 
 
 def read_descriptors(data: bytes) -> list[Descriptor]:
@@ -166,56 +165,57 @@ def has_kaslr(page: bytes) -> bool:
     return bool(page[LOAD_FLAGS] & KASLR_FLAG)
 
 
-def early_claims(machine: Machine) -> Outcome:
-    """Returns what the kernel claims before node data, as far as the inputs tell."""
-    claims: list[Claim] = []
-    unknown: list[str] = []
-    initrd = initrd_of(machine.page)
-    claims += setup_data(machine, initrd)
-    claims += efi_map(machine)
+def own_ranges(machine: Machine, initrd: Span | None) -> list[Span]:
+    """Returns what bootmem claims by itself before node data; the first MiB comes first."""
+    return [(0, MIB), machine.image, *machine.soft] + ([initrd] if initrd else [])
+
+
+def fixed_claims(machine: Machine, initrd: Span | None) -> list[Claim]:
+    """Returns the claims of ranges that are there before the kernel looks for any place."""
+    claims = [*setup_data(machine, initrd), *efi_map(machine)]
     claims.append(Claim(machine.image[1], machine.image[1] + machine.brk, "brk", "reserve_brk"))
-    own = [(0, MIB), machine.image, *machine.soft] + ([initrd] if initrd else [])
     # boot services are looked at before the first MiB is claimed whole
-    early = [(0, 64 << 10), *own[1:], *((one.first, one.end) for one in claims)]
-    claims += boot_services(machine, early)
+    early = [(0, 64 << 10), *own_ranges(machine, initrd)[1:]]
+    early += [(one.first, one.end) for one in claims]
+    return claims + list(boot_services(machine, early))
+
+
+def early_claims(machine: Machine) -> Outcome:
+    """Returns what the kernel claims before node data, as far as the inputs tell.
+
+    # Errors
+    Exhausted if no memory is left for a page table.
+    """
+    initrd = initrd_of(machine.page)
+    claims = fixed_claims(machine, initrd)
     free = Free(machine.memory)
-    for first, end in own + [(one.first, one.end) for one in claims]:
+    for first, end in own_ranges(machine, initrd) + [(one.first, one.end) for one in claims]:
         free.claim(first, end)
+    brk, is_random = machine.image[1], has_kaslr(machine.page)
     tables = DirectMap(
-        machine.memory,
-        free,
-        machine.image[1],
-        machine.largest,
-        machine.has_five_levels,
-        has_kaslr(machine.page),
+        machine.memory, free, brk, machine.largest, machine.has_five_levels, is_random
     )
     tables.make(machine.end)
-    claims += [
-        Claim(place, place + FRAME, "a page table of the direct map", "alloc_low_pages")
-        for place in tables.pages
-    ]
-    for size, what in zip(
-        log_sizes(machine.line), ("the log buffer", "its descriptors", "its records' information")
-    ):
+    what = "a page table of the direct map"
+    claims += [Claim(place, place + FRAME, what, "alloc_low_pages") for place in tables.pages]
+    for size, what in zip(log_sizes(machine.line), LOG_PARTS):
         claims += placed(free, size, LOG_ALIGN, tables.high, what, "setup_log_buf")
-    moved = None
-    if initrd and not is_within(united(tables.mapped), *initrd):  # pfn_range_is_mapped
-        moved = free.take(initrd[1] - initrd[0], FRAME, 0, tables.high) or None
-        free.release(
-            (max(low, initrd[0]), min(high, initrd[1]))
-            for low, high in machine.memory
-            if low < initrd[1] and initrd[0] < high
-        )
+    moved = move_from(machine, free, tables, initrd) if initrd else None
     if machine.domains:
-        claims += placed(
-            free,
-            machine.domains**2,
-            FRAME,
-            tables.high,
-            "the distances of the SLIT",
-            "numa_alloc_distance",
-        )
-    return Outcome(claims, moved, unknown)
+        size, what = machine.domains**2, "the distances of the SLIT"
+        claims += placed(free, size, FRAME, tables.high, what, "numa_alloc_distance")
+    return Outcome(claims, moved)
+
+
+def move_from(machine: Machine, free: Free, tables: DirectMap, initrd: Span) -> int | None:
+    """Returns the new place of an initrd that the direct map lacks in part, and gives its old one
+    back (reserve_initrd, relocate_initrd); None if it stays, or finds no place."""
+    if is_within(united(tables.mapped), *initrd):  # pfn_range_is_mapped
+        return None
+    moved = free.take(initrd[1] - initrd[0], FRAME, 0, tables.high)
+    near = [one for one in machine.memory if one[0] < initrd[1] and initrd[0] < one[1]]
+    free.release((max(low, initrd[0]), min(high, initrd[1])) for low, high in near)
+    return moved or None
 
 
 def placed(free: Free, size: int, align: int, high: int, what: str, rule: str) -> Iterator[Claim]:
