@@ -33,6 +33,7 @@ from support import (
     write,
 )
 from test_claims_from_log import ROOMS
+from test_commands import shown_examples
 from bootmem_tools import inputs, linux_claims, linux_srat
 from bootmem_tools.direct_map import PMD, PUD, DirectMap, Free
 
@@ -229,6 +230,32 @@ class Linux(Case):
             program(example("ovmf-4g-numa2"), *words),
             "crash at 0x0000000075000000..0x000000007cffffff\n",
         )
+
+    def test_examples(self):
+        """The commands that --help shows run over a machine with UEFI firmware."""
+        shown = shown_examples("bootmem-linux")
+        for command in shown:
+            status, out, err = tool(*command.split(), folder=example("ovmf-4g-numa2"))
+            self.check(f"example: {command}: status", status, 0)
+            said = "claim: " if "--explain" in command else "there is no --efi"
+            self.has(f"example: {command}: claims", err, said)
+            self.check(f"example: {command}: it prints", bool(out), True)
+        self.check("examples of --help", len(shown), 2)
+
+    def test_words(self):
+        """--pages and --brk change what is claimed."""
+        words = ["--explain", "--kernel", "64M,16M", "zp"]
+        self.make(machine_of(GIB))
+        # with pages of 4 KiB 512 tables and two upper ones, of which brk has room for 16
+        for more, brk, tables in (
+            ([], 0x11000, 0),
+            (["--brk", "32K"], 0x8000, 0),
+            (["--pages", "4K"], 0x11000, 498),
+        ):
+            err = tool("bootmem-linux", *more, *words, folder=self.work)[2]
+            place = f"0x0000000005000000-{0x5000000 + brk - 1:#018x} brk"
+            self.has(f"linux {more}: brk", err, place)
+            self.check(f"linux {more}: page tables", err.count("page table of"), tables)
 
     def test_time(self):
         """A boot of 3,172 entries takes less than half a second of processor time."""

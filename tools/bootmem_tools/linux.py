@@ -46,7 +46,7 @@ exit status: that of bootmem; 2 for words that aren't those above.
 
 examples:
   bootmem-linux --report crash --kernel 16M,52M --cmdline cmdline zp.bin
-  bootmem-linux --explain --pages 1G --efi efi.bin --kernel 22M,52M zp.bin"""
+  bootmem-linux --explain --pages 1G --efi efi.bin zp.bin"""
 
 PAGES = {"4K": 4096, "2M": direct_map.PMD, "1G": direct_map.PUD}
 READ = ("cmdline", "e820ext", "srat", "slit", "efi")  # the files that are read here
