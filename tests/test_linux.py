@@ -3,6 +3,7 @@ each claim of its log has a rule or a reason;
 and how the inputs are read."""
 
 import collections
+import os
 import re
 import resource
 import struct
@@ -15,6 +16,7 @@ from support import (
     PROGRAM,
     RAM,
     RESERVED,
+    TOP,
     Case,
     example,
     extension,
@@ -256,6 +258,20 @@ class Linux(Case):
             place = f"0x0000000005000000-{0x5000000 + brk - 1:#018x} brk"
             self.has(f"linux {more}: brk", err, place)
             self.check(f"linux {more}: page tables", err.count("page table of"), tables)
+
+    def test_as_program(self):
+        """Other tools show a boot as Linux makes it if bootmem-linux is their program."""
+        linux = os.path.join(TOP, "tools", "bootmem-linux")
+        words = ["--program", linux, "--", *boot_words("ovmf-4g-numa2")]
+        folder = example("ovmf-4g-numa2")
+        json = tool("bootmem-json", "--report", "crash", *words, folder=folder)
+        self.check("bootmem-json: status", json[0], 0)
+        self.has("bootmem-json: the area", json[1], "0x0000000073000000")
+        where = tool("bootmem-where", "0x73000000", *words, folder=folder)
+        self.check("bootmem-where: status", where[0], 0)
+        self.has("bootmem-where: the area", where[1], "crash 0x0000000073000000")
+        itself = tool("bootmem-linux", "--program", linux, "zp.bin", folder=folder)
+        self.check("bootmem-linux as its own program", (itself[:2], itself[2].count("\n")), ((2, ""), 1))
 
     def test_time(self):
         """A boot of 3,172 entries takes less than half a second of processor time."""

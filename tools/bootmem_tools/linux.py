@@ -452,6 +452,8 @@ def main(arguments: list[str]) -> int:
     """Prints the program's reports for the prepared inputs, and returns its status."""
     own, rest = read_words(arguments)
     program = os.path.abspath(runner.find_program(own.program))
+    if os.path.basename(program) == NAME:
+        raise tool.Trouble(f"{program}: this tool can't be its own program", 2)
     given = read_program_words(rest)
     if given is None:
         return subprocess.run([program, *rest], check=False).returncode
