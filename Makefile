@@ -89,7 +89,7 @@ deb:
 	@tools/deb.sh "$(VERSION)" "$(MAKE)"
 
 clean:
-	rm -f $(PROGRAMS) libbootmem.* bootmem_*.deb bootmem-dev_*.deb
+	rm -f $(PROGRAMS) $(PROGRAMS:=.built) libbootmem.* bootmem_*.deb bootmem-dev_*.deb
 	rm -rf crates/*/out
 
 help:

@@ -34,13 +34,54 @@ share=$root/share
 
 ok "make install" installed /opt/it
 is "make install says" "$(cat "$work/said")" ""
-there "the program" "$root/bin/bootmem" "$root/bin/bootmem-collect" "$share/man/man1/bootmem.1" "$share/man/man5/bootmem.5"
+there "the program" "$root/bin/bootmem" "$root/libexec/bootmem/explain" "$root/bin/bootmem-collect" "$share/man/man1/bootmem.1" "$share/man/man5/bootmem.5"
 there "the audit" "$root/bin/bootaudit" "$share/man/man1/bootaudit.1" "$share/bash-completion/completions/bootaudit"
 if command -v bash >/dev/null 2>&1; then
 	is "the installed completion" "$(bash -c '. "$1"; COMP_WORDS=(bootmem --sr); COMP_CWORD=1; _bootmem; echo "${COMPREPLY[*]}"' \
 		install.sh "$share/bash-completion/completions/bootmem" 2>/dev/null)" --srat
 fi
 is "the first run" "$("$root/bin/bootmem" --report map "$share/bootmem/examples/first/zp.bin")" "$(cat examples/first/map.txt)"
+
+# the installed commands: --help and --version are theirs, all else is the program's, with one more line after status 2 and 3
+for program in bootmem bootaudit; do
+	there "$program" "$root/libexec/bootmem/$program"
+	ok "the proved $program" cmp "$program" "$root/libexec/bootmem/$program"
+	is "$program --help" "$("$root/bin/$program" --help 2>&1)" "$(cat "tools/$program.help")"
+	is "$program -h" "$("$root/bin/$program" -h 2>&1)" "$(cat "tools/$program.help")"
+	is "$program --version" "$("$root/bin/$program" --version 2>&1 | sed 's/(commit.*kit.*)$/(built)/')" \
+		"$program $(sed -n 's/^VERSION := //p' Makefile) (built)"
+done
+for option in $(sed -n 's/^option \([^ ]*\).*/--\1/p' tools/bootmem_tools/words.txt); do
+	ok "bootmem --help tells of $option" grep -q "^ *$option " tools/bootmem.help
+done
+is "bootmem --help tells of the reports" "$(tr '\n' ' ' <tools/bootmem.help | sed 's/.* reports: \(.*\) exit status.*/\1/' | tr -s ' ' | sed 's/ $//')" \
+	"$(sed -n 's/^report //p' tools/bootmem_tools/words.txt | paste -s -d ' ')"
+
+# answers STATUS LINES WORD..: the installed bootmem ends with the status, writes nothing, and says these lines
+answers() {
+	wanted="$1: $2"
+	shift 2
+	out=$("$root/bin/bootmem" "$@" 2>"$work/err")
+	is "bootmem $*" "$?: $(cat "$work/err")$out" "$wanted"
+}
+answers 2 "bootmem: usage
+bootmem: no zero page is named: bootmem [OPTION].. ZEROPAGE; 'bootmem --help' lists the options"
+answers 2 "bootmem: usage
+bootmem: --report maps: no such report; did you mean map?" --report maps zp.bin
+answers 3 "bootmem: cannot read $work/none
+bootmem: $work/none: it doesn't exist" "$work/none"
+answers 3 "bootmem: cannot read $work
+bootmem: $work: it is a folder" "$work"
+answers 5 "bootmem: zeropage: wrong length" /dev/null
+is "a word with blanks, and the program's standard input" "$("$root/bin/bootmem" --report map "--cmdline=/dev/stdin" \
+	"$share/bootmem/examples/first/zp.bin" </dev/null)" "$(cat examples/first/map.txt)"
+is "a full output" "$("$root/bin/bootmem" --report map examples/first/zp.bin 2>&1 >/dev/full; echo $?)" "bootmem: cannot write
+4"
+mkdir -p "$work/bare"
+is "without python3" "$(PATH=$work/bare "$root/bin/bootmem" 2>&1)" "bootmem: usage
+bootmem: 'bootmem --help' lists the words"
+is "bootaudit without names" "$("$root/bin/bootaudit" 2>&1)" "bootaudit: usage
+bootaudit: 0 names; three reports are needed: bootaudit [--la57] MAP OWNERS BLOCKS"
 
 for report in map owners blocks; do
 	"$root/bin/bootmem" --report "$report" "$share/bootmem/examples/first/zp.bin" >"$work/$report"
@@ -109,6 +150,9 @@ for tool in "$root"/bin/bootmem-* "$root"/bin/*-from-log; do
 done
 
 # one version everywhere
+is "the version of the tools" "$(sed -n 's/^VERSION = "\(.*\)"$/\1/p' tools/bootmem_tools/tool.py) $(sed -n 's/^version = "\(.*\)"$/\1/p' \
+	tools/pyproject.toml) $(sed -n 's/^version=//p' tools/collect.sh)" \
+	"$(sed -n 's/^VERSION := \(.*\)$/\1 \1 \1/p' Makefile)"
 version=$(sed -n 's/^VERSION := //p' Makefile)
 is "the version of CHANGELOG.md" "$(sed -n 's/^## \([0-9.]*\), [0-9-]*$/\1/p' CHANGELOG.md | head -n 1)" "$version"
 is "the date of the newest changes" "$(sed -n "s/^## $version, //p" CHANGELOG.md)" "$(sed -n 's/^\.TH BOOTMEM 1 \([^ ]*\) .*/\1/p' bootmem.1)"

@@ -7,8 +7,10 @@ import subprocess
 import unittest
 
 from kernels import folder_of, stand_in
-from support import PROGRAM, TOP, Case, example, last_line, program, tool, words_of, write
+from support import PROGRAM, TOP, Case, example, last_line, program, text_of, tool, words_of, write
 from test_where import WHERE
+
+VERSION = re.search(r"^VERSION := (.*)$", text_of(os.path.join(TOP, "Makefile")), re.MULTILINE).group(1)
 
 
 def shown_examples(name):
@@ -27,6 +29,7 @@ class Commands(Case):
             status, out, err = tool(name, "--help")
             self.check(f"{name} --help", (status, err), (0, ""))
             self.has(f"{name} --help", out, "isn't proved")
+            self.check(f"{name} --version", tool(name, "--version"), (0, f"{name} {VERSION}\n", ""))
             self.check(f"{name} --help: lines of 80 letters", max(len(line) for line in out.splitlines()) <= 80, True)
             status, out, err = tool(name, "--unknown")
             self.check(f"{name} --unknown", (status, out, err == ""), (2, "", False))

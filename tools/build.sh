@@ -1,6 +1,6 @@
 #!/bin/sh
 # build.sh CRATE PROGRAM WORD..: proves the crate and those below it, builds its program, tries it on these
-# words, on which it is to end with status 0, and puts it at PROGRAM. What the prover says goes to
+# words, on which it is to end with status 0, and puts it at PROGRAM, and beside it, in PROGRAM.built, commit and kit. What the prover says goes to
 # crates/CRATE/out/build.log, and its end to standard error where something fails.
 set -eu
 unset CDPATH
@@ -24,3 +24,8 @@ if ! (cd "$top/crates/$crate" && exec "$rt" run -- "$@") >"$log" 2>&1; then
 	exit 1
 fi
 cp "$top/crates/$crate/out/$crate" "$program"
+# what --version of the installed program tells
+commit=$(git -C "$top" rev-parse --short=12 HEAD 2>/dev/null) || commit=unknown
+[ -z "$(git -C "$top" status --porcelain -- crates 2>/dev/null)" ] || commit="$commit, changed"
+kit=$(head -n 1 "$(dirname "$("$rt" doc)")/KIT-ID" 2>/dev/null) || kit=
+echo "commit $commit; kit ${kit:-unknown}" >"$program.built"

@@ -3,6 +3,7 @@
 set -u
 unset CDPATH
 me=${0##*/}
+version=0.1.0
 sys=/sys
 proc=/proc
 cmdline=
@@ -42,6 +43,7 @@ hand the folder on.
   --sys DIR       what stands for /sys
   --proc DIR      what stands for /proc
   --cmdline FILE  what stands for /proc/cmdline
+  --version       print the version and exit
 
 example:
   $me here && bootmem-live here
@@ -66,6 +68,10 @@ while [ $# -gt 0 ]; do
 	case $1 in
 	--help | -h)
 		help
+		exit 0
+		;;
+	--version)
+		echo "$me $version"
 		exit 0
 		;;
 	--sys | --proc | --cmdline)

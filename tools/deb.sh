@@ -29,7 +29,7 @@ package() {
 }
 
 "$make" --no-print-directory install DESTDIR="$root" PREFIX=/usr
-strip --strip-unneeded --remove-section=.comment --remove-section=.note "$root/usr/bin/bootmem" "$root/usr/bin/bootaudit"
+strip --strip-unneeded --remove-section=.comment --remove-section=.note "$root/usr/libexec/bootmem/bootmem" "$root/usr/libexec/bootmem/bootaudit"
 doc=$root/usr/share/doc/bootmem
 # a Debian change log, and the change log that a user reads
 {
@@ -40,9 +40,9 @@ gzip -9n "$doc/changelog" "$root"/usr/share/man/man[15]/*
 echo "Licence: not chosen yet by the owner." >"$doc/copyright"
 
 # the packages that the program's libraries come from, the C library of the version that it asks for at least, and what the tools need
-library=$(objdump -T "$root/usr/bin/bootmem" | grep -o 'GLIBC_[0-9.]*' | sed 's/GLIBC_//' | sort -V | tail -n 1)
+library=$(objdump -T "$root/usr/libexec/bootmem/bootmem" | grep -o 'GLIBC_[0-9.]*' | sed 's/GLIBC_//' | sort -V | tail -n 1)
 depends=$(
-	ldd "$root/usr/bin/bootmem" | sed -n 's/.*=> \(\/[^ ]*\) .*/\1/p' |
+	ldd "$root/usr/libexec/bootmem/bootmem" | sed -n 's/.*=> \(\/[^ ]*\) .*/\1/p' |
 		while read -r library; do
 			dpkg -S "$library" 2>/dev/null || dpkg -S "$(readlink -f "$library")" 2>/dev/null || dpkg -S "/usr$library" 2>/dev/null || :
 		done | sed -e 's/:.*//' -e "s/^libc6\$/libc6 (>= $library)/" | sort -u

@@ -2,12 +2,13 @@
 # install.sh install|tools|uninstall DESTDIR PREFIX MANDIR: puts the built program, the tools, the manual pages, the documents and the
 # examples under DESTDIR, or the tools alone, or removes what it put there. 'make install' and 'make uninstall' call it.
 #
-#   PREFIX/bin                bootmem, bootaudit, the tools that are there, and tools/collect.sh as bootmem-collect
+#   PREFIX/bin                bootmem and bootaudit, short scripts over the programs (tools/command.sh), the tools that are there, and tools/collect.sh as bootmem-collect
+#   PREFIX/libexec/bootmem    the proved programs, as they were built, and explain, which the scripts start after a refusal
 #   MANDIR/man1, MANDIR/man5  the manual pages; those of the tools are made of their --help, where they run
 #   PREFIX/share/doc/bootmem  the documents
 #   PREFIX/lib/python3*/*-packages/bootmem_tools  the Python package of the tools: in the folder there that python3 looks into, if it
 #                             looks into one, else in lib/python3/dist-packages, which the installed tools name
-#   PREFIX/share/bootmem      the machines of examples/, and words.txt for the completions
+#   PREFIX/share/bootmem      the machines of examples/, words.txt for the completions, and what --help of the programs prints
 #   PREFIX/share/bash-completion/completions/bootmem, bootaudit
 #   PREFIX/lib, PREFIX/include  where libbootmem.a is there: the library, its header and lib/pkgconfig/bootmem.pc, and in
 #                             PREFIX/share/bootmem/bindings what calls it; VERSION is that of the library
@@ -16,6 +17,7 @@ unset CDPATH
 cd "$(dirname "$0")/.."
 deed=$1
 bin=$2$3/bin
+libexec=$2$3/libexec/bootmem
 lib=$2$3/lib
 include=$2$3/include
 share=$2$3/share
@@ -34,7 +36,7 @@ uninstall() {
 	rm -f "$man/man1/bootmem.1" "$man/man1/bootaudit.1" "$man/man5/bootmem.5"
 	rm -f "$share/bash-completion/completions/bootmem" "$share/bash-completion/completions/bootaudit"
 	rm -f "$lib"/libbootmem.a "$lib"/libbootmem.so* "$lib/pkgconfig/bootmem.pc" "$include/bootmem.h"
-	rm -rf "$share/doc/bootmem" "$share/bootmem" "$lib"/python3*/*-packages/bootmem_tools
+	rm -rf "$libexec" "$share/doc/bootmem" "$share/bootmem" "$lib"/python3*/*-packages/bootmem_tools
 }
 
 # packages PREFIX: the folder for Python packages under PREFIX/lib, seen from PREFIX
@@ -46,14 +48,33 @@ print(next((path for path in sys.path if path.startswith(folder) and path.endswi
 	echo "${found#"$1"/}"
 }
 
+# put TOOL PATH PLACE: a tool that finds its package at PLACE, seen from its folder
+put() {
+	sed "s|^sys.dont_write_bytecode = True\$|&\nsys.path.insert(0, sys.path[0] + \"$3\")|" "$1" >"$2"
+	chmod 755 "$2"
+}
+
+# programs PREFIX: the proved programs as they are, and the scripts that hand them their words
+programs() {
+	install -d "$libexec"
+	for program in bootmem bootaudit; do
+		install -m 755 "$program" "$libexec"
+		built="commit and kit unknown"
+		[ ! -f "$program.built" ] || built=$(cat "$program.built")
+		sed "s|@PROGRAM@|$program|g; s|@PREFIX@|$1|g; s|@VERSION@|$VERSION|; s|@BUILT@|$built|" tools/command.sh >"$bin/$program"
+		chmod 755 "$bin/$program"
+		install -m 644 "tools/$program.help" "$share/bootmem"
+	done
+	put tools/bootmem-explain "$libexec/explain" "/../../$(packages "$1")"
+}
+
 # tools PREFIX: the tools, and the package that they are made of
 tools() {
 	packages=$(packages "$1")
 	install -d "$bin" "$bin/../$packages/bootmem_tools"
 	install -m 755 tools/collect.sh "$bin/bootmem-collect"
 	for tool in $tools; do
-		sed "s|^sys.dont_write_bytecode = True\$|&\nsys.path.insert(0, sys.path[0] + \"/../$packages\")|" "tools/$tool" >"$bin/$tool"
-		chmod 755 "$bin/$tool"
+		put "tools/$tool" "$bin/$tool" "/../$packages"
 	done
 	install -m 644 tools/bootmem_tools/*.* "$bin/../$packages/bootmem_tools"
 }
@@ -84,7 +105,7 @@ examples() {
 
 install_all() {
 	install -d "$bin" "$man/man1" "$man/man5" "$share/doc/bootmem" "$share/bootmem/examples"
-	install -m 755 bootmem bootaudit "$bin"
+	programs "$1"
 	tools "$1"
 	for program in bootmem bootaudit; do
 		[ -f "tools/$program.bash-completion" ] || continue

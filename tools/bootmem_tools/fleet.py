@@ -138,7 +138,7 @@ def run(folder: str, plan: Plan, words: list[str]) -> tuple[int, str, objects.Ob
     """Returns the program's status, what it said, and its reports for these words in the folder."""
     done = subprocess.run([plan.program, "--report", ",".join(ASKED), *words, "zp.bin"], stdin=subprocess.DEVNULL,
                           stdout=subprocess.PIPE, stderr=subprocess.PIPE, cwd=folder, check=False)
-    said = done.stderr.decode("utf-8", "replace").strip()
+    said = "".join(done.stderr.decode("utf-8", "replace").splitlines()[:1])
     if done.returncode != 0:
         return done.returncode, said, None
     return 0, said, objects.as_object(reports.split_reports(done.stdout.decode()))

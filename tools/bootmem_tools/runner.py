@@ -16,8 +16,8 @@ STOPPED = 6  # the status of a boot that stops
 PLACELESS = {"map", "options", "nodes"}  # reports that don't go by the kernel's place
 ASSUMED = ("the kernel's place isn't known, so 16 MiB to 48 MiB is assumed; "
            "--kernel BASE,SIZE tells it")
-FINDING = ("The program is --program, else $BOOTMEM, else bootmem beside this tool, else bootmem on "
-           "the PATH.")
+FINDING = ("The program is --program, else $BOOTMEM, else the installed one of this tool, else bootmem "
+           "on the PATH.")
 # The reports of a run, with the program's line if the boot stops.
 Stopped = tuple[Texts, Optional[str]]
 
@@ -41,7 +41,8 @@ def find_program(named: str | None = None) -> str:
         if found is None:
             raise Trouble(f"{chosen}: no program that can be run")
         return found
-    beside = [os.path.join(os.path.dirname(os.path.realpath(sys.argv[0])), "bootmem")]
+    here = os.path.dirname(os.path.realpath(sys.argv[0]))
+    beside = [os.path.join(here, "..", "libexec", "bootmem", "bootmem"), os.path.join(here, "bootmem")]
     if os.path.basename(tools) == "tools":
         beside.append(os.path.join(os.path.dirname(tools), "bootmem"))
     for path in beside:
@@ -67,7 +68,7 @@ def call_program(program: str, names: Sequence[str], words: Sequence[str],
     done = subprocess.run([program, "--report", ",".join(names), *words], cwd=folder,
                           stdout=subprocess.PIPE, stderr=subprocess.PIPE, check=False)
     out, err = (part.decode("utf-8", "replace") for part in (done.stdout, done.stderr))
-    return done.returncode, out, err.strip()
+    return done.returncode, out, "; ".join(err.splitlines())
 
 
 def texts_of(names: Sequence[str], text: str) -> Texts:

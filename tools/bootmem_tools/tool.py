@@ -14,6 +14,7 @@ import tempfile
 import textwrap
 from typing import BinaryIO, Callable, Mapping, NamedTuple, NoReturn, Optional, Sequence
 
+VERSION = "0.1.0"
 WIDTH = 80  # of help, in letters
 LONGEST = 1 << 30  # bytes of a text: the report blocks of 16 TiB in single frames has half as many
 SHORT = 60  # letters of a line that an error quotes
@@ -101,8 +102,11 @@ def filled(text: str) -> str:
 
 def new_parser(name: str, usage: str, description: str, epilog: str) -> Parser:
     """Returns a parser of a tool's words, whose help ends with what holds for every tool."""
-    return Parser(prog=name, usage=usage, description=filled(description),
-                  epilog=filled(f"{epilog}\n\n{UNPROVED}"), formatter_class=Help, allow_abbrev=False)
+    parser = Parser(prog=name, usage=usage, description=filled(description),
+                    epilog=filled(f"{epilog}\n\n{UNPROVED}"), formatter_class=Help, allow_abbrev=False)
+    parser.add_argument("--version", action="version", version=f"{name} {VERSION}",
+                        help="print the version and exit")
+    return parser
 
 
 def split_words(words: Sequence[str]) -> tuple[list[str], list[str] | None]:

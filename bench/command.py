@@ -1,0 +1,30 @@
+#!/usr/bin/env python3
+"""command.py PREFIX [ROUNDS]: what the installed command `bootmem` under PREFIX costs beyond the program that it starts: the least mean of 100 runs
+each of the program in libexec and of the command, in milliseconds."""
+
+import os
+import subprocess
+import sys
+import time
+
+RUNS = 100
+ZERO_PAGE = os.path.join(os.path.dirname(os.path.abspath(__file__)), "..", "examples", "first", "zp.bin")
+
+
+def milliseconds(program):
+    """The mean of the runs of a program."""
+    start = time.perf_counter()
+    for _ in range(RUNS):
+        subprocess.run([program, "--report", "map", ZERO_PAGE], stdout=subprocess.DEVNULL, check=True)
+    return (time.perf_counter() - start) * 1000 / RUNS
+
+
+def main(prefix, rounds="7"):
+    """Prints both and their difference."""
+    programs = [os.path.join(prefix, "libexec", "bootmem", "bootmem"), os.path.join(prefix, "bin", "bootmem")]
+    program, command = (min(each) for each in zip(*(map(milliseconds, programs) for _ in range(int(rounds)))))
+    print(f"program {program:.2f} ms, command {command:.2f} ms, beyond it {command - program:.2f} ms (at most 2)")
+
+
+if __name__ == "__main__":
+    main(*sys.argv[1:])

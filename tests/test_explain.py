@@ -1,0 +1,114 @@
+"""What the installed commands say after a refusal: for words and files that the program refuses, which of them is wrong, and why."""
+
+import os
+import subprocess
+import unittest
+
+from support import PROGRAM, TOP, Case, ran, rows_of, write
+from bootmem_tools import explain
+from bootmem_tools.words import OPTIONS
+
+# Words, and what is said of them; the program ends with 2 for each.
+USAGE = rows_of("""
+ | no zero page is named: bootmem [OPTION].. ZEROPAGE; 'bootmem --help' lists the options
+--cmdlin line zp | --cmdlin: no such option; did you mean --cmdline?
+-report map zp | -report: did you mean --report?
+-zp.bin | -zp.bin: no option; a file of this name is given as ./-zp.bin
+zp --help | --help: must be the first word
+--report maps zp | --report maps: no such report; did you mean map?
+--report map,zone zp | --report map,zone: zone: no such report; did you mean zones?
+--report map,,zones zp | --report map,,zones: an empty name; names have one comma between each two, and no blank
+--report map, zp | --report map,: an empty name; names have one comma between each two, and no blank
+--report= zp | --report : an empty name; names have one comma between each two, and no blank
+--report Map zp | --report Map: names of reports are in lower case: map
+--Report map zp | --Report: no such option; did you mean --report?
+--kernel 16M zp | --kernel 16M: 16M has no size after it: BASE,SIZE, as 16M,32M
+--mirror 1G,1G:16M zp | --mirror 1G,1G:16M: 16M has no size after it: BASE,SIZE, as 16M,32M
+--kernel 16M, zp | --kernel 16M,: a size is missing: BASE,SIZE
+--kernel 0x1000001,32M zp | --kernel 0x1000001,32M: the address 0x1000001 isn't a multiple of 4,096: 0x1000000 and 0x1001000 are
+--kernel 16M,0x3400100 zp | --kernel 16M,0x3400100: the size 0x3400100 isn't a multiple of 4,096: 0x3400000 and 0x3401000 are
+--kernel 16M,52MB zp | --kernel 16M,52MB: 52MB: no size; without the B: 52M
+--kernel 16M,52MiB zp | --kernel 16M,52MiB: 52MiB: no size; without the iB: 52M
+--kernel 16M,x zp | --kernel 16M,x: x: no size up to 2^64 - 1; a size is a number, and K, M, G, T, P or E may follow: 16M, 0x1000000
+--kernel 4096,32M zp | --kernel 4096,32M: the address 0x1000 is below 0x100000
+--kernel 16M,4096 zp | --kernel 16M,4096: the size 0x1000 is below 0x2000
+--kernel 64T,1M zp | --kernel 64T,1M: the image ends above 2^46 (--la57 allows 2^52)
+--la57 --kernel 4P,1M zp | --kernel 4P,1M: the image ends above 2^52
+--mirror 0xffffffffffffffff,1 zp | --mirror 0xffffffffffffffff,1: base and size together are above 2^64 - 1
+one two | two: a second zero page, after one; only one may be named
+-- one two | two: a second zero page, after one; only one may be named
+--report map --report map zp | --report: given twice; each option may stand once
+--la57 --la57 zp | --la57: given twice; each option may stand once
+--la57=yes zp | --la57=yes: --la57 has no value
+--cmdline | --cmdline: its value is missing: --cmdline FILE
+--cmdline --srat zp | --cmdline --srat: a value doesn't begin with -; if it is meant, write --cmdline=--srat
+--make 1 | --make 1: a number from 2 to 3,000, in decimal digits
+--make 3 zp | zp: --make takes the place of a zero page; leave one of them out
+--make 3 --e820ext ext | --e820ext: --make takes the place of an extension; leave one of them out
+""")
+AUDIT = rows_of("""
+ | 0 names; three reports are needed: bootaudit [--la57] MAP OWNERS BLOCKS
+a b | 2 names; three reports are needed: bootaudit [--la57] MAP OWNERS BLOCKS
+a b c d | 4 names; three reports are needed: bootaudit [--la57] MAP OWNERS BLOCKS
+a b c --la57 | --la57: stands once, before the names
+--la75 a b c | --la75: did you mean --la57?
+a b -c | -c: no option; a file of this name is given as ./-c
+a b --version | --version: must be the first word
+""")
+
+
+def split(text):
+    """The words of a row, which blanks separate."""
+    return text.split()
+
+
+class Explained(Case):
+    """The line after the program's own."""
+
+    def test_usage(self):
+        """Each of these words is refused by the program, and the line names the one that is wrong."""
+        for text, why in USAGE:
+            self.check(f"bootmem {text}", ran([PROGRAM, *split(text)])[0], 2)
+            self.check(f"bootmem {text}: why", explain.explain("bootmem", 2, split(text)), why)
+        self.check("each option without its value, or twice", [explain.explain("bootmem", 2, [f"--{name}"] * 2) is None for name in OPTIONS],
+                   [False] * len(OPTIONS))
+        self.check("no UTF-8", explain.explain("bootmem", 2, ["--report", os.fsdecode(b"\377")]), "word 2 isn't UTF-8")
+        many = ":".join(["1M,1M"] * 65)
+        self.check("65 ranges", (ran([PROGRAM, "--mirror", many, "zp"])[0], explain.explain("bootmem", 2, ["--mirror", many, "zp"])),
+                   (2, f"--mirror {many}: 65 ranges; at most 64"))
+
+    def test_audit(self):
+        """Words of bootaudit; the program is there only where it was built."""
+        audit = os.path.join(TOP, "bootaudit")
+        for text, why in AUDIT:
+            if os.path.exists(audit):
+                self.check(f"bootaudit {text}", ran([audit, *split(text)])[0], 2)
+            self.check(f"bootaudit {text}: why", explain.explain("bootaudit", 2, split(text)), why)
+
+    def test_unreadable(self):
+        """A file that can't be read: missing, a folder, no permission."""
+        write(self.path("zp"), b"")
+        os.mkdir(self.path("folder"))
+        os.symlink("nothing", self.path("link"))
+        for words, name, why in ((["none"], "none", "it doesn't exist"), (["a/b"], "a/b", "there is no folder a"),
+                                 (["folder"], "folder", "it is a folder"), (["zp/x"], "zp/x", "Not a directory"),
+                                 (["link"], "link", "it is a link to nothing, which doesn't exist"),
+                                 (["--srat", "none", "--cmdline=folder", "zp"], "folder", "it is a folder")):
+            status, _, err = ran([os.path.join(TOP, "tools", "bootmem-explain"), "bootmem", "3", *words], folder=self.work)
+            self.check(f"{words}: why", (status, err.decode()), (0, f"bootmem: {name}: {why}\n"))
+        self.check("an audit", ran([os.path.join(TOP, "tools", "bootmem-explain"), "bootaudit", "3", "--la57", "zp", "folder", "none"],
+                                   folder=self.work)[2], b"bootaudit: folder: it is a folder\n")
+        if os.getuid():
+            os.chmod(self.path("zp"), 0)
+            self.check("no permission", explain.unreadable(self.path("zp")), "there is no permission to read it")
+        else:
+            os.chmod(self.path("zp"), 0)
+            os.chmod(self.work, 0o755)
+            done = subprocess.run(["setpriv", "--reuid=65534", "--clear-groups", "--", "python3", os.path.join(TOP, "tools", "bootmem-explain"),
+                                   "bootmem", "3", self.path("zp")], stderr=subprocess.PIPE, check=False)
+            self.check("no permission", done.stderr.decode(), f"bootmem: {self.path('zp')}: there is no permission to read it\n")
+        self.check("nothing to say of files that can be read", explain.explain("bootmem", 3, ["/dev/null"]), None)
+
+
+if __name__ == "__main__":
+    unittest.main()

@@ -1,0 +1,33 @@
+#!/bin/sh
+# @PROGRAM@: hands its words to the proved program and ends with its status. It answers --help, -h and --version by itself, and after a
+# refusal (status 2) or a file that can't be read (status 3) it adds a line to the program's own that says why. Nothing here is proved.
+# What runs on every call comes first and starts no process besides the program's.
+program=${0%/*}/../libexec/bootmem/@PROGRAM@
+[ -x "$program" ] || program=@PREFIX@/libexec/bootmem/@PROGRAM@
+case ${1-} in
+--help | -h | --version) ;;
+*)
+	"$program" "$@"
+	status=$?
+	case $status in
+	2 | 3) ;;
+	*) exit "$status" ;;
+	esac
+	;;
+esac
+
+case ${1-} in
+--help | -h)
+	help=${0%/*}/../share/bootmem/@PROGRAM@.help
+	[ -r "$help" ] || help=@PREFIX@/share/bootmem/@PROGRAM@.help
+	exec cat "$help"
+	;;
+--version)
+	echo "@PROGRAM@ @VERSION@ (@BUILT@)"
+	exit
+	;;
+esac
+explain=${program%/*}/explain
+command -v python3 >/dev/null 2>&1 && python3 "$explain" @PROGRAM@ "$status" "$@" </dev/null >/dev/null ||
+	echo "@PROGRAM@: '@PROGRAM@ --help' lists the words" >&2
+exit "$status"
