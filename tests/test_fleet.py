@@ -6,7 +6,8 @@ import shutil
 import unittest
 
 from schema import SCHEMA, fits
-from support import EXAMPLES, PROGRAM, Case, bytes_of, example, tool, write
+from support import EXAMPLES, GIB, MIB, PROGRAM, Case, bytes_of, example, tool, write, zero_page
+from bootmem_tools import inputs
 
 FLEET = """q35-1g\t0\t-\t10\t262013\t244146\tnone\t-\tabsent\t1
 q35-8g-crashhighlow\t0\t-\t11\t2097021\t1903026\t0x000000025f000000..0x000000027effffff\t0x000000007b000000..0x000000007effffff\tabsent\t1
@@ -40,8 +41,26 @@ class Fleet(Case):
                               (("--cmdline-drop", "mem", "--cmdline-add", "crashkernel=2G,high"), "no area")):
             status, out, err = tool("bootmem-fleet", *words, "bad", folder=self.work)
             self.check(f"fleet {words}", (status, out.split("\t")[6], err), (0, wanted, ""))
+        for words, wanted in (("crashkernel=512MB,high", "word 1: crashkernel=512MB,high: left out: the kernel warns: unrecognized char: B"),
+                              ("crashkernl=512M", "word 1: crashkernl=512M: passed over, by the kernel too: is crashkernel= meant?")):
+            status, out, err = tool("bootmem-fleet", "--kernel", "16M,32M", "--cmdline-drop", "mem", "--cmdline-add", words, "bad", "bad",
+                                    folder=self.work)
+            self.check(f"fleet {words}: told once", (out.count("\n"), err), (2, f"bootmem-fleet: --cmdline-add: {wanted}\n"))
+        self.check("fleet: ranges are no complaint", tool("bootmem-fleet", "--cmdline-drop", "mem", "--cmdline-add",
+                                                          "crashkernel=1G-4G:192M,4G-:256M", "bad", folder=self.work)[2], "")
+        os.makedirs(self.path("gap"))
+        write(self.path("gap", "zp.bin"), zero_page([(0, 0x9FC00, 1), (MIB, GIB - MIB, 1)]))
+        write(self.path("gap", "srat.bin"), inputs.srat([(0, GIB - 16 * 4096, 0)]))
+        status, out, err = tool("bootmem-fleet", "--kernel", "16M,32M", "gap", folder=self.work)
+        self.check("fleet: a known panic", (status, out.split("\t")[1], out.split("\t")[2][:56], err),
+                   (3, "0", "Linux 6.1 panics: 16 frames of memory are in no block of", ""))
+        self.check("fleet: a status goes before a panic", tool("bootmem-fleet", "--kernel", "16M,32M", "gap", "none", folder=self.work)[0], 1)
         self.check("fleet, no folder", tool("bootmem-fleet")[:2], (2, ""))
         self.check("fleet, no program", tool("bootmem-fleet", "--program", "/nowhere", "bad", folder=self.work)[:2], (2, ""))
+        status, out, err = tool("bootmem-fleet", "--kernel", "0xc0000000,32M", "--cmdline-drop", "mem", "bad", folder=self.work)
+        self.check("fleet: an image in a hole", err, "bootmem-fleet: bad: --kernel 0xc0000000,32M: the map has no RAM at "
+                   "0x00000000c0000000-0x00000000c1ffffff, so the image can't lie there whole; is it the place on another machine, or of "
+                   "another boot (KASLR)?\n")
         if b"__asan_init" in bytes_of(PROGRAM):
             return  # a sanitizer's program takes its own time
         for number in range(FOLDERS):

@@ -7,7 +7,7 @@ import os
 import tempfile
 from typing import Iterable, Iterator, NamedTuple, NoReturn, Sequence
 
-from bootmem_tools import command_line, machine, ranges, reports, runner, tool
+from bootmem_tools import command_line, machine, notes, ranges, reports, runner, tool
 
 NAME = "bootmem-crash"
 USAGE = """bootmem-crash [--size SIZE].. [--kernel BASE,SIZE] [--cmdline FILE]
@@ -276,6 +276,8 @@ def warn(own: Machine, texts: reports.Texts) -> None:
         tool.complain(NAME, said)
     if own.kernel is None:
         tool.complain(NAME, runner.ASSUMED)
+    for note in notes.notes_for(own.words + (["--kernel", own.kernel] if own.kernel else []), texts):
+        tool.complain(NAME, note)
     if machine.is_uefi(own.page):
         tool.complain(NAME, "the firmware is UEFI: the kernel claims more before the area there, so it may lie lower "
                                "(by 32 MiB in four boots), or find no place")

@@ -10,7 +10,7 @@ import subprocess
 import tempfile
 from typing import IO, NamedTuple, NoReturn
 
-from bootmem_tools import command_line, machine, objects, reports, runner, tool
+from bootmem_tools import command_line, machine, notes, objects, reports, runner, tool
 
 NAME = "bootmem-fleet"
 USAGE = """bootmem-fleet [--json] [--cmdline-add WORDS] [--cmdline-drop NAME]..
@@ -20,7 +20,7 @@ prints a line for each, in the order of the words, with a tab between each two c
 
   folder   as it was given
   status   that of bootmem; 0 if it printed its reports
-  line     what it said on standard error, or -
+  line     what it said on standard error, or why Linux 6.1 is known to panic on this boot, or -
   runs     of the map
   usable   frames of 4,096 bytes
   free     of them in free blocks
@@ -33,21 +33,23 @@ If bootmem ended with another status than 0, or a folder has no such thing, a co
 EPILOG = f"""A folder has zp.bin, and if they are there e820ext.bin, cmdline, srat.bin, efi.bin, and kernel (or words, as under examples)
 with the place of the kernel's image; without it the tool assumes 16 MiB to 48 MiB, and says so.
 
---cmdline-drop takes the words NAME and NAME=.. out of each line, --cmdline-add appends WORDS. A line that was changed
+--cmdline-drop takes the words NAME and NAME=.. out of each line, --cmdline-add appends WORDS. What is wrong with WORDS is told once on standard error. A line that was changed
 is read as the machine's kernel would read it (bootmem-line); --verbose prints what that changes.
 
 --json prints one JSON object a line instead (FORMATS.md of the documents: "A fleet as JSON").
 
 {runner.FINDING}
 
-exit status: 0 if each run ended with 0, 1 if one didn't, 2 for words that aren't those above.
+exit status: 0 if each run ended with 0, 1 if one didn't, 2 for words that aren't those above, 3 if each run ended with 0 and
+Linux 6.1 is known to panic on a machine.
 
 examples:
   bootmem-fleet host*/
   bootmem-fleet --cmdline-add crashkernel=512M,high host*/"""
 
 FILES = (("--e820ext", "e820ext.bin"), ("--cmdline", "cmdline"), ("--srat", "srat.bin"), ("--efi", "efi.bin"))
-ASKED = ["summary", "crash", "nodes"]
+ASKED = ["map", "summary", "crash", "nodes"]
+PANICS = 3  # the status if each run ended with 0, and Linux 6.1 is known to panic on a machine
 
 
 class Plan(NamedTuple):
@@ -66,6 +68,8 @@ class Answer(NamedTuple):
     row: objects.Object
     assumed: bool
     said: list[str]
+    panics: bool = False
+    note: str | None = None
 
 
 def read_words(words: list[str]) -> argparse.Namespace:
@@ -134,14 +138,14 @@ def changed_line(folder: str, plan: Plan, file: IO[bytes]) -> list[str]:
     return said
 
 
-def run(folder: str, plan: Plan, words: list[str]) -> tuple[int, str, objects.Object | None]:
-    """Returns the program's status, what it said, and its reports for these words in the folder."""
+def run(folder: str, plan: Plan, words: list[str]) -> tuple[int, str, reports.Texts]:
+    """Returns the program's status, what it said, and its reports for these words in the folder; none if the status isn't 0."""
     done = subprocess.run([plan.program, "--report", ",".join(ASKED), *words, "zp.bin"], stdin=subprocess.DEVNULL,
                           stdout=subprocess.PIPE, stderr=subprocess.PIPE, cwd=folder, check=False)
     said = "".join(done.stderr.decode("utf-8", "replace").splitlines()[:1])
     if done.returncode != 0:
-        return done.returncode, said, None
-    return 0, said, objects.as_object(reports.split_reports(done.stdout.decode()))
+        return done.returncode, said, {}
+    return 0, said, reports.split_reports(done.stdout.decode())
 
 
 def answer_of(work: tuple[str, Plan]) -> Answer:
@@ -166,8 +170,13 @@ def run_folder(folder: str, plan: Plan, words: list[str], kernel: list[str]) -> 
                 words[words.index("--cmdline") + 1] = file.name
             else:
                 words += ["--cmdline", file.name]
-        row = row_of(folder, *run(folder, plan, words + kernel))
-    return Answer(row, not kernel, said)
+        status, line, texts = run(folder, plan, words + kernel)
+    if status != 0:
+        return Answer(row_of(folder, status, line, None), not kernel, said)
+    why = next(machine.panics(texts), None)
+    line = f"Linux 6.1 panics: {why}" if why else line
+    note = notes.place_note(notes.value_in(kernel, "--kernel"), texts)
+    return Answer(row_of(folder, 0, line, objects.as_object(texts)), not kernel, said, why is not None, note)
 
 
 def row_of(folder: str, status: int, line: str, found: objects.Object | None) -> objects.Object:
@@ -195,23 +204,37 @@ def columns(row: objects.Object) -> list[str]:
     return ["-" if text is None else str(text) for text in texts + [row["nodes"]]]
 
 
+def complaints(plan: Plan) -> list[str]:
+    """Returns what is wrong with the words that are added to every line, each complaint once, whatever machine they are added on."""
+    if not plan.add:
+        return []
+    total = command_line.Total(1 << 60, 1 << 60)
+    reading = command_line.read_line(plan.add.encode("utf-8", "surrogateescape") + b"\n", lambda line: total)
+    return list(dict.fromkeys([line for line in reading.changes if "left out" in line] + reading.notes))
+
+
 def main(words: list[str]) -> int:
     """Prints a line for each folder; the status says whether each run ended with 0."""
     given = read_words(words)
     plan = Plan(os.path.abspath(runner.find_program(given.program)), given.cmdline_add, given.cmdline_drop, given.kernel)
     jobs = min(given.jobs or len(os.sched_getaffinity(0)), len(given.folders))
-    failed, assumed = False, 0
+    for line in complaints(plan):
+        tool.complain(NAME, f"--cmdline-add: {line}")
+    failed, panics, assumed = False, False, 0
     with multiprocessing.get_context("fork").Pool(jobs) as pool:
         for answer in pool.imap(answer_of, [(folder, plan) for folder in given.folders], chunksize=max(1, min(16, len(given.folders) // jobs))):
             print(json.dumps(answer.row) if given.json else "\t".join(columns(answer.row)))
             failed = failed or answer.row["status"] != 0
+            panics = panics or answer.panics
             assumed += answer.assumed
+            if answer.note:
+                tool.complain(NAME, f"{answer.row['folder']}: {answer.note}")
             for line in answer.said if given.verbose else []:
                 tool.complain(NAME, f"{answer.row['folder']}: bootmem-line: {line}")
     if assumed:
         tool.complain(NAME, f"of {assumed} of {len(given.folders)} folders nothing tells where the kernel's image lies: 16 MiB to "
                                "48 MiB is assumed")
-    return 1 if failed else 0
+    return 1 if failed else PANICS if panics else 0
 
 
 def command() -> NoReturn:

@@ -12,7 +12,7 @@ import sys
 import tempfile
 from typing import Iterable, Iterator, NamedTuple, NoReturn, Sequence
 
-from bootmem_tools import command_line, machine, ranges, reports, runner, tool
+from bootmem_tools import command_line, machine, notes, ranges, reports, runner, tool
 
 NAME = "bootmem-live"
 USAGE = """bootmem-live [--kernel BASE,SIZE] [--program P] FOLDER
@@ -272,12 +272,21 @@ def run(given: argparse.Namespace, folder: str, reading: command_line.Reading) -
     return ["--cmdline", "line" if reading.changes else "cmdline"] + words, texts
 
 
+def uncovered_in(folder: str, words: Sequence[str], texts: Texts) -> str | None:
+    """Returns the note of the memory that no block of the folder's SRAT covers, or None."""
+    name = notes.value_in(words, "--srat")
+    return notes.uncovered_note(os.path.join(folder, name), texts) if name else None
+
+
 def compare(given: argparse.Namespace, folder: str, words: Sequence[str], texts: Texts) -> Iterator[Finding]:
     """Yields all findings, by what the kernel shows."""
     for why in machine.panics(texts):
         yield Finding("panics", why)
     if "--kernel" not in words:
         yield Finding("passed", f"kernel: {runner.ASSUMED}")
+    for note in (notes.place_note(notes.value_in(words, "--kernel"), texts), uncovered_in(folder, words, texts)):
+        if note:
+            yield Finding("noted", note)
     srat = os.path.join(given.sys or "/sys", "firmware", "acpi", "tables", "SRAT")
     if not given.folder and "--srat" not in words and os.path.exists(srat):
         yield Finding("passed", "srat: this machine has an SRAT that root alone can read; bootmem takes all memory for node 0")

@@ -9,6 +9,7 @@ import subprocess
 import sys
 from typing import Iterable, Optional, Sequence
 
+from bootmem_tools import notes
 from bootmem_tools.reports import Texts, split_reports
 from bootmem_tools.tool import Trouble, complain
 
@@ -118,9 +119,11 @@ def is_place_assumed(names: Iterable[str], words: Iterable[str]) -> bool:
 
 
 def run_for(tool: str, program: str, names: Sequence[str], words: Sequence[str]) -> Texts:
-    """Returns what `run_program` does, for a tool whose words are its user's: if the kernel's
-    place is assumed, it says so."""
+    """Returns what `run_program` does, for a tool whose words are its user's: it says if the kernel's
+    place is assumed or isn't RAM, and which memory no block of the SRAT covers."""
     found = run_program(program, names, words)
+    for note in notes.notes_for(words, found):
+        complain(tool, note)
     if is_place_assumed(names, words):
         complain(tool, ASSUMED)
     return found

@@ -1,0 +1,100 @@
+"""What a reader should know of a boot beside its reports: an image that doesn't lie in RAM, and memory that no block of the SRAT covers."""
+
+from __future__ import annotations
+
+import os
+import struct
+from typing import Iterator, Sequence
+
+from bootmem_tools import ranges
+from bootmem_tools.grammar import read_lines
+from bootmem_tools.reports import Texts, memory_of
+
+FIRST_ENTRY = 48  # of an SRAT
+MEMORY_ENTRY, MEMORY_LENGTH, ENABLED = 1, 40, 1
+LONGEST = 1 << 20  # bytes of a table that the program reads
+MOST = 4  # ranges that a note names
+
+
+def value_in(words: Sequence[str], option: str) -> str | None:
+    """Returns the value of an option in the program's words, in the next word or after `=`; None if it isn't there."""
+    for index, word in enumerate(words):
+        if word == "--":
+            break
+        if word == option and index + 1 < len(words):
+            return words[index + 1]
+        if word.startswith(option + "="):
+            return word[len(option) + 1:]
+    return None
+
+
+def named(found: Sequence[ranges.Range]) -> str:
+    """Returns the first of the ranges, and how many more there are."""
+    text = ", ".join(ranges.range_text(*one) for one in found[:MOST])
+    return text + (f" and {len(found) - MOST} more" if len(found) > MOST else "")
+
+
+def place_note(place: str | None, texts: Texts) -> str | None:
+    """Returns a note if the kernel's image at `BASE,SIZE` doesn't lie in RAM of the report `map`, or None."""
+    pair = ranges.parse_pair(place) if place is not None else None
+    if pair is None or "map" not in texts:
+        return None
+    base, size = pair
+    outside = [(base, base + size - 1)]
+    for first, last in memory_of(texts):
+        outside = ranges.without(outside, first, last)
+    if not outside:
+        return None
+    return (f"--kernel {place}: the map has no RAM at {named(outside)}, so the image can't lie there whole; "
+            "is it the place on another machine, or of another boot (KASLR)?")
+
+
+def blocks_of(table: bytes) -> list[ranges.Range]:
+    """Returns the enabled ranges of memory of an SRAT, their ends rounded down to frames (acpi_numa_memory_affinity_init)."""
+    found, place = [], FIRST_ENTRY
+    while place + 2 <= len(table) and table[place + 1] >= 2:
+        kind, length = table[place], table[place + 1]
+        if kind == MEMORY_ENTRY and length >= MEMORY_LENGTH and place + MEMORY_LENGTH <= len(table):
+            base, size, _, flags = struct.unpack_from("<QQII", table, place + 8)
+            first, end = base // ranges.FRAME * ranges.FRAME, (base + size) // ranges.FRAME * ranges.FRAME
+            if flags & ENABLED and first < end:
+                found.append((first, end - 1))
+        place += length
+    return found
+
+
+def uncovered_ranges(path: str, texts: Texts) -> list[ranges.Range]:
+    """Returns the memory of the report `map`, in whole frames, that no block of the SRAT in this file covers."""
+    if not os.path.isfile(path):
+        return []
+    with open(path, "rb") as file:
+        blocks = blocks_of(file.read(LONGEST))
+    found = []
+    for first, last in memory_of(texts):
+        begin, end = -(-first // ranges.FRAME) * ranges.FRAME, (last + 1) // ranges.FRAME * ranges.FRAME
+        found += [(begin, end - 1)] if begin < end else []
+    for first, last in blocks:
+        found = ranges.without(found, first, last)
+    return found
+
+
+def uncovered_note(path: str | None, texts: Texts) -> str | None:
+    """Returns a note that names the memory outside all blocks of the SRAT, if the report `nodes` counts such frames, or None."""
+    if path is None or "map" not in texts or "nodes" not in texts:
+        return None
+    lines = list(read_lines("nodes", texts["nodes"]))
+    refused = sum(int(line.fields["frames"]) for line in lines if line.kind == "not covered")
+    taken = sum(int(line.fields["uncovered"]) for line in lines if line.kind == "uncovered")
+    if not refused and not taken:
+        return None
+    where = named(uncovered_ranges(path, texts))
+    if refused:
+        return f"the SRAT isn't used: {refused} frames of memory are in none of its blocks, 256 or more: {where}"
+    return f"{taken} frames of memory are in no block of the SRAT, and get the lowest node: {where}"
+
+
+def notes_for(words: Sequence[str], texts: Texts) -> Iterator[str]:
+    """Yields the notes for a run of the program with these words and reports."""
+    for note in (place_note(value_in(words, "--kernel"), texts), uncovered_note(value_in(words, "--srat"), texts)):
+        if note:
+            yield note
