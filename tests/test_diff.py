@@ -47,6 +47,8 @@ class Diff(Case):
         self.check("diff, one side", tool("bootmem-diff", "--a", "zp.bin", folder=folder)[:2], (2, ""))
         self.check("diff, a refused run", tool("bootmem-diff", "--a", "zp.bin", "--b", "cmdline", folder=folder)[:2], (2, ""))
         self.check("diff, an open quotation", tool("bootmem-diff", "--a", "'", "--b", "zp.bin", folder=folder)[:2], (2, ""))
+        self.check("diff, an empty map", tool("bootmem-diff", "map.txt", "-", folder=folder, given="== map\n== owners\n"),
+                   (2, "", "bootmem-diff: B: the map is empty: no boot has such a map, so it wasn't written whole\n"))
         self.check("diff, zones", tool("bootmem-diff", "--report", "zones", "map.txt", "map.txt", folder=folder)[:2], (2, ""))
         self.check("diff, a broken line", tool("bootmem-diff", "map.txt", "-", folder=folder,
                                           given=text_of(example("first", "map.txt")) + "0x1..0x2\n")[:2], (2, ""))

@@ -42,6 +42,8 @@ one two | two: a second zero page, after one; only one may be named
 --la57=yes zp | --la57=yes: --la57 has no value
 --cmdline | --cmdline: its value is missing: --cmdline FILE
 --cmdline --srat zp | --cmdline --srat: a value doesn't begin with -; if it is meant, write --cmdline=--srat
+- one | one: a second zero page, after -; only one may be named
+--cmdline - --srat | --srat: its value is missing: --srat FILE
 --make 1 | --make 1: a number from 2 to 3,000, in decimal digits
 --make 3 zp | zp: --make takes the place of a zero page; leave one of them out
 --make 3 --e820ext ext | --e820ext: --make takes the place of an extension; leave one of them out

@@ -115,6 +115,9 @@ class Json(Case):
         for what, text in (("nothing", ""), ("another text", "hello\n"), ("a broken line", "== map\n0x1..0x2\n"), ("another report", "== maps\n")):
             status, out, err = tool("bootmem-json", given=text)
             self.check(f"json, {what}", (status, out, err.count("\n")), (1, "", 1))
+        empty = (1, "", "bootmem-json: the reports: the map is empty: no boot has such a map, so it wasn't written whole\n")
+        self.check("json, an empty map", tool("bootmem-json", given="== map\n== owners\n"), empty)
+        self.check("json, an empty map by its name", tool("bootmem-json", "--report", "map", "/dev/null"), empty)
         self.check("json, no report's name", tool("bootmem-json", "--report", "maps", given="")[:2], (2, ""))
         self.check("json, a name and heads", tool("bootmem-json", "--report", "map", given="== map\n")[:2], (2, ""))
         self.check("json, a refused run", tool("bootmem-json", "--", "cmdline", folder=folder)[:2], (1, ""))

@@ -3,7 +3,8 @@
 import re
 import unittest
 
-from support import Case, example, text_of, tool, words_of
+from support import GIB, LOW, MIB, Case, example, text_of, tool, words_of, write, zero_page
+from bootmem_tools import inputs
 
 WHERE = """address  0x000000017be00040 (5.9 GiB), frame 1555968
 map      usable 0x0000000100000000-0x000000027fffffff
@@ -56,7 +57,33 @@ class Where(Case):
         status, out, err = tool("bootmem-where", "0", "--", "cmdline", folder=folder)
         self.check("where, refused", (status, out), (1, ""))
         self.has("where, refused", err, "bootmem: zeropage: wrong length")
+        notes = (("--kernel", "0xc0000000,32M", "bootmem-where: --kernel 0xc0000000,32M: the map has no RAM at "
+                  "0x00000000c0000000-0x00000000c1ffffff, so the image can't lie there whole; is it the place on another machine, or of another "
+                  "boot (KASLR)?\n"),
+                 ("--kernel", "0x7f000000,32M", "bootmem-where: --kernel 0x7f000000,32M: the map has no RAM at "
+                  "0x000000007ffdf000-0x0000000080ffffff, so the image can't lie there whole; is it the place on another machine, or of another "
+                  "boot (KASLR)?\n"), ("--kernel", "16M,52M", ""))
+        for option, value, wanted in notes:
+            for one, more in (("bootmem-where", ("0",)), ("bootmem-json", ()), ("bootmem-draw", ("--text",))):
+                status, _, err = tool(one, *more, "--", option, value, "zp.bin", folder=folder)
+                self.check(f"{one} {option} {value}", (status, err), (0, wanted.replace("bootmem-where", one)))
         self.check("where, no program", tool("bootmem-where", "0", "--program", "/nowhere", "--", "zp.bin", folder=folder)[:2], (1, ""))
+
+    def test_uncovered(self):
+        """Memory that no block of the SRAT covers is named: where the table is used all the same, and where it isn't."""
+        write(self.path("zp"), zero_page([LOW, (MIB, GIB - MIB, 1)]))
+        for frames, wanted in ((16, "16 frames of memory are in no block of the SRAT, and get the lowest node: "
+                                "0x000000003fff0000-0x000000003fffffff"),
+                               (65503, "the SRAT isn't used: 65503 frames of memory are in none of its blocks, 256 or more: "
+                                "0x0000000030021000-0x000000003fffffff"), (0, None)):
+            write(self.path("srat"), inputs.srat([(0, GIB - 4096 * frames, 0)]))
+            for one, more in (("bootmem-where", ("0",)), ("bootmem-draw", ("--text",))):
+                status, _, err = tool(one, *more, "--", "--kernel", "16M,32M", "--srat", "srat", "zp", folder=self.work)
+                self.check(f"{one}, {frames} frames", (status, err), (0, f"{one}: {wanted}\n" if wanted else ""))
+        write(self.path("srat"), inputs.srat([(0, 512 * MIB, 0), (512 * MIB + 4096, 512 * MIB - 8192, 1)]))
+        self.check("two gaps", tool("bootmem-where", "0", "--", "--kernel", "16M,32M", "--srat", "srat", "zp", folder=self.work)[2],
+                   "bootmem-where: 2 frames of memory are in no block of the SRAT, and get the lowest node: "
+                   "0x0000000020000000-0x0000000020000fff, 0x000000003ffff000-0x000000003fffffff\n")
 
 
 if __name__ == "__main__":

@@ -104,6 +104,8 @@ def chosen(names: list[str] | None, before: reports.Texts, after: reports.Texts)
 def main(words: list[str]) -> int:
     """Prints the differences; the status says whether there are any."""
     before, after, names = read_words(words)
+    reports.refuse_empty_map(before, "A")
+    reports.refuse_empty_map(after, "B")
     picked = chosen(names, before, after)
     differ = False
     for name in picked:

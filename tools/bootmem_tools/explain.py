@@ -61,7 +61,7 @@ def split(words: Sequence[str]) -> Words:
             for name in rest:
                 page = only_page(page, name)
             break
-        if not word.startswith("-"):
+        if not word.startswith("-") or word == "-":
             page = only_page(page, word)
             continue
         name, value = read_option(word, rest)
@@ -97,7 +97,7 @@ def read_option(word: str, rest: list[str]) -> tuple[str, str]:
         return name, value
     if not rest:
         raise Refused(f"--{name}: its value is missing: --{name} {OPTIONS[name]}")
-    if rest[0].startswith("-"):
+    if rest[0].startswith("-") and rest[0] != "-":
         raise Refused(f"--{name} {rest[0]}: a value doesn't begin with -; if it is meant, write --{name}={rest[0]}")
     return name, rest.pop(0)
 

@@ -59,6 +59,7 @@ def read_words(words: list[str]) -> tuple[bool, reports.Texts]:
 def main(words: list[str]) -> int:
     """Prints the object."""
     compact, texts = read_words(words)
+    reports.refuse_empty_map(texts, "the reports")
     found = objects.as_object(texts)
     print(json.dumps(found, separators=(",", ":")) if compact else json.dumps(found, indent=2))
     return 0

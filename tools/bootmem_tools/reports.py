@@ -49,6 +49,16 @@ def judge_reports(first: bytes) -> str | None:
     return None if is_one else "no report of bootmem in it"
 
 
+def refuse_empty_map(texts: Texts, where: str) -> None:
+    """Refuses a report `map` without a line: the program never prints one, so whatever should have written it failed.
+
+    # Errors
+    A Trouble that names where the map comes from.
+    """
+    if texts.get("map") == []:
+        raise Trouble(f"{where}: the map is empty: no boot has such a map, so it wasn't written whole")
+
+
 def split_reports(text: str) -> Texts:
     """Returns the reports of a text, which its lines `== NAME` name; one report without such a
     line is known by its first line."""
