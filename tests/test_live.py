@@ -6,7 +6,8 @@ import shutil
 import unittest
 
 from kernels import folder_of, stand_in
-from support import BOOTS, TOP, Case, example, has_file, last_line, text_of, tool, write
+from support import BOOTS, MIB, TOP, Case, example, has_file, last_line, text_of, tool, write
+from bootmem_tools import inputs
 
 
 HULL = b"""Node 0, zone      DMA
@@ -117,6 +118,46 @@ class Live(Case):
         self.has("live, 32 MiB lower", tool("bootmem-live", self.path("ovmf-4g-numa2"))[1],
                  "known    crash area: 0x0000000073000000-0x000000007affffff (128 MiB) here, 0x0000000075000000-0x000000007cffffff (128 MiB) "
                  "by bootmem: the kernel claims more before it: docs/KERNEL.md, row efi_init, efi_reserve_boot_services\n")
+
+    def test_known(self):
+        """Differences that a row of KERNEL.md has are known, and the row is there: an image outside RAM with its zone, a domain of 1,024, and
+        boot services' data that a UEFI machine's kernel keeps."""
+        rows = text_of(os.path.join(TOP, "docs", "KERNEL.md"))
+
+        def found(folder, status):
+            """The lines that begin with known or differs, their rows looked up."""
+            got, out, err = tool("bootmem-live", folder)
+            self.check(f"live: {folder}", (got, err), (status, ""))
+            lines = [line for line in out.splitlines() if line.startswith(("known", "differs"))]
+            for names in re.findall(r"KERNEL\.md, row ([^;:()\n]*)", "\n".join(lines)):
+                self.check(f"row {names}", "\n| " + ", ".join(f"`{name}`" for name in names.split(", ")) in rows, True)
+            return [re.sub(r": docs/KERNEL.*", "", line) for line in lines]
+
+        folder = folder_of(self, "q35-1g")
+        line, shown = text_of(os.path.join(folder, "cmdline")), text_of(os.path.join(folder, "iomem"))
+        write(os.path.join(folder, "cmdline"), line.rstrip("\n") + " memmap=1M%16M-1+2\n")
+        self.check("an image outside RAM", found(folder, 0),
+                   ["known    iomem 0x0000000001000000-0x00000000010fffff (1 MiB): System RAM here, not usable by bootmem: the kernel makes its own "
+                    "image usable again",
+                    "known    zoneinfo node 0 DMA32: start 4096 spanned 258015 present 258015 here, start 4096 spanned 258015 present 257759 by "
+                    "bootmem: the kernel makes its own image usable again"])
+        write(os.path.join(folder, "cmdline"), line.rstrip("\n") + " memmap=1M%256M-1+2\n")
+        self.check("the same elsewhere", [text[:7] for text in found(folder, 1)], ["differs"] * 2)
+        write(os.path.join(folder, "cmdline"), line)
+        write(os.path.join(folder, "srat.bin"), inputs.srat([(0, 512 * MIB, 0), (512 * MIB, 512 * MIB, 1024)]))
+        self.check("a domain of 1,024", found(folder, 0), ["known    srat: the kernel drops an SRAT with a domain of 1,024 or more, so all memory "
+                                                           "is of node 0"])
+        write(os.path.join(folder, "srat.bin"), inputs.srat([(0, 512 * MIB, 0), (512 * MIB, 512 * MIB, 1023)]))
+        self.check("a domain of 1,023", found(folder, 1)[0][:7], "differs")
+        os.remove(os.path.join(folder, "srat.bin"))
+        write(os.path.join(folder, "iomem"), shown.replace("00100000-3ffdefff : System RAM",
+                                                          "00100000-3fdfffff : System RAM\n3fe04000-3ffdefff : System RAM"))
+        write(os.path.join(folder, "efi.bin"), inputs.efi_map([(4, 0x3FE00000, 4, 1 << 63)]))
+        self.check("kept by EFI", found(folder, 0), ["known    iomem 0x000000003fe00000-0x000000003fe03fff (16 KiB): usable by bootmem, no System RAM "
+                                                     "here: boot services' data that the kernel keeps"])
+        for descriptor in ((4, 0x3FE00000, 4, 0), (6, 0x3FE00000, 4, 1 << 63), (4, 0x3FE00000, 3, 1 << 63)):
+            write(os.path.join(folder, "efi.bin"), inputs.efi_map([descriptor]))
+            self.check(f"not kept: {descriptor}", [text[:7] for text in found(folder, 1)], ["differs"])
 
     def test_crash_areas(self):
         """Crash areas that differ, lines that the kernel reads otherwise, what doesn't stand beside a folder; what --keep keeps."""

@@ -7,12 +7,14 @@ import collections
 import os
 import re
 import shutil
+import struct
 import subprocess
 import sys
 import tempfile
 from typing import Iterable, Iterator, NamedTuple, NoReturn, Sequence
 
 from bootmem_tools import command_line, machine, notes, ranges, reports, runner, tool
+from bootmem_tools.grammar import read_lines
 
 NAME = "bootmem-live"
 USAGE = """bootmem-live [--kernel BASE,SIZE] [--program P] FOLDER
@@ -67,6 +69,9 @@ class Finding(NamedTuple):
     kind: str
     text: str
 
+
+DOMAINS = 1024  # MAX_NUMNODES: a domain number of this or more has the kernel drop the SRAT
+BOOT_DATA, RUNTIME = 4, 1 << 63  # EFI_BOOT_SERVICES_DATA, EFI_MEMORY_RUNTIME
 
 # Zones by node and name.
 Zones = dict[tuple[int, str], Zone]
@@ -130,29 +135,71 @@ def number_in(name: str, part: str) -> int | None:
     return int(match.group(1)) if match else None
 
 
-def ram_finding(first: int, last: int, here: bool, image: ranges.Range | None) -> Finding:
+class Shown(NamedTuple):
+    """What explains a difference of RAM: the kernel's image, and the boot services' data of EFI that
+    the kernel keeps."""
+
+    image: ranges.Range | None
+    kept: list[ranges.Range]
+
+
+def kept_data(folder: str) -> list[ranges.Range]:
+    """Returns boot services' data with the attribute of runtime services, by the folder's EFI
+    memory map: what the kernel keeps of it has this attribute (efi_arch_mem_reserve)."""
+    path = os.path.join(folder, "efi.bin")
+    if not os.path.isfile(path):
+        return []
+    with open(path, "rb") as file:
+        data = file.read(1 << 20)
+    stride = int.from_bytes(data[:4], "little")
+    found = []
+    for place in range(8, len(data) - 39, stride) if stride >= 40 else ():
+        kind, first, pages, attributes = struct.unpack_from("<I4xQ8xQQ", data, place)
+        if kind == BOOT_DATA and attributes & RUNTIME and pages:
+            found.append((first, first + pages * ranges.FRAME - 1))
+    return found
+
+
+def ram_finding(first: int, last: int, here: bool, shown: Shown) -> Finding:
     """Returns the finding for a range that is RAM on one side alone; `here` says that the kernel
     has it as System RAM."""
     where = f"iomem {ranges.range_text(first, last)} ({ranges.size_text(last + 1 - first)}): "
+    if not here and not ranges_outside(first, last, shown.kept):
+        return Finding("known", f"{where}usable by bootmem, no System RAM here: boot services' data that the kernel keeps: "
+                                + row("efi_mem_reserve", "efi_arch_mem_reserve"))
     if not here:
         return Finding("differs", f"{where}usable by bootmem, no System RAM here: taken back later (see 'e820: update' and "
-                                  "'e820: remove' in the log; " + row("early_gart_iommu_check", "mtrr_trim_uncached_memory")
+                                  "'e820: remove' in the log; " + row("early_gart_iommu_check", "mtrr_trim_uncached_memory") + "; of UEFI, row efi_mem_reserve, efi_arch_mem_reserve"
                                   + f"), removed, or {GIVEN}")
-    if image and image[0] <= first and last <= image[1]:
+    if shown.image and shown.image[0] <= first and last <= shown.image[1]:
         return Finding("known", f"{where}System RAM here, not usable by bootmem: the kernel makes its own image usable again: "
                                 + row("e820_add_kernel_range"))
     return Finding("differs", f"{where}System RAM here, not usable by bootmem: added after boot (hotplug), by add_efi_memmap ("
                               + row("efi_memblock_x86_reserve_range", "do_add_efi_memmap") + f"), or {GIVEN}")
 
 
-def compare_ram(resources: Sequence[machine.Resource], entries: Iterable[reports.Span]) -> Iterator[Finding]:
+def ranges_outside(first: int, last: int, others: Iterable[ranges.Range]) -> list[ranges.Range]:
+    """Returns what of a range lies in none of the others."""
+    rest = [(first, last)]
+    for one in others:
+        rest = ranges.without(rest, *one)
+    return rest
+
+
+def image_of(resources: Iterable[machine.Resource]) -> ranges.Range | None:
+    """Returns the first and the last byte of the kernel's image by /proc/iomem, or None."""
+    code = [one for one in resources if one.name.startswith("Kernel ")]
+    return (min(one.first for one in code), max(one.last for one in code)) if code else None
+
+
+def compare_ram(resources: Sequence[machine.Resource], entries: Iterable[reports.Span],
+                kept: list[ranges.Range]) -> Iterator[Finding]:
     """Yields the findings for System RAM."""
     ram = [one for one in resources if one.name == "System RAM"]
     for one in resources:
         if one.name.startswith("System RAM ("):
             yield Finding("passed", f"iomem {ranges.range_text(one.first, one.last)}: {one.name}, added after boot by a driver")
-    code = [one for one in resources if one.name.startswith("Kernel ")]
-    image = (min(one.first for one in code), max(one.last for one in code)) if code else None
+    shown = Shown(image_of(resources), kept)
     usable = [entry for entry in entries if entry.name in ("usable", "usable kernel")]
     agreed = 0
     run: tuple[int, int, bool] | None = None
@@ -164,10 +211,10 @@ def compare_ram(resources: Sequence[machine.Resource], entries: Iterable[reports
         if run and run[1] + 1 == first and run[2] == bool(here):
             first = run[0]
         elif run:
-            yield ram_finding(*run, image)
+            yield ram_finding(*run, shown)
         run = (first, last, bool(here))
     if run:
-        yield ram_finding(*run, image)
+        yield ram_finding(*run, shown)
     if agreed:
         yield Finding("agrees", f"iomem: {ranges.size_text(agreed)} of System RAM are usable by bootmem")
 
@@ -231,8 +278,20 @@ def why_other(node: int, name: str, here: Zone, told: Zones) -> str:
     return f"the node's hull is another: {HOTPLUG}"
 
 
-def zone_finding(node: int, name: str, here: Zone, told: Zones) -> Finding:
-    """Returns the finding for a zone that the kernel shows, by the zones of bootmem."""
+def with_image(name: str, zone: Zone, made: Iterable[ranges.Range]) -> Zone | None:
+    """Returns a zone with the frames of the image that the kernel makes usable, `made`, or None if it has none of them."""
+    low, high = BORDERS[name]
+    parts = [(max(low, first // ranges.FRAME), min(high, (last + 1) // ranges.FRAME)) for first, last in made]
+    parts = [(first, end) for first, end in parts if first < end]
+    if not parts or zone.start is None:
+        return None
+    start = min(zone.start, *(first for first, _ in parts))
+    end = max(zone.start + zone.spanned, *(end for _, end in parts))
+    return Zone(start, end - start, zone.present + sum(end - first for first, end in parts))
+
+
+def zone_finding(node: int, name: str, here: Zone, told: Zones, made: Sequence[ranges.Range] = ()) -> Finding:
+    """Returns the finding for a zone that the kernel shows, by the zones of bootmem; `made` is what the kernel's image has beside the map."""
     where = f"zoneinfo node {node} {name}: {zone_text(here)}"
     zone = told.get((node, name))
     if zone is None:
@@ -243,14 +302,17 @@ def zone_finding(node: int, name: str, here: Zone, told: Zones) -> Finding:
         zone = zone._replace(start=None)
     if here == zone:
         return Finding("agrees", where)
+    if here == with_image(name, zone, made):
+        return Finding("known", f"{where} here, {zone_text(zone)} by bootmem: the kernel makes its own image usable again: "
+                                + row("e820_add_kernel_range"))
     return Finding("differs", f"{where} here, {zone_text(zone)} by bootmem: {why_other(node, name, here, told)}")
 
 
-def compare_zones(shown: Zones, told: Zones) -> Iterator[Finding]:
+def compare_zones(shown: Zones, told: Zones, made: Sequence[ranges.Range] = ()) -> Iterator[Finding]:
     """Yields the findings for the zones that the kernel shows and for those that bootmem alone
     has."""
     for node, name in sorted(shown):
-        yield zone_finding(node, name, shown[node, name], told)
+        yield zone_finding(node, name, shown[node, name], told, made)
     for node, name in sorted(set(told) - set(shown)):
         zone = told[node, name]
         if zone.present:
@@ -258,11 +320,15 @@ def compare_zones(shown: Zones, told: Zones) -> Iterator[Finding]:
                                      "zone, memory offline, or fewer nodes here")
 
 
-def run(given: argparse.Namespace, folder: str, reading: command_line.Reading) -> tuple[list[str], Texts]:
+def run(given: argparse.Namespace, folder: str, reading: command_line.Reading,
+        with_srat: bool = True) -> tuple[list[str], Texts]:
     """Returns the words of the program for the inputs in the folder, as they are printed, and
     its reports for them."""
     kernel = given.kernel or machine.kernel_in(folder)
-    words = machine.files_in(folder) + (["--kernel", kernel] if kernel else []) + ["zp.bin"]
+    files = machine.files_in(folder)
+    if not with_srat:
+        del files[files.index("--srat"):files.index("--srat") + 2]
+    words = files + (["--kernel", kernel] if kernel else []) + ["zp.bin"]
     if not os.path.exists(os.path.join(folder, "cmdline")):
         return words, runner.run_program(given.program, ["map", "zones", "nodes", "crash"], words, folder)
     with tempfile.TemporaryDirectory() as work:
@@ -291,16 +357,27 @@ def compare(given: argparse.Namespace, folder: str, words: Sequence[str], texts:
     if not given.folder and "--srat" not in words and os.path.exists(srat):
         yield Finding("passed", "srat: this machine has an SRAT that root alone can read; bootmem takes all memory for node 0")
     iomem, zoneinfo = machine.text_in(folder, "iomem"), machine.text_in(folder, "zoneinfo")
+    made: list[ranges.Range] = []
     if iomem is None:
         yield Finding("passed", "iomem: it isn't there, or its addresses are hidden; root sees them")
     else:
         resources = machine.read_iomem(iomem)
-        yield from compare_ram(resources, reports.spans("map", texts["map"]))
+        image = image_of(resources)
+        usable = [(entry.first, entry.last) for entry in reports.spans("map", texts["map"]) if entry.fields["type"] in reports.MEMORY]
+        made = ranges_outside(*image, usable) if image else []
+        yield from compare_ram(resources, reports.spans("map", texts["map"]), kept_data(folder))
         yield compare_crash(resources, texts["crash"], machine.is_uefi(os.path.join(folder, "zp.bin")))
     if zoneinfo is None:
         yield Finding("passed", "zoneinfo: it isn't there")
     else:
-        yield from compare_zones(read_zoneinfo(zoneinfo), told_zones(reports.spans("zones", texts["zones"])))
+        yield from compare_zones(read_zoneinfo(zoneinfo), told_zones(reports.spans("zones", texts["zones"])), made)
+
+
+def drops_srat(texts: Texts) -> bool:
+    """Tells whether the SRAT is used, and has a domain for which the kernel drops it whole (acpi_numa_memory_affinity_init)."""
+    lines = list(read_lines("nodes", texts["nodes"]))
+    used = any(line.kind == "numa" and line.fields["name"] == "used" for line in lines)
+    return used and any(line.kind == "domain" and int(line.fields["domain"]) >= DOMAINS for line in lines)
 
 
 def print_findings(given: argparse.Namespace, folder: str) -> collections.Counter[str]:
@@ -308,6 +385,10 @@ def print_findings(given: argparse.Namespace, folder: str) -> collections.Counte
     reading = machine.line_in(given.program, folder)
     words, texts = run(given, folder, reading)
     findings = [Finding("noted", said) for said in reading.changes + reading.notes]
+    if drops_srat(texts):
+        findings.append(Finding("known", f"srat: the kernel drops an SRAT with a domain of {DOMAINS:,} or more, so all memory is of node 0: "
+                                         + row("x86_acpi_numa_init", "numa_init") + "; compared without it"))
+        words, texts = run(given, folder, reading, with_srat=False)
     findings += compare(given, folder, words, texts)
     if reading.changes:
         extension = words[words.index("--e820ext"):][:2] if "--e820ext" in words else []
