@@ -2,9 +2,12 @@
 
 import os
 import re
+import subprocess
 import unittest
 
-from support import BOOTS, GIB, MIB, Case, example, has_file, machine_of, memory_of, srat, text_of, tool, words_of, write, zero_page
+from support import (BOOTS, GIB, MIB, PROGRAM, TOP, Case, example, has_file, machine_of, memory_of, srat, text_of, tool, words_of, write,
+                     zero_page)
+from bootmem_tools import crash as crash_module
 
 
 def crash(name, *words):
@@ -68,6 +71,29 @@ class Crash(Case):
             self.check(f"crash {words}", tool("bootmem-crash", *words, "zp.bin", folder=example("q35-1g"))[:2], (2, ""))
         self.check("crash, no machine", tool("bootmem-crash", "nothing", folder=self.work)[:2], (2, ""))
         self.check("crash, no zero page", tool("bootmem-crash", "cmdline", folder=example("q35-1g"))[:2], (2, ""))
+
+    def test_few_boots(self):
+        """The greatest size is found in a few boots, also where the maps behind the area have no place for themselves: each next size fails."""
+        for size, most in ((16 * GIB, 8), (1000 * GIB, 10)):
+            write(self.path("zp"), zero_page(machine_of(size)))
+            own = crash_module.Machine(crash_module.read_words(["--kernel", "16M,52M", "--program", PROGRAM, self.path("zp")]))
+            texts, _ = own.run("", ["map", "nodes", "memory", "journal"])
+            for suffix in ("", ",high"):
+                own.boots = 0
+                found, outcome = crash_module.greatest(own, texts, suffix)
+                self.check(f"{size // GIB} GiB{suffix}: few boots", own.boots <= most, True)
+                self.check(f"{size // GIB} GiB{suffix}: it fits, and one more doesn't", (own.tried(f"crashkernel={found}M{suffix}").ranges,
+                           own.tried(f"crashkernel={found + 1}M{suffix}").ranges), (outcome.ranges, []))
+
+    def test_progress(self):
+        """On a terminal a line shows that the search is at work, and goes when it ends."""
+        master, slave = os.openpty()
+        with os.fdopen(master, "rb", buffering=0) as terminal:
+            done = subprocess.run([os.path.join(TOP, "tools", "bootmem-crash"), "--kernel", "16M,52M", "zp.bin"], stdout=subprocess.DEVNULL,
+                                  stderr=slave, cwd=example("q35-1g"), env={**os.environ, "BOOTMEM": PROGRAM}, check=False)
+            os.close(slave)
+            shown = terminal.read(65536)
+        self.check("crash, progress", (done.returncode, b"bootmem-crash: boot 1: crashkernel=" in shown, shown.endswith(b"\r\x1b[K")), (0, True, True))
 
     def test_panics(self):
         """Boots on which Linux 6.1 is known to panic are told by both tools; their neighbours aren't."""

@@ -2,6 +2,7 @@
 
 import json
 import os
+import resource
 import shutil
 import unittest
 
@@ -67,6 +68,12 @@ class Fleet(Case):
             os.symlink(example("q35-8g-numa2"), self.path(f"host{number}"))
         status, out, _ = tool("bootmem-fleet", *(f"host{number}" for number in range(FOLDERS)), folder=self.work)
         self.check("fleet: a thousand folders", (status, out.count("\n")), (0, FOLDERS))
+        before = resource.getrusage(resource.RUSAGE_CHILDREN)
+        status, out, _ = tool("bootmem-fleet", "--cmdline-drop", "crashkernel", "--cmdline-add", "crashkernel=1G-4G:192M,4G-64G:256M",
+                              *(f"host{number}" for number in range(500)), folder=self.work)
+        after = resource.getrusage(resource.RUSAGE_CHILDREN)
+        spent = after.ru_utime + after.ru_stime - before.ru_utime - before.ru_stime
+        self.check("fleet: 500 changed lines, the processors' time", (status, out.count("\n"), spent < 5 * len(os.sched_getaffinity(0))), (0, 500, True))
 
 
 if __name__ == "__main__":

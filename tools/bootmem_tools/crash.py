@@ -4,6 +4,7 @@ from __future__ import annotations
 
 import argparse
 import os
+import re
 import tempfile
 from typing import Iterable, Iterator, NamedTuple, NoReturn, Sequence
 
@@ -37,6 +38,7 @@ MIB = ranges.MIB
 ALIGN = 16 << 20  # of the area, and its least place (CRASH_ALIGN)
 LOW = 1 << 32  # CRASH_ADDR_LOW_MAX
 HIGH = 1 << 46  # CRASH_ADDR_HIGH_MAX
+MAP = 2 << 20  # bytes of the page structures of a section
 
 # A claim: its first and last byte, and its owner.
 Claim = tuple[int, int, str]
@@ -91,6 +93,7 @@ class Machine:
         self.words = extension + (["--srat", named["srat"]] if named["srat"] else [])
         self.words += (["--kernel", self.kernel] if self.kernel else []) + [self.page]
         data = command_line.read_file(named["cmdline"]) if named["cmdline"] else b""
+        self.progress, self.boots = tool.Progress(NAME), 0
         self.reading = command_line.read_line(data, command_line.total_by(self.program, extension + [self.page]))
         self.split_line()
 
@@ -119,25 +122,51 @@ class Machine:
 
     def tried(self, asked: str) -> Tried:
         """Returns the outcome of asking for an area."""
+        self.boots += 1
+        self.progress.show(f"boot {self.boots}: {asked}")
         texts, stop = self.run(asked, ["crash"])
+        self.progress.clear()
         if stop:
             return Tried([], stop)
         found = reports.crash_ranges(texts["crash"])
         return Tried(found, "" if found else texts["crash"][0][len("crash "):])
 
 
-def greatest(own: Machine, suffix: str, most: int, end: int = HIGH) -> tuple[int, Tried]:
+def greatest(own: Machine, texts: reports.Texts, suffix: str, end: int = HIGH,
+             first: int = 0) -> tuple[int, Tried]:
     """Returns the greatest number of MiB that fits with this suffix and begins below an end, and
-    its outcome; 0 if none does."""
-    fits, fails, best = 0, most + 1, Tried([], "")
+    its outcome; 0 if none does.
+
+    The first guess is `first`, or else the greatest gap that the boot without an area has. A guess
+    that fails is lowered by what the boot lacked behind the area; one that fits is raised by steps
+    that double. So a few boots are enough, though each guess is tried.
+    """
+    fits, fails, best = 0, machine.memory_size(texts) // MIB + 1, Tried([], "")
+    found = gaps(reports.spans("memory", texts["memory"]), claims(texts["journal"]), ALIGN, end)
+    guess, step = first or max(map(room, found), default=0) // MIB, 1
     while fails - fits > 1:
-        middle = (fits + fails) // 2
-        found = own.tried(f"crashkernel={middle}M{suffix}")
-        if found.ranges and found.ranges[-1][0] < end:
-            fits, best = middle, found
+        guess = min(max(guess, fits + 1), fails - 1)
+        tried = own.tried(f"crashkernel={guess}M{suffix}")
+        if tried.ranges and tried.ranges[-1][0] < end:
+            fits, best = guess, tried
+            guess, step = (guess + step, step * 2) if guess + step < fails else ((fits + fails) // 2, step)
         else:
-            fails = middle
+            fails = guess
+            lack = lacking(tried.why, texts)
+            guess = guess - lack if lack and guess - lack > fits else (fits + fails) // 2
     return fits, best
+
+
+def lacking(why: str, texts: reports.Texts) -> int:
+    """Returns how many MiB the maps took that a boot found no place for, by the section at which it stopped; 0 if it stopped elsewhere."""
+    match = re.fullmatch(r"stopped: no place for map (\d+)", why)
+    if match is None:
+        return 0
+    first = int(match.group(1)) * ranges.SECTION
+    parts = [(max(low, first), high) for low, high in reports.memory_of(texts) if high >= first]
+    sections = {one for low, high in parts for one in (low // ranges.SECTION, high // ranges.SECTION)}
+    between = sum(max(0, high // ranges.SECTION - low // ranges.SECTION - 1) for low, high in parts)
+    return (len(sections) + between) * MAP // MIB
 
 
 def area_text(found: Sequence[ranges.Range]) -> str:
@@ -257,17 +286,17 @@ def print_outcome(own: Machine, head: str, asked: str) -> bool:
     return False
 
 
-def tell_greatest(own: Machine, form: str, suffix: str, most: int) -> bool:
-    """Prints the greatest size that fits in a form; whether there is one."""
-    size, best = greatest(own, suffix, most)
+def tell_greatest(own: Machine, texts: reports.Texts, form: str, suffix: str, first: int = 0) -> int:
+    """Prints the greatest size that fits in a form, and returns it; `first` is the first guess."""
+    size, best = greatest(own, texts, suffix, first=first)
     if size == 0:
         print(f"{form:<6} no size fits")
-        return False
+        return 0
     print(f"{form:<6} at most {size}M, {area_text(best.ranges)}")
     if not suffix and best.ranges[-1][0] >= LOW:
-        size, best = greatest(own, suffix, most, LOW)
-        print(f"{'':<6} below 4 GiB at most {size}M" + (f", {area_text(best.ranges)}" if size else ""))
-    return True
+        low, best = greatest(own, texts, suffix, LOW)
+        print(f"{'':<6} below 4 GiB at most {low}M" + (f", {area_text(best.ranges)}" if low else ""))
+    return size
 
 
 def warn(own: Machine, texts: reports.Texts) -> None:
@@ -289,15 +318,15 @@ def main(words: list[str]) -> int:
     """Prints what fits; the status says whether what is asked for does."""
     given = read_words(words)
     own = Machine(given)
-    texts, stop = own.run("", ["map", "nodes"])
+    texts, stop = own.run("", ["map", "nodes", "memory", "journal"])
     if stop:
         raise tool.Trouble(f"the boot stops without a crash area: {without_stop(stop)}")
     warn(own, texts)
     if given.size:
         return 0 if all([print_outcome(own, "size", f"crashkernel={size}") for size in given.size]) else 1
-    most = machine.memory_size(texts) // MIB
-    fits = [tell_greatest(own, form, suffix, most) for form, suffix in (("plain", ""), ("high", ",high"))]
-    return 0 if (print_outcome(own, "line", own.asked) if own.asked else any(fits)) else 1
+    plain = tell_greatest(own, texts, "plain", "")
+    high = tell_greatest(own, texts, "high", ",high", plain)
+    return 0 if (print_outcome(own, "line", own.asked) if own.asked else plain or high) else 1
 
 
 def command() -> NoReturn:

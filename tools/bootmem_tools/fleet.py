@@ -7,6 +7,7 @@ import json
 import multiprocessing
 import os
 import subprocess
+import sys
 import tempfile
 from typing import IO, NamedTuple, NoReturn
 
@@ -221,9 +222,14 @@ def main(words: list[str]) -> int:
     for line in complaints(plan):
         tool.complain(NAME, f"--cmdline-add: {line}")
     failed, panics, assumed = False, False, 0
+    progress, done = tool.Progress(NAME), 0
     with multiprocessing.get_context("fork").Pool(jobs) as pool:
         for answer in pool.imap(answer_of, [(folder, plan) for folder in given.folders], chunksize=max(1, min(16, len(given.folders) // jobs))):
+            progress.clear()
             print(json.dumps(answer.row) if given.json else "\t".join(columns(answer.row)))
+            done += 1
+            if not sys.stdout.isatty():
+                progress.show(f"{done} of {len(given.folders)} folders")
             failed = failed or answer.row["status"] != 0
             panics = panics or answer.panics
             assumed += answer.assumed
@@ -231,6 +237,7 @@ def main(words: list[str]) -> int:
                 tool.complain(NAME, f"{answer.row['folder']}: {answer.note}")
             for line in answer.said if given.verbose else []:
                 tool.complain(NAME, f"{answer.row['folder']}: bootmem-line: {line}")
+    progress.clear()
     if assumed:
         tool.complain(NAME, f"of {assumed} of {len(given.folders)} folders nothing tells where the kernel's image lies: 16 MiB to "
                                "48 MiB is assumed")

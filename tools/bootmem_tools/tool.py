@@ -63,6 +63,24 @@ def complain(name: str, message: str) -> None:
     print(f"{name}: {printable(message)}", file=sys.stderr, flush=True)
 
 
+class Progress:
+    """A line on a terminal that shows that a tool is at work; nothing if standard error is no terminal."""
+
+    def __init__(self, name: str) -> None:
+        self.name = name
+        self.shown = bool(sys.stderr and sys.stderr.isatty())
+
+    def show(self, text: str) -> None:
+        """Replaces the line."""
+        if self.shown:
+            print(f"\r\x1b[K{self.name}: {printable(text)}", end="", file=sys.stderr, flush=True)
+
+    def clear(self) -> None:
+        """Takes the line away."""
+        if self.shown:
+            print("\r\x1b[K", end="", file=sys.stderr, flush=True)
+
+
 def printable(text: str) -> str:
     """Returns the text with what a terminal would act on, or standard error can't encode, as
     escapes."""
