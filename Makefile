@@ -12,6 +12,7 @@
 #   make install PREFIX=DIR   installs both programs as they are, tools, manual pages, documents and examples, and the
 #                             library where it is there, and proves nothing: without a program it stops, unless PROVE=1
 #                             (DESTDIR and MANDIR are honoured)
+#   make install PROGRAMS=bootmem  the same with one of the two programs alone
 #   make uninstall PREFIX=DIR removes what 'make install' put there
 #   make deb                  makes a Debian package of what 'make install' installs (needs dpkg-deb)
 #   make clean                removes what was built
@@ -80,7 +81,7 @@ install:
 		elif ! $(MAKE) -q --no-print-directory $$program >/dev/null 2>&1; then \
 			echo "$$program: some sources are newer than ./$$program, which is installed as it is; 'make $$program' builds it anew" >&2; fi; \
 	done
-	@VERSION="$(VERSION)" tools/install.sh install "$(DESTDIR)" "$(PREFIX)" "$(MANDIR)"
+	@VERSION="$(VERSION)" PROGRAMS="$(PROGRAMS)" tools/install.sh install "$(DESTDIR)" "$(PREFIX)" "$(MANDIR)"
 
 uninstall:
 	@tools/install.sh uninstall "$(DESTDIR)" "$(PREFIX)" "$(MANDIR)"
@@ -93,4 +94,4 @@ clean:
 	rm -rf crates/*/out
 
 help:
-	@sed -n '3,20s/^# *//p' Makefile | sed '/^$$/d; s/^/  /'
+	@sed -n '3,21s/^# *//p' Makefile | sed '/^$$/d; s/^/  /'

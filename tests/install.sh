@@ -180,6 +180,11 @@ is "what it says of them" "$(cat "$work/said")" \
 	done)"
 for program in bootaudit bootmem; do
 	rm "$work/tree/$program"
+	[ "$program" = bootmem ] || {
+		ok "make install PROGRAMS=bootmem without bootaudit" installed /opt/one PROGRAMS=bootmem
+		there "one program" "$work/root/opt/one/bin/bootmem" "$work/root/opt/one/libexec/bootmem/bootmem" "$work/root/opt/one/bin/bootmem-json"
+		is "the other program" "$(find "$work/root/opt/one" -name bootaudit)" ""
+	}
 	installed /opt/none >"$work/out" 2>"$work/err"
 	is "make install without $program" "$([ $? -ne 0 ] && grep -c "there is no ./$program to install" "$work/err")" 1
 done

@@ -93,7 +93,8 @@ class Crash(Case):
                                   stderr=slave, cwd=example("q35-1g"), env={**os.environ, "BOOTMEM": PROGRAM}, check=False)
             os.close(slave)
             shown = terminal.read(65536)
-        self.check("crash, progress", (done.returncode, b"bootmem-crash: boot 1: crashkernel=" in shown, shown.endswith(b"\r\x1b[K")), (0, True, True))
+        self.check("crash, progress", (done.returncode, b"bootmem-crash: boot 1: crashkernel=" in shown, shown.endswith(b"\r\x1b[K")),
+                   (0, True, True))
 
     def test_panics(self):
         """Boots on which Linux 6.1 is known to panic are told by both tools; their neighbours aren't."""

@@ -153,8 +153,8 @@ class Live(Case):
         write(os.path.join(folder, "iomem"), shown.replace("00100000-3ffdefff : System RAM",
                                                           "00100000-3fdfffff : System RAM\n3fe04000-3ffdefff : System RAM"))
         write(os.path.join(folder, "efi.bin"), inputs.efi_map([(4, 0x3FE00000, 4, 1 << 63)]))
-        self.check("kept by EFI", found(folder, 0), ["known    iomem 0x000000003fe00000-0x000000003fe03fff (16 KiB): usable by bootmem, no System RAM "
-                                                     "here: boot services' data that the kernel keeps"])
+        self.check("kept by EFI", found(folder, 0), ["known    iomem 0x000000003fe00000-0x000000003fe03fff (16 KiB): usable by bootmem, no System "
+                                                     "RAM here: boot services' data that the kernel keeps"])
         for descriptor in ((4, 0x3FE00000, 4, 0), (6, 0x3FE00000, 4, 1 << 63), (4, 0x3FE00000, 3, 1 << 63)):
             write(os.path.join(folder, "efi.bin"), inputs.efi_map([descriptor]))
             self.check(f"not kept: {descriptor}", [text[:7] for text in found(folder, 1)], ["differs"])

@@ -57,7 +57,7 @@ put() {
 # programs PREFIX: the proved programs as they are, and the scripts that hand them their words
 programs() {
 	install -d "$libexec"
-	for program in bootmem bootaudit; do
+	for program in ${PROGRAMS:-bootmem bootaudit}; do
 		install -m 755 "$program" "$libexec"
 		built="commit and kit unknown"
 		[ ! -f "$program.built" ] || built=$(cat "$program.built")
@@ -107,7 +107,7 @@ install_all() {
 	install -d "$bin" "$man/man1" "$man/man5" "$share/doc/bootmem" "$share/bootmem/examples"
 	programs "$1"
 	tools "$1"
-	for program in bootmem bootaudit; do
+	for program in ${PROGRAMS:-bootmem bootaudit}; do
 		[ -f "tools/$program.bash-completion" ] || continue
 		install -d "$share/bash-completion/completions"
 		install -m 644 "tools/$program.bash-completion" "$share/bash-completion/completions/$program"

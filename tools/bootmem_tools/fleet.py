@@ -21,7 +21,7 @@ prints a line for each, in the order of the words, with a tab between each two c
 
   folder   as it was given
   status   that of bootmem; 0 if it printed its reports
-  line     what it said on standard error, or why Linux 6.1 is known to panic on this boot, or -
+  line     what it said on standard error, or why Linux 6.1 panics, or -
   runs     of the map
   usable   frames of 4,096 bytes
   free     of them in free blocks
@@ -34,7 +34,8 @@ If bootmem ended with another status than 0, or a folder has no such thing, a co
 EPILOG = f"""A folder has zp.bin, and if they are there e820ext.bin, cmdline, srat.bin, efi.bin, and kernel (or words, as under examples)
 with the place of the kernel's image; without it the tool assumes 16 MiB to 48 MiB, and says so.
 
---cmdline-drop takes the words NAME and NAME=.. out of each line, --cmdline-add appends WORDS. What is wrong with WORDS is told once on standard error. A line that was changed
+--cmdline-drop takes the words NAME and NAME=.. out of each line, --cmdline-add appends WORDS. What is wrong with WORDS
+is told once on standard error. A line that was changed
 is read as the machine's kernel would read it (bootmem-line); --verbose prints what that changes.
 
 --json prints one JSON object a line instead (FORMATS.md of the documents: "A fleet as JSON").

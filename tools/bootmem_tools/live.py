@@ -169,7 +169,8 @@ def ram_finding(first: int, last: int, here: bool, shown: Shown) -> Finding:
                                 + row("efi_mem_reserve", "efi_arch_mem_reserve"))
     if not here:
         return Finding("differs", f"{where}usable by bootmem, no System RAM here: taken back later (see 'e820: update' and "
-                                  "'e820: remove' in the log; " + row("early_gart_iommu_check", "mtrr_trim_uncached_memory") + "; of UEFI, row efi_mem_reserve, efi_arch_mem_reserve"
+                                  "'e820: remove' in the log; " + row("early_gart_iommu_check", "mtrr_trim_uncached_memory")
+                                  + "; of UEFI, row efi_mem_reserve, efi_arch_mem_reserve"
                                   + f"), removed, or {GIVEN}")
     if shown.image and shown.image[0] <= first and last <= shown.image[1]:
         return Finding("known", f"{where}System RAM here, not usable by bootmem: the kernel makes its own image usable again: "
