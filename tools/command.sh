@@ -7,7 +7,8 @@ program=${0%/*}/../libexec/bootmem/@PROGRAM@
 case ${1-} in
 --help | -h | --version) ;;
 *)
-	"$program" "$@"
+	# pages of 2 MiB, if the system gives them on advice: the system hands out the 194 MB of a long report sooner
+	GLIBC_TUNABLES=glibc.malloc.hugetlb=1${GLIBC_TUNABLES:+:$GLIBC_TUNABLES} "$program" "$@"
 	status=$?
 	case $status in
 	2 | 3) ;;
