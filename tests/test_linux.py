@@ -274,7 +274,8 @@ class Linux(Case):
         self.check("bootmem-linux as its own program", (itself[:2], itself[2].count("\n")), ((2, ""), 1))
 
     def test_time(self):
-        """A boot of 3,172 entries takes less than half a second of processor time."""
+        """A boot of 3,172 entries takes less than half a second of processor time, or on a slow
+        machine less than ten starts of the tool."""
         entries = (
             [(0, 0x9FC00, RAM)]
             + [(MIB + place * PMD, PMD - FRAME * (1 + place % 3), RAM) for place in range(20)]
@@ -286,20 +287,26 @@ class Linux(Case):
         ]
         self.make(entries)
         words = ["--kernel", "80M,52M", "--e820ext", "ext", "zp"]
-        took = []
+        took, starts = [], []
         for _ in range(3):  # the least counts: other programs run beside this one
-            before = resource.getrusage(resource.RUSAGE_CHILDREN)
-            status, out, err = tool(
-                "bootmem-linux", "--report", "summary", "--explain", *words, folder=self.work
-            )
-            after = resource.getrusage(resource.RUSAGE_CHILDREN)
-            took.append(after.ru_utime + after.ru_stime - before.ru_utime - before.ru_stime)
+            time, _ = self.timed("--help")
+            starts.append(time)
+            time, (status, out, err) = self.timed("--report", "summary", "--explain", *words)
+            took.append(time)
             self.check(
                 "linux, 3,172 entries",
                 (status, out.splitlines()[0], err.count("page table") > 1000),
                 (0, "runs 3177", True),
             )
-        self.check(f"linux, 3,172 entries: {min(took)} s", min(took) < 0.5, True)
+        bound = max(0.5, 10 * min(starts))
+        self.check(f"linux, 3,172 entries: {min(took)} s, at most {bound}", min(took) < bound, True)
+
+    def timed(self, *words):
+        """The processor time of a run of the tool in seconds, and what it came to."""
+        before = resource.getrusage(resource.RUSAGE_CHILDREN)
+        result = tool("bootmem-linux", *words, folder=self.work)
+        after = resource.getrusage(resource.RUSAGE_CHILDREN)
+        return after.ru_utime + after.ru_stime - before.ru_utime - before.ru_stime, result
 
     def make(self, entries, **files):
         """Writes a zero page and an extension with these entries, and other files."""
