@@ -73,7 +73,7 @@ class Fleet(Case):
                               *(f"host{number}" for number in range(500)), folder=self.work)
         after = resource.getrusage(resource.RUSAGE_CHILDREN)
         spent = after.ru_utime + after.ru_stime - before.ru_utime - before.ru_stime
-        self.check("fleet: 500 changed lines, the processors' time", (status, out.count("\n"), spent < 5 * len(os.sched_getaffinity(0))),
+        self.check("fleet: 500 changed lines, the processors' time", (status, out.count("\n"), spent < 20),  # 5 s on four
                    (0, 500, True))
 
 
