@@ -29,6 +29,8 @@ import time
 
 MIB, GIB, TIB = 1 << 20, 1 << 30, 1 << 40
 LOW = (0, 0xA0000, 1)
+# the environment that tools/command.sh gives the program
+AS_INSTALLED = {**os.environ, "GLIBC_TUNABLES": "glibc.malloc.hugetlb=1"}
 FEW, MANY = 1000, 10000
 RUNS, BLOCKS, DOMAINS = 3000, 2048, 1024
 SECTIONS = 131072
@@ -158,7 +160,7 @@ def one_time(command, path=os.devnull):
         os.remove(path)
     output = [(os.POSIX_SPAWN_OPEN, 1, path, os.O_WRONLY | os.O_CREAT, 0o600)]
     start = time.perf_counter()
-    _, status, used = os.wait4(os.posix_spawnp(command[0], command, os.environ, file_actions=output), 0)
+    _, status, used = os.wait4(os.posix_spawnp(command[0], command, AS_INSTALLED, file_actions=output), 0)
     took = time.perf_counter() - start
     if status != 0:
         sys.exit("bench: %s: status %d" % (" ".join(command), os.waitstatus_to_exitcode(status)))
@@ -181,7 +183,7 @@ def most_resident(command):
     """The most bytes that the program had resident by its first write, behind which it makes no text. What `getrusage` says
     of a child isn't below what this script itself had when it started the child."""
     reader, writer = full_pipe()
-    child = os.posix_spawn(command[0], command, os.environ, file_actions=[(os.POSIX_SPAWN_DUP2, writer, 1)])
+    child = os.posix_spawn(command[0], command, AS_INSTALLED, file_actions=[(os.POSIX_SPAWN_DUP2, writer, 1)])
     status = {}
     while not status.get("State", "").startswith("S"):
         time.sleep(0.01)
