@@ -25,11 +25,11 @@ HERE = os.path.dirname(os.path.abspath(__file__))
 TOP = os.path.dirname(HERE)
 # Scripts with the words of each; those that need more than the program are left out if it isn't
 # there.
-SCRIPTS = {"pins.py": [], "rooms.py": [], "definitions.py": [], "real_boots.sh": ["PROGRAM"], "map_alone.sh": ["PROGRAM"],
+SCRIPTS = {"pins.py": [], "rooms.py": [], "definitions.py": [], "real_boots.sh": ["PROGRAM"],
            "audits.sh": ["PROGRAM", "AUDIT"], "outside.sh": ["PROGRAM"], "collect.sh": [], "install.sh": [], "shown.sh": ["PROGRAM"],
            "library.sh": ["PROGRAM"]}
 SOURCES = ["pins.py", "rooms.py", "definitions.py", "words"]
-NEEDED = {"map_alone.sh": ["crates/e820_map/out/e820_map"], "library.sh": ["libbootmem.a"], "audits.sh": ["bootaudit"],
+NEEDED = {"library.sh": ["libbootmem.a"], "audits.sh": ["bootaudit"],
           "install.sh": ["bootmem", "bootaudit"], "shown.sh": ["bootaudit"]}
 
 
