@@ -3,11 +3,12 @@
 #   make run                  prints the map and the free blocks of an example machine, by ./bootmem if it is up to date, else by
 #                             an unproved build, which takes about a minute
 #   make                      proves and builds both programs, as the next two do
-#   make bootmem              proves and builds ./bootmem: some 35 minutes of a processor, 10 of the clock at least
+#   make bootmem              proves and builds ./bootmem: some 35 minutes of processor time, and 10 minutes or more; it shows its progress
 #   make bootaudit            proves and builds ./bootaudit, the audit of saved reports, which takes some minutes
 #   make lib                  proves and builds the library: libbootmem.a and libbootmem.so, for C and whatever calls C
 #   make try ARGS="..."       runs the program on these words without proof, within a minute
-#   make test                 the whole gate: every proof, every test, the real machines
+#   make test                 the whole gate: every proof, every test, the real machines; it shows its progress, and keeps the whole
+#                             log in test.log
 #   make check                compares the documents with the sources, in some seconds; the gate does so too
 #   make install PREFIX=DIR   installs both programs as they are, tools, manual pages, documents and examples, and the
 #                             library where it is there, and proves nothing: without a program it stops, unless PROVE=1
@@ -66,7 +67,7 @@ try:
 
 # the gate calls rt by its name, so a toolchain that RT names goes onto the PATH
 test:
-	@PATH="$(if $(findstring /,$(RT)),$(abspath $(dir $(RT))):)$$PATH" .ci/run
+	@PATH="$(if $(findstring /,$(RT)),$(abspath $(dir $(RT))):)$$PATH" tools/show_progress.py test.log .ci/run
 
 check:
 	@tests/sources.sh
@@ -90,8 +91,8 @@ deb:
 	@tools/deb.sh "$(VERSION)" "$(MAKE)"
 
 clean:
-	rm -f $(PROGRAMS) $(PROGRAMS:=.built) libbootmem.* bootmem_*.deb bootmem-dev_*.deb
+	rm -f $(PROGRAMS) $(PROGRAMS:=.built) libbootmem.* bootmem_*.deb bootmem-dev_*.deb test.log
 	rm -rf crates/*/out
 
 help:
-	@sed -n '3,21s/^# *//p' Makefile | sed '/^$$/d; s/^/  /'
+	@sed -n '3,22s/^# *//p' Makefile | sed '/^$$/d; s/^/  /'

@@ -1,7 +1,7 @@
 #!/bin/sh
-# build.sh CRATE PROGRAM WORD..: proves the crate and those below it, builds its program, tries it on these
-# words, on which it is to end with status 0, and puts it at PROGRAM, and beside it, in PROGRAM.built, commit and kit. What the prover says goes to
-# crates/CRATE/out/build.log, and its end to standard error where something fails.
+# build.sh CRATE PROGRAM WORD..: proves the crate and those below it, builds its program, and runs it on these words, which must give
+# status 0. Then it writes the program to PROGRAM, and the commit and the kit to PROGRAM.built. Standard error shows the progress. What the prover
+# prints goes to crates/NAME/out/build.log of each crate; if something fails, the end of that log goes to standard error.
 set -eu
 unset CDPATH
 rt=${RT:-rt}
@@ -15,9 +15,10 @@ log=$top/crates/$crate/out/build.log
 mkdir -p "$top/crates/$crate/out"
 case $crate in
 bootaudit) cost="some minutes" ;;
-*) cost="some 35 minutes of a processor, 10 of the clock at least" ;;
+*) cost="some 35 minutes of processor time, and 10 minutes or more" ;;
 esac
 echo "$program: proving and building it; the first time this takes $cost" >&2
+"$top/tools/prove_below.py" "$crate" || exit 1
 if ! (cd "$top/crates/$crate" && exec "$rt" run -- "$@") >"$log" 2>&1; then
 	tail -n 30 "$log" >&2
 	echo "$program: not built; the whole log is $log" >&2

@@ -41,7 +41,8 @@ if [ "${2:-}" = gate ]; then
 	# shellcheck disable=SC2086 # a word each
 	(over_gate $names) >"$log" 2>&1 || status=$?
 else
-	echo "libbootmem.a: proving and building it; the first time this takes some 35 minutes of a processor" >&2
+	echo "libbootmem.a: proving and building it; the first time this takes some 35 minutes of processor time" >&2
+	"$top/tools/prove_below.py" bootmem_c || exit 1
 	(cd "$crate" && exec "$rt" lib) >"$log" 2>&1 || status=$?
 fi
 if [ "$status" != 0 ]; then
