@@ -82,16 +82,15 @@ class Words(Case):
         self.check("the inputs are the zero page and the options' files", sorted(words.INPUTS), sorted(["zeropage", *named]))
 
     def test_documents(self):
-        """README, manual pages and FORMATS.md have the options and the reports."""
-        self.check("synopsis of README.md", synopsis("bootmem", "README.md"), OPTIONS)
+        """Manual pages and FORMATS.md have the options and the reports, and README no others."""
+        self.check("options of README.md", set(re.findall(r"(?<= )--[a-z0-9-]+", text("README.md"))) - set(OPTIONS), set())
         self.check("SYNOPSIS of bootmem.1", options_in(section("bootmem", "SYNOPSIS")), OPTIONS)
         self.check("OPTIONS of bootmem.1", marked_options("bootmem"), OPTIONS)
         self.check("grammar of docs/FORMATS.md", synopsis("bootmem", "docs", "FORMATS.md"), OPTIONS)
         shown = re.search(r"^\.SH REPORTS\n(.*?)^\.SH ", text("bootmem.5"), re.MULTILINE | re.DOTALL).group(1)
         self.check("REPORTS of bootmem.5", sorted(set(re.findall(r"^\.SS ([a-z]*)$", shown, re.MULTILINE))), REPORTS)
-        named = re.search(r"^LIST is one or more.*?^$", text("README.md"), re.MULTILINE | re.DOTALL).group()
-        self.check("reports of README.md", sorted(set(re.findall(r"`([a-z]*)`", re.sub("with a comma.*", "", named)))), REPORTS)
-        self.check("synopsis of bootaudit in README.md", synopsis("bootaudit", "README.md"), AUDIT)
+        named = {name for names in re.findall(r"--report ([a-z,]+)", text("README.md")) for name in names.split(",")}
+        self.check("reports of README.md", named - set(REPORTS), set())
         self.check("SYNOPSIS of bootaudit.1", options_in(section("bootaudit", "SYNOPSIS")), AUDIT)
         self.check("OPTIONS of bootaudit.1", marked_options("bootaudit"), AUDIT)
         self.check("grammar of bootaudit in docs/FORMATS.md", synopsis("bootaudit", "docs", "FORMATS.md"), AUDIT)
