@@ -1,4 +1,4 @@
--- Small tables of entries, computed: what the definitions say of them.
+-- Worked examples of single entries, of the extension and of the zero page.
 use Rattle.std.proofs.Common.{◌≡◌, ℕ, ◌-◌, true, false, List, [], ◌∷◌, ◌++◌, Some, None, refl}
 use Rattle.std.specs.Prelude.{replicate}
 use Rattle.e820_model.specs.declared.entry.Entry.{Entry}
@@ -9,7 +9,7 @@ use Rattle.e820_table.specs.Extension.{data_length, has_header, has_length, ext_
 use Rattle.e820_table.specs.Initrd.{is_initrd_far}
 use Rattle.e820_table.specs.ZeroPage.{entry_count, table_offset, entries_of, entry_fault, zero_fault}
 
--- the 20 bytes of the entry of 1 MiB of RAM at 1 MiB
+-- the 20 bytes of an entry: 1 MiB of RAM at 1 MiB
 abbrev ram_bytes : List ℕ
 ram_bytes =
     0 ∷ 0 ∷ 0x10 ∷ 0 ∷ 0 ∷ 0 ∷ 0 ∷ 0 ∷
@@ -19,7 +19,8 @@ ram_bytes =
 abbrev ram : Entry
 ram = record { addr = 0x100000; size = 0x100000; kind = 1 }
 
--- those of a reserved entry whose address plus size is 2^64 - 1, and of one where it is 2^64
+-- the bytes of a reserved entry whose address plus size is 2^64 - 1, and of one for which it is
+-- 2^64
 abbrev last_bytes : List ℕ
 last_bytes =
     0 ∷ 0x10 ∷ 0 ∷ 0 ∷ 0 ∷ 0 ∷ 0 ∷ 0 ∷
@@ -35,42 +36,44 @@ far_bytes =
     0 ∷ 0xF0 ∷ 0xFF ∷ 0xFF ∷ 0xFF ∷ 0xFF ∷ 0xFF ∷ 0xFF ∷
     2 ∷ 0 ∷ 0 ∷ 0 ∷ []
 
--- the first byte is the lowest, of four and of two
+-- numbers of four bytes and of two; the first byte is the lowest
 number_examples : (number_at 4 1 (9 ∷ 0x78 ∷ 0x56 ∷ 0x34 ∷ 0x12 ∷ []) ≡ 0x12345678) × (number_at 2 0 (0x34 ∷ 0x12 ∷ []) ≡ 0x1234)
 number_examples = (refl, refl)
 
--- one at the front, and one behind two other bytes
+-- an entry at offset 0, and one after two other bytes
 entry_at_examples : (entry_at 0 ram_bytes ≡ ram) × (entry_at 2 (7 ∷ 7 ∷ last_bytes) ≡ last)
 unfolding entry_at
 entry_at_examples = (refl, refl)
 
--- the second of three, and the first of two
+-- the second of three entries, and the first of two
 nth_examples : (nth_entry 0 1 (far_bytes ++ ram_bytes ++ last_bytes) ≡ ram) × (nth_entry 0 0 (last_bytes ++ ram_bytes) ≡ last)
 unfolding entry_at
 nth_examples = (refl, refl)
 
--- in the order of the bytes, and no more than are asked for
+-- entries come in the order of their bytes; no more of them than requested, here two and none
 first_entries_examples : (first_entries 0 2 (ram_bytes ++ last_bytes ++ far_bytes) ≡ ram ∷ last ∷ [])
     × (first_entries 0 0 (ram_bytes ++ last_bytes ++ far_bytes) ≡ [])
 unfolding entry_at
 first_entries_examples = (refl, refl)
 
--- 2^64 - 1 isn't too far, and 2^64 is
+-- the sum 2^64 - 1 isn't too far, and 2^64 is
 too_far_examples : (is_too_far last ≡ false) × (is_too_far (record { addr = 0x1000; size = 0xFFFFFFFFFFFFF000; kind = 2 }) ≡ true)
 too_far_examples = (refl, refl)
 
--- the least of the far entries, and only among those that are asked for
+-- the least index of two that are too far; none if the one that is too far is third of the two
+-- requested
 first_far_examples : (first_far 0 3 (last_bytes ++ far_bytes ++ far_bytes) ≡ Some 1)
     × (first_far 0 2 (ram_bytes ++ last_bytes ++ far_bytes) ≡ None)
 unfolding entry_at
 first_far_examples = (refl, refl)
 
--- from the second entry on, and from the first
+-- a search from the second entry on, and one from the first
 far_from_examples : (far_from 0 1 2 (far_bytes ++ last_bytes ++ far_bytes) ≡ Some 2) × (far_from 0 0 2 (far_bytes ++ last_bytes) ≡ Some 0)
 unfolding entry_at
 far_from_examples = (refl, refl)
 
--- an extension: the next node's address, the type, the length, and the entries
+-- the bytes of an extension's header: the next node's address, the type, and the length of the
+-- data; then its entries
 abbrev header : ℕ → ℕ → List ℕ
 header kind bytes = replicate 8 0xAA ++ (kind ∷ 0 ∷ 0 ∷ 0 ∷ bytes ∷ 0 ∷ 0 ∷ 0 ∷ [])
 
@@ -89,17 +92,17 @@ counted_by_the_bytes = (refl, refl)
 no_entries : (ext_fault (header 1 0) ≡ None) × (ext_entries_of (header 1 0) ≡ [])
 no_entries = (refl, refl)
 
--- the header is judged first: 15 bytes, or another type, whatever the length says
+-- a fault of the header wins over one of the length: 15 bytes, and another type
 other_header : (has_header (replicate 15 1) ≡ false) × (ext_fault (replicate 15 1) ≡ Some ext_faults.ExtHeader)
     × (has_header (header 2 7) ≡ false) × (ext_fault (header 2 7) ≡ Some ext_faults.ExtHeader)
 other_header = (refl, refl, refl, refl)
 
--- then the length: not that of the data, or part of an entry
+-- wrong lengths: not the length of the data, and not a multiple of 20
 other_length : (has_length (header 1 20) ≡ false) × (ext_fault (header 1 20) ≡ Some ext_faults.ExtLength)
     × (ext_fault (header 1 19 ++ replicate 19 0) ≡ Some ext_faults.ExtLength)
 other_length = (refl, refl, refl)
 
--- then the entries
+-- the second of three entries is the first that is too far
 far_entry : ext_fault (header 1 60 ++ last_bytes ++ far_bytes ++ far_bytes) ≡ Some (ext_faults.EntryTooFar 1)
 unfolding entry_at
 far_entry = refl
@@ -107,13 +110,14 @@ far_entry = refl
 fault_of_the_index : (ext_entry_fault (Some 7) ≡ Some (ext_faults.EntryTooFar 7)) × (ext_entry_fault None ≡ None)
 fault_of_the_index = (refl, refl)
 
--- a zero page that states so many entries, of which these are the first
+-- a zero page that states `count` entries, with these as the first
 abbrev page : ℕ → List ℕ → List ℕ
 page count entries =
     replicate 0x1E8 0 ++ (count ∷ replicate (0x2D0 - 0x1E9) 0) ++ entries ++ replicate (4096 - 0x2D0 - 40) 0
 
--- two entries have no fault; the length of the page (a byte short, a byte more, no byte) goes before the number of entries (too few,
--- too many), and that before an entry, here the second
+-- the faults of a zero page, in their order: none with two entries; 4,095, 4,097 and 0 bytes; one
+-- entry and 129 entries, both reported before an entry that is too far; and the index of such an
+-- entry
 zero_fault_examples : (zero_fault (page 2 (ram_bytes ++ last_bytes)) ≡ None)
     × (zero_fault (replicate 4095 0) ≡ Some zero_faults.WrongLength) × (zero_fault (replicate 4097 0) ≡ Some zero_faults.WrongLength)
     × (zero_fault [] ≡ Some zero_faults.WrongLength) × (zero_fault (page 1 (far_bytes ++ far_bytes)) ≡ Some zero_faults.TooFew)
@@ -122,7 +126,7 @@ zero_fault_examples : (zero_fault (page 2 (ram_bytes ++ last_bytes)) ≡ None)
 unfolding entry_at is_initrd_far
 zero_fault_examples = (refl, refl, refl, refl, refl, refl, refl)
 
--- in their order, and no more than the page states
+-- entries come in their order, and no more of them than the page states
 entries_of_examples : (entries_of (page 2 (ram_bytes ++ last_bytes)) ≡ ram ∷ last ∷ [])
     × (entries_of (page 1 (ram_bytes ++ last_bytes)) ≡ nth_entry table_offset 0 (page 1 (ram_bytes ++ last_bytes)) ∷ [])
 unfolding entry_at

@@ -1,4 +1,4 @@
--- Laws of the entries at an offset: none too far means that all end in the address space.
+-- Lemmas on lists of entries: if none is too far, all end in the address space.
 use Rattle.std.proofs.Common.{◌≡◌, ℕ, zero, suc, ◌+◌, ◌^◌, ◌<◌, ◌≤◌, Bool, true, false, Some, None, List, [], ◌∷◌, ◌++◌, length, length-append, refl, sym, ◌∙◌, arith, ⊎_elim}
 use Rattle.std.proofs.lemmas.Bool.{cases_lt}
 use Rattle.std.proofs.lemmas.Bool.Decides.{nat_tests}
@@ -6,17 +6,17 @@ use Rattle.e820_model.specs.declared.entry.Entry.{Entry}
 use Rattle.e820_model.specs.Claims.{EndInSpace}
 use Rattle.e820_table.specs.Entries.{nth_entry, first_entries, is_too_far, far_from, first_far}
 
--- one entry more at the end
+-- appending an entry that isn't too far keeps all ends in the address space
 pub space_push : (es : List Entry) (e : Entry) → EndInSpace es → e.addr + e.size < 2 ^ 64 → EndInSpace (es ++ e ∷ [])
 space_push [] e rest ends = (ends, tt)
 space_push (f ∷ es) e rest ends = (rest.0, space_push es e rest.1 ends)
 
--- behind an entry that isn't too far the search goes on
+-- if the entry at index `i` isn't too far, the search goes on with the next
 pub far_later : (start i n : ℕ) (bytes : List ℕ) → is_too_far (nth_entry start i bytes) ≡ false
     → far_from start i (suc n) bytes ≡ far_from start (i + 1) n bytes
 far_later start i n bytes near = rw near refl
 
--- where the search finds none, none of those that it looks at is too far
+-- if the search finds nothing, no entry that it looks at is too far
 none_step : (t : Bool) (start i n k : ℕ) (bytes : List ℕ) → is_too_far (nth_entry start i bytes) ≡ t
     → far_from start i (suc n) bytes ≡ None → i ≤ k → k < i + suc n
     → (far_from start (i + 1) n bytes ≡ None → i + 1 ≤ k → k < i + 1 + n → is_too_far (nth_entry start k bytes) ≡ false)
@@ -35,7 +35,7 @@ none_far start i (suc n) k bytes none from below =
     none_step (is_too_far (nth_entry start i bytes)) start i n k bytes refl none from below
     (λ none_behind from_next below_end. none_far start (i + 1) n k bytes none_behind from_next below_end)
 
--- then all of them end in the address space
+-- if none of the first n entries is too far, all of them end in the address space
 space_first : (start n : ℕ) (bytes : List ℕ) → ((k : ℕ) → k < n → is_too_far (nth_entry start k bytes) ≡ false)
     → EndInSpace (first_entries start n bytes)
 space_first start zero bytes near = tt
@@ -47,7 +47,7 @@ space_first start (suc n) bytes near =
 pub space_of_none : (start n : ℕ) (bytes : List ℕ) → first_far start n bytes ≡ None → EndInSpace (first_entries start n bytes)
 space_of_none start n bytes none = space_first start n bytes (λ k below. none_far start 0 n k bytes none (omega arith) (omega arith))
 
--- there are as many entries as are read
+-- the first n entries are n entries
 pub count_first : (start n : ℕ) (bytes : List ℕ) → length (first_entries start n bytes) ≡ n
 count_first start zero bytes = refl
 count_first start (suc n) bytes =

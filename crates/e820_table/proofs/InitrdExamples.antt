@@ -1,4 +1,4 @@
--- Zero pages with an initrd, computed: what the definitions say of them.
+-- Worked examples of zero pages with an initrd.
 use Rattle.std.proofs.Common.{◌≡◌, ℕ, ◌-◌, ◌^◌, true, false, List, [], ◌∷◌, ◌++◌, Some, None, refl, arith}
 use Rattle.std.specs.Prelude.{replicate}
 use Rattle.bm_base.specs.Extent.{Extent}
@@ -11,20 +11,21 @@ use Rattle.e820_table.specs.ZeroPage.{entries_of, initrd_fault, page_of, page_vi
 abbrev range : ℕ → ℕ → Extent
 range base size = record { base = base; size = size }
 
--- a page of that loader, with these 8 bytes at 0x0C0 and at 0x218, that states two entries, which are empty
+-- a page with this loader type and these 8 bytes at 0x0C0 and at 0x218; it states two entries,
+-- which are empty
 abbrev page : ℕ → List ℕ → List ℕ → List ℕ
 page loader upper lower =
     replicate 0xC0 0 ++ upper ++ replicate (0x1E8 - 0xC8) 0 ++ (2 ∷ replicate (0x210 - 0x1E9) 0)
     ++ (loader ∷ replicate 7 0) ++ lower ++ replicate (4096 - 0x220) 0
 
--- an image of 0x123457 bytes at 0x7D00000, and one above 4 GiB of more than 4 GiB
+-- the bytes of two images: 0x123457 bytes at 0x7D00000, and more than 4 GiB above 4 GiB
 abbrev low_image : List ℕ
 low_image = 0 ∷ 0 ∷ 0xD0 ∷ 7 ∷ 0x57 ∷ 0x34 ∷ 0x12 ∷ 0 ∷ []
 
 abbrev high_halves : List ℕ
 high_halves = 1 ∷ 0 ∷ 0 ∷ 0 ∷ 2 ∷ 0 ∷ 0 ∷ 0 ∷ []
 
--- an image whose address is 2^64 - 8,192, of 4,096 bytes and of one more
+-- the bytes of two images at address 2^64 - 8,192: one of 4,096 bytes, and one of a byte more
 abbrev top_halves : List ℕ
 top_halves = 0xFF ∷ 0xFF ∷ 0xFF ∷ 0xFF ∷ 0 ∷ 0 ∷ 0 ∷ 0 ∷ []
 
@@ -34,7 +35,7 @@ top_image low = 0 ∷ 0xE0 ∷ 0xFF ∷ 0xFF ∷ low ∷ 0x10 ∷ 0 ∷ 0 ∷ []
 its_loader : (loader_of (page 0xB0 (replicate 8 0) low_image) ≡ 0xB0) × (loader_of (page 0 high_halves low_image) ≡ 0)
 its_loader = (refl, refl)
 
--- the upper half weighs 2^32
+-- the upper half counts as a multiple of 2^32
 two_halves : (halves_at 0 4 (0x78 ∷ 0x56 ∷ 0x34 ∷ 0x12 ∷ 1 ∷ 0 ∷ 0 ∷ 0 ∷ []) ≡ 0x112345678)
     × (halves_at 4 0 (0x78 ∷ 0x56 ∷ 0x34 ∷ 0x12 ∷ 1 ∷ 0 ∷ 0 ∷ 0 ∷ []) ≡ 0x1234567800000001)
 two_halves = (refl, refl)
@@ -43,12 +44,12 @@ its_image : (image_of (page 0xB0 (replicate 8 0) low_image) ≡ range 0x7D00000 
     × (image_of (page 0xB0 high_halves low_image) ≡ range 0x107D00000 0x200123457)
 its_image = (refl, refl)
 
--- no loader, no address, no size: no initrd
+-- without a loader, an address or a size there is no initrd
 some_or_none : (has_initrd 0xB0 (range 1 1) ≡ true) × (has_initrd 0 (range 1 1) ≡ false) × (has_initrd 0xB0 (range 0 1) ≡ false)
     × (has_initrd 0xB0 (range 1 0) ≡ false)
 some_or_none = (refl, refl, refl, refl)
 
--- to the end of the last frame; the first byte may lie anywhere in its frame
+-- the range ends at the end of the last frame; its first byte may be anywhere in a frame
 to_the_end : (to_frame_end (range 0x7D00000 0x123457) ≡ range 0x7D00000 0x124000)
     × (to_frame_end (range 0x1FFF 1) ≡ range 0x1FFF 1) × (to_frame_end (range 0x1FFF 2) ≡ range 0x1FFF 0x1001)
     × (to_frame_end (range 0x1000 0x1000) ≡ range 0x1000 0x1000)
@@ -57,7 +58,7 @@ to_the_end = (refl, refl, refl, refl)
 places : (placed 0xB0 (range 0x1001 0x1000) ≡ Some (range 0x1001 0x1FFF)) × (placed 0 (range 0x1001 0x1000) ≡ None)
 places = (refl, refl)
 
--- the sum may be 2^64 - 4,096, at which the last frame ends; a byte more is too far
+-- the sum 2^64 - 4,096 isn't too far, and a byte more is
 last_byte : (is_far 0xB0 (range (2 ^ 64 - 8192) 4096) ≡ false) × (is_far 0xB0 (range (2 ^ 64 - 8192) 4097) ≡ true)
     × (is_far 0 (range (2 ^ 64 - 8192) 4097) ≡ false)
 last_byte = (refl, refl, refl)
@@ -68,7 +69,7 @@ is_an_initrd = record { some = omega arith; whole = refl }
 part_of_a_frame_isn't : IsInitrd (range 0x7D00000 0x123457) → ⊥
 part_of_a_frame_isn't is = let whole = is.whole in cc whole
 
--- pages: one with an initrd, one without a loader, one with both halves
+-- an initrd below 4 GiB; none, since no loader is named; one with both upper halves
 initrd_of_examples : (initrd_of (page 0xB0 (replicate 8 0) low_image) ≡ Some (range 0x7D00000 0x124000))
     × (initrd_of (page 0 (replicate 8 0) low_image) ≡ None)
     × (initrd_of (page 1 high_halves low_image) ≡ Some (range 0x107D00000 0x200124000))
@@ -84,7 +85,7 @@ fault_of_a_page : (initrd_fault (page 1 top_halves (top_image 1)) ≡ Some fault
 unfolding is_initrd_far
 fault_of_a_page = (refl, refl)
 
--- the fault of the initrd is told where no entry has one
+-- the fault of the initrd is reported if no entry has one
 initrd_goes_last : zero_fault (page 1 top_halves (top_image 1)) ≡ Some faults.InitrdTooFar
 unfolding entry_at is_initrd_far
 initrd_goes_last = refl

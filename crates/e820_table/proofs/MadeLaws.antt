@@ -1,4 +1,5 @@
--- Laws of made inputs: one entry more, none, and how a list falls into a page and what is behind it.
+-- Lemmas on made tables: how the list grows by an entry, and how it is split between the page and
+-- the extension.
 use Rattle.std.proofs.Common.{◌≡◌, ℕ, suc, ◌+◌, ◌^◌, ◌<◌, ◌≤◌, List, [], ◌∷◌, ◌++◌, length, take, drop, refl, sym, ap, ◌∙◌, append_assoc, length-append, arith, ⊎_elim}
 use Rattle.std.proofs.lemmas.Bool.{cases_lt}
 use Rattle.std.proofs.lemmas.List.{append-nil, drop_all, take_all}
@@ -8,7 +9,7 @@ use Rattle.e820_model.specs.Claims.{EndInSpace}
 use Rattle.e820_table.proofs.EntryLaws.{space_push}
 use Rattle.e820_table.specs.Made.{entries_behind, made_entry, next_of}
 
--- where some are left, the next one stands in front of those behind it
+-- if at least one entry is left, the first is the one made now, and the others come after it
 pub one_more : (n left index base x y : ℕ) (e : Entry) → n ≡ suc left → y ≡ next_of x → e ≡ made_entry index base y
     → entries_behind n index base x ≡ e ∷ entries_behind left (index + 1) (base + e.size) y
 unfolding entries_behind
@@ -18,7 +19,8 @@ pub none_more : (n index base x : ℕ) → n ≡ 0 → entries_behind n index ba
 unfolding entries_behind
 none_more n index base x none = rw none refl
 
--- a list of so many at most, with others behind it only where it is full
+-- a list of at most n members, followed by others only if it has n: the first n members of both
+-- are the list, and the rest are the others
 pub page_of_all : (page others : List Entry) (n : ℕ) → length page ≤ n → (length page < n → others ≡ [])
     → (take n (page ++ others) ≡ page) × (drop n (page ++ others) ≡ others)
 page_of_all page others n fits alone =
@@ -28,7 +30,8 @@ page_of_all page others n fits alone =
     (λ full. (let same : length page ≡ n = omega arith in (take_at page others n same, drop_at page others n same)))
     (cases_lt (length page) n)
 
--- a page and what stands behind it, which is empty while the page has room; all of it ends in the address space
+-- the entries of the page and of the extension: together they are `all`; the extension is empty
+-- while the page has room; all entries end in the address space
 pub record Split (page others all : List Entry) : Type 0 where
   pub whole : page ++ others ≡ all
   pub fits : length page ≤ 128
@@ -36,7 +39,7 @@ pub record Split (page others all : List Entry) : Type 0 where
   pub page_space : EndInSpace page
   pub others_space : EndInSpace others
 
--- one entry more, into the page while that has room
+-- appending an entry, to the page while it has room, keeps the split
 pub split_more : (page others all page_new others_new : List Entry) (e : Entry) → Split page others all
     → (length page < 128 → (page_new ≡ page ++ e ∷ []) × (others_new ≡ others))
     → (128 ≤ length page → (page_new ≡ page) × (others_new ≡ others ++ e ∷ []))

@@ -1,4 +1,5 @@
--- The faults of a zero page in their order: where the page is whole and its number of entries is in bounds, what is behind decides.
+-- Lemmas on the order of a zero page's faults: if its length and its number of entries are right,
+-- the entries and the initrd decide.
 use Rattle.std.proofs.Common.{◌≡◌, ℕ, ◌≤◌, ◌==◌, nat_lt, true, false, List, length, refl, arith}
 use Rattle.std.proofs.lemmas.Bool.Decides.{nat_tests}
 use Rattle.e820_table.specs.Entries.{first_far}

@@ -1,14 +1,14 @@
--- Entries of the E820 table as bytes (`struct boot_e820_entry`): an address (u64), a size (u64) and a
--- type (u32), little-endian, 20 bytes without padding.
+-- The entries of an E820 table as bytes (`struct boot_e820_entry`): an address (u64), a size (u64)
+-- and a type (u32), little-endian, 20 bytes without padding.
 use Rattle.std.specs.Prelude.{ℕ, zero, suc, ◌+◌, ◌*◌, ◌^◌, List, [], ◌∷◌, ◌++◌, drop, Bool, nat_le, if◌then◌else◌, Option, Some, None}
 use Rattle.byteorder.specs.Endian.{little_number}
 use Rattle.e820_model.specs.declared.entry.Entry.{Entry}
 
--- the little-endian number of that many bytes at the offset
+-- the little-endian number in `width` bytes at the offset
 abbrev pub number_at : ℕ → ℕ → List ℕ → ℕ
 number_at width offset bytes = little_number width (drop offset bytes)
 
--- the entry at the offset
+-- the entry whose 20 bytes begin at the offset
 unfoldable pub entry_at : ℕ → List ℕ → Entry
 entry_at offset bytes = record {
   addr = number_at 8 offset bytes;
@@ -16,25 +16,26 @@ entry_at offset bytes = record {
   kind = number_at 4 (offset + 16) bytes;
 }
 
--- the i-th entry, from 0, of those that begin at the offset
+-- the entry with index `i`, counted from 0, of the table that begins at byte `start`
 abbrev pub nth_entry : ℕ → ℕ → List ℕ → Entry
 nth_entry start i bytes = entry_at (start + 20 * i) bytes
 
--- the first n entries of those that begin at the offset
+-- the first n entries of the table that begins at byte `start`
 abbrev pub first_entries : ℕ → ℕ → List ℕ → List Entry
 first_entries start zero bytes = []
 first_entries start (suc n) bytes = first_entries start n bytes ++ nth_entry start n bytes ∷ []
 
--- the entry's address plus its size exceeds 2^64 - 1
+-- the address plus the size of the entry exceeds 2^64 - 1
 abbrev pub is_too_far : Entry → Bool
 is_too_far e = nat_le (2 ^ 64) (e.addr + e.size)
 
--- the least index, from i on, of an entry that is too far, among the next n
+-- the least index of an entry that is too far, among the n entries from index `i` on
 abbrev pub far_from : ℕ → ℕ → ℕ → List ℕ → Option ℕ
 far_from start i zero bytes = None
 far_from start i (suc n) bytes =
     if is_too_far (nth_entry start i bytes) then Some i else far_from start (i + 1) n bytes
 
--- the least index of an entry that is too far, among the n that begin at the offset
+-- the least index of an entry that is too far, among the first n entries of the table at byte
+-- `start`
 abbrev pub first_far : ℕ → ℕ → List ℕ → Option ℕ
 first_far start n bytes = far_from start 0 n bytes

@@ -1,38 +1,39 @@
--- The E820 extension: a node of the `setup_data` list (`struct setup_data`: next, type, length) of type
--- `SETUP_E820_EXT`, whose data are entries.
+-- The E820 extension: a node of the `setup_data` list (`struct setup_data`: next, type, length)
+-- with the type `SETUP_E820_EXT`. Its data are entries.
 use Rattle.std.specs.Prelude.{ℕ, ◌-◌, ◌/◌, ◌%◌, ◌==◌, Bool, ◌&&◌, List, length, not, nat_lt, if◌then◌else◌, Option, Some, None}
 use Rattle.e820_model.specs.declared.entry.Entry.{Entry}
 use Rattle.e820_table.specs.declared.extension.ExtFault.{ExtFault}
 use Rattle.e820_table.specs.declared.extension.ExtFault.TheVariants as faults
 use Rattle.e820_table.specs.Entries.{number_at, first_entries, first_far}
 
--- the bytes of data: those behind the header of 16 bytes
+-- the number of bytes after the header of 16 bytes
 abbrev pub data_length : List ℕ → ℕ
 data_length bytes = length bytes - 16
 
--- there is a whole header, and its type is that of an extension (the u32 at 8)
+-- the header is whole, and its type, the u32 at offset 8, is 1 (`SETUP_E820_EXT`)
 abbrev pub has_header : List ℕ → Bool
 has_header bytes = not (nat_lt (length bytes) 16) && number_at 4 8 bytes == 1
 
--- the length that the header states (the u32 at 12) is that of the data, and the data are whole entries
+-- the length that the header states (the u32 at offset 12) is that of the data, and the data are
+-- whole entries
 abbrev pub has_length : List ℕ → Bool
 has_length bytes = number_at 4 12 bytes == data_length bytes && data_length bytes % 20 == 0
 
--- the number of entries
+-- the number of entries in the extension
 abbrev pub ext_count : List ℕ → ℕ
 ext_count bytes = data_length bytes / 20
 
--- the entries of the extension
+-- all entries of the extension, in their order
 abbrev pub ext_entries_of : List ℕ → List Entry
 ext_entries_of bytes = first_entries 16 (ext_count bytes) bytes
 
--- the fault of an entry, where one has a fault
+-- the fault for the index of an entry that is too far, if there is such an entry
 abbrev pub ext_entry_fault : Option ℕ → Option ExtFault
 ext_entry_fault None = None
 ext_entry_fault (Some index) = Some (faults.EntryTooFar index)
 
--- the first fault that the bytes have, in this order: the header, the length, and the least index of an
--- entry that passes the end of numbers
+-- the first fault of the bytes: the header is tested first, then the length, then the entries from
+-- index 0 on
 abbrev pub ext_fault : List ℕ → Option ExtFault
 ext_fault bytes =
     if not (has_header bytes) then Some faults.ExtHeader

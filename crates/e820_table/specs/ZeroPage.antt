@@ -1,4 +1,5 @@
--- The zero page: `struct boot_params`, 4,096 bytes, of which the table of entries and the initrd are read.
+-- The zero page: `struct boot_params`, 4,096 bytes. Only its table of entries and its initrd are
+-- read.
 use Rattle.std.specs.Prelude.{ℕ, ◌==◌, List, length, slice_index, not, nat_lt, if◌then◌else◌, Option, Some, None}
 use Rattle.bm_base.specs.Extent.{Extent}
 use Rattle.e820_model.specs.declared.entry.Entry.{Entry}
@@ -8,19 +9,20 @@ use Rattle.e820_table.specs.declared.zero_page.ZeroPage.{ZeroPage}
 use Rattle.e820_table.specs.Entries.{first_entries, first_far}
 use Rattle.e820_table.specs.Initrd.{initrd_of, is_initrd_far}
 
--- the number of entries: the byte `e820_entries`
+-- the number of entries: the byte `e820_entries`, at offset 0x1E8
 abbrev pub entry_count : List ℕ → ℕ
 entry_count bytes = slice_index bytes 0x1E8
 
--- where the entries begin: `e820_table`
+-- the offset of the first entry: `e820_table`
 abbrev pub table_offset : ℕ
 table_offset = 0x2D0
 
--- the entries of the page
+-- the entries of the page, in the order of the table
 abbrev pub entries_of : List ℕ → List Entry
 entries_of bytes = first_entries table_offset (entry_count bytes) bytes
 
--- what a zero page says of memory: its entries, and the initrd, where there is one
+-- the information about memory in a zero page: its entries, and the range of its initrd, if there
+-- is one
 pub record Page : Type 0 where
   pub entries : List Entry
   pub initrd : Option Extent
@@ -28,22 +30,23 @@ pub record Page : Type 0 where
 abbrev pub page_of : List ℕ → Page
 page_of bytes = record { entries = entries_of bytes; initrd = initrd_of bytes }
 
--- the same of the value that a reader makes
+-- what contracts see of the code's `ZeroPage`
 abbrev pub page_view : ZeroPage → Page
 page_view page = record { entries = page.entries.items; initrd = page.initrd }
 
--- the fault of the initrd, where it has one
+-- the fault of an initrd that is too far, if the page has one
 abbrev pub initrd_fault : List ℕ → Option ZeroFault
 initrd_fault bytes = if is_initrd_far bytes then Some faults.InitrdTooFar else None
 
--- the fault of an entry, where one has a fault, and else that of what stands behind the entries
+-- the fault for the index of an entry that is too far; if there is no such index, the fault of
+-- what is tested after the entries
 abbrev pub entry_fault : Option ℕ → Option ZeroFault → Option ZeroFault
 entry_fault None behind = behind
 entry_fault (Some index) behind = Some (faults.EntryTooFar index)
 
--- the first fault that the bytes have, in this order: their number, too few entries
--- (`append_e820_table` refuses a table of fewer than two), more entries than the page has room for,
--- the least index of an entry that passes the end of numbers, and an initrd that does
+-- the first fault of the bytes. The tests are, in this order: the number of bytes; at least two
+-- entries (`append_e820_table` refuses a table of fewer); at most 128 entries; no entry beyond
+-- 2^64 - 1, from index 0 on; and no initrd that is too far.
 abbrev pub zero_fault : List ℕ → Option ZeroFault
 zero_fault bytes =
     if not (length bytes == 4096) then Some faults.WrongLength

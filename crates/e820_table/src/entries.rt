@@ -1,5 +1,5 @@
-//! Entries in bytes, wherever they stand: the zero page and the extension have the same 20 bytes for each, so both
-//! readers rest on this file.
+//! Reads single entries. The zero page and the extension use the same 20 bytes for an entry, so
+//! both readers use this file.
 
 ghost use Rattle.std.specs.Prelude.{◌≡◌, ℕ, ◌+◌, ◌*◌, ◌≤◌, length};
 ghost use Rattle.e820_table.specs.Entries.{entry_at, nth_entry, first_far};
@@ -7,10 +7,10 @@ ghost use Rattle.e820_table.specs.Entries.{entry_at, nth_entry, first_far};
 use byteorder::{ByteOrder, LittleEndian};
 use e820_model::Entry;
 
-/// The bytes of an entry.
+/// The size of an entry, in bytes (`struct boot_e820_entry`).
 pub const ENTRY_BYTES: usize = 20;
 
-/// The entry at the offset, in bytes.
+/// Returns the entry whose 20 bytes begin at `offset`. The numbers are little-endian.
 #[tactic(auto, unfolding(crate::specs::Entries::entry_at))]
 fn read_entry(bytes: &[u8], offset: usize) -> Entry
     requires { offset + 20 ≤ length bytes.now }
@@ -23,7 +23,7 @@ fn read_entry(bytes: &[u8], offset: usize) -> Entry
     }
 }
 
-/// The entry of that index, from 0, of those that begin at `start`.
+/// Returns the entry with this index, counted from 0, of the table that begins at byte `start`.
 pub fn read_nth(bytes: &[u8], start: usize, index: usize) -> Entry
     requires { start + 20 * index + 20 ≤ length bytes.now }
     ensures { result ≡ nth_entry start index bytes.now }
@@ -31,7 +31,8 @@ pub fn read_nth(bytes: &[u8], start: usize, index: usize) -> Entry
     read_entry(bytes, start + ENTRY_BYTES * index)
 }
 
-/// The least index of an entry whose address plus size exceeds 2^64 - 1, among the first `count`.
+/// Returns the least index of an entry whose address plus size exceeds 2^64 - 1, among the first
+/// `count` entries, or `None` if there is no such entry.
 pub fn find_far(bytes: &[u8], start: usize, count: u32) -> Option<u32>
     requires { start + 20 * count ≤ length bytes.now }
     ensures { result ≡ first_far start count bytes.now }

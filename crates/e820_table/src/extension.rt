@@ -1,5 +1,5 @@
-//! The extension: the entries that the zero page has no room for (`SETUP_E820_EXT`). Their number is bounded by the
-//! file alone, so reading them takes memory.
+//! Reads the E820 extension: the entries that don't fit into the zero page (`SETUP_E820_EXT`).
+//! Only the length of the file limits their number, so reading them allocates memory.
 
 ghost use Rattle.std.specs.Prelude.{◌≡◌, ◌≢◌, ℕ, ◌+◌, ◌*◌, ◌<◌, ◌≤◌, length, IfOk, IfErr, IfSome, IsErr, OnOk, SomeIff, IsTrue};
 ghost use Rattle.e820_model.specs.Claims.{EndInSpace};
@@ -16,18 +16,19 @@ const HEADER_BYTES: usize = 16;
 
 const EXTENSION_TYPE: u32 = 1;
 
-/// Why bytes are no E820 extension. The first that holds is answered: the header, the length, then
-/// the entries.
+/// The reason why bytes are not an E820 extension. If several apply, the reader reports the header
+/// before the length, and the length before an entry.
 #[derive(Clone, Copy, Debug, PartialEq, Eq)]
 pub enum ExtFault {
-    /// The entry's address plus size exceeds 2^64 - 1; the least such index, from 0.
+    /// The address plus size of the entry with this index exceeds 2^64 - 1. Indices count from 0;
+    /// this is the least such index.
     EntryTooFar { index: u32 },
     /// There are fewer than 16 bytes, or the type isn't 1 (`SETUP_E820_EXT`).
     ExtHeader,
-    /// The stated length isn't the number of bytes behind the header, or is no multiple of 20.
+    /// The stated length isn't the number of bytes after the header, or isn't a multiple of 20.
     ExtLength,
-    /// The program's own memory ran out; only where the bytes have none of the other faults, and there
-    /// are entries.
+    /// The program ran out of memory. This is returned only for bytes without any other fault that
+    /// have at least one entry.
     Memory,
 }
 
@@ -41,9 +42,15 @@ impl From<Memory> for ExtFault {
     }
 }
 
-/// Reads an E820 extension (`struct setup_data` with entries behind it): the next node's address at
-/// offset 0, which is passed over, the type at 8, the length at 12, and the entries from 16 on. A
-/// length of 0 is accepted.
+/// Reads an E820 extension: a `struct setup_data` whose data are entries.
+///
+/// The address of the next node, at offset 0, is ignored. The type is at offset 8, the length of
+/// the data at 12, and the entries begin at 16. An extension without entries is accepted.
+///
+/// # Errors
+///
+/// - `ExtHeader`, `ExtLength`, `EntryTooFar`: the first fault of the bytes, in this order.
+/// - `Memory`: the bytes are well-formed and have entries, but the program ran out of memory.
 pub fn read_ext(alloc: Global, bytes: &[u8]) -> Result<Vec<Entry>, ExtFault>
     ensures fault { IfErr result (λ fault. fault ≢ ExtFault.Memory → ext_fault bytes.now ≡ Some fault) }
     ensures well_formed { OnOk result (ext_fault bytes.now ≡ None) }
@@ -62,14 +69,15 @@ pub fn read_ext(alloc: Global, bytes: &[u8]) -> Result<Vec<Entry>, ExtFault>
     Ok(read_entries(alloc, bytes, count)?)
 }
 
-/// Whether there is a whole header, of the type of an extension.
+/// Tests whether the bytes have a whole header with the type of an extension.
 fn is_extension(bytes: &[u8]) -> bool
     ensures { result ≡ has_header bytes.now }
 {
     bytes.len() >= HEADER_BYTES && LittleEndian::read_u32(&bytes[8..]) == EXTENSION_TYPE
 }
 
-/// The number of entries, where the header's length is that of the data and these are whole entries.
+/// Returns the number of entries. Returns `None` if the length in the header isn't the length of
+/// the data, or if the data aren't whole entries. The header must be whole.
 fn stated_entries(bytes: &[u8]) -> Option<u32>
     requires { IsTrue (has_header bytes.now) }
     ensures count { SomeIff result (IsTrue (has_length bytes.now)) (ext_count bytes.now) }
@@ -83,7 +91,11 @@ fn stated_entries(bytes: &[u8]) -> Option<u32>
     Some(stated / 20)
 }
 
-/// The first `count` entries of the extension.
+/// Returns the first `count` entries of the extension, in their order.
+///
+/// # Errors
+///
+/// - `Memory`: the program ran out of memory; `count` is above 0.
 fn read_entries(alloc: Global, bytes: &[u8], count: u32) -> Result<Vec<Entry>, Memory>
     requires { 16 + 20 * count ≤ length bytes.now }
     ensures entries { IfOk result (λ entries. entries.items ≡ first_entries 16 count bytes.now) }

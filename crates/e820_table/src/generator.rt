@@ -1,5 +1,5 @@
-//! Made inputs: tables of any size, the same ones each time. A real machine has some dozens of entries; how the memory
-//! set-up fares with thousands is tried and measured with these.
+//! Makes tables of any size, the same ones each time. A real machine has a few dozen entries;
+//! these tables show how the memory set-up copes with thousands.
 
 ghost use Rattle.std.specs.Prelude.{◌≡◌, ℕ, ◌+◌, ◌*◌, ◌^◌, ◌<◌, ◌≤◌, [], ◌∷◌, ◌++◌, length, take, drop, min, None, IfOk, IsErr, OnOk};
 ghost use Rattle.e820_model.specs.Claims.{EndInSpace};
@@ -12,7 +12,7 @@ use bm_base::{FRAME_SIZE, Memory};
 use e820_model::{E820_TYPE_RAM, E820_TYPE_RESERVED, Entry};
 use std::alloc::Global;
 
-/// The first two entries.
+/// The first two entries of every made table: RAM below 640 KiB, and 128 MiB of RAM from 1 MiB on.
 const LOW_RAM: Entry = Entry {
     addr: 0,
     size: 0xA0000,
@@ -25,8 +25,12 @@ const HIGH_RAM: Entry = Entry {
     kind: E820_TYPE_RAM,
 };
 
-/// The made input of `n` entries, of which the first 128 are the zero page's and the others the
-/// extension's, for which alone memory is taken. `n` is from 2 to 3,000; there is no initrd.
+/// Returns the made table of `n` entries, for `n` from 2 to 3,000. The first 128 entries are in
+/// the zero page, the others in the extension. There is no initrd.
+///
+/// # Errors
+///
+/// - `Memory`: the program ran out of memory. Only the extension allocates, so `n` is above 128.
 pub fn made(alloc: Global, n: u32) -> Result<Made, Memory>
     requires some { 2 ≤ n }
     requires few { n ≤ 3000 }
@@ -58,7 +62,11 @@ pub fn made(alloc: Global, n: u32) -> Result<Made, Memory>
     })
 }
 
-/// Puts the entry behind the others: into the page while that has room, and else into the extension.
+/// Appends `entry` to the table: to the page while it has room, then to the extension.
+///
+/// # Errors
+///
+/// - `Memory`: the page is full, and the program ran out of memory for the extension.
 fn put_entry(
     entry: Entry,
     page: &mut ArrayVec<Entry, ZERO_PAGE_ENTRIES>,
@@ -79,7 +87,8 @@ fn put_entry(
     Ok(())
 }
 
-/// The entry of that index from 2 on, at that address, by its number.
+/// Returns the entry with this index, from 2 on, at address `base`. The generator's `number`
+/// determines its size, and the index its type.
 fn make_entry(index: u32, base: u64, number: u32) -> Entry
     ensures { result ≡ made_entry index base number }
 {
@@ -94,7 +103,7 @@ fn make_entry(index: u32, base: u64, number: u32) -> Entry
     }
 }
 
-/// The number behind a number of the generator.
+/// Returns the successor of `number` in the generator's sequence.
 fn next_number(number: u32) -> u32
     ensures { result ≡ next_of number }
 {

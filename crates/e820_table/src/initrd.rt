@@ -1,6 +1,8 @@
-//! The initrd: the image that the boot loader put into memory for the kernel to unpack. Its address and its size stand
-//! in the zero page in two halves each, since the boot protocol had 32 bits for them at first. The kernel keeps the
-//! image's last frame whole (`early_reserve_initrd`), and so does the range here.
+//! Reads where the boot loader put the initrd, the image that the kernel unpacks.
+//!
+//! The zero page has the address and the size in two halves each, since the boot protocol at first
+//! had only 32 bits for them. The kernel reserves the last frame of the image whole
+//! (`early_reserve_initrd`), so the range here ends at the end of that frame.
 
 ghost use Rattle.std.specs.Prelude.{◌≡◌, ℕ, ◌+◌, ◌-◌, ◌*◌, ◌^◌, ◌<◌, ◌≤◌, length, IfErr, IfOk, OnErr, OnOk, IfSome, None, Some, SomeIff, true, false};
 ghost use Rattle.bm_base.specs.Extent.{Extent, end_of};
@@ -21,7 +23,12 @@ const SIZE_OFFSET: usize = 0x21C;
 
 const UPPER_SIZE_OFFSET: usize = 0x0C4;
 
-/// The initrd of a whole zero page, if there is one; the fault where it ends too far.
+/// Returns the range of the initrd, or `None` if there is no initrd. The bytes must be a whole
+/// zero page, 4,096 bytes.
+///
+/// # Errors
+///
+/// - `InitrdTooFar`: the address plus the size of the initrd exceeds 2^64 - 4,096.
 #[tactic(auto, unfolding(crate::specs::Initrd::initrd_of, crate::specs::Initrd::is_initrd_far))]
 pub fn read_initrd(bytes: &[u8]) -> Result<Option<Range>, ZeroFault>
     requires { length bytes.now ≡ 4096 }
@@ -35,7 +42,12 @@ pub fn read_initrd(bytes: &[u8]) -> Result<Option<Range>, ZeroFault>
     place_initrd(bytes[LOADER_OFFSET], base, size)
 }
 
-/// The initrd of this loader, at this address and of this size, if there is one.
+/// Returns the range of the initrd that this loader put at `base`, or `None` if the loader, the
+/// address or the size is 0. `size` is in bytes.
+///
+/// # Errors
+///
+/// - `InitrdTooFar`: there is an initrd, and `base + size` exceeds 2^64 - 4,096.
 fn place_initrd(loader: u8, base: u64, size: u64) -> Result<Option<Range>, ZeroFault>
     ensures fault { IfErr result (λ fault. fault ≡ ZeroFault.InitrdTooFar) }
     ensures far { OnErr result (is_far loader (record { base = base; size = size }) ≡ true) }
@@ -53,7 +65,8 @@ fn place_initrd(loader: u8, base: u64, size: u64) -> Result<Option<Range>, ZeroF
     }
 }
 
-/// The number of 8 bytes of which the lower half and the upper half stand at these offsets.
+/// Returns the 64-bit number whose lower four bytes are at offset `lower` and whose upper four
+/// bytes are at offset `upper`.
 fn read_halves(bytes: &[u8], lower: usize, upper: usize) -> u64
     requires lower_in { lower + 4 ≤ length bytes.now }
     requires upper_in { upper + 4 ≤ length bytes.now }
@@ -64,8 +77,8 @@ fn read_halves(bytes: &[u8], lower: usize, upper: usize) -> u64
     u64::from(lower) + (u64::from(upper) << 32)
 }
 
-/// The range from the address to the end of the frame of the last of so many bytes; `None` exactly
-/// where their sum exceeds 2^64 - 4,096.
+/// Returns the range from `base` to the end of the frame that has the last of `size` bytes.
+/// Returns `None` if `base + size` exceeds 2^64 - 4,096. `size` must be above 0.
 fn to_frame_end(base: u64, size: u64) -> Option<Range>
     requires { 0 < size }
     ensures range { SomeIff result (base + size ≤ 2 ^ 64 - FRAME_SIZE)

@@ -1,18 +1,24 @@
-//! The firmware's table as bytes: the zero page of the x86 boot protocol, and its E820 extension.
+//! Reads the firmware's E820 table from bytes: the zero page of the x86 boot protocol, and its
+//! E820 extension.
 //!
-//! A boot loader hands the kernel one page of parameters (`struct boot_params`), in which up to 128
-//! entries stand at offset 0x2D0; entries beyond those come in a node of the `setup_data` list
-//! (`SETUP_E820_EXT`). [`read_zero_page`] and [`read_ext`] make values of such bytes, or name the
-//! first fault: both faults and values are defined by offsets on the whole bytes, in
-//! `specs/ZeroPage.antt` and `specs/Extension.antt`. The page also says where the loader put the
-//! initrd (`specs/Initrd.antt`).
+//! A boot loader passes the kernel one page of parameters (`struct boot_params`). The page has up
+//! to 128 entries at offset 0x2D0. Further entries come in a node of the `setup_data` list
+//! (`SETUP_E820_EXT`).
 //!
-//! The entries that a reader answers end in the address space. The layer above turns them into
-//! claims; it needs no more than [`Entry`] and that bound. The range of an initrd has an address,
-//! and ends at the end of a frame.
+//! - [`read_zero_page`] reads the page into a [`ZeroPage`]: its entries, and the range of the
+//!   initrd, if the boot loader loaded one.
+//! - [`read_ext`] reads the extension into a list of [`Entry`].
+//! - [`made`] makes a table of any size up to 3,000 entries, to try and to measure the layers
+//!   above.
 //!
-//! [`made`] gives tables of any size that no machine has, to try and to measure the layers above
-//! with (`specs/Made.antt`).
+//! A reader that refuses its bytes returns the first fault that they have: [`ZeroFault`] or
+//! [`ExtFault`]. The layer above may rest on two facts. Every entry that a reader returns has an
+//! address plus size below 2^64. The range of an initrd isn't empty, and ends at the end of a
+//! frame.
+//!
+//! In contracts, a name means the definition in `specs/`. `ZeroPage.antt`, `Extension.antt`,
+//! `Entries.antt` and `Initrd.antt` define values and faults by offsets in the whole bytes;
+//! `Made.antt` defines the tables of [`made`].
 #![tactic(auto)]
 
 mod entries;

@@ -1,13 +1,13 @@
-//! What a made input is: a table in the place of the one that a zero page and an extension give.
+//! The result of [`made`](crate::made): a table in place of that of a zero page and its extension.
 
 use crate::zero_page::ZeroPage;
 use e820_model::Entry;
 
-/// A made input: the firmware's table of a machine that isn't there.
+/// A made table, in the form in which a boot loader would pass it.
 #[derive(Drop)]
 pub struct Made {
-    /// The first entries, up to 128, and no initrd.
+    /// The first 128 entries, or all of them if there are fewer, and no initrd.
     pub zero: ZeroPage,
-    /// The entries beyond those.
+    /// The entries after those of the zero page.
     pub ext: Vec<Entry>,
 }

@@ -1,5 +1,6 @@
-//! The zero page: the boot loader's page of parameters, of which the table of entries and the place of the initrd are
-//! read. It has room for 128 entries, which an array of that capacity holds, so reading takes no memory.
+//! Reads the zero page, the boot loader's page of parameters: its table of entries, and where the
+//! initrd is. The page has room for 128 entries, which an array holds, so reading it allocates
+//! nothing.
 
 ghost use Rattle.std.specs.Prelude.{◌≡◌, ℕ, ◌+◌, ◌*◌, ◌≤◌, length, IfOk, IfErr, IfSome, OnOk};
 ghost use Rattle.e820_model.specs.Claims.{EndInSpace};
@@ -13,7 +14,7 @@ use arrayvec::ArrayVec;
 use bm_base::Range;
 use e820_model::Entry;
 
-/// The most entries that a zero page has room for (`E820_MAX_ENTRIES_ZEROPAGE`).
+/// The largest number of entries in a zero page (`E820_MAX_ENTRIES_ZEROPAGE`).
 pub const ZERO_PAGE_ENTRIES: usize = 128;
 
 const ZERO_PAGE_BYTES: usize = 4096;
@@ -22,33 +23,41 @@ const COUNT_OFFSET: usize = 0x1E8;
 
 const TABLE_OFFSET: usize = 0x2D0;
 
-/// What a zero page says of memory.
+/// The information about memory that a zero page contains.
 #[derive(Drop)]
 pub struct ZeroPage {
     /// The firmware's entries, in the order of the table.
     pub entries: ArrayVec<Entry, ZERO_PAGE_ENTRIES>,
-    /// The initrd, if there is one: from its image's first byte to the end of the image's last frame.
+    /// The range of the initrd, if there is one: from its first byte to the end of the frame that
+    /// has its last byte.
     pub initrd: Option<Range>,
 }
 
-/// Why bytes are no zero page. The first that holds is answered, in the order of this list.
+/// The reason why bytes are not a zero page. If several apply, the reader reports the first of
+/// this list.
 #[derive(Clone, Copy, Debug, PartialEq, Eq)]
 pub enum ZeroFault {
-    /// There are more or fewer than 4,096 bytes.
+    /// There are fewer or more than 4,096 bytes.
     WrongLength,
-    /// The number of entries is below 2.
+    /// The table has fewer than 2 entries.
     TooFew,
-    /// The number of entries is above 128.
+    /// The table has more than 128 entries.
     TooMany,
-    /// The entry's address plus size exceeds 2^64 - 1; the least such index, from 0.
+    /// The address plus size of the entry with this index exceeds 2^64 - 1. Indices count from 0;
+    /// this is the least such index.
     EntryTooFar { index: u32 },
     /// There is an initrd, and its address plus size exceeds 2^64 - 4,096.
     InitrdTooFar,
 }
 
-/// Reads the zero page (`struct boot_params`): the number of entries at offset 0x1E8, the entries
-/// from offset 0x2D0 on, and the initrd's address and size, which count where the loader's byte at
-/// offset 0x210 isn't 0. Takes no memory.
+/// Reads a zero page (`struct boot_params`) without allocating memory.
+///
+/// The number of entries is at offset 0x1E8, and the entries begin at offset 0x2D0. The address
+/// and the size of the initrd count only if the loader's type, the byte at offset 0x210, isn't 0.
+///
+/// # Errors
+///
+/// - The first fault of the bytes, in the order of [`ZeroFault`].
 pub fn read_zero_page(bytes: &[u8]) -> Result<ZeroPage, ZeroFault>
     ensures fault { IfErr result (λ fault. zero_fault bytes.now ≡ Some fault) }
     ensures well_formed { OnOk result (zero_fault bytes.now ≡ None) }
@@ -77,7 +86,7 @@ pub fn read_zero_page(bytes: &[u8]) -> Result<ZeroPage, ZeroFault>
     })
 }
 
-/// The first `count` entries of the page.
+/// Returns the first `count` entries of the page, at most 128.
 fn read_entries(bytes: &[u8], count: u32) -> ArrayVec<Entry, ZERO_PAGE_ENTRIES>
     requires room { count ≤ 128 }
     requires whole { 0x2D0 + 20 * count ≤ length bytes.now }

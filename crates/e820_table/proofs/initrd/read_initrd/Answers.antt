@@ -6,7 +6,7 @@ use Rattle.e820_table.specs.declared.zero_page.ZeroFault.TheVariants.{InitrdTooF
 use Rattle.e820_table.specs.Initrd.{is_initrd_far}
 use Rattle.e820_table.proofs.initrd.read_initrd.Goals as goal
 
--- where the reader goes on, there is no fault
+-- if the reader succeeds, the initrd has no fault
 no_fault : (r : Result (Option Range) ZeroFault) (far : Bool) → OnOk r (far ≡ false)
     → OnOk r ((if far then Some InitrdTooFar else None) ≡ None)
 no_fault (Ok initrd) far near = rw near refl
