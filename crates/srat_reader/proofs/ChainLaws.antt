@@ -1,4 +1,5 @@
--- The chain of entries: what is left of it from an offset on, and that the bound on its steps never matters.
+-- Lemmas on the sequence of entries: what is left of it from an offset on, and that the bound on
+-- its length never cuts it short.
 use Rattle.std.proofs.Common.{◌≡◌, ◌≢◌, ℕ, zero, suc, ◌+◌, ◌<◌, ◌≤◌, Bool, true, false, List, [], ◌∷◌, ◌++◌, length, length-append, Option, Some, None, IsSome, option_to_list, append_assoc, refl, sym, ap, ◌∙◌, arith}
 use Rattle.std.proofs.lemmas.Bool.{false_from_ne_true, false≢true, true_from_ne_false}
 use Rattle.std.proofs.lemmas.Bool.Decides.{nat_tests}
@@ -9,13 +10,14 @@ use Rattle.srat_reader.specs.declared.table.SratFault.TheVariants as faults
 use Rattle.srat_reader.specs.Entries.{length_at, is_whole, is_far, said_at}
 use Rattle.srat_reader.specs.Table.{offsets_from, offsets_of, first_fault}
 
--- a whole entry has two bytes at least, and ends by the end
+-- a whole entry has at least two bytes, and ends by the end of the table
 pub whole_bounds : (at : ℕ) (bytes : List ℕ) → is_whole at bytes ≡ true
     → (at + 2 ≤ length bytes) × (2 ≤ length_at at bytes) × (at + length_at at bytes ≤ length bytes)
 unfolding is_whole
 whole_bounds at bytes whole = (grind (arith, nat_tests), grind (arith, nat_tests), grind (arith, nat_tests))
 
--- the offsets of one more step
+-- the offsets from here on: none at the end; at an entry that isn't whole, that entry alone; else
+-- the entry and those after it
 from_end : (n at : ℕ) (bytes : List ℕ) → length bytes ≤ at → offsets_from n at bytes ≡ []
 unfolding offsets_from
 from_end zero at bytes ended = refl
@@ -31,7 +33,8 @@ from_broken : (n at : ℕ) (bytes : List ℕ) → at < length bytes → is_whole
 unfolding offsets_from
 from_broken n at bytes before broken = grind (arith, nat_tests)
 
--- one step, where those behind the entry are the same
+-- if two bounds give the same entries after this one, a bound of one more gives the same entries
+-- from this one on
 one_step : (n m at : ℕ) (bytes : List ℕ)
     → (2 ≤ length_at at bytes → offsets_from n (at + length_at at bytes) bytes ≡ offsets_from m (at + length_at at bytes) bytes)
     → (ended whole : Bool) → nat_le (length bytes) at ≡ ended → is_whole at bytes ≡ whole
@@ -48,7 +51,7 @@ one_step n m at bytes behind false true before whole =
     ∙ ap (λ rest. at ∷ rest) (behind (whole_bounds at bytes whole).1)
     ∙ sym (from_whole m at bytes here whole)
 
--- the bound never matters: whatever reaches the end from an offset reaches the same entries
+-- two bounds that both reach the end of the table give the same entries
 enough : (n m at : ℕ) (bytes : List ℕ) → length bytes ≤ n + at → length bytes ≤ m + at
     → offsets_from n at bytes ≡ offsets_from m at bytes
 enough zero m at bytes first second = from_end zero at bytes (omega arith) ∙ sym (from_end m at bytes (omega arith))
@@ -57,7 +60,7 @@ enough (suc n) (suc m) at bytes first second =
     one_step n m at bytes (λ long. enough n m (at + length_at at bytes) bytes (omega arith) (omega arith))
     (nat_le (length bytes) at) (is_whole at bytes) refl refl
 
--- the offsets of the entries from one offset on
+-- the offsets of the entries from offset `at` on
 abbrev pub rest_from : ℕ → List ℕ → List ℕ
 rest_from at bytes = offsets_from (length bytes) at bytes
 
@@ -76,7 +79,8 @@ rest_broken at bytes before broken =
     enough (length bytes) (suc (length bytes)) at bytes (omega arith) (omega arith)
     ∙ from_broken (length bytes) at bytes before broken
 
--- the first fault from an offset on: that of the entry there, or of those behind it
+-- the first fault from an offset on: the fault of the entry there, or else the first of the
+-- entries after it
 pub broken_fault : (at : ℕ) (bytes : List ℕ) → at < length bytes → is_whole at bytes ≡ false
     → first_fault bytes (rest_from at bytes) ≡ Some (faults.EntryLength at)
 broken_fault at bytes before broken = rw (rest_broken at bytes before broken) (rw broken refl)
@@ -92,7 +96,8 @@ later_fault at bytes before whole near = rw (rest_whole at bytes before whole) (
 pub no_fault : (at : ℕ) (bytes : List ℕ) → length bytes ≤ at → first_fault bytes (rest_from at bytes) ≡ None
 no_fault at bytes ended = rw (rest_end at bytes ended) refl
 
--- where no fault is left, the entry here is whole and near, and there is none behind it
+-- if there is no fault from an offset on, the entry there is whole and not too far, and there is
+-- no fault after it
 pub whole_here : (at : ℕ) (bytes : List ℕ) → at < length bytes → first_fault bytes (rest_from at bytes) ≡ None
     → is_whole at bytes ≡ true
 whole_here at bytes before none =
@@ -109,7 +114,8 @@ pub sound_behind : (at : ℕ) (bytes : List ℕ) → at < length bytes → first
 sound_behind at bytes before none =
     sym (later_fault at bytes before (whole_here at bytes before none) (near_here at bytes before none)) ∙ none
 
--- what is told from an offset on: what the entry there tells, before what those behind it tell
+-- the values from an offset on: that of the entry there, if it has one, and then those of the
+-- entries after it
 pub told_here : {X : Type 0} (f : ℕ → Option X) (at : ℕ) (bytes : List ℕ) (before : List X) → at < length bytes
     → is_whole at bytes ≡ true
     → before ++ filter_map f (rest_from at bytes)
@@ -125,7 +131,7 @@ pub told_end : {X : Type 0} (f : ℕ → Option X) (at : ℕ) (bytes : List ℕ)
     → before ++ filter_map f (rest_from at bytes) ≡ before
 told_end f at bytes before ended = rw (rest_end at bytes ended) (rw append-nil refl)
 
--- what the entry here tells is among what is told in all
+-- if the entry at an offset has a value, the whole list isn't empty
 pub some_told : {X : Type 0} (f : ℕ → Option X) (at : ℕ) (bytes : List ℕ) (before : List X) → at < length bytes
     → is_whole at bytes ≡ true → IsSome (f at) → 0 < length (before ++ filter_map f (rest_from at bytes))
 some_told {X} f at bytes before here whole some = rw (rest_whole at bytes here whole) (by (f at) refl some) where
@@ -133,7 +139,7 @@ some_told {X} f at bytes before here whole some = rw (rest_whole at bytes here w
   by None is some = absurd (false≢true some)
   by (Some x) is some = rw is (simp length-append (omega arith))
 
--- none of these faults is want of memory
+-- "out of memory" is never a fault of the bytes
 pub not_memory : (bytes offsets : List ℕ) → first_fault bytes offsets ≢ Some faults.Memory
 not_memory bytes [] is = cc
 not_memory bytes (at ∷ rest) is = by (not_memory bytes rest) (is_whole at bytes) (is_far (said_at at bytes)) refl refl is where

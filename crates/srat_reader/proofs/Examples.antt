@@ -1,4 +1,4 @@
--- Small tables, computed: what the definitions say of their bytes.
+-- Worked examples of small tables.
 use Rattle.std.proofs.Common.{Ok, Err, ◌≡◌, ℕ, true, false, List, [], ◌∷◌, ◌++◌, Some, None, refl}
 use Rattle.std.specs.Prelude.{replicate, codes}
 use Rattle.srat_reader.specs.declared.entries.Said.TheVariants as said
@@ -6,13 +6,13 @@ use Rattle.srat_reader.specs.declared.table.SratFault.TheVariants as faults
 use Rattle.srat_reader.specs.Entries.{number_at, revision_of, type_at, length_at, fits_type, is_whole, is_enabled, apic_domain, block_domain, x2apic_domain, where_enabled, memory_at, said_at, is_far}
 use Rattle.srat_reader.specs.Table.{header_fault, offsets_from, offsets_of, fault_at, first_fault, srat_fault, processor_of, srat_block_of, processor_at, block_at, processors_of, srat_blocks_of, unless_fault, srat_of}
 
--- the header of a table of that length (below 256), revision and checksum byte
+-- the header of a table with this length (below 256), revision and checksum byte
 abbrev header : ℕ → ℕ → ℕ → List ℕ
 header size revision check =
     codes "SRAT" ++ (size ∷ 0 ∷ 0 ∷ 0 ∷ revision ∷ check ∷ []) ++ replicate 38 0
 
--- the entries of a processor in domain 0x030201 + 2^24 * 4 by its APIC, of one in domain 0x0c0d by its x2APIC, and of
--- 0x1000 bytes of memory at 0x2000 in domain 0x0105; those flags say whether they are enabled
+-- entries with these flags: a local APIC in domain 0x04030201; a local x2APIC in domain 0x0c0d;
+-- and 0x1000 bytes of memory at 0x2000 in domain 0x0105
 abbrev apic : ℕ → List ℕ
 apic flags = 0 ∷ 16 ∷ 1 ∷ 9 ∷ flags ∷ 0 ∷ 0 ∷ 0 ∷ 7 ∷ 2 ∷ 3 ∷ 4 ∷ 0 ∷ 0 ∷ 0 ∷ 0 ∷ []
 
@@ -25,14 +25,16 @@ memory flags =
     0 ∷ 0x20 ∷ 0 ∷ 0 ∷ 0 ∷ 0 ∷ 0 ∷ 0 ∷ 0 ∷ 0x10 ∷ 0 ∷ 0 ∷ 0 ∷ 0 ∷ 0 ∷ 0 ∷
     0 ∷ 0 ∷ 0 ∷ 0 ∷ flags ∷ 0 ∷ 0 ∷ 0 ∷ replicate 8 0
 
--- those of 0xFFF and of 0x1000 bytes at 2^64 - 0x1000: the first ends at 2^64 - 1, the second behind it
+-- entries of 0xFFF and of 0x1000 bytes of memory at 2^64 - 0x1000: one ends at 2^64 - 1, the other
+-- exceeds that
 abbrev last_memory : ℕ → ℕ → List ℕ
 last_memory low high =
     1 ∷ 40 ∷ 0 ∷ 0 ∷ 0 ∷ 0 ∷ 0 ∷ 0 ∷
     0 ∷ 0xF0 ∷ 0xFF ∷ 0xFF ∷ 0xFF ∷ 0xFF ∷ 0xFF ∷ 0xFF ∷ low ∷ high ∷ 0 ∷ 0 ∷ 0 ∷ 0 ∷ 0 ∷ 0 ∷
     0 ∷ 0 ∷ 0 ∷ 0 ∷ 1 ∷ 0 ∷ 0 ∷ 0 ∷ replicate 8 0
 
--- numbers of four bytes and of two, the lowest byte first; the revision; the type and the length of an entry
+-- numbers of four bytes and of two, the lowest byte first; the revision; the type and the length
+-- of an entry
 low_byte_first : (number_at 4 1 (9 ∷ 0x78 ∷ 0x56 ∷ 0x34 ∷ 0x12 ∷ []) ≡ 0x12345678) × (number_at 2 0 (0x34 ∷ 0x12 ∷ []) ≡ 0x1234)
 low_byte_first = (refl, refl)
 
@@ -49,20 +51,20 @@ begins_with = (refl, refl, refl, refl)
 own_lengths : (fits_type 0 16 ≡ true) × (fits_type 1 16 ≡ false) × (fits_type 2 24 ≡ true) × (fits_type 3 5 ≡ true)
 own_lengths = (refl, refl, refl, refl)
 
--- whole entries; ones that aren't: one byte is left, it states less than its two bytes, passes the end, or has another length than its
--- type; and a whole one behind another byte
+-- which entries are whole. These are not: only one byte is left; the length is below 2; it passes
+-- the end; it doesn't fit the type. The last example is a whole entry at offset 1.
 whole_entries : (is_whole 0 (memory 1) ≡ true) × (is_whole 0 (9 ∷ 2 ∷ []) ≡ true) × (is_whole 0 (9 ∷ []) ≡ false)
     × (is_whole 0 (9 ∷ 1 ∷ 0 ∷ []) ≡ false) × (is_whole 0 (9 ∷ 4 ∷ 0 ∷ []) ≡ false) × (is_whole 0 (1 ∷ 2 ∷ []) ≡ false)
     × (is_whole 1 (7 ∷ apic 1) ≡ true)
 unfolding is_whole
 whole_entries = (refl, refl, refl, refl, refl, refl, refl)
 
--- bit 0 of the flags alone
+-- only bit 0 of the flags counts
 lowest_bit : (is_enabled 0 (1 ∷ 0 ∷ 0 ∷ 0 ∷ []) ≡ true) × (is_enabled 0 (3 ∷ 0 ∷ 0 ∷ 0 ∷ []) ≡ true)
     × (is_enabled 0 (0xFE ∷ 0xFF ∷ 0xFF ∷ 0xFF ∷ []) ≡ false) × (is_enabled 0 (0 ∷ 1 ∷ 0 ∷ 0 ∷ []) ≡ false)
 lowest_bit = (refl, refl, refl, refl)
 
--- the upper bytes of a domain count from revision 2 on; an x2APIC's always
+-- the upper bytes of a domain count from revision 2 on; those of an x2APIC always do
 domains_of_revision_1 : (apic_domain 48 (header 64 1 0 ++ apic 1) ≡ 1) × (block_domain 48 (header 88 1 0 ++ memory 1) ≡ 5)
 unfolding apic_domain block_domain
 domains_of_revision_1 = (refl, refl)
@@ -74,7 +76,7 @@ domains_of_revision_2 = (refl, refl)
 x2apic_of_any_revision : (x2apic_domain 48 (header 72 1 0 ++ x2apic 1) ≡ 0x0C0D) × (x2apic_domain 0 (x2apic 0) ≡ 0x0C0D)
 x2apic_of_any_revision = (refl, refl)
 
--- what an entry says, and nothing where it isn't enabled or is of another type
+-- a disabled entry and an entry of another type have no content
 enabled_alone : (where_enabled true (said.Processor 3) ≡ said.Processor 3) × (where_enabled false (said.Processor 3) ≡ said.Nothing)
 enabled_alone = (refl, refl)
 
@@ -92,20 +94,22 @@ says_processors : (said_at 48 (header 64 3 0 ++ apic 1) ≡ said.Processor 0x040
 unfolding said_at apic_domain
 says_processors = (refl, refl)
 
--- 2^64 - 1 isn't too far, and 2^64 is
+-- the sum 2^64 - 1 isn't too far, and 2^64 is
 far_memory : (is_far (said.Block 0 0xFFFFFFFFFFFFF000 0xFFF) ≡ false)
     × (is_far (said.Block 0 0xFFFFFFFFFFFFF000 0x1000) ≡ true)
     × (is_far (said.Processor 7) ≡ false)
     × (is_far said.Nothing ≡ false)
 far_memory = (refl, refl, refl, refl)
 
--- the faults of the header, in their order: too short, another signature, another length, another sum, and none
+-- the faults of the header, in their order: too short, another signature, another length, another
+-- checksum, and no fault
 header_faults : (header_fault [] ≡ Some faults.Short) × (header_fault (replicate 47 0) ≡ Some faults.Short)
     × (header_fault (replicate 48 0) ≡ Some faults.Signature) × (header_fault (header 49 1 0) ≡ Some faults.Length)
     × (header_fault (header 48 1 0x96) ≡ Some faults.Checksum) × (header_fault (header 48 1 0x95) ≡ None)
 header_faults = (refl, refl, refl, refl, refl, refl)
 
--- the entries' offsets: each behind the one before, up to the one that isn't whole
+-- the offsets of the entries: each begins where the one before it ends, and one that isn't whole
+-- is the last
 two_offsets : (offsets_of (header 128 1 0 ++ x2apic 1 ++ (9 ∷ 16 ∷ replicate 14 0) ++ memory 1) ≡ 48 ∷ 72 ∷ 88 ∷ [])
     × (offsets_of (header 92 1 0 ++ x2apic 1 ++ (9 ∷ 1 ∷ []) ++ apic 1) ≡ 48 ∷ 72 ∷ [])
 unfolding offsets_from is_whole
@@ -115,21 +119,23 @@ no_offset : (offsets_of (header 48 1 0) ≡ []) × (offsets_from 1 0 (x2apic 1 +
 unfolding offsets_from is_whole
 no_offset = (refl, refl)
 
--- the fault of one entry: that it isn't whole goes before what it says; and a block may be too far, or end at the last address
+-- the fault of one entry: whether it is whole is tested first; a range of memory may end at 2^64 -
+-- 1, and not at 2^64
 fault_of_one : (fault_at (9 ∷ []) 0 ≡ Some (faults.EntryLength 0)) × (fault_at (header 50 1 0 ++ 9 ∷ 2 ∷ []) 48 ≡ None)
     × (fault_at (header 88 1 0 ++ last_memory 0 0x10) 48 ≡ Some (faults.BlockTooFar 48))
     × (fault_at (header 88 1 0 ++ last_memory 0xFF 0x0F) 48 ≡ None)
 unfolding is_whole said_at block_domain
 fault_of_one = (refl, refl, refl, refl)
 
--- the first entry with a fault gives it, whichever of the two it is; no entry, no fault
+-- the first entry with a fault decides, whichever of the two faults it is; no entries, no fault
 first_faults : (first_fault (header 90 1 0 ++ last_memory 0 0x10 ++ 9 ∷ 1 ∷ []) (48 ∷ 88 ∷ []) ≡ Some (faults.BlockTooFar 48))
     × (first_fault (header 90 1 0 ++ last_memory 0xFF 0x0F ++ 9 ∷ 1 ∷ []) (48 ∷ 88 ∷ []) ≡ Some (faults.EntryLength 88))
     × (first_fault (header 48 1 0) [] ≡ None)
 unfolding is_whole said_at block_domain
 first_faults = (refl, refl, refl)
 
--- the header's fault goes before an entry's; a table of 50 bytes whose entry states no length
+-- a table of 50 bytes whose entry states the length 0: a wrong checksum is reported before the
+-- entry
 srat_faults : (srat_fault (header 50 1 0 ++ 1 ∷ 0 ∷ []) ≡ Some faults.Checksum)
     × (srat_fault (header 50 1 0x92 ++ 1 ∷ 0 ∷ []) ≡ Some (faults.EntryLength 48))
 unfolding offsets_from is_whole
@@ -163,12 +169,12 @@ disabled_alone : (processors_of (header 104 2 0 ++ memory 0 ++ apic 2) ≡ []) �
 unfolding offsets_from is_whole said_at apic_domain block_domain
 disabled_alone = (refl, refl)
 
--- the whole: the lists, or the fault in their place
+-- the lists, or the fault in their place
 lists_or_fault : (unless_fault None (record { processors = 7 ∷ []; blocks = [] }) ≡ Ok (record { processors = 7 ∷ []; blocks = [] }))
     × (unless_fault (Some faults.Checksum) (record { processors = 7 ∷ []; blocks = [] }) ≡ Err faults.Checksum)
 lists_or_fault = (refl, refl)
 
--- the smallest table, one with a processor, and one whose entry is cut
+-- the smallest table, one with a processor, and one whose entry isn't whole
 srat_examples : (srat_of (header 48 1 0x95) ≡ Ok (record { processors = []; blocks = [] }))
     × (srat_of (header 72 1 0x25 ++ x2apic 1) ≡ Ok (record { processors = 0x0C0D ∷ []; blocks = [] }))
     × (srat_of (header 50 1 0x92 ++ 1 ∷ 0 ∷ []) ≡ Err (faults.EntryLength 48))

@@ -1,59 +1,62 @@
--- The entries of the SRAT (ACPI, section 5.2.16), each by its offset in the whole bytes. Numbers are little-endian.
+-- The entries of the SRAT (ACPI, section 5.2.16), by their offset in the whole table. Numbers are
+-- little-endian.
 use Rattle.std.specs.Prelude.{ℕ, ◌+◌, ◌*◌, ◌^◌, ◌==◌, Bool, true, false, ◌&&◌, not, nat_le, nat_lt, bit_and, if◌then◌else◌, List, length, drop, slice_index}
 use Rattle.byteorder.specs.Endian.{little_number}
 use Rattle.srat_reader.specs.declared.entries.Said.{Said}
 use Rattle.srat_reader.specs.declared.entries.Said.TheVariants as said
 
--- the number of that many bytes at the offset
+-- the number in `width` bytes at the offset
 abbrev pub number_at : ℕ → ℕ → List ℕ → ℕ
 number_at width offset bytes = little_number width (drop offset bytes)
 
--- the table's revision, a byte of its header
+-- the revision of the table, a byte of its header
 abbrev pub revision_of : List ℕ → ℕ
 revision_of bytes = slice_index bytes 8
 
--- the type and the length that the entry at the offset begins with (`struct acpi_subtable_header`)
+-- the type and the length of the entry at offset `at`, its first two bytes (`struct
+-- acpi_subtable_header`)
 abbrev pub type_at : ℕ → List ℕ → ℕ
 type_at at bytes = slice_index bytes at
 
 abbrev pub length_at : ℕ → List ℕ → ℕ
 length_at at bytes = slice_index bytes (at + 1)
 
--- entries of types 0, 1 and 2 have 16, 40 and 24 bytes; those of other types any number
--- (`struct acpi_srat_cpu_affinity`, `acpi_srat_mem_affinity`, `acpi_srat_x2apic_cpu_affinity`)
+-- the length fits the type: entries of types 0, 1 and 2 have 16, 40 and 24 bytes, those of other
+-- types any number (`struct acpi_srat_cpu_affinity`, `acpi_srat_mem_affinity`,
+-- `acpi_srat_x2apic_cpu_affinity`)
 abbrev pub fits_type : ℕ → ℕ → Bool
 fits_type kind size =
     if kind == 0 then size == 16 else (if kind == 1 then size == 40 else (if kind == 2 then size == 24 else true))
 
--- a whole entry begins at the offset: its two first bytes are there, its length is at least these two,
--- doesn't pass the end, and is that of its type
+-- there is a whole entry at offset `at`: its first two bytes are there; its length is at least 2,
+-- doesn't pass the end of the table, and fits its type
 unfoldable pub is_whole : ℕ → List ℕ → Bool
 is_whole at bytes =
     nat_le (at + 2) (length bytes) && (nat_le 2 (length_at at bytes)
     && (nat_le (at + length_at at bytes) (length bytes) && fits_type (type_at at bytes) (length_at at bytes)))
 
--- bit 0 of the flags at the offset (`ACPI_SRAT_CPU_ENABLED`, `ACPI_SRAT_MEM_ENABLED`)
+-- bit 0 is set in the flags (u32) at the offset (`ACPI_SRAT_CPU_ENABLED`, `ACPI_SRAT_MEM_ENABLED`)
 abbrev pub is_enabled : ℕ → List ℕ → Bool
 is_enabled offset bytes = not (bit_and (number_at 4 offset bytes) 1 == 0)
 
--- the domain of a processor by its local APIC: the byte at 2, and where the revision is 2 or more the bytes
--- at 9, 10 and 11 as its bits 8 to 31 (`acpi_numa_processor_affinity_init`)
+-- the domain of a local APIC entry: its byte 2. From revision 2 of the table on, bytes 9, 10 and
+-- 11 are bits 8 to 31 of the domain (`acpi_numa_processor_affinity_init`).
 unfoldable pub apic_domain : ℕ → List ℕ → ℕ
 apic_domain at bytes =
     if nat_lt (revision_of bytes) 2 then slice_index bytes (at + 2)
     else slice_index bytes (at + 2) + 2 ^ 8 * slice_index bytes (at + 9)
     + 2 ^ 16 * slice_index bytes (at + 10) + 2 ^ 24 * slice_index bytes (at + 11)
 
--- the domain of a range of memory: the u32 at 2, of which its low 8 bits alone where the revision is 1 or less
--- (`acpi_numa_memory_affinity_init`)
+-- the domain of a memory entry: the u32 at its offset 2. Before revision 2 of the table, only the
+-- lowest byte of it counts (`acpi_numa_memory_affinity_init`).
 unfoldable pub block_domain : ℕ → List ℕ → ℕ
 block_domain at bytes = if nat_lt (revision_of bytes) 2 then slice_index bytes (at + 2) else number_at 4 (at + 2) bytes
 
--- the domain of a processor by its local x2APIC: the u32 at 4 (`acpi_numa_x2apic_affinity_init`)
+-- the domain of a local x2APIC entry: the u32 at its offset 4 (`acpi_numa_x2apic_affinity_init`)
 abbrev pub x2apic_domain : ℕ → List ℕ → ℕ
 x2apic_domain at bytes = number_at 4 (at + 4) bytes
 
--- what the entry at the offset says: nothing where it is of another type, or isn't enabled
+-- the content of the entry at the offset: nothing if it is of another type or isn't enabled
 abbrev pub where_enabled : Bool → Said → Said
 where_enabled enabled what = if enabled then what else said.Nothing
 
@@ -67,7 +70,7 @@ said_at at bytes =
     (if type_at at bytes == 2 then where_enabled (is_enabled (at + 12) bytes) (said.Processor (x2apic_domain at bytes)) else
     said.Nothing))
 
--- a range of memory whose base plus length exceeds 2^64 - 1
+-- the content is a range of memory whose base plus size exceeds 2^64 - 1
 abbrev pub is_far : Said → Bool
 is_far said.Nothing = false
 is_far (said.Processor domain) = false

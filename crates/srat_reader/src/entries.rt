@@ -1,37 +1,38 @@
-//! One entry of the table: whether it is whole, how long it is, and what it says. Apart from the table's
-//! header and its faults, since an entry is read the same way when it is judged and when it is kept.
+//! Reads one entry: whether it is whole, how long it is, and what it says. The search for faults
+//! and the reading of the values share this code.
 ghost use Rattle.std.specs.Prelude.{◌≡◌, ℕ, ◌+◌, ◌<◌, ◌≤◌, length, IsTrue};
 ghost use Rattle.srat_reader.specs.Entries.{type_at, length_at, fits_type, is_whole, is_far, is_enabled, apic_domain, block_domain, said_at};
 
 use byteorder::{ByteOrder, LittleEndian};
 
-/// A processor by its local APIC (`ACPI_SRAT_TYPE_CPU_AFFINITY`).
+/// The type of a processor's local APIC (`ACPI_SRAT_TYPE_CPU_AFFINITY`).
 const LOCAL_APIC: u8 = 0;
 
-/// A range of memory (`ACPI_SRAT_TYPE_MEMORY_AFFINITY`).
+/// The type of a range of memory (`ACPI_SRAT_TYPE_MEMORY_AFFINITY`).
 const MEMORY: u8 = 1;
 
-/// A processor by its local x2APIC (`ACPI_SRAT_TYPE_X2APIC_CPU_AFFINITY`).
+/// The type of a processor's local x2APIC (`ACPI_SRAT_TYPE_X2APIC_CPU_AFFINITY`).
 const LOCAL_X2APIC: u8 = 2;
 
-/// Where the table's revision stands.
+/// The offset of the table's revision, in bytes.
 const REVISION_OFFSET: usize = 8;
 
-/// The flag of an entry that counts (`ACPI_SRAT_CPU_ENABLED`, `ACPI_SRAT_MEM_ENABLED`).
+/// The flag of an enabled entry (`ACPI_SRAT_CPU_ENABLED`, `ACPI_SRAT_MEM_ENABLED`).
 const ENABLED: u32 = 1;
 
-/// What an entry says.
+/// The content of an entry.
 #[derive(Clone, Copy, Debug, PartialEq, Eq)]
 pub enum Said {
-    /// It is of another type, or isn't enabled.
+    /// The entry has another type, or isn't enabled.
     Nothing,
-    /// A processor is in the domain.
+    /// A processor belongs to this domain.
     Processor { domain: u32 },
-    /// The `size` bytes of memory from `base` on are in the domain. The sum of both may exceed 2^64 - 1.
+    /// The `size` bytes of memory from address `base` on belong to this domain. The sum of `base`
+    /// and `size` may exceed 2^64 - 1.
     Block { domain: u32, base: u64, size: u64 },
 }
 
-/// Whether a range of memory reaches past 2^64 - 1.
+/// Tests whether the content is a range of memory whose base plus size exceeds 2^64 - 1.
 pub fn is_too_far(said: Said) -> bool
     ensures { result ≡ is_far said }
 {
@@ -41,8 +42,8 @@ pub fn is_too_far(said: Said) -> bool
     }
 }
 
-/// Whether a whole entry begins at the offset: its type and length are there, the length is at least
-/// these two bytes and no more than is left, and it is that of the type.
+/// Tests whether a whole entry begins at offset `at`. Its type and length must be there. The
+/// length must be at least 2, must not exceed the bytes that are left, and must fit the type.
 #[tactic(auto, unfolding(crate::specs::Entries::is_whole))]
 pub fn is_whole_entry(bytes: &[u8], at: usize) -> bool
     requires { at < length bytes.now }
@@ -56,7 +57,7 @@ pub fn is_whole_entry(bytes: &[u8], at: usize) -> bool
     length >= 2 && length <= left && is_length_of_type(bytes[at], length)
 }
 
-/// The length that the entry at the offset states, in bytes.
+/// Returns the length that the entry at offset `at` states, in bytes.
 pub fn entry_length(bytes: &[u8], at: usize) -> usize
     requires { at + 1 < length bytes.now }
     ensures { result ≡ length_at at bytes.now }
@@ -64,7 +65,8 @@ pub fn entry_length(bytes: &[u8], at: usize) -> usize
     usize::from(bytes[at + 1])
 }
 
-/// Whether entries of the type have that length. Those of other types have any.
+/// Tests whether `length` is the length of entries of this type: 16, 40 or 24 bytes for types 0, 1
+/// and 2. Other types may have any length.
 fn is_length_of_type(kind: u8, length: usize) -> bool
     ensures { result ≡ fits_type kind length }
 {
@@ -76,7 +78,7 @@ fn is_length_of_type(kind: u8, length: usize) -> bool
     }
 }
 
-/// What the whole entry at the offset says.
+/// Returns the content of the entry at offset `at`, which must be whole.
 #[tactic(auto, unfolding(crate::specs::Entries::is_whole, crate::specs::Entries::said_at))]
 pub fn read_entry(bytes: &[u8], at: usize) -> Said
     requires header { 48 ≤ length bytes.now }
@@ -99,7 +101,7 @@ pub fn read_entry(bytes: &[u8], at: usize) -> Said
     }
 }
 
-/// Whether the flags at the offset say that the entry counts.
+/// Tests whether the enabled bit is set in the flags (u32) at this offset.
 fn has_enabled_flag(bytes: &[u8], offset: usize) -> bool
     requires { offset + 4 ≤ length bytes.now }
     ensures { result ≡ is_enabled offset bytes.now }
@@ -107,7 +109,8 @@ fn has_enabled_flag(bytes: &[u8], offset: usize) -> bool
     LittleEndian::read_u32(&bytes[offset..]) & ENABLED != 0
 }
 
-/// The domain of a processor by its local APIC: its upper three bytes count from revision 2 on.
+/// Returns the domain of the local APIC entry at `at`. Before revision 2 of the table, only the
+/// lowest byte counts.
 #[tactic(auto, unfolding(crate::specs::Entries::apic_domain))]
 fn local_apic_domain(bytes: &[u8], at: usize) -> u32
     requires header { 48 ≤ length bytes.now }
@@ -120,7 +123,8 @@ fn local_apic_domain(bytes: &[u8], at: usize) -> u32
     LittleEndian::read_u32(&[bytes[at + 2], bytes[at + 9], bytes[at + 10], bytes[at + 11]])
 }
 
-/// The domain of a range of memory: its upper three bytes count from revision 2 on.
+/// Returns the domain of the memory entry at `at`. Before revision 2 of the table, only the lowest
+/// byte counts.
 #[tactic(auto, unfolding(crate::specs::Entries::block_domain))]
 fn memory_domain(bytes: &[u8], at: usize) -> u32
     requires header { 48 ≤ length bytes.now }

@@ -1,20 +1,24 @@
-//! The SRAT as bytes: which ranges of memory and which processors the firmware puts into which domain.
+//! Reads the SRAT: which ranges of memory and which processors the firmware assigns to which
+//! proximity domain.
 //!
-//! The "System Resource Affinity Table" of ACPI (section 5.2.16) has the usual header of a table, 12
-//! reserved bytes, and entries from offset 48 on. Each entry begins with a type (u8) and a length (u8).
-//! Entries of type 0 (a processor's local APIC) and 2 (its local x2APIC) name the domain of a processor,
-//! entries of type 1 that of a range of memory; entries of other types are passed over by their length,
-//! and so are those that aren't enabled (`acpi_numa_processor_affinity_init`,
-//! `acpi_numa_x2apic_affinity_init`, `acpi_numa_memory_affinity_init`).
+//! The "System Resource Affinity Table" of ACPI (section 5.2.16) has the header that all ACPI
+//! tables have, then 12 reserved bytes, then entries from offset 48 on. Each entry begins with a
+//! type (u8) and a length (u8). The following types are read, as the kernel reads them:
 //!
-//! [`read_srat`] makes an [`Srat`] of such bytes, or names the first fault. Both are defined by offsets on
-//! the whole bytes: `srat_of` of `specs/Table.antt`, over `specs/Entries.antt`. The bytes are gone over twice: once,
-//! without memory, for a fault, and then for the values. So want of memory is answered only where the bytes
-//! have no fault.
+//! - type 0, the local APIC of a processor, and its domain (`acpi_numa_processor_affinity_init`)
+//! - type 1, a range of memory, and its domain (`acpi_numa_memory_affinity_init`)
+//! - type 2, the local x2APIC of a processor, and its domain (`acpi_numa_x2apic_affinity_init`)
 //!
-//! What the domains mean for memory (which numbers the nodes get, which blocks count, what lies between
-//! them) is the matter of the layer above. It may rest on what the definitions say of the two lists, and on
-//! each list having fewer than 2^32 members.
+//! Entries of other types and entries that aren't enabled are skipped.
+//!
+//! [`read_srat`] returns an [`Srat`], or the first fault of the bytes as a [`SratFault`]. It reads
+//! the bytes twice: first for faults, without allocating, and then for the values. So it runs out
+//! of memory only on bytes without a fault. The layer above may rest on each of the two lists
+//! having fewer than 2^32 members. That layer decides what the domains mean: the numbers of the
+//! nodes, and which ranges count.
+//!
+//! In contracts, a name means the definition in `specs/`: `Table.antt` has the whole table
+//! (`srat_of`), `Entries.antt` one entry.
 #![tactic(auto)]
 
 mod entries;

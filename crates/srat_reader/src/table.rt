@@ -1,4 +1,5 @@
-//! The table as a whole: its header, the chain of its entries, the first fault and the two lists.
+//! Reads the whole table: its header, the entries one after another, the first fault, and the two
+//! lists.
 ghost use Rattle.std.specs.Prelude.{◌≡◌, ◌≢◌, ℕ, None, Some, ◌^◌, ◌<◌, ◌≤◌, ◌%◌, ◌++◌, ◌⊎◌, length, sum, IfOk, IfErr, IfNone, IsErr, IsSome, OnOk, false};
 ghost use Rattle.std.specs.Option.{option_to_list};
 ghost use Rattle.srat_reader.specs.Entries.{is_far};
@@ -10,32 +11,32 @@ use bm_base::{Memory, Range};
 use byteorder::{ByteOrder, LittleEndian};
 use std::alloc::Global;
 
-/// The bytes before the first entry.
+/// The number of bytes before the first entry.
 const HEADER_BYTES: usize = 48;
 
-/// Where the table's length stands.
+/// The offset of the table's length, in bytes.
 const LENGTH_OFFSET: usize = 4;
 
-/// A range of memory and the domain that it is in.
+/// A range of memory and its proximity domain.
 #[derive(Clone, Copy, Debug, PartialEq, Eq)]
 pub struct SratBlock {
     /// The domain, as the firmware numbers it.
     pub domain: u32,
-    /// Its addresses; there may be none.
+    /// The addresses of the range, which may be empty.
     pub range: Range,
 }
 
-/// What the enabled entries of a table say, each list in the order of the table.
+/// The contents of the enabled entries. Each list is in the order of the table.
 #[derive(Debug, Drop)]
 pub struct Srat {
-    /// The domains of processors.
+    /// The domains of the processors.
     pub cpus: Vec<u32>,
     /// The ranges of memory with their domains.
     pub blocks: Vec<SratBlock>,
 }
 
-/// Why bytes are no SRAT. The first four are tried in the order of this list, and then the entries by
-/// ascending offset: the first one that has a fault gives it.
+/// The reason why bytes are not an SRAT. The first four are tested in this order, then the entries
+/// by ascending offset. The reader reports the first fault that it finds.
 #[derive(Clone, Copy, Debug, PartialEq, Eq)]
 pub enum SratFault {
     /// There are fewer than 48 bytes.
@@ -44,15 +45,17 @@ pub enum SratFault {
     Signature,
     /// The stated length isn't the number of bytes.
     Length,
-    /// The bytes don't sum to 0 modulo 256.
+    /// The sum of the bytes isn't 0 modulo 256.
     Checksum,
-    /// No whole entry begins at this offset: one byte alone is left, or the entry's length is below 2, or
-    /// passes the end, or the type is 0, 1 or 2 with another length than its own.
+    /// There is no whole entry at this offset. Only one byte is left; or the entry's length is
+    /// below 2 or passes the end of the table; or the type is 0, 1 or 2, and its entries have
+    /// another length.
     EntryLength { offset: u32 },
-    /// The entry at this offset is an enabled range of memory whose base plus length exceeds 2^64 - 1.
+    /// The entry at this offset is an enabled range of memory whose base plus size exceeds 2^64 -
+    /// 1.
     BlockTooFar { offset: u32 },
-    /// The program's own memory ran out; only where the bytes have none of the other faults, and an
-    /// entry tells a processor or a range of memory.
+    /// The program ran out of memory. This is returned only for bytes without any other fault that
+    /// have an enabled entry of a processor or of memory.
     Memory,
 }
 
@@ -66,8 +69,13 @@ impl From<Memory> for SratFault {
     }
 }
 
-/// Reads an SRAT of any revision: the domains of processors and the ranges of memory of its enabled
-/// entries. An enabled range of length 0 is read.
+/// Reads an SRAT of any revision: the domains of the processors and the ranges of memory in its
+/// enabled entries. Ranges of size 0 are included.
+///
+/// # Errors
+///
+/// - The first fault of the bytes, in the order that [`SratFault`] states.
+/// - `Memory`: the bytes have no fault, but the program ran out of memory.
 pub fn read_srat(alloc: Global, bytes: &[u8]) -> Result<Srat, SratFault>
     ensures answers { Answers SratFault.Memory affinity result (srat_of bytes.now) }
     ensures memory { IfErr result (λ fault. fault ≡ SratFault.Memory → srat_fault bytes.now ≡ None) }
@@ -85,7 +93,8 @@ pub fn read_srat(alloc: Global, bytes: &[u8]) -> Result<Srat, SratFault>
     Ok(read_entries(alloc, bytes)?)
 }
 
-/// The first fault of the header, the stated length and the checksum.
+/// Returns the first fault of the header: too short, the signature, the stated length, the
+/// checksum. Returns `None` if there is no such fault.
 fn find_header_fault(bytes: &[u8]) -> Option<SratFault>
     ensures value { result ≡ header_fault bytes.now }
     ensures few { IfNone result (length bytes.now < 2 ^ 32) }
@@ -105,7 +114,7 @@ fn find_header_fault(bytes: &[u8]) -> Option<SratFault>
     None
 }
 
-/// The sum of the bytes modulo 256.
+/// Returns the sum of the bytes modulo 256.
 fn checksum(bytes: &[u8]) -> u8
     ensures { result ≡ sum bytes.now % 256 }
 {
@@ -116,7 +125,8 @@ fn checksum(bytes: &[u8]) -> u8
     total
 }
 
-/// The fault of the first entry that has one.
+/// Returns the fault of the first entry that has one, or `None` if no entry has a fault. There
+/// must be fewer than 2^32 bytes, as the table's own length ensures.
 fn find_entry_fault(bytes: &[u8]) -> Option<SratFault>
     requires { length bytes.now < 2 ^ 32 }
     ensures { result ≡ first_fault bytes.now (offsets_of bytes.now) }
@@ -135,7 +145,11 @@ fn find_entry_fault(bytes: &[u8]) -> Option<SratFault>
     None
 }
 
-/// What the entries say, where none has a fault.
+/// Returns the contents of the enabled entries. No entry may have a fault.
+///
+/// # Errors
+///
+/// - `Memory`: the program ran out of memory; at least one of the two lists has a member.
 fn read_entries(alloc: Global, bytes: &[u8]) -> Result<Srat, Memory>
     requires { first_fault bytes.now (offsets_of bytes.now) ≡ None }
     ensures processors { IfOk result (λ srat. srat.cpus.items ≡ processors_of bytes.now) }
@@ -154,7 +168,12 @@ fn read_entries(alloc: Global, bytes: &[u8]) -> Result<Srat, Memory>
     Ok(srat)
 }
 
-/// Adds what an entry says, behind what those before it said.
+/// Appends the content of an entry to the list that it belongs to. A range of memory must end at
+/// 2^64 - 1 or below.
+///
+/// # Errors
+///
+/// - `Memory`: the program ran out of memory; the entry is a processor or a range of memory.
 fn keep(srat: &mut Srat, said: Said) -> Result<(), Memory>
     requires { is_far said ≡ false }
     ensures processors { OnOk result (srat.new.cpus.items ≡ srat.old.cpus.items ++ option_to_list (processor_of said)) }

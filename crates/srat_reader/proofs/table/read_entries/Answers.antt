@@ -42,7 +42,7 @@ loop-at-preserved c =
           (sym (told_here (block_at bytes) l.at bytes l.srat.blocks.items c.loop-at-test.true whole) ∙ l.invariant.blocks);
     }
 
--- an entry that tells something, amid the table, tells something of the table
+-- a value of any entry makes one of the two lists of the table non-empty
 one_more : (at : ℕ) (bytes cpus : List ℕ) (blocks : List SratBlock) (said : Said) → at < length bytes → is_whole at bytes ≡ true
     → said ≡ said_at at bytes
     → cpus ++ filter_map (processor_at bytes) (rest_from at bytes) ≡ processors_of bytes
