@@ -1,4 +1,4 @@
--- Laws of descriptors that follow one another.
+-- Lemmas on lists of descriptors that follow one another in the file.
 use Rattle.std.proofs.Common.{◌≡◌, ℕ, zero, suc, ◌+◌, ◌-◌, ◌*◌, ◌^◌, ◌<◌, ◌≤◌, true, false, Option, Some, None, List, [], ◌∷◌, ◌++◌, map, length, append_assoc, refl, sym, ◌∙◌, ap, inl, inr, arith}
 use Rattle.std.proofs.lemmas.Bool.Decides.{nat_tests}
 use Rattle.std.proofs.lemmas.Bool.{cases_Bool}
@@ -8,7 +8,7 @@ use Rattle.e820_model.specs.Claims.{EndInSpace}
 use Rattle.efi_map.specs.Descriptors.{Descriptor, is_far, entry_of, mirror_of}
 use Rattle.efi_map.specs.Map.{nth_descriptor, descriptors_from, far_among, mirror_in_front, mirrors_of}
 
--- the first of those that are left, and the others
+-- the descriptors from index `i` on are the one at `i` and those after it
 pub one_more : (stride i n : ℕ) (bytes : List ℕ) → i < n
     → descriptors_from stride i (n - i) bytes ≡ nth_descriptor stride i bytes ∷ descriptors_from stride (i + 1) (n - (i + 1)) bytes
 unfolding descriptors_from
@@ -18,7 +18,8 @@ pub none_more : (stride i n : ℕ) (bytes : List ℕ) → n ≤ i → descriptor
 unfolding descriptors_from
 none_more stride i n bytes le = let left : n - i ≡ 0 = omega arith in rw left refl
 
--- the first of several is too far, or the search goes on behind it
+-- if the first descriptor of a list is too far, the search returns its index; else it goes on with
+-- the next
 pub far_here : (i : ℕ) (d : Descriptor) (ds : List Descriptor) → is_far d ≡ true → far_among i (d ∷ ds) ≡ Some i
 unfolding far_among
 far_here i d ds far = rw far refl
@@ -27,21 +28,21 @@ pub far_later : (i : ℕ) (d : Descriptor) (ds : List Descriptor) → is_far d �
 unfolding far_among
 far_later i d ds near = rw near refl
 
--- where none is too far, the first isn't, and no other is
+-- if no descriptor of a list is too far, the first isn't, and none of the others is
 pub first_near : (i : ℕ) (d : Descriptor) (ds : List Descriptor) → far_among i (d ∷ ds) ≡ None → is_far d ≡ false
 first_near i d ds none = elim (cases_Bool (is_far d)) as (λ _. is_far d ≡ false) [
   | inl far ↦ let found : far_among i (d ∷ ds) ≡ Some i = far_here i d ds far in cc
   | inr near ↦ near
 ]
 
--- then all entries end in the address space
+-- if no descriptor is too far, all entries end in the address space
 pub space_of_near : (i : ℕ) (ds : List Descriptor) → far_among i ds ≡ None → EndInSpace (map entry_of ds)
 space_of_near i [] none = tt
 space_of_near i (d ∷ ds) none =
     let near = first_near i d ds none in
     (grind (arith, nat_tests, near), space_of_near (i + 1) ds (sym (far_later i d ds near) ∙ none))
 
--- one step of the search over those that are left
+-- one step of the search over the descriptors from index `i` on
 pub far_hit : (stride i n : ℕ) (bytes : List ℕ) → i < n → is_far (nth_descriptor stride i bytes) ≡ true
     → far_among i (descriptors_from stride i (n - i) bytes) ≡ Some i
 far_hit stride i n bytes below far = rw (one_more stride i n bytes below) (far_here i _ _ far)
@@ -54,7 +55,7 @@ pub far_end : (stride i n : ℕ) (bytes : List ℕ) → n ≤ i → far_among i 
 unfolding far_among
 far_end stride i n bytes le = rw (none_more stride i n bytes le) refl
 
--- where none of those that are left is too far, the first isn't
+-- if no descriptor from index `i` on is too far, the one at `i` isn't
 pub near_now : (stride i n : ℕ) (bytes : List ℕ) → i < n → far_among i (descriptors_from stride i (n - i) bytes) ≡ None
     → is_far (nth_descriptor stride i bytes) ≡ false
 near_now stride i n bytes below none = first_near i _ (descriptors_from stride (i + 1) (n - (i + 1)) bytes)
@@ -63,7 +64,8 @@ near_now stride i n bytes below none = first_near i _ (descriptors_from stride (
 pub fits : (d : Descriptor) → is_far d ≡ false → d.base + 4096 * d.pages < 2 ^ 64
 fits d near = grind (arith, nat_tests, near)
 
--- what one more descriptor adds to what was read
+-- appending the value of the descriptor at `i`, and then those after it, is appending those from
+-- `i` on
 pub entries_on : (es : List Entry) (stride i n : ℕ) (bytes : List ℕ) → i < n
     → (es ++ entry_of (nth_descriptor stride i bytes) ∷ []) ++ map entry_of (descriptors_from stride (i + 1) (n - (i + 1)) bytes)
     ≡ es ++ map entry_of (descriptors_from stride i (n - i) bytes)
@@ -84,7 +86,7 @@ pub mirrors_on : (ms : List Extent) (o : Option Extent) (stride i n : ℕ) (byte
 unfolding mirrors_of
 mirrors_on ms o stride i n bytes below same = rw (one_more stride i n bytes below, ← same) (mirror_on ms o _)
 
--- as many as were counted
+-- the n descriptors from an index on are n descriptors
 pub counted : (stride i n : ℕ) (bytes : List ℕ) → length (descriptors_from stride i n bytes) ≡ n
 unfolding descriptors_from
 counted stride i zero bytes = refl

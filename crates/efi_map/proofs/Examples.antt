@@ -1,4 +1,5 @@
--- Small maps of EFI firmware, computed: each type of a descriptor with each attribute that counts, and each fault.
+-- Worked examples of small EFI maps: each type of memory with each attribute that counts, and each
+-- fault.
 use Rattle.std.proofs.Common.{◌≡◌, ℕ, ◌^◌, true, false, Some, None, Ok, Err, List, [], ◌∷◌, ◌++◌, replicate, refl}
 use Rattle.efi_map.specs.Descriptors.{Descriptor, descriptor_at, bytes_of_descriptor, is_far, has_attribute, is_free_kind, type_of_free, type_of_kind, e820_type, entry_of, mirror_of}
 use Rattle.efi_map.specs.Map.{stride_of, has_header, has_length, count_of, nth_descriptor, descriptors_from, descriptors_of, far_among, mirror_in_front, mirrors_of, unless_far, efi_of}
@@ -7,7 +8,8 @@ use Rattle.efi_map.specs.declared.efi.EfiFault.TheVariants as faults
 abbrev page : ℕ → ℕ → Descriptor
 page kind attributes = record { kind = kind; base = 0x300000; pages = 1; attributes = attributes }
 
--- EfiLoaderCode to EfiBootServicesData and EfiConventionalMemory: with EFI_MEMORY_SP soft reserved, with EFI_MEMORY_WB RAM, else reserved
+-- the types from EfiLoaderCode to EfiBootServicesData, and EfiConventionalMemory, are free: soft
+-- reserved with EFI_MEMORY_SP, else RAM with EFI_MEMORY_WB, and reserved without both
 free_kinds : (is_free_kind 0 ≡ false) × (is_free_kind 1 ≡ true) × (is_free_kind 2 ≡ true) × (is_free_kind 3 ≡ true)
     × (is_free_kind 4 ≡ true)
     × (is_free_kind 5 ≡ false) × (is_free_kind 6 ≡ false) × (is_free_kind 7 ≡ true) × (is_free_kind 8 ≡ false)
@@ -17,7 +19,8 @@ free_types : (type_of_free (page 7 0) ≡ 2) × (type_of_free (page 7 0x8) ≡ 1
     × (type_of_free (page 7 0x40008) ≡ 0xEFFFFFFF)
 free_types = (refl, refl, refl, refl)
 
--- the types of UEFI's list in their order, write-back: EfiReservedMemoryType to EfiUnacceptedMemoryType, and one of a firmware's own
+-- all types in UEFI's order, with write-back caching: EfiReservedMemoryType to
+-- EfiUnacceptedMemoryType, and one of a firmware's own
 types : (e820_type (page 0 8) ≡ 2) × (e820_type (page 1 8) ≡ 1) × (e820_type (page 2 8) ≡ 1) × (e820_type (page 3 8) ≡ 1)
     × (e820_type (page 4 8) ≡ 1)
     × (e820_type (page 5 8) ≡ 2) × (e820_type (page 6 8) ≡ 2) × (e820_type (page 7 8) ≡ 1) × (e820_type (page 8 8) ≡ 5)
@@ -28,7 +31,7 @@ later_types : (e820_type (page 10 8) ≡ 4) × (e820_type (page 11 8) ≡ 2) × 
     × (e820_type (page 14 8) ≡ 7) × (e820_type (page 15 8) ≡ 2) × (e820_type (page 0xFFFFFFFF 8) ≡ 2) × (type_of_kind 16 ≡ 2)
 later_types = (refl, refl, refl, refl, refl, refl, refl, refl)
 
--- the attributes of other types don't count
+-- attributes don't matter for memory of other types
 purpose_of_acpi : (e820_type (page 9 0x40008) ≡ 3) × (e820_type (page 14 0) ≡ 7)
 purpose_of_acpi = (refl, refl)
 
@@ -42,7 +45,8 @@ an_entry = refl
 some_bytes : bytes_of_descriptor (record { kind = 7; base = 0x1000; pages = 3; attributes = 0 }) ≡ record { base = 0x1000; size = 0x3000 }
 some_bytes = refl
 
--- memory that the machine keeps twice: its whole frames, and none where it has none; other memory isn't mirrored
+-- mirrored memory: its whole frames; none if it has no whole frame; memory without the attribute
+-- isn't mirrored
 a_mirror : mirror_of (page 7 0x10008) ≡ Some (record { base = 0x300000; size = 0x1000 })
 a_mirror = refl
 
@@ -64,7 +68,7 @@ mirrors = refl
 in_front : mirror_in_front None [] ≡ []
 in_front = refl
 
--- the last byte of the address space, and one page more
+-- memory that ends at 2^64 - 4,096 isn't too far; with one page more it ends at 2^64 and is
 ends : (is_far (record { kind = 7; base = 0xFFFFFFFFFFFFE000; pages = 1; attributes = 0 }) ≡ false)
     × (is_far (record { kind = 7; base = 0xFFFFFFFFFFFFE000; pages = 2; attributes = 0 }) ≡ true)
 ends = (refl, refl)
@@ -72,7 +76,7 @@ ends = (refl, refl)
 far : Descriptor
 far = record { kind = 7; base = 0; pages = 2 ^ 52; attributes = 0 }
 
--- the least one that goes too far
+-- the least index of two that are too far
 least_far : (far_among 0 (page 7 0 ∷ (far ∷ (far ∷ []))) ≡ Some 1) × (far_among 0 (page 7 0 ∷ []) ≡ None)
 unfolding far_among far
 least_far = (refl, refl)
@@ -81,7 +85,7 @@ far_is_told : (unless_far (far ∷ []) (Some 0) ≡ Err (faults.TooFar 0)) × (u
 unfolding mirrors_of
 far_is_told = (refl, refl)
 
--- a header: the bytes of a descriptor, and the version
+-- a header: the size of a descriptor, and the version
 abbrev header : ℕ → ℕ → List ℕ
 header stride version = stride ∷ 0 ∷ 0 ∷ 0 ∷ version ∷ 0 ∷ 0 ∷ 0 ∷ []
 
@@ -90,7 +94,7 @@ header_examples : (has_header (header 40 1) ≡ true) × (has_header (header 48 
     × (has_header (header 40 2) ≡ false) × (has_header (40 ∷ 0 ∷ 0 ∷ 0 ∷ 1 ∷ 0 ∷ 0 ∷ []) ≡ false)
 header_examples = (refl, refl, refl, refl, refl, refl)
 
--- a descriptor of 40 bytes: type 9, 16 pages from 2 MiB on, write-back
+-- a descriptor of 40 bytes: type 9, 16 pages from 2 MiB on, write-back caching
 abbrev acpi : List ℕ
 acpi = 9 ∷ 0 ∷ 0 ∷ 0 ∷ 0 ∷ 0 ∷ 0 ∷ 0 ∷ 0 ∷ 0 ∷ 0x20 ∷ 0 ∷ 0 ∷ 0 ∷ 0 ∷ 0 ∷ 0 ∷ 0 ∷ 0 ∷ 0 ∷ 0 ∷ 0 ∷ 0 ∷ 0
     ∷ 16 ∷ 0 ∷ 0 ∷ 0 ∷ 0 ∷ 0 ∷ 0 ∷ 0 ∷ 8 ∷ 0 ∷ 0 ∷ 0 ∷ 0 ∷ 0 ∷ 0 ∷ 0 ∷ []
@@ -113,7 +117,7 @@ all_of_two : descriptors_of (header 40 1 ++ acpi ++ acpi) ≡ nth_descriptor 40 
 unfolding descriptors_from descriptor_at
 all_of_two = refl
 
--- the header goes before the length, and no descriptor is a map, too
+-- a wrong header is reported before a wrong length; a map without descriptors is well-formed
 faults_in_order : (efi_of [] ≡ Err faults.Header) × (efi_of (header 44 1 ++ acpi) ≡ Err faults.Header)
     × (efi_of (header 48 1 ++ acpi) ≡ Err faults.Length)
     × (efi_of (header 40 1) ≡ Ok (record { entries = []; mirrors = [] }))

@@ -1,20 +1,23 @@
--- Descriptors of the memory map that UEFI firmware hands over (`EFI_MEMORY_DESCRIPTOR`; UEFI, section 7.2.3, `GetMemoryMap`), and
--- what the kernel makes of each (`do_add_efi_memmap`, `efi_find_mirror` of arch/x86/platform/efi/efi.c and drivers/firmware/efi).
+-- Descriptors of the memory map that UEFI firmware passes on (`EFI_MEMORY_DESCRIPTOR`; UEFI,
+-- section 7.2.3, `GetMemoryMap`), and what the kernel makes of each (`do_add_efi_memmap` in
+-- arch/x86/platform/efi/efi.c, and `efi_find_mirror`).
 use Rattle.std.specs.Prelude.{ℕ, ◌+◌, ◌*◌, ◌^◌, ◌==◌, Bool, ◌||◌, not, nat_le, bit_and, if◌then◌else◌, List, drop, Option, None}
 use Rattle.byteorder.specs.Endian.{little_number}
 use Rattle.bm_base.specs.Extent.{Extent}
 use Rattle.bm_base.specs.Frames.{frames_within}
 use Rattle.e820_model.specs.declared.entry.Entry.{Entry}
 
--- a descriptor: its type, its first address, its number of pages of 4,096 bytes, its attributes
+-- a descriptor: its type, its first address, its number of pages of 4,096 bytes, and its
+-- attributes
 pub record Descriptor : Type 0 where
   pub kind : ℕ
   pub base : ℕ
   pub pages : ℕ
   pub attributes : ℕ
 
--- the descriptor at the offset, little-endian: `Type` (u32) at 0, `PhysicalStart` (u64) at 8, `NumberOfPages` (u64) at 24,
--- `Attribute` (u64) at 32. `VirtualStart` at 16 and what stands behind 40 are passed over
+-- the descriptor at the offset, little-endian: `Type` (u32) at 0, `PhysicalStart` (u64) at 8,
+-- `NumberOfPages` (u64) at 24, `Attribute` (u64) at 32. `VirtualStart` at 16 and the bytes from 40
+-- on are ignored.
 unfoldable pub descriptor_at : ℕ → List ℕ → Descriptor
 descriptor_at offset bytes = record {
   kind = little_number 4 (drop offset bytes);
@@ -23,41 +26,45 @@ descriptor_at offset bytes = record {
   attributes = little_number 8 (drop (offset + 32) bytes);
 }
 
--- its addresses
+-- the addresses of the memory
 abbrev pub bytes_of_descriptor : Descriptor → Extent
 bytes_of_descriptor d = record { base = d.base; size = 4096 * d.pages }
 
--- its address plus its bytes exceeds 2^64 - 1
+-- the first address plus the size in bytes exceeds 2^64 - 1
 abbrev pub is_far : Descriptor → Bool
 is_far d = nat_le (2 ^ 64) (d.base + 4096 * d.pages)
 
--- it has the attribute of that bit
+-- the descriptor has the attribute with this bit
 abbrev pub has_attribute : ℕ → Descriptor → Bool
 has_attribute bit d = not (bit_and d.attributes bit == 0)
 
--- memory that is free once the firmware's boot services have ended: EfiLoaderCode, EfiLoaderData, EfiBootServicesCode,
--- EfiBootServicesData, EfiConventionalMemory
+-- the types of memory that is free once the firmware's boot services have ended: EfiLoaderCode,
+-- EfiLoaderData, EfiBootServicesCode, EfiBootServicesData, EfiConventionalMemory
 abbrev pub is_free_kind : ℕ → Bool
 is_free_kind kind = (kind == 1) || (kind == 2) || (kind == 3) || (kind == 4) || (kind == 7)
 
--- such memory is kept for a purpose of its own where it is EFI_MEMORY_SP, RAM where it is EFI_MEMORY_WB, and else reserved
+-- the E820 type of such memory: soft reserved with the attribute EFI_MEMORY_SP, else RAM with
+-- EFI_MEMORY_WB, and reserved without both
 abbrev pub type_of_free : Descriptor → ℕ
 type_of_free d = if has_attribute 0x40000 d then 0xEFFFFFFF else (if has_attribute 0x8 d then 1 else 2)
 
--- the type of the other kinds: EfiUnusableMemory, EfiACPIReclaimMemory, EfiACPIMemoryNVS, EfiPersistentMemory. EfiReservedMemoryType,
--- EfiRuntimeServicesCode and EfiRuntimeServicesData, EfiMemoryMappedIO and its port space, EfiPalCode, EfiUnacceptedMemoryType and
--- all that firmware may define are reserved
+-- the E820 type of memory of all other types. EfiUnusableMemory, EfiACPIReclaimMemory,
+-- EfiACPIMemoryNVS and EfiPersistentMemory have types of their own. The rest is reserved:
+-- EfiReservedMemoryType, EfiRuntimeServicesCode, EfiRuntimeServicesData, EfiMemoryMappedIO,
+-- EfiMemoryMappedIOPortSpace, EfiPalCode, EfiUnacceptedMemoryType, and all types that a firmware
+-- may define.
 abbrev pub type_of_kind : ℕ → ℕ
 type_of_kind kind = if kind == 8 then 5 else (if kind == 9 then 3 else (if kind == 10 then 4 else (if kind == 14 then 7 else 2)))
 
--- the type of memory that the kernel gives it
+-- the E820 type that the kernel gives the memory
 abbrev pub e820_type : Descriptor → ℕ
 e820_type d = if is_free_kind d.kind then type_of_free d else type_of_kind d.kind
 
--- its entry
+-- the E820 entry of the memory
 abbrev pub entry_of : Descriptor → Entry
 entry_of d = record { addr = d.base; size = 4096 * d.pages; kind = e820_type d }
 
--- its whole frames, where it is EFI_MEMORY_MORE_RELIABLE and has some
+-- the whole frames of the memory, if it has the attribute EFI_MEMORY_MORE_RELIABLE and at least
+-- one whole frame
 abbrev pub mirror_of : Descriptor → Option Extent
 mirror_of d = if has_attribute 0x10000 d then frames_within (bytes_of_descriptor d) else None

@@ -1,5 +1,6 @@
--- The bytes of a saved EFI memory map: a u32 with the bytes of a descriptor, a u32 with the version of descriptors, and the
--- descriptors. The header is this project's own; `GetMemoryMap` answers both numbers beside the map.
+-- The file of a saved EFI memory map: the size of a descriptor in bytes (u32), the version of
+-- descriptors (u32), and the descriptors. The header is this project's own; `GetMemoryMap` returns
+-- both numbers next to the map.
 use Rattle.std.specs.Prelude.{ℕ, zero, suc, ◌+◌, ◌-◌, ◌*◌, ◌/◌, ◌%◌, ◌==◌, Bool, ◌&&◌, not, nat_le, if◌then◌else◌, List, [], ◌∷◌, map, length, drop, Option, Some, None, Result, Ok, Err}
 use Rattle.byteorder.specs.Endian.{little_number}
 use Rattle.bm_base.specs.Extent.{Extent}
@@ -8,42 +9,43 @@ use Rattle.efi_map.specs.Descriptors.{Descriptor, descriptor_at, is_far, entry_o
 use Rattle.efi_map.specs.declared.efi.EfiFault.{EfiFault}
 use Rattle.efi_map.specs.declared.efi.EfiFault.TheVariants as faults
 
--- the bytes of a descriptor, as the header says
+-- the size of a descriptor in bytes, as the header states it
 abbrev pub stride_of : List ℕ → ℕ
 stride_of bytes = little_number 4 bytes
 
--- there is a whole header: descriptors have at least the 40 bytes that are read, in whole 8 bytes, and are of version 1
+-- the header is whole, the size of a descriptor is at least 40 and a multiple of 8, and the
+-- version is 1
 abbrev pub has_header : List ℕ → Bool
 has_header bytes =
     nat_le 8 (length bytes) && (nat_le 40 (stride_of bytes) && (stride_of bytes % 8 == 0 && little_number 4 (drop 4 bytes) == 1))
 
--- what follows the header are whole descriptors
+-- the bytes after the header are a whole number of descriptors
 abbrev pub has_length : List ℕ → Bool
 has_length bytes = (length bytes - 8) % stride_of bytes == 0
 
--- how many there are
+-- the number of descriptors
 abbrev pub count_of : List ℕ → ℕ
 count_of bytes = (length bytes - 8) / stride_of bytes
 
--- the descriptor of that index, from 0, of descriptors of that many bytes
+-- the descriptor with index `i`, counted from 0, of descriptors of `stride` bytes
 abbrev pub nth_descriptor : ℕ → ℕ → List ℕ → Descriptor
 nth_descriptor stride i bytes = descriptor_at (8 + stride * i) bytes
 
--- n descriptors from the index i on
+-- the n descriptors from index `i` on
 unfoldable pub descriptors_from : ℕ → ℕ → ℕ → List ℕ → List Descriptor
 descriptors_from stride i zero bytes = []
 descriptors_from stride i (suc n) bytes = nth_descriptor stride i bytes ∷ descriptors_from stride (i + 1) n bytes
 
--- all of them
+-- all descriptors of the file
 abbrev pub descriptors_of : List ℕ → List Descriptor
 descriptors_of bytes = descriptors_from (stride_of bytes) 0 (count_of bytes) bytes
 
--- the least index, from i on, of a descriptor that goes too far
+-- the least index of a descriptor that is too far; the first of the list has the index `i`
 unfoldable pub far_among : ℕ → List Descriptor → Option ℕ
 far_among i [] = None
 far_among i (d ∷ ds) = if is_far d then Some i else far_among (i + 1) ds
 
--- the mirrors of descriptors, in their order
+-- the mirrored ranges of a list of descriptors, in their order
 abbrev pub mirror_in_front : Option Extent → List Extent → List Extent
 mirror_in_front None others = others
 mirror_in_front (Some range) others = range ∷ others
@@ -52,7 +54,8 @@ unfoldable pub mirrors_of : List Descriptor → List Extent
 mirrors_of [] = []
 mirrors_of (d ∷ ds) = mirror_in_front (mirror_of d) (mirrors_of ds)
 
--- what the map says: an entry for each descriptor, and the mirrored ranges, each list in the order of the descriptors
+-- the content of the map: an entry for each descriptor, and the mirrored ranges, both in the order
+-- of the descriptors
 pub record Efi : Type 0 where
   pub entries : List Entry
   pub mirrors : List Extent
@@ -61,7 +64,8 @@ abbrev pub unless_far : List Descriptor → Option ℕ → Result Efi EfiFault
 unless_far ds (Some index) = Err (faults.TooFar index)
 unless_far ds None = Ok (record { entries = map entry_of ds; mirrors = mirrors_of ds })
 
--- the value of the bytes, or their first fault, in this order: the header, the length, the least descriptor that goes too far
+-- the content of the file, or its first fault: the header is tested first, then the length, then
+-- the descriptors from index 0 on
 abbrev pub efi_of : List ℕ → Result Efi EfiFault
 efi_of bytes =
     if not (has_header bytes) then Err faults.Header

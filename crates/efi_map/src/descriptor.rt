@@ -1,4 +1,4 @@
-//! A descriptor in bytes, and what the kernel makes of it.
+//! Reads a descriptor, and converts it to what the kernel makes of it.
 
 ghost use Rattle.std.specs.Prelude.{◌≡◌, ◌+◌, ◌*◌, ◌^◌, ◌<◌, ◌≤◌, length};
 ghost use Rattle.efi_map.specs.Descriptors.{bytes_of_descriptor, descriptor_at, e820_type, entry_of, has_attribute, is_free_kind, mirror_of, type_of_free};
@@ -11,42 +11,42 @@ use e820_model::{
 };
 use std::marker::Model;
 
-/// Memory of the boot loader's code (`EfiLoaderCode`).
+/// Code of the boot loader (`EfiLoaderCode`).
 const EFI_LOADER_CODE: u32 = 1;
-/// Memory of the boot loader's data (`EfiLoaderData`).
+/// Data of the boot loader (`EfiLoaderData`).
 const EFI_LOADER_DATA: u32 = 2;
-/// Memory of the firmware's code until its boot services end (`EfiBootServicesCode`).
+/// Code of the firmware that is needed until its boot services end (`EfiBootServicesCode`).
 const EFI_BOOT_SERVICES_CODE: u32 = 3;
-/// Memory of the firmware's data until then (`EfiBootServicesData`).
+/// Data of the firmware that is needed until its boot services end (`EfiBootServicesData`).
 const EFI_BOOT_SERVICES_DATA: u32 = 4;
 /// Free memory (`EfiConventionalMemory`).
 const EFI_CONVENTIONAL_MEMORY: u32 = 7;
 /// Memory with errors (`EfiUnusableMemory`).
 const EFI_UNUSABLE_MEMORY: u32 = 8;
-/// ACPI's tables (`EfiACPIReclaimMemory`).
+/// Memory with ACPI tables, which can be reclaimed (`EfiACPIReclaimMemory`).
 const EFI_ACPI_RECLAIM_MEMORY: u32 = 9;
-/// Memory that ACPI's firmware keeps (`EfiACPIMemoryNVS`).
+/// Memory that the firmware's ACPI code keeps (`EfiACPIMemoryNVS`).
 const EFI_ACPI_MEMORY_NVS: u32 = 10;
-/// Memory that keeps its bytes without power (`EfiPersistentMemory`).
+/// Memory that keeps its content without power (`EfiPersistentMemory`).
 const EFI_PERSISTENT_MEMORY: u32 = 14;
 
-/// It can be cached for reads and writes (`EFI_MEMORY_WB`).
+/// Set if the memory supports write-back caching (`EFI_MEMORY_WB`).
 const EFI_MEMORY_WB: u64 = 0x8;
-/// The machine keeps it twice (`EFI_MEMORY_MORE_RELIABLE`).
+/// Set if the machine mirrors the memory (`EFI_MEMORY_MORE_RELIABLE`).
 const EFI_MEMORY_MORE_RELIABLE: u64 = 0x1_0000;
-/// It is meant for a purpose of its own (`EFI_MEMORY_SP`).
+/// Set if the memory is meant for a specific purpose (`EFI_MEMORY_SP`).
 const EFI_MEMORY_SP: u64 = 0x4_0000;
 
 /// A descriptor of memory (`EFI_MEMORY_DESCRIPTOR`; UEFI, section 7.2.3).
 #[derive(Clone, Copy)]
 pub struct Descriptor {
-    /// Its type (`EFI_MEMORY_TYPE`).
+    /// The type of the memory (`EFI_MEMORY_TYPE`).
     pub kind: u32,
-    /// Its first address, in bytes.
+    /// The first address.
     pub base: u64,
-    /// Its number of pages of 4,096 bytes.
+    /// The number of pages of 4,096 bytes.
     pub pages: u64,
-    /// Its attributes, a bit each.
+    /// The attributes, one bit each.
     pub attributes: u64,
 }
 
@@ -60,7 +60,7 @@ impl Model for Descriptor {
     ghost inverse = { λ d. record { kind = d.kind; base = d.base; pages = d.pages; attributes = d.attributes } };
 }
 
-/// Whether memory of that type is free once the firmware's boot services have ended.
+/// Tests whether memory of this type is free once the firmware's boot services have ended.
 fn is_free(kind: u32) -> bool
     ensures { result ≡ is_free_kind kind }
 {
@@ -74,7 +74,7 @@ fn is_free(kind: u32) -> bool
     )
 }
 
-/// The descriptor at the offset, in bytes.
+/// Returns the descriptor whose bytes begin at `offset`. The numbers are little-endian.
 #[tactic(auto, unfolding(crate::specs::Descriptors::descriptor_at))]
 pub fn read_descriptor(bytes: &[u8], offset: usize) -> Descriptor
     requires { offset + 40 ≤ length bytes.now }
@@ -91,21 +91,22 @@ pub fn read_descriptor(bytes: &[u8], offset: usize) -> Descriptor
 impl Descriptor {
     ghost use Rattle.std.specs.Prelude.{SomeIff};
 
-    /// Its addresses; `None` exactly where their end exceeds 2^64 - 1.
+    /// Returns the addresses of the memory, or `None` if its first address plus its size in bytes
+    /// exceeds 2^64 - 1.
     pub fn range(self) -> Option<Range>
         ensures { SomeIff result (self.base + 4096 * self.pages < 2 ^ 64) (bytes_of_descriptor self) }
     {
         Range::new(self.base, self.pages.checked_mul(FRAME_SIZE)?)
     }
 
-    /// Whether it has the attribute.
+    /// Tests whether the memory has this attribute.
     fn has(self, attribute: u64) -> bool
         ensures { result ≡ has_attribute attribute self }
     {
         self.attributes & attribute != 0
     }
 
-    /// The type of memory that the kernel gives it (`do_add_efi_memmap`).
+    /// Returns the E820 type that the kernel gives the memory (`do_add_efi_memmap`).
     pub fn e820_type(self) -> u32
         ensures { result ≡ e820_type self }
     {
@@ -119,7 +120,8 @@ impl Descriptor {
         }
     }
 
-    /// The type of memory that is free once boot services have ended.
+    /// Returns the E820 type of memory that is free once boot services have ended. The specific
+    /// purpose wins over the caching.
     fn type_of_free(self) -> u32
         ensures { result ≡ type_of_free self }
     {
@@ -132,7 +134,7 @@ impl Descriptor {
         }
     }
 
-    /// Its entry; it ends in the address space.
+    /// Returns the E820 entry of the memory. Its address plus size must be below 2^64.
     pub fn entry(self) -> Entry
         requires { self.base + 4096 * self.pages < 2 ^ 64 }
         ensures { result ≡ entry_of self }
@@ -144,7 +146,9 @@ impl Descriptor {
         }
     }
 
-    /// Its whole frames, where the machine keeps them twice (`efi_find_mirror`) and it has some.
+    /// Returns the whole frames of the memory if the machine mirrors it (`efi_find_mirror`).
+    /// Returns `None` if it isn't mirrored or has no whole frame. Its address plus size must be
+    /// below 2^64.
     pub fn mirror(self) -> Option<Range>
         requires { self.base + 4096 * self.pages < 2 ^ 64 }
         ensures { result ≡ mirror_of self }

@@ -1,4 +1,4 @@
-//! A file of descriptors: its header, its length, and what all of them say.
+//! Reads the file: its header, its length, and the descriptors.
 
 ghost use Rattle.std.specs.Prelude.{◌≡◌, ◌≢◌, ℕ, ◌+◌, ◌*◌, ◌<◌, ◌≤◌, ◌^◌, length, map, IfOk, IfSome, IsErr, IsErrOf, IsOk, IsTrue, IsNone, SomeIff, None};
 ghost use Rattle.bm_base.specs.Answers.{Answers};
@@ -14,21 +14,25 @@ use std::alloc::Global;
 
 const HEADER_BYTES: usize = 8;
 
-/// The bytes of a descriptor that are read; it may have more.
+/// The number of bytes that are read of a descriptor, which may have more.
 const LEAST_STRIDE: usize = 40;
 
 const VERSION: u32 = 1;
 
-/// Why bytes are no EFI memory map. The first that holds is answered, in the order of this list.
+/// The reason why bytes are not an EFI memory map. If several apply, the reader reports the first
+/// of this list.
 #[derive(Clone, Copy, Debug, PartialEq, Eq)]
 pub enum EfiFault {
-    /// There are fewer than 8 bytes, or a descriptor has fewer than 40 bytes or no multiple of 8, or the version isn't 1.
+    /// There are fewer than 8 bytes; or the stated size of a descriptor is below 40 or isn't a
+    /// multiple of 8; or the version isn't 1.
     Header,
-    /// What follows the header isn't a whole number of descriptors.
+    /// The bytes after the header aren't a whole number of descriptors.
     Length,
-    /// The descriptor's address plus its bytes exceeds 2^64 - 1; the least such index, from 0.
+    /// The address plus the size of the descriptor with this index exceeds 2^64 - 1. Indices count
+    /// from 0; this is the least such index.
     TooFar { index: u32 },
-    /// The program's own memory ran out; only where the bytes have none of the other faults, and there are descriptors.
+    /// The program ran out of memory. This is returned only for bytes without any other fault that
+    /// have at least one descriptor.
     Memory,
 }
 
@@ -42,17 +46,25 @@ impl From<Memory> for EfiFault {
     }
 }
 
-/// What the firmware's map says, each list in the order of its descriptors.
+/// The content of the firmware's map. Each list is in the order of the descriptors.
 #[derive(Debug, Drop)]
 pub struct EfiMap {
-    /// An entry for each descriptor; each ends in the address space.
+    /// One entry for each descriptor. Its address plus size is below 2^64.
     pub entries: Vec<Entry>,
-    /// The whole frames of each descriptor whose memory the machine keeps twice; none is empty.
+    /// The whole frames of each descriptor whose memory the machine mirrors. None of these ranges
+    /// is empty.
     pub mirrors: Vec<Range>,
 }
 
-/// Reads a file of descriptors, of fewer than 2^32 bytes: the bytes of a descriptor (u32) at offset 0, the version of
-/// descriptors (u32) at 4, and the descriptors from 8 on.
+/// Reads a file of descriptors. The size of a descriptor (u32) is at offset 0, the version of
+/// descriptors (u32) at 4, and the descriptors begin at 8. The file must have fewer than 2^32
+/// bytes.
+///
+/// # Errors
+///
+/// - `Header`, `Length`, `TooFar`: the first fault of the bytes, in this order.
+/// - `Memory`: the bytes have no fault and at least one descriptor, but the program ran out of
+///   memory.
 pub fn read_efi(alloc: Global, bytes: &[u8]) -> Result<EfiMap, EfiFault>
     requires { length bytes.now < 2 ^ 32 }
     ensures answers { Answers EfiFault.Memory (λ efi. record { entries = efi.entries.items; mirrors = efi.mirrors.items }) result (efi_of bytes.now) }
@@ -71,7 +83,7 @@ pub fn read_efi(alloc: Global, bytes: &[u8]) -> Result<EfiMap, EfiFault>
     Ok(read_descriptors(alloc, bytes, stride, count)?)
 }
 
-/// Whether there is a whole header, of descriptors that can be read.
+/// Tests whether the bytes have a whole header whose size and version of descriptors can be read.
 fn is_map(bytes: &[u8]) -> bool
     ensures { result ≡ has_header bytes.now }
 {
@@ -84,7 +96,8 @@ fn is_map(bytes: &[u8]) -> bool
         && LittleEndian::read_u32(&bytes[4..]) == VERSION
 }
 
-/// The number of descriptors of `stride` bytes behind the header, where these are all that is there.
+/// Returns the number of descriptors of `stride` bytes after the header, or `None` if the bytes
+/// after the header aren't a whole number of them.
 fn whole_descriptors(bytes: &[u8], stride: u32) -> Option<u32>
     requires header { 8 ≤ length bytes.now }
     requires few { length bytes.now < 2 ^ 32 }
@@ -100,7 +113,7 @@ fn whole_descriptors(bytes: &[u8], stride: u32) -> Option<u32>
     Some(data / stride)
 }
 
-/// The descriptor of that index, from 0.
+/// Returns the descriptor with this index, counted from 0, of descriptors of `stride` bytes.
 fn read_nth(bytes: &[u8], stride: u32, index: u32) -> Descriptor
     requires stride { 40 ≤ stride }
     requires whole { 8 + stride * index + stride ≤ length bytes.now }
@@ -109,7 +122,8 @@ fn read_nth(bytes: &[u8], stride: u32, index: u32) -> Descriptor
     read_descriptor(bytes, HEADER_BYTES + stride as usize * index as usize)
 }
 
-/// The least index of a descriptor whose end exceeds 2^64 - 1.
+/// Returns the least index of a descriptor whose address plus size exceeds 2^64 - 1, or `None` if
+/// there is no such descriptor.
 fn find_far(bytes: &[u8], stride: u32, count: u32) -> Option<u32>
     requires stride { 40 ≤ stride }
     requires whole { 8 + stride * count ≤ length bytes.now }
@@ -123,7 +137,12 @@ fn find_far(bytes: &[u8], stride: u32, count: u32) -> Option<u32>
     None
 }
 
-/// What all descriptors say; none goes too far.
+/// Returns the entries and the mirrored ranges of all descriptors. The address plus size of each
+/// descriptor must be below 2^64.
+///
+/// # Errors
+///
+/// - `Memory`: the program ran out of memory; `count` is above 0.
 fn read_descriptors(alloc: Global, bytes: &[u8], stride: u32, count: u32) -> Result<EfiMap, Memory>
     requires stride { 40 ≤ stride }
     requires whole { 8 + stride * count ≤ length bytes.now }

@@ -1,15 +1,23 @@
-//! UEFI's memory map: the descriptors that firmware hands over when its boot services end.
+//! Reads UEFI's memory map: the descriptors that the firmware passes on when its boot services
+//! end.
 //!
-//! A boot loader makes the E820 table of the zero page from them; with `add_efi_memmap` the kernel adds them once more
-//! by itself (`do_add_efi_memmap`). [`read_efi`] makes an [`EfiMap`] of a file of descriptors, or names the first fault: an
-//! entry for each descriptor, in their order, and the ranges that the firmware keeps twice (`efi_find_mirror`). One
-//! descriptor at a time is said in `specs/Descriptors.antt`, the file in `specs/Map.antt`.
+//! The boot loader makes the E820 table of the zero page from this map. With the option
+//! `add_efi_memmap` the kernel adds the descriptors to that table once more (`do_add_efi_memmap`).
+//! Descriptors also say which memory the machine mirrors, that is, keeps twice
+//! (`efi_find_mirror`).
 //!
-//! A file begins with two numbers of 32 bits, the bytes of a descriptor and the version of descriptors, which `GetMemoryMap`
-//! answers beside the map; that header is this project's own. Descriptors have 40 bytes or more (48 on real machines), of
-//! which the first 40 are read.
+//! [`read_efi`] returns an [`EfiMap`]: an entry for each descriptor, in their order, and the
+//! mirrored ranges. Or it returns the first fault of the bytes, an [`EfiFault`].
 //!
-//! The entries that it answers end in the address space, and the mirrored ranges are whole frames, none empty.
+//! The file begins with two numbers of 32 bits: the size of a descriptor in bytes, and the version
+//! of descriptors. `GetMemoryMap` returns both next to the map; this header is the project's own.
+//! A descriptor has at least 40 bytes (48 on real machines). Only the first 40 are read.
+//!
+//! The layer above may rest on two facts. Each entry has an address plus size below 2^64. Each
+//! mirrored range is a number of whole frames, at least one.
+//!
+//! In contracts, a name means the definition in `specs/`: `Descriptors.antt` has one descriptor,
+//! `Map.antt` the file.
 #![tactic(auto)]
 
 mod descriptor;
