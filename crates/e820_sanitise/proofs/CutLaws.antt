@@ -1,4 +1,4 @@
--- The claims of the parts of a claim, and what cutting makes of a whole list.
+-- Lemmas on the claims of parts, and on what cutting does to a whole list of claims.
 use Rattle.std.proofs.Common.{◌≡◌, ℕ, ◌+◌, ◌-◌, ◌^◌, ◌<◌, ◌==◌, Bool, true, false, ◌&&◌, ◌||◌, not, nat_le, nat_lt, if◌then◌else◌, min, max, Option, Some, None, Result, Ok, Err, OnOk, OnErr, List, [], ◌∷◌, ◌++◌, refl, sym, ◌∙◌, ap, inl, inr, arith}
 use Rattle.std.specs.List.{flat_map}
 use Rattle.std.proofs.lemmas.Bool.Decides.{nat_tests}
@@ -12,7 +12,7 @@ use Rattle.e820_model.specs.declared.edit.Edit.TheVariants as edit
 use Rattle.e820_model.proofs.ClaimLaws.{is_value, claims_append_at, claims_append, are_append}
 use Rattle.e820_sanitise.specs.Cuts.{between, between_if, parts, is_meant, left_inside, cut_out, claim_of}
 
--- one part
+-- the claim on the addresses of one part
 between_test : (from until kind x k : ℕ) → claims_of (between from until kind) x k ≡ (nat_le from x && nat_lt x until && k == kind)
 between_test from until kind x k =
     elim (cases_Bool (nat_lt from until)) as (λ _. claims_of (between from until kind) x k
@@ -26,7 +26,7 @@ between_if_test : (from until : ℕ) (kind : Option ℕ) (x k : ℕ)
 between_if_test from until None x k = grind (arith, nat_tests)
 between_if_test from until (Some kind) x k = between_test from until kind x k
 
--- the three parts of a claim: the claim's addresses, with the other type where the range is
+-- the claims of the parts: the claim's own addresses, with the type `inner` inside the range
 parts_test : (range : Extent) (inner : Option ℕ) (r : RunOf ℕ) (x k : ℕ)
     → claims_of (parts range inner r) x k ≡ (lies_in r x && (if covers range x then is_value inner k else (k == r.value)))
 parts_test range inner r x k =
@@ -42,7 +42,7 @@ parts_test range inner r x k =
     )
     (grind (arith, nat_tests))
 
--- the type that a claim has inside the range
+-- the type of a claim inside the range, after a removal or a change of the type `from`
 inside_test : (v from k : ℕ) (to : Option ℕ)
     → is_value (if v == from then to else Some v) k ≡ (if v == from then is_value to k else (k == v))
 inside_test v from k to =
@@ -52,7 +52,7 @@ inside_test v from k to =
       | inr other ↦ rw other refl
     ]
 
--- one claim of a list under a removal of one type, and under a change
+-- what removing or changing a type does to the first claim of a list
 remove_step : (lies in_range rest : Bool) (v kind k : ℕ)
     → ((lies && (if in_range then is_value (if v == kind then None else Some v) k else (k == v))) || (rest && not (in_range && k == kind)))
     ≡ (((lies && k == v) || rest) && not (in_range && k == kind))
@@ -68,7 +68,7 @@ change_step lies in_range rest rest_from v from to k = rw (inside_test v from k 
 alike : (f g : ℕ → ℕ → Bool) → ((x k : ℕ) → f x k ≡ g x k) → f ≡ g
 alike f g same = λ i x k. same x k i
 
--- so the cut lists are the edited claims
+-- the list after a cut has the claims that the definition of the edit gives
 pub remove_same : (range : Extent) (kind : ℕ) (rs : List (RunOf ℕ))
     → claims_of (cut_out range (Some kind) None rs) ≡ edited (edit.Remove range kind) (claims_of rs)
 remove_same range kind [] = refl
@@ -116,7 +116,8 @@ pub entries_same : (rs : List (RunOf ℕ)) (es : List Entry)
 entries_same rs es =
     claims_append rs (flat_map claim_of es) ∙ (λ i x k. claims_of rs x k || entries_test es x k i)
 
--- parts of claims are claims
+-- the parts of valid claims are valid claims: they aren't empty, end below 2^64, and have types
+-- above 0
 pub are_between : (from until kind : ℕ) → until < 2 ^ 64 → 0 < kind → kind < 2 ^ 32 → AreClaims (between from until kind)
 are_between from until kind space some small =
     elim (cases_Bool (nat_lt from until)) as (λ _. AreClaims (between from until kind)) [
@@ -125,7 +126,7 @@ are_between from until kind space some small =
       | inr none ↦ rw none tt
     ]
 
--- a type, if any
+-- if there is a type, it is above 0 and has 32 bits
 abbrev pub IsType : Option ℕ → Type 0
 IsType None = Unit {0}
 IsType (Some kind) = (0 < kind) × (kind < 2 ^ 32)
@@ -151,7 +152,7 @@ are_cut range meant instead (r ∷ rs) type claims =
     (are_between (max (end_of range) r.base) (run_end r) r.value (omega arith) claims.2 claims.3))
     (are_cut range meant instead rs type claims.4)
 
--- claims that changed as they should, or not at all, are claims
+-- a list of claims that changed as intended, or is unchanged, is a list of valid claims
 pub are_either : {T E : Type 0} (r : Result T E) (new changed old : List (RunOf ℕ)) → OnOk r (new ≡ changed) → OnErr r (new ≡ old)
     → AreClaims changed → AreClaims old → AreClaims new
 are_either (Ok x) new changed old ok err after before = rw ok after

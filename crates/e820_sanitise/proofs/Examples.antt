@@ -1,4 +1,4 @@
--- Claims cut by small ranges, and answers: what the definitions say of them, by computing.
+-- Worked examples of cuts and of the limit on runs.
 use Rattle.std.proofs.Common.{◌≡◌, ℕ, true, false, Some, None, List, [], ◌∷◌, length, Ok, Err, refl}
 use Rattle.bm_base.specs.Extent.{Extent}
 use Rattle.address_runs.specs.Runs.{RunOf}
@@ -18,7 +18,7 @@ claims_between = (refl, refl, refl)
 claims_or_none : (between_if 2 5 (Some 1) ≡ run 2 3 1 ∷ []) × (between_if 2 5 None ≡ [])
 claims_or_none = (refl, refl)
 
--- in the middle of a claim there are three parts, at its front two, and beside it one
+-- a range in the middle of a claim makes three parts, at its start two, and next to it one
 part_in_the_middle : parts (range 4 2) (Some 7) (run 0 10 1) ≡ run 0 4 1 ∷ run 4 2 7 ∷ run 6 4 1 ∷ []
 part_in_the_middle = refl
 
@@ -31,11 +31,11 @@ nothing_inside = (refl, refl)
 meant_types : (is_meant None 3 ≡ true) × (is_meant (Some 3) 3 ≡ true) × (is_meant (Some 1) 3 ≡ false)
 meant_types = (refl, refl, refl)
 
--- `Change 1 4` inside a claim of type 1 and of type 2, `RemoveAll` inside a claim
+-- `Change 1 4` inside a claim of type 1 and of type 2, and `RemoveAll` inside a claim
 inside_a_change : (left_inside (Some 1) (Some 4) 1 ≡ Some 4) × (left_inside (Some 1) (Some 4) 2 ≡ Some 2) × (left_inside None None 2 ≡ None)
 inside_a_change = (refl, refl, refl)
 
--- RAM is taken away in the middle, and what is reserved there stays, though in three parts
+-- RAM is removed in the middle of a claim; the reserved claim there stays, in three parts
 ram_removed : cut_out (range 4 2) (Some 1) None (run 0 10 1 ∷ run 0 10 2 ∷ [])
     ≡ run 0 4 1 ∷ run 6 4 1 ∷ run 0 4 2 ∷ run 4 2 2 ∷ run 6 4 2 ∷ []
 ram_removed = refl
@@ -48,7 +48,7 @@ claims_of_one_entry : (claim_of (record { addr = 4; size = 2; kind = 1 }) ≡ ru
     × (claim_of (record { addr = 4; size = 0; kind = 1 }) ≡ []) × (claim_of (record { addr = 4; size = 2; kind = 0 }) ≡ [])
 claims_of_one_entry = (refl, refl, refl)
 
--- a map of 3,201 runs is too long, and is answered by their number; one of 3,200 isn't
+-- a map of 3,201 runs is too long, and the fault states that number; one of 3,200 runs isn't
 full_map : (map : List (RunOf ℕ)) → length map ≡ 3201 → in_room map ≡ Err (faults.MapFull 3201)
 full_map map runs = rw runs refl
 

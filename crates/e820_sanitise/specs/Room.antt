@@ -1,10 +1,11 @@
--- How many runs a map may have.
+-- The largest number of runs that a map may have.
 use Rattle.std.specs.Prelude.{ℕ, List, length, nat_lt, if◌then◌else◌, Result, Ok, Err}
 use Rattle.address_runs.specs.Runs.{RunOf}
 use Rattle.e820_model.specs.declared.room.TheConstants.{E820_MAX_ENTRIES}
 use Rattle.e820_sanitise.specs.declared.fault.MapFault.{MapFault}
 use Rattle.e820_sanitise.specs.declared.fault.MapFault.TheVariants as faults
 
--- the map, where the kernel's table has room for its runs (`E820_MAX_ENTRIES`), and else their number
+-- the map, or the fault with the number of its runs if they don't fit into the kernel's table
+-- (`E820_MAX_ENTRIES`)
 abbrev pub in_room : List (RunOf ℕ) → Result (List (RunOf ℕ)) MapFault
 in_room map = if nat_lt E820_MAX_ENTRIES (length map) then Err (faults.MapFull (length map)) else Ok map

@@ -1,10 +1,11 @@
-//! Lists of claims that grow by entries and are cut by edits (`e820__range_add`, `e820__range_remove`,
-//! `e820__range_update`, `trim_bios_range`).
+//! Appends entries to lists of claims, and cuts ranges out of them (`e820__range_add`,
+//! `e820__range_remove`, `e820__range_update`, `trim_bios_range`).
 //!
-//! The kernel walks its table and splits each entry that the range meets into up to three. Here, too, a claim falls into a
-//! part below the range, one inside it and one behind it, and one that the range doesn't meet is copied as it is. What is
-//! cut makes a new list, and what is added takes its place in one push, so a table is as before where memory runs out on
-//! the way. No list is sorted here: what an address is claimed for doesn't depend on the order.
+//! The kernel walks its table and splits each entry that the range overlaps into up to three.
+//! Here, too, a claim has a part below the range, one inside it and one above it. A claim that
+//! doesn't overlap the range is copied unchanged. Cutting makes a new list, and adding is a single
+//! push, so running out of memory leaves the table unchanged. The lists aren't sorted, since the
+//! claims on an address don't depend on the order.
 
 ghost use Rattle.std.specs.Prelude.{◌≡◌, ℕ, ◌+◌, ◌^◌, ◌<◌, Option, [], ◌∷◌, ◌++◌, OnOk, OnErr, IfOk, IsOk, IsTrue};
 ghost use Rattle.bm_base.specs.Extent.{end_of};
@@ -17,7 +18,12 @@ use bm_base::{FRAME_SIZE, Memory, Range};
 use e820_model::{E820_TYPE_RAM, E820_TYPE_RESERVED, Edit, Entry, Run};
 use std::alloc::Global;
 
-/// The claim of the type on the addresses from `from` up to `until`; nothing where there is none.
+/// Appends a claim of the type on the addresses from `from` to below `until`. Appends nothing if
+/// there is no such address.
+///
+/// # Errors
+///
+/// - `Memory`: the program ran out of memory; the list is unchanged.
 fn push_between(claims: &mut Vec<Run>, from: u64, until: u64, kind: u32) -> Result<(), Memory>
     ensures added { OnOk result (claims.new.items ≡ claims.old.items ++ between from until kind) }
     ensures claims { 0 < kind → AreClaims claims.old.items → AreClaims claims.new.items }
@@ -29,7 +35,11 @@ fn push_between(claims: &mut Vec<Run>, from: u64, until: u64, kind: u32) -> Resu
     Ok(())
 }
 
-/// The same for a type or none.
+/// Appends a claim like [`push_between`], or nothing if `kind` is `None`.
+///
+/// # Errors
+///
+/// - `Memory`: the program ran out of memory.
 fn push_between_if(
     claims: &mut Vec<Run>,
     from: u64,
@@ -44,8 +54,12 @@ fn push_between_if(
     push_between(claims, from, until, kind)
 }
 
-/// The claim's part below the range, the one inside it for the type `inner` or none, and the one
-/// behind it.
+/// Appends the parts of a claim: the part below the range, the part inside it with the type
+/// `inner`, and the part above it. If `inner` is `None`, the part inside is dropped.
+///
+/// # Errors
+///
+/// - `Memory`: the program ran out of memory. The list may have some of the parts.
 fn push_parts(
     claims: &mut Vec<Run>,
     range: &Range,
@@ -65,8 +79,8 @@ fn push_parts(
     push_between(claims, range.end().max(start), end, claim.kind)
 }
 
-/// Whether the claim has addresses, and all of them lie below the range or all behind it: then it is
-/// its only part.
+/// Tests whether the claim has addresses, and all of them lie below the range or all above it.
+/// Such a claim is its own only part.
 fn is_apart(range: &Range, claim: &Run) -> bool
     ensures { IsTrue result → (inner : Option ℕ) → parts range.now inner claim.now ≡ claim.now ∷ [] }
 {
@@ -75,8 +89,13 @@ fn is_apart(range: &Range, claim: &Run) -> bool
     start < end && (end <= range.base || range.end() <= start)
 }
 
-/// The claims with the range cut out of each: inside it `instead` stands, or nothing, in place of
-/// the type that is meant, or of every type.
+/// Returns the claims after cutting the range out of each. Inside the range, a claim of the type
+/// `meant` gets the type `instead`, or is dropped if that is `None`. If `meant` is `None`, that
+/// applies to claims of every type.
+///
+/// # Errors
+///
+/// - `Memory`: the program ran out of memory.
 fn cut_claims(
     alloc: Global,
     claims: &[Run],
@@ -94,7 +113,8 @@ fn cut_claims(
     Ok(left)
 }
 
-/// What stands inside the range in place of the type.
+/// Returns the type that a claim of type `kind` has inside the range after the cut, or `None` if
+/// it is dropped there.
 fn inside_kind(meant: Option<u32>, instead: Option<u32>, kind: u32) -> Option<u32>
     ensures { result ≡ left_inside meant instead kind }
 {
@@ -104,7 +124,12 @@ fn inside_kind(meant: Option<u32>, instead: Option<u32>, kind: u32) -> Option<u3
     }
 }
 
-/// The claim of an entry; nothing where it is empty or has type 0.
+/// Appends the claim of an entry, or nothing if the entry is empty or has type 0. The entry's
+/// address plus size must be below 2^64.
+///
+/// # Errors
+///
+/// - `Memory`: the program ran out of memory.
 fn push_entry(claims: &mut Vec<Run>, entry: &Entry) -> Result<(), Memory>
     requires { entry.now.addr + entry.now.size < 2 ^ 64 }
     ensures added { OnOk result (claims.new.items ≡ claims.old.items ++ claim_of entry.now) }
@@ -116,7 +141,12 @@ fn push_entry(claims: &mut Vec<Run>, entry: &Entry) -> Result<(), Memory>
     push_between(claims, entry.addr, entry.addr + entry.size, entry.kind)
 }
 
-/// The claims and those of the entries.
+/// Returns the claims followed by those of the entries. Each entry's address plus size must be
+/// below 2^64.
+///
+/// # Errors
+///
+/// - `Memory`: the program ran out of memory.
 pub fn with_entries(alloc: Global, claims: &[Run], entries: &[Entry]) -> Result<Vec<Run>, Memory>
     requires claims { AreClaims claims.now }
     requires space { EndInSpace entries.now }
@@ -131,7 +161,11 @@ pub fn with_entries(alloc: Global, claims: &[Run], entries: &[Entry]) -> Result<
     Ok(all)
 }
 
-/// Changes the claims as the edit says.
+/// Carries out the edit on the claims. The types in the edit must be above 0.
+///
+/// # Errors
+///
+/// - `Memory`: the program ran out of memory; the claims are unchanged. `Clear` never fails.
 pub fn edit_claims(claims: &mut Vec<Run>, edit: &Edit) -> Result<(), Memory>
     requires claims { AreClaims claims.old.items }
     requires types { HasTypes edit.now }
@@ -152,7 +186,11 @@ pub fn edit_claims(claims: &mut Vec<Run>, edit: &Edit) -> Result<(), Memory>
     }
 }
 
-/// Cuts the range out of each of the claims, as `cut_claims` says.
+/// Cuts the range out of each claim, like [`cut_claims`].
+///
+/// # Errors
+///
+/// - `Memory`: the program ran out of memory; the claims are unchanged.
 fn cut(
     claims: &mut Vec<Run>,
     range: &Range,
@@ -167,8 +205,12 @@ fn cut(
     Ok(())
 }
 
-/// The claims after the BIOS's areas are trimmed: the first page is reserved, and no memory is
-/// taken from 640 KiB to 1 MiB.
+/// Returns the claims after trimming the areas of the BIOS (`trim_bios_range`). RAM in the first
+/// page becomes reserved, and RAM from 640 KiB to 1 MiB is removed.
+///
+/// # Errors
+///
+/// - `Memory`: the program ran out of memory.
 pub fn bios_trimmed(alloc: Global, claims: &[Run]) -> Result<Vec<Run>, Memory>
     requires { AreClaims claims.now }
     ensures same { IfOk result (λ left. claims_of left.items ≡ bios_trimmed (claims_of claims.now)) }

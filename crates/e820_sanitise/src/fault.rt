@@ -1,14 +1,14 @@
-//! Why a table gives no map. It stands apart from [`crate::Table`] because the definition of the room for runs names
-//! it.
+//! The reason why a table gives no map. It has a file of its own because the definition of the
+//! limit on runs names it.
 
 use bm_base::Memory;
 
-/// Why there is no map.
+/// The reason why there is no map.
 #[derive(Clone, Copy, Debug, PartialEq, Eq)]
 pub enum MapFault {
-    /// The map has more than [`crate::E820_MAX_ENTRIES`] runs, this many.
+    /// The map has more than [`crate::E820_MAX_ENTRIES`] runs; `runs` is their number.
     MapFull { runs: u64 },
-    /// The program's own memory ran out.
+    /// The program ran out of memory.
     Memory,
 }
 

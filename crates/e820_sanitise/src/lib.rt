@@ -1,19 +1,25 @@
-//! The table of the firmware's memory map, from entries that overlap to runs that don't.
+//! Turns the firmware's memory map, entries that may overlap, into runs of addresses that don't.
 //!
-//! Firmware hands over entries (`struct boot_e820_entry`) that may overlap, touch, be empty, and come in
-//! any order; an extension adds more, and options edit the map. [`Table`] holds what all of them
-//! claim. It follows the kernel's `e820_table` through `__append_e820_table`, `e820__update_table`,
-//! `e820__range_add`, `e820__range_remove`, `e820__range_update` and `trim_bios_range`, of which each is a
-//! method here, and its contract says what becomes of the claims of every address.
+//! The firmware's entries (`struct boot_e820_entry`) may overlap, touch or be empty, and come in
+//! any order. The extension adds more entries, and options edit the map. A [`Table`] holds what
+//! all of them claim: a *claim* is a range of addresses and a type. Each method follows one
+//! function of the kernel, and its contract states the claims on every address afterwards:
 //!
-//! The layer above may rest on this: each method's clause is one equation between the claims before and
-//! after (`specs/Claims.antt` of `e820_model`), so that a chain of calls composes to the definition of
-//! the finished map; [`Table::runs`] answers exactly the runs of that map, or how many they are where there is no
-//! room for so many; and after [`Memory`](bm_base::Memory) a table is as it was.
+//! - [`Table::append`]: `__append_e820_table`
+//! - [`Table::edit`]: `e820__range_add`, `e820__range_remove`, `e820__range_update`
+//! - [`Table::settle`]: `e820__update_table`
+//! - [`Table::trim_bios`]: `trim_bios_range`
 //!
-//! Inside, the claims are a flat list of ranges with types in no order. An edit adds a claim or cuts each of them;
-//! settling sorts them and lays them over one another (`overlay_all` of `address_runs`), which takes one look at each where
-//! they lie apart, and n log n steps for n of them where they overlap little.
+//! The layer above may rest on three facts. Each method's postcondition is one equation between
+//! the claims before and after (`specs/Claims.antt` of `e820_model`), so a chain of calls is the
+//! definition of the finished map. [`Table::runs`] returns exactly the runs of that map, or their
+//! number if there are too many. If a method runs out of memory, the table is unchanged.
+//!
+//! The claims are kept as an unordered list. An edit adds a claim, or cuts each of them. Settling
+//! sorts the claims and overlays them (`overlay_all` of `address_runs`): it looks at each claim
+//! once if they don't overlap, and takes n log n steps for n claims that overlap little.
+//!
+//! In contracts, a name means the definition in `specs/`, here or in a crate below.
 #![tactic(auto)]
 
 mod cuts;

@@ -1,5 +1,6 @@
-//! The table itself: claims, and the calls that change them, each a step of the kernel's `e820_table`. A call makes the
-//! new list of claims first and puts it in place of the old one last, so want of memory changes nothing.
+//! The table of claims and the calls that change it, each a step of the kernel's `e820_table`. A
+//! call first makes the new list of claims, and then replaces the old one. So running out of
+//! memory changes nothing.
 
 ghost use Rattle.std.specs.Prelude.{◌≡◌, ◌≢◌, IfErr, IfOk, IsOk, OnErr, OnOk};
 ghost use Rattle.address_runs.specs.Runs.{IsRunsOf};
@@ -16,9 +17,9 @@ use e820_model::{E820_MAX_ENTRIES, Edit, Entry, Run};
 use std::alloc::Global;
 use std::marker::Model;
 
-/// The firmware's table (`struct e820_table`): which types claim which addresses. Contracts see it
-/// as a list of ranges with types and speak of it by `claims_of` alone, the test whether a type
-/// claims an address.
+/// The firmware's table (`struct e820_table`): the types that claim each address. Contracts see it
+/// as a list of ranges with types. They use only `claims_of` of it: the test whether a type claims
+/// an address.
 #[derive(Drop)]
 pub struct Table {
     claims: Vec<Run>,
@@ -37,7 +38,8 @@ impl Model for Table {
 }
 
 impl Table {
-    /// The table in which no type claims an address. It keeps the allocator.
+    /// Returns an empty table, in which no type claims any address. The table keeps the allocator
+    /// for later calls.
     pub fn new(alloc: Global) -> Table
         ensures { claims_of result ≡ no_claims }
     {
@@ -46,9 +48,12 @@ impl Table {
         }
     }
 
-    /// Adds what the entries claim (`__append_e820_table`). Each entry's address plus size is at
-    /// most 2^64 - 1; one of size 0 or of type 0 claims nothing. After `Memory` the table is as
-    /// before.
+    /// Adds the claims of the entries (`__append_e820_table`). Each entry's address plus size must
+    /// be below 2^64. An entry of size 0 or of type 0 claims nothing.
+    ///
+    /// # Errors
+    ///
+    /// - `Memory`: the program ran out of memory; the table is unchanged.
     pub fn append(&mut self, entries: &[Entry]) -> Result<(), Memory>
         requires { EndInSpace entries.now }
         ensures ok { OnOk result (claims_of self.new
@@ -60,9 +65,12 @@ impl Table {
         Ok(())
     }
 
-    /// Changes the claims as an option says (`e820__range_add`, `e820__range_remove`,
-    /// `e820__range_update`). Each type of the edit is above 0. After `Memory` the table is as
-    /// before; to clear it takes none.
+    /// Carries out an edit that an option requests (`e820__range_add`, `e820__range_remove`,
+    /// `e820__range_update`). The types in the edit must be above 0.
+    ///
+    /// # Errors
+    ///
+    /// - `Memory`: the program ran out of memory; the table is unchanged. `Clear` never fails.
     pub fn edit(&mut self, edit: &Edit) -> Result<(), Memory>
         requires { HasTypes edit.now }
         ensures ok { OnOk result (claims_of self.new ≡ edited edit.now (claims_of self.old)) }
@@ -72,8 +80,11 @@ impl Table {
         cuts::edit_claims(&mut self.claims, edit)
     }
 
-    /// Leaves each address its greatest claim alone (`e820__update_table`). After `Memory` the table
-    /// is as before.
+    /// Keeps only the greatest claim on each address (`e820__update_table`).
+    ///
+    /// # Errors
+    ///
+    /// - `Memory`: the program ran out of memory; the table is unchanged.
     pub fn settle(&mut self) -> Result<(), Memory>
         ensures ok { OnOk result (claims_of self.new ≡ settled (claims_of self.old)) }
         ensures err { OnErr result (self.new ≡ self.old) }
@@ -83,8 +94,11 @@ impl Table {
         Ok(())
     }
 
-    /// Reserves the first page, and takes memory away from 640 KiB to 1 MiB (`trim_bios_range`).
-    /// After `Memory` the table is as before.
+    /// Reserves RAM in the first page, and removes RAM from 640 KiB to 1 MiB (`trim_bios_range`).
+    ///
+    /// # Errors
+    ///
+    /// - `Memory`: the program ran out of memory; the table is unchanged.
     pub fn trim_bios(&mut self) -> Result<(), Memory>
         ensures ok { OnOk result (claims_of self.new ≡ bios_trimmed (claims_of self.old)) }
         ensures err { OnErr result (self.new ≡ self.old) }
@@ -94,15 +108,19 @@ impl Table {
         Ok(())
     }
 
-    /// The type of the address: the greatest that claims it, or 0.
+    /// Returns the type of address `x`: the greatest type that claims it, or 0 if none does.
     pub fn type_at(&self, x: u64) -> u32
         ensures { result ≡ type_of (claims_of self.now) x }
     {
         settle::type_of_claims(&self.claims, x)
     }
 
-    /// The map: the runs of addresses of one type, ascending. It is refused exactly where there are
-    /// more than [`E820_MAX_ENTRIES`] of them.
+    /// Returns the map: the runs of addresses of one type, in ascending order.
+    ///
+    /// # Errors
+    ///
+    /// - `MapFull`: the map has more than [`E820_MAX_ENTRIES`] runs.
+    /// - `Memory`: the program ran out of memory.
     pub fn runs(&self) -> Result<Vec<Run>, MapFault>
         ensures relation { IfOk result (λ runs. IsRunsOf (kinds (claims_of self.now)) runs.items) }
         ensures answers { Answers MapFault.Memory (λ runs. runs.items) result
@@ -113,7 +131,11 @@ impl Table {
     }
 }
 
-/// The runs, where a map has room for so many; else their number. Takes no memory.
+/// Returns the runs unchanged if a map may have that many. Allocates nothing.
+///
+/// # Errors
+///
+/// - `MapFull`: there are more than [`E820_MAX_ENTRIES`] runs.
 fn limited(runs: Vec<Run>) -> Result<Vec<Run>, MapFault>
     ensures answers { Answers MapFault.Memory (λ runs. runs.items) result (in_room runs.items) }
     ensures always { IfErr result (λ fault. fault ≢ MapFault.Memory) }
