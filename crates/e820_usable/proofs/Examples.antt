@@ -1,4 +1,4 @@
--- Small maps and large ones, judged: what the definitions say of them.
+-- Worked examples of small and large maps.
 use Rattle.std.proofs.Common.{◌≡◌, ℕ, ◌+◌, ◌^◌, ◌<◌, ◌∙◌, Some, None, List, [], ◌∷◌, min, refl, sym, arith}
 use Rattle.address_runs.specs.Runs.{RunOf, value_at}
 use Rattle.e820_model.specs.Usable.{reachable, usable_frames}
@@ -8,43 +8,43 @@ use Rattle.e820_usable.specs.Frames.{whole_frames}
 use Rattle.e820_usable.specs.Judged.{judged}
 use Rattle.e820_usable.proofs.FramesLaws.{whole_by_division, frames_usable}
 
--- from 2 KiB on, frame 0 isn't whole; up to 14 KiB, frame 3 isn't
+-- frame 0 isn't whole from 2 KiB on, and frame 3 isn't whole below 14 KiB
 frames_1_and_2 : whole_frames 0x800 0x3800 ≡ 2
 frames_1_and_2 = whole_by_division 0x800 0x3800 (omega arith)
 
 one_byte_short : whole_frames 0 0xFFF ≡ 0
 one_byte_short = whole_by_division 0 0xFFF (omega arith)
 
--- the first address that page tables of five levels don't reach
+-- the first address that page tables of five levels can't reach
 abbrev limit : ℕ
 limit = 2 ^ 52
 
--- RAM from 0 on, of that size
+-- RAM of this size from address 0
 abbrev ram : ℕ → List (RunOf ℕ)
 ram size = record { base = 0; size = size; value = 1 } ∷ []
 
 one_run : (size : ℕ) → 0 < size → Ascend (ram size)
 one_run size some = (some, tt, tt)
 
--- its usable frames are the whole ones up to its end
+-- the usable frames of that RAM are the whole frames below its end
 frames_of_ram : (size : ℕ) → 0 < size → usable_frames (reachable limit (value_at (ram size))) ≡ whole_frames 0 (min (0 + size) limit)
 frames_of_ram size some = sym (frames_usable limit (omega arith) (ram size) (one_run size some))
 
--- two pages are enough
+-- two pages of RAM are two usable frames
 two_pages : usable_frames (reachable limit (value_at (ram 0x2000))) ≡ 2
 two_pages = frames_of_ram 0x2000 (omega arith) ∙ whole_by_division 0 0x2000 (omega arith)
 
 two_pages_go_on : judged (reachable limit (value_at (ram 0x2000))) ≡ None
 two_pages_go_on = rw two_pages refl
 
--- less than one isn't, nor is nothing
+-- less than a page of RAM is no usable frame, and the boot stops
 part_of_a_page : usable_frames (reachable limit (value_at (ram 0x800))) ≡ 0
 part_of_a_page = frames_of_ram 0x800 (omega arith) ∙ whole_by_division 0 0x800 (omega arith)
 
 part_of_a_page_stops : judged (reachable limit (value_at (ram 0x800))) ≡ Some stops.NoRam
 part_of_a_page_stops = rw part_of_a_page refl
 
--- 2^32 frames are enough still, and one more is too many
+-- the boot continues with 2^32 frames, and stops with one more
 most_frames : usable_frames (reachable limit (value_at (ram (2 ^ 44)))) ≡ 2 ^ 32
 most_frames = frames_of_ram (2 ^ 44) (omega arith) ∙ whole_by_division 0 (2 ^ 44) (omega arith)
 
@@ -57,7 +57,7 @@ one_frame_more = frames_of_ram (2 ^ 44 + 4096) (omega arith) ∙ whole_by_divisi
 one_frame_more_stops : judged (reachable limit (value_at (ram (2 ^ 44 + 4096)))) ≡ Some (stops.TooMuchRam (2 ^ 32 + 1))
 one_frame_more_stops = rw one_frame_more refl
 
--- a map without a run has no frame
+-- a map without runs has no usable frame
 empty_map_stops : judged (reachable limit (value_at [])) ≡ Some stops.NoRam
 empty_map_stops =
     let counted : usable_frames (reachable limit (value_at [])) ≡ whole_frames 0 (min 0 limit) =
@@ -65,7 +65,8 @@ empty_map_stops =
     let none : usable_frames (reachable limit (value_at [])) ≡ 0 = counted ∙ whole_by_division 0 0 (omega arith) in
     rw none refl
 
--- frames from the limit on don't count, nor does one in which it lies: of three pages up to 8 KiB and of 16 KiB up to 10 KiB two
+-- a frame that begins at the limit or has it inside doesn't count: 12 KiB of RAM with a limit of 8
+-- KiB have two usable frames, and so have 16 KiB with a limit of 10 KiB
 three_pages : usable_frames (reachable 0x2000 (value_at (ram 0x3000))) ≡ 2
 three_pages =
     sym (frames_usable 0x2000 (omega arith) (ram 0x3000) (one_run 0x3000 (omega arith)))
@@ -76,7 +77,7 @@ limit_in_a_frame =
     sym (frames_usable 0x2800 (omega arith) (ram 0x4000) (one_run 0x4000 (omega arith)))
     ∙ whole_by_division 0 0x2800 (omega arith)
 
--- three pages in two runs of RAM, the second of which begins inside a page: it counts once
+-- three pages in two runs of RAM that touch inside a page: that page counts once
 abbrev two_runs : List (RunOf ℕ)
 two_runs = record { base = 0; size = 0x1800; value = 1 } ∷ record { base = 0x1800; size = 0x1800; value = 1 } ∷ []
 

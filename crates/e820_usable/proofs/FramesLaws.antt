@@ -1,4 +1,4 @@
--- Counting the usable frames of a map along its runs.
+-- Lemmas on counting the usable frames of a map along its runs.
 use Rattle.std.proofs.Common.{◌≡◌, ℕ, ◌+◌, ◌-◌, ◌*◌, ◌/◌, ◌^◌, ◌<◌, ◌≤◌, ◌∙◌, sym, ap, refl, Bool, true, false, ◌&&◌, ◌||◌, ◌==◌, nat_le, nat_lt, min, if◌then◌else◌, arith, inl, inr, Some, None, List, [], ◌∷◌}
 use Rattle.std.proofs.lemmas.Bool.{cases_Bool, cases_eq}
 use Rattle.std.proofs.lemmas.Bool.Decides.{nat_tests}
@@ -10,7 +10,7 @@ use Rattle.e820_model.proofs.UsableLaws.{all_bytes, count_same, count_interval, 
 use Rattle.e820_usable.specs.Ascend.{Ascend}
 use Rattle.e820_usable.specs.Frames.{whole_frames}
 
--- the whole frames between two addresses, by division
+-- the number of whole frames between two addresses, by division
 pub whole_by_division : (from until : ℕ) → until < 2 ^ 64 → whole_frames from until ≡ until / 4096 - (from + 4095) / 4096
 whole_by_division from until space =
     let same : (frame : ℕ) → frame < 2 ^ 52 → (nat_le from (4096 * frame) && nat_le (4096 * frame + 4096) until)
@@ -20,12 +20,13 @@ whole_by_division from until space =
     count_same _ _ (2 ^ 52) same ∙ count_interval ((from + 4095) / 4096) (until / 4096) (2 ^ 52) in
     counted ∙ omega arith
 
--- they are the frames whose bytes all lie between the two addresses
+-- the whole frames between two addresses are those whose bytes all lie between them
 whole_bytes : (from until : ℕ) → until < 2 ^ 64
     → whole_frames from until ≡ count_below (all_bytes (λ x. nat_le from x && nat_lt x until)) (2 ^ 52)
 whole_bytes from until space = whole_by_division from until space ∙ omega (arith, count_frames_between from until (2 ^ 52), space)
 
--- the frames of the stretch of memory that goes on, and of those that begin in the runs behind it, within reach
+-- the usable frames below the limit: those of the current stretch from `from` to below `until`,
+-- and those of the runs that follow
 abbrev pub frames_from : ℕ → ℕ → ℕ → List (RunOf ℕ) → ℕ
 frames_from limit from until [] = whole_frames from (min until limit)
 frames_from limit from until (r ∷ rs) =
@@ -34,27 +35,27 @@ frames_from limit from until (r ∷ rs) =
     else whole_frames from (min until limit) + frames_from limit r.base (run_end r) rs)
     else frames_from limit from until rs
 
--- memory of the stretch, and of the runs
+-- an address is memory: it lies in the current stretch, or in one of the runs that follow
 abbrev pub memory_after : ℕ → ℕ → List (RunOf ℕ) → ℕ → Bool
 memory_after from until rs x = (nat_le from x && nat_lt x until) || is_memory (value_at rs x)
 
--- runs that begin at an address or behind it begin at each earlier one or behind it
+-- runs that begin at or above an address begin at or above each lower address
 pub start_earlier : (x y : ℕ) (rs : List (RunOf ℕ)) → x ≤ y → StartFrom y rs → StartFrom x rs
 start_earlier x y [] le start = tt
 start_earlier x y (r ∷ rs) le start = omega arith
 
--- a canonical list ascends
+-- a canonical list of runs ascends
 pub runs_ascend : {X : Type 0} (rs : List (RunOf X)) → AreRuns rs → Ascend rs
 runs_ascend [] runs = tt
 runs_ascend (r ∷ rs) runs = (runs.0, rest_from r rs runs, runs_ascend rs runs.2)
 
--- below the address from which the runs start they give nothing
+-- runs that begin at or above an address give no value below it
 none_before : (at x : ℕ) (rs : List (RunOf ℕ)) → Ascend rs → StartFrom at rs → x < at → value_at rs x ≡ None
 none_before at x [] order start low = refl
 none_before at x (r ∷ rs) order start low =
     rw (below r x (omega arith)) (none_before (run_end r) x rs order.2 order.1 (omega arith))
 
--- a run that touches the stretch lengthens it
+-- a run of memory that touches the stretch extends it
 pub memory_touching : (from until : ℕ) (r : RunOf ℕ) (rs : List (RunOf ℕ)) → from ≤ until → Ascend (r ∷ rs)
     → is_memory (Some r.value) ≡ true → r.base ≡ until
     → (x : ℕ) → memory_after from until (r ∷ rs) x ≡ memory_after from (run_end r) rs x
@@ -74,7 +75,7 @@ memory_other from until r rs runs other x =
       | inr outside ↦ (rw outside refl)
     ]
 
--- a run behind a gap begins a stretch
+-- a run of memory after a gap begins a new stretch
 pub memory_apart : (from until : ℕ) (r : RunOf ℕ) (rs : List (RunOf ℕ))
     → is_memory (Some r.value) ≡ true
     → (x : ℕ) → memory_after from until (r ∷ rs) x ≡ ((nat_le from x && nat_lt x until) || memory_after r.base (run_end r) rs x)
@@ -85,7 +86,7 @@ memory_apart from until r rs memory x =
       | inr outside ↦ (rw outside refl)
     ]
 
--- the address behind the stretch is a gap between it and the runs
+-- the address after the stretch is a gap between the stretch and the runs that follow
 pub stretch_gap : (from until : ℕ) (r : RunOf ℕ) (rs : List (RunOf ℕ)) → Ascend (r ∷ rs) → until < r.base
     → IsGap (λ x. nat_le from x && nat_lt x until) (memory_after r.base (run_end r) rs) until
 stretch_gap from until r rs runs behind = record {
@@ -95,23 +96,23 @@ stretch_gap from until r rs runs behind = record {
       grind (arith, nat_tests, nothing);
 }
 
--- with no run left the stretch alone is memory
+-- without further runs only the stretch is memory
 pub memory_last : (from until x : ℕ) → (nat_le from x && nat_lt x until) ≡ memory_after from until [] x
 memory_last from until x = grind (arith, nat_tests)
 
--- before the first run nothing is memory
+-- before the first run there is no stretch, and only the runs are memory
 pub memory_first : (rs : List (RunOf ℕ)) (x : ℕ) → memory_after 0 0 rs x ≡ is_memory (value_at rs x)
 memory_first rs x = grind (arith, nat_tests)
 
--- the frames of memory that a test of addresses tells, within reach
+-- the number of frames below the limit whose bytes all pass the test `p`
 abbrev pub frames_of : ℕ → (ℕ → Bool) → ℕ
 frames_of limit p = count_below (all_bytes (λ x. p x && nat_lt x limit)) (2 ^ 52)
 
--- two tests that agree tell the same frames
+-- two tests that agree on each address count the same frames
 pub frames_same : (limit : ℕ) (p q : ℕ → Bool) → ((x : ℕ) → p x ≡ q x) → frames_of limit p ≡ frames_of limit q
 frames_same limit p q same = ap (frames_of limit) (λ i x. same x i)
 
--- those of a stretch
+-- the frames of a stretch
 stretch_frames : (limit from until : ℕ) → limit < 2 ^ 64
     → whole_frames from (min until limit) ≡ frames_of limit (λ x. nat_le from x && nat_lt x until)
 stretch_frames limit from until space =
@@ -119,7 +120,7 @@ stretch_frames limit from until space =
     λ x. grind (arith, nat_tests) in
     whole_bytes from (min until limit) (omega arith) ∙ ap (λ p. count_below (all_bytes p) (2 ^ 52)) (λ i x. cut x i)
 
--- the frames of both sides of a gap
+-- if a gap separates two sets of addresses, their frames add up
 both_frames : (limit : ℕ) (p q : ℕ → Bool) (gap : ℕ) → IsGap p q gap
     → frames_of limit (λ x. p x || q x) ≡ frames_of limit p + frames_of limit q
 both_frames limit p q gap apart =
@@ -132,7 +133,7 @@ both_frames limit p q gap apart =
     let either : (x : ℕ) → ((p x || q x) && nat_lt x limit) ≡ (near x || far x) = λ x. grind (arith, nat_tests) in
     ap (λ t. count_below (all_bytes t) (2 ^ 52)) (λ i x. either x i) ∙ count_split near far gap (2 ^ 52) still
 
--- the frames counted along the runs are the whole frames of memory
+-- the count along the runs is the number of whole frames of memory
 pub frames_counted : (limit : ℕ) → limit < 2 ^ 64 → (rs : List (RunOf ℕ)) (from until : ℕ) → from ≤ until → StartFrom until rs → Ascend rs
     → frames_from limit from until rs ≡ frames_of limit (memory_after from until rs)
 frames_counted limit space [] from until order start runs =
@@ -172,7 +173,7 @@ frames_counted limit space (r ∷ rs) from until order start runs =
       ])
     ]
 
--- along runs that ascend, from no stretch at all: its usable frames
+-- for ascending runs, the count that begins without a stretch is the number of usable frames
 pub frames_usable : (limit : ℕ) → limit < 2 ^ 64 → (rs : List (RunOf ℕ)) → Ascend rs
     → frames_from limit 0 0 rs ≡ usable_frames (reachable limit (value_at rs))
 frames_usable limit space rs runs =

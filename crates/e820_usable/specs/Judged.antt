@@ -1,11 +1,11 @@
--- Whether a boot goes on with its map.
+-- The decision whether a boot continues with its map.
 use Rattle.std.specs.Prelude.{◌^◌, ◌==◌, nat_lt, if◌then◌else◌, Option, Some, None}
 use Rattle.e820_model.specs.Map.{TypeAt}
 use Rattle.e820_model.specs.Usable.{usable_frames}
 use Rattle.e820_usable.specs.declared.stop.MapStop.{MapStop}
 use Rattle.e820_usable.specs.declared.stop.MapStop.TheVariants as stops
 
--- no usable frame stops the boot, and so do more than 2^32 of them
+-- the boot stops if there is no usable frame, or if there are more than 2^32
 abbrev pub judged : TypeAt → Option MapStop
 judged f =
     if usable_frames f == 0 then Some stops.NoRam

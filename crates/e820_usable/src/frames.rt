@@ -1,5 +1,6 @@
-//! Counting usable frames along the runs of a map: runs of memory that touch make one stretch, and of a stretch the
-//! whole frames count. One pass over the runs is enough, however many frames they have.
+//! Counts usable frames along the runs of a map. Runs of memory that touch form one stretch, and
+//! the whole frames of a stretch count. One pass over the runs is enough, however many frames they
+//! have.
 
 ghost use Rattle.std.specs.Prelude.{◌≡◌, ℕ, ◌+◌, ◌-◌, ◌*◌, ◌^◌, ◌<◌, ◌≤◌};
 ghost use Rattle.address_runs.specs.Runs.{value_at};
@@ -10,14 +11,14 @@ ghost use Rattle.e820_usable.specs.Frames.{whole_frames};
 use bm_base::FRAME_SIZE;
 use e820_model::{E820_TYPE_RAM, E820_TYPE_RESERVED_KERN, Run};
 
-/// Whether addresses of this type (`enum e820_type`) are memory: RAM, or the kernel's own.
+/// Tests whether this type (`enum e820_type`) is memory: RAM, or the kernel's own.
 pub fn is_memory(kind: u32) -> bool
     ensures { result ≡ is_memory (Some kind) }
 {
     kind == E820_TYPE_RAM || kind == E820_TYPE_RESERVED_KERN
 }
 
-// The number of frames that begin at `from` or behind it and end by `until`.
+// Returns the number of frames that begin at or above `from` and end at or below `until`.
 fn whole_frames(from: u64, until: u64) -> u64
     ensures value { result ≡ whole_frames from until }
     ensures few { FRAME_SIZE * result ≤ until - from }
@@ -27,15 +28,17 @@ fn whole_frames(from: u64, until: u64) -> u64
     behind.saturating_sub(first)
 }
 
-/// The number of usable frames of the map that these runs are: frames of 4,096 bytes of which each byte is
-/// memory (`e820__memblock_setup`, `memblock_trim_memory`) and within reach. `limit` is the first address out of
-/// reach, in bytes, and may lie inside a frame. The runs ascend; those that touch may be of one type.
+/// Returns the number of usable frames of a map: frames of 4,096 bytes below `limit` that consist
+/// of memory (`e820__memblock_setup`, `memblock_trim_memory`).
+///
+/// `limit` is the first address that the kernel can't use, in bytes. A frame that has it inside
+/// isn't counted. `runs` must ascend; runs that touch may have the same type.
 pub fn usable_frames(runs: &[Run], limit: u64) -> u64
     requires { Ascend runs.now }
     ensures { result ≡ usable_frames (reachable limit (value_at runs.now)) }
 {
     let mut frames = 0;
-    // the stretch of memory that goes on: from its first address up to the one behind its last
+    // the current stretch of memory: its first address, and the address after its last
     let mut from = 0;
     let mut until = 0;
     for run in runs {
