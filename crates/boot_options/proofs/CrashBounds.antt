@@ -1,4 +1,5 @@
--- What the forms of `crashkernel=` keep: a plain form has a range, and its ranges end above their starts.
+-- Lemmas on the forms of `crashkernel=`: a plain form has at least one range, and each range ends
+-- above its start.
 use Rattle.std.proofs.Common.{◌≡◌, ℕ, ◌<◌, if◌then◌else◌, Bool, true, false, is_some, Option, Some, None, List, [], ◌∷◌, length, refl, IfSome, arith, codes}
 use Rattle.std.proofs.lemmas.Bool.{ltb-true}
 use Rattle.std.specs.Prelude.{◌&&◌, not}
@@ -40,7 +41,7 @@ sound-range text =
     ifsome-then IsInOrder (whole_size halves.1) _ (λ size.
     sound-in_order (record { start = start; end = end; size = size }))))))
 
--- as many ranges as texts, each in order
+-- there are n ranges, and each ends above its start
 abbrev Are : ℕ → List CrashRange → Type 0
 Are n rs = (length rs ≡ n) × AreInOrder rs
 
@@ -54,7 +55,7 @@ sound-ranges (text ∷ texts) = with_one (crash_range_of text) (sound-range text
     with_one (Some r) is None are = tt
     with_one (Some r) is (Some rs) are = (grind (arith, are.0), (is, are.1))
 
--- a text has a part at least
+-- a text has at least one part
 front-some : (b : ℕ) (parts : List (List ℕ)) → 0 < length (with_front b parts)
 front-some b [] = omega arith
 front-some b (p ∷ ps) = omega arith

@@ -1,4 +1,4 @@
--- Small values of `crashkernel=`: what the definitions say of them, by computing.
+-- Worked examples of values of `crashkernel=`.
 use Rattle.std.proofs.Common.{◌≡◌, ℕ, true, false, Some, None, Option, List, [], ◌∷◌, codes, Ok, Err, refl, arith, rules}
 use Rattle.bm_base.specs.declared.memory.Memory.{Memory}
 use Rattle.boot_options.specs.declared.crash.CrashForm.TheVariants as kept_forms
@@ -22,7 +22,7 @@ plain ranges base = record { ranges = ranges; base = base }
 marks : codes ":-,@" ≡ colon ∷ dash ∷ comma ∷ at_sign ∷ []
 marks = refl
 
--- one size, with a base and without, and with a suffix
+-- a size with a base, without one, and with a suffix
 simple_values : (form_of (codes "64M") ≡ Some (Plain (plain (range 0 None 0x4000000 ∷ []) 0)))
     × (form_of (codes "16M@0x3080000") ≡ Some (Plain (plain (range 0 None 0x1000000 ∷ []) 0x3080000)))
     × (form_of (codes "0") ≡ Some (Plain (plain (range 0 None 0 ∷ []) 0))) × (form_of (codes "64M@0") ≡ form_of (codes "64M"))
@@ -30,7 +30,7 @@ simple_values : (form_of (codes "64M") ≡ Some (Plain (plain (range 0 None 0x40
 unfolding form_of
 simple_values = (refl, refl, refl, refl, refl, refl)
 
--- ranges, with a base and without; the last one may have no end
+-- ranges with a base and without; the last one may have no end
 ranged_values : (form_of (codes "0-64M:8M,64M-:16M")
     ≡ Some (Plain (plain (range 0 (Some 0x4000000) 0x800000 ∷ range 0x4000000 None 0x1000000 ∷ []) 0)))
     × (form_of (codes "1G-2G:128M@1M") ≡ Some (Plain (plain (range 0x40000000 (Some 0x80000000) 0x8000000 ∷ []) 0x100000)))
@@ -39,8 +39,9 @@ ranged_values : (form_of (codes "0-64M:8M,64M-:16M")
 unfolding form_of
 ranged_values = (refl, refl, refl, refl)
 
--- a size that is none, too large or half written, a suffix that is none or one too many; and ranges that are empty, half written, with
--- a base between them, or with a suffix
+-- malformed values: no size, one that is too large, or one that isn't a size throughout; an
+-- unknown suffix, or two; ranges that are empty or incomplete, with a base between them, or with a
+-- suffix
 malformed_values : (form_of [] ≡ None) × (form_of (codes "x") ≡ None) × (form_of (codes "64M@") ≡ None) × (form_of (codes "@64M") ≡ None)
     × (form_of (codes "64M,") ≡ None) × (form_of (codes "64M,HIGH") ≡ None) × (form_of (codes "64M,high,low") ≡ None)
     × (form_of (codes "64M@1M,high") ≡ None) × (form_of (codes "16E") ≡ None) × (form_of (codes "64MB") ≡ None)
@@ -51,7 +52,7 @@ malformed_values : (form_of [] ≡ None) × (form_of (codes "x") ≡ None) × (f
 unfolding form_of
 malformed_values = (refl, refl, refl, refl, refl, refl, refl, refl, refl, refl, refl, refl, refl, refl, refl, refl, refl, refl, refl, refl)
 
--- the steps of a range
+-- the parts of a range
 ends : (end_of_range [] ≡ Some None) × (end_of_range (codes "2K") ≡ Some (Some 2048)) × (end_of_range (codes "x") ≡ None)
 ends = (refl, refl, refl)
 
@@ -68,7 +69,7 @@ lists : (crash_ranges_of [] ≡ Some []) × (crash_ranges_of (codes "0-:1" ∷ c
     × (crash_ranges_of (codes "0-:1" ∷ []) ≡ Some (range 0 None 1 ∷ []))
 lists = (refl, refl, refl)
 
--- the steps of a value
+-- the parts of a value
 places : (place_of (codes "64M@1M") ≡ Some (codes "64M", 0x100000)) × (place_of (codes "64M") ≡ Some (codes "64M", 0))
     × (with_base (codes "a@b") (Some (codes "a", codes "b")) ≡ None) × (with_base (codes "a") None ≡ Some (codes "a", 0))
 places = (refl, refl, refl, refl)
@@ -85,7 +86,7 @@ by_the_comma : (without_colon (codes "7") None ≡ Some (Plain (plain (range 0 N
     × (without_colon (codes "7,high") (Some (codes "7", codes "high")) ≡ Some (High 7))
 by_the_comma = (refl, refl)
 
--- what a word says, and what all words come to: the last one of each form
+-- the meaning of a word, and the options of all words: the last value of each form
 said : (said_by 3 (codes "crashkernel", Some (codes "7,low")) ≡ Ok (OfCrash (Low 7)))
     × (said_by 3 (codes "crashkernel", Some (codes "7,")) ≡ Err (faults.BadCrash 3))
     × (said_by 3 (codes "crashkernel", None) ≡ Err (faults.BadCrash 3)) × (crash_of (codes "7,low") ≡ Some (OfCrash (Low 7)))
@@ -104,7 +105,7 @@ each_form : (crash_by ((1, OfCrash (Low 7)) ∷ (2, OfCrash (High 9)) ∷ (4, Of
     ≡ record { plain = None; high = Some 9; low = Some 8 }) × (crash_by [] ≡ no_crash)
 each_form = (refl, refl)
 
--- the last value of each form counts, and the fault of the lowest word
+-- the last value of each form counts; the fault of the lowest malformed word is reported
 whole_lines : (options_of (codes "crashkernel=64M crashkernel=512M,high crashkernel=0")
     ≡ Ok (record {
       edits = [];
@@ -116,7 +117,7 @@ whole_lines : (options_of (codes "crashkernel=64M crashkernel=512M,high crashker
 unfolding form_of
 whole_lines = (refl, refl)
 
--- what contracts see of a value: its ranges, without the vector that holds them
+-- contracts see the ranges of a value, without the vector that holds them
 seen_plain : (p : CrashPlain) → p.ranges.items ≡ range 0 None 1 ∷ [] → p.base ≡ 5 → plain_view p ≡ plain (range 0 None 1 ∷ []) 5
 seen_plain p items base = rw (items, base) refl
 
@@ -124,7 +125,7 @@ seen_crash : (c : CrashOption) → c.plain ≡ None → c.high ≡ Some 7 → c.
     → crash_view c ≡ record { plain = None; high = Some 7; low = None }
 seen_crash c none high low = rw (none, high, low) refl
 
--- the ranges of a plain form
+-- which lists of ranges a plain form may have
 in_order_or_not : AreInOrder (range 0 (Some 1) 5 ∷ range 0 None 5 ∷ []) × (AreInOrder (range 1 (Some 1) 5 ∷ []) → ⊥)
 in_order_or_not = ((omega arith, (tt, tt)), λ are. let above = are.0 in omega arith)
 
@@ -134,13 +135,13 @@ is_plain = (record { some = omega arith; order = (tt, tt) }, λ is. let some = i
 wants_some : WantsMemory (chosen_by ((1, OfCrash (Plain (plain [] 0))) ∷ [])) × (WantsMemory (chosen_by ((1, NumaOff) ∷ [])) → ⊥)
 wants_some = (search rules, λ wants. grind (arith, wants))
 
--- a line half read: a later value of a form takes the place of an earlier one
+-- in the middle of a line, a later value of a form replaces an earlier one
 later_values : (after_form (record { plain = None; high = Some 1; low = Some 2 }) (Low 3)
     ≡ record { plain = None; high = Some 1; low = Some 3 })
     × ((after 2 start (OfCrash (High 4))).crash ≡ record { plain = None; high = Some 4; low = None })
 later_values = (refl, refl)
 
--- what is kept where memory ran out for a range
+-- what the reader has if memory ran out for a range
 abbrev lost : Memory → PlainRead
 lost m = record { ranges = Err m; base = 5 }
 
@@ -168,7 +169,7 @@ nothing_read = (record { plain = refl; high = refl; low = refl }, λ keeps. let 
 lacking : (m : Memory) → LacksRanges (Some (lost m)) × (LacksRanges None → ⊥)
 lacking m = (refl, λ none. none)
 
--- how ranges are spelled
+-- the spelling of ranges
 one_range_alone : (one_range 7 0 ≡ plain (range 0 None 7 ∷ []) 0) × (one_range 7 5 ≡ plain (range 0 None 7 ∷ []) 5)
 one_range_alone = (refl, refl)
 

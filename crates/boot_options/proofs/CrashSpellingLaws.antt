@@ -1,4 +1,4 @@
--- What is spelled as a form of `crashkernel=` is read as that form.
+-- Lemmas: what is spelled as a form of `crashkernel=` is read as that form.
 use Rattle.std.proofs.Common.{◌≡◌, ℕ, ◌+◌, ◌*◌, ◌^◌, ◌≤◌, ◌==◌, nat_lt, if◌then◌else◌, Bool, true, false, ◌||◌, is_some, Option, Some, None, List, [], ◌∷◌, ◌++◌, length, drop, refl, sym, ap, ◌∙◌, append_assoc, length-append, length-drop, eq-eqb, codes, Ok, Err, IfOk, arith}
 use Rattle.std.proofs.lemmas.Bool.{ne_eqb}
 use Rattle.std.proofs.lemmas.Bool.Decides.{nat_tests}
@@ -37,7 +37,7 @@ pub cut-mark : (mark : ℕ) (text rest : List ℕ) → Lacks mark text → cut m
 cut-mark mark [] rest lacks = rw (eq-eqb mark mark refl) refl
 cut-mark mark (b ∷ bs) rest lacks = rw (lacks.0, cut-mark mark bs rest lacks.1) refl
 
--- a size takes no more bytes than there are
+-- a size doesn't take more bytes than the text has
 either-le : (t : Bool) (x y : ℕ × ℕ) → x.1 ≤ 1 → y.1 ≤ 1 → (if t then x else y).1 ≤ 1
 either-le true x y front back = front
 either-le false x y front back = back
@@ -73,7 +73,7 @@ size-within text = by_digit (begins_with_digit text)
         (number_end text + (suffix_of (drop (number_end text) text)).1) (short (number_end text) (number_end-le text))
     by_digit false = tt
 
--- so no mark stands in a text that is a size
+-- a text that is a size contains no mark
 no_mark : (front rest : List ℕ) (mark n : ℕ) → is_digit mark 36 ≡ false → IsSize (front ++ (mark ∷ rest)) n → ⊥
 no_mark front rest mark n is size =
     let front_size : size_of front ≡ Ok (n, length (front ++ (mark ∷ rest))) = sym (size_of-mark front rest mark is) ∙ size in
@@ -91,7 +91,7 @@ lacks-from front (b ∷ bs) mark n is size = (
 pub lacks-size : (s : List ℕ) (mark n : ℕ) → is_digit mark 36 ≡ false → IsSize s n → Lacks mark s
 lacks-size s mark n is size = lacks-from [] s mark n is size
 
--- the place of a form
+-- the size and the base of a plain form
 place-none : (s : List ℕ) → Lacks 64 s → place_of s ≡ Some (s, 0)
 place-none s lacks = rw (cut-none 64 s lacks) refl
 
@@ -140,7 +140,7 @@ form-high s n size = form-suffixed s (codes "high") n (High n) size (refl, (refl
 form-low : (s : List ℕ) (n : ℕ) → IsSize s n → form_of (s ++ codes ",low") ≡ Some (Low n)
 form-low s n size = form-suffixed s (codes "low") n (Low n) size (refl, (refl, (refl, tt))) refl
 
--- a range
+-- the end of a range, and a range
 end-spelled : (text : List ℕ) (end : Option ℕ) (start : ℕ) → SpellsEnd text end start
     → (end_of_range text ≡ Some end) × (is_above end start ≡ true)
 end-spelled text None start spells = (rw spells refl, refl)
@@ -154,7 +154,7 @@ lacks-end : (text : List ℕ) (end : Option ℕ) (start mark : ℕ) → is_digit
 lacks-end text None start mark is spells = rw spells tt
 lacks-end text (Some end) start mark is spells = lacks-size text mark end is spells.0
 
--- a mark that isn't `-` or `:` isn't in the text of a range
+-- a mark other than `-` and `:` isn't in the text of a range
 lacks-range : (text : List ℕ) (r : CrashRange) (mark : ℕ) → is_digit mark 36 ≡ false → 45 == mark ≡ false → 58 == mark ≡ false
     → SpellsRange text r → Lacks mark text
 lacks-range text r mark is dash colon spells =
@@ -165,7 +165,7 @@ lacks-range text r mark is dash colon spells =
           (colon, lacks-size spells.size_text mark r.size is spells.size),
     ))
 
--- the colon of a range, whatever stands behind the range
+-- the first colon after the start of a range is its own, whatever text follows the range
 cut-range : (text rest : List ℕ) (r : CrashRange) → (spells : SpellsRange text r)
     → cut 58 (text ++ rest) ≡ Some (spells.start_text ++ (45 ∷ spells.end_text), spells.size_text ++ rest)
 cut-range text rest r spells =
@@ -194,7 +194,7 @@ range-spelled text r spells =
     (whole_size-end spells.size_text r.size spells.size)
     ∙ rw end.1 refl
 
--- ranges with commas between
+-- ranges with commas between them
 pub lacks-closed : (text : List ℕ) → Lacks 44 text → IsClosed (Byte 44) false text
 lacks-closed [] lacks = refl
 lacks-closed (b ∷ bs) lacks = (lacks.0, lacks-closed bs lacks.1)
@@ -216,7 +216,7 @@ ranges-spelled text (u ∷ texts) (r ∷ rs) spell =
     ∙ then-some (crash_ranges_of (parts_in (Byte 44) (joined (u ∷ texts)))) (λ ranges. Some (r ∷ ranges)) rs
     (ranges-spelled u texts rs spell.1))
 
--- the ranges' text lacks `@`, and has a colon
+-- the text of ranges has no `@`, and has a colon
 lacks-joined : (texts : List (List ℕ)) (rs : List CrashRange) → SpellRanges texts rs → Lacks 64 (joined texts)
 lacks-joined [] [] spell = tt
 lacks-joined [] (r ∷ rs) spell = absurd spell
@@ -262,7 +262,7 @@ form-ranges-placed text texts rs b base spell size =
     form-ranges_form (joined (text ∷ texts) ++ (64 ∷ b)) (joined (text ∷ texts)) base rs (has-colon text texts rs (64 ∷ b) spell)
     (place-base (joined (text ∷ texts)) b base (lacks-joined (text ∷ texts) rs spell) size) (ranges-spelled text texts rs spell)
 
--- each form that is spelled is read
+-- each form that is spelled is read as that form
 pub form-read : (value : List ℕ) (form : Form) → SpellsForm value form → form_of value ≡ Some form
 form-read value form (one_size s _ size _ is no_base) = rw (append-nil s) (form-simple s size is)
 form-read value form (one_size s _ size base is (a_base b _ at)) = form-placed s b size base is at

@@ -1,4 +1,4 @@
--- Small options, map options and lines: what the definitions say of them, by computing.
+-- Worked examples of map options and command lines.
 use Rattle.std.proofs.Common.{◌≡◌, ℕ, ◌-◌, ◌^◌, true, false, Some, None, List, [], ◌∷◌, codes, replicate, Ok, Err, refl, arith, Vec}
 use Rattle.std.specs.declared.alloc.Global.{Global}
 use Rattle.bm_base.specs.declared.memory.Memory.{Memory}
@@ -21,7 +21,7 @@ use Rattle.boot_options.specs.Reading.{start, one_fewer, user_map_behind, after_
 abbrev range : ℕ → ℕ → Extent
 range base size = record { base = base; size = size }
 
--- a size and a number at the front of a text, and what stands behind them
+-- a size and a number at the start of a text, and the rest after them
 fronts : (front_size (codes "1M@2M") ≡ Some (2 ^ 20, codes "@2M")) × (front_size (codes "@2M") ≡ None)
     × (front_number (codes "5+7") ≡ Some (5, codes "+7")) × (front_number (codes "5K") ≡ Some (5, codes "K"))
 fronts = (refl, refl, refl, refl)
@@ -45,13 +45,14 @@ ranges = (refl, refl)
 empty_or_not : (unless_empty (range 0 1) Clear ≡ Some Clear) × (unless_empty (range 5 0) Clear ≡ None)
 empty_or_not = (refl, refl)
 
--- RAM from an address on, and where there is no address left
+-- the range from an address up to 2^64 - 2, and the edit that removes RAM there; there is none if
+-- no address is left
 above : (range_above (2 ^ 64 - 2) ≡ range (2 ^ 64 - 2) 1) × (range_above 0 ≡ range 0 (2 ^ 64 - 1))
     × (ram_above (2 ^ 64 - 2) ≡ Some (Remove (range (2 ^ 64 - 2) 1) 1)) × (ram_above (2 ^ 64 - 1) ≡ None)
 above = (refl, refl, refl, refl)
 
--- one map option of each form: RAM, ACPI data, reserved and persistent memory, RAM that ends there, `exactmap` with nothing behind
--- it; and of a range one type changed to another, a type added, one type removed, all types removed
+-- a map option of each form: RAM, ACPI data, reserved and persistent memory; RAM that ends at an
+-- address; `exactmap`; and in a range one type changed, added or removed, or all types removed
 map_option_forms : (map_option_of (codes "1M@2M") ≡ Some (Adding (Some (Add (range 0x200000 0x100000) 1))))
     × (map_option_of (codes "0x1000#0X2fff") ≡ Some (Adding (Some (Add (range 0x2fff 0x1000) 3))))
     × (map_option_of (codes "010$020") ≡ Some (Adding (Some (Add (range 16 8) 2))))
@@ -64,14 +65,14 @@ map_option_forms : (map_option_of (codes "1M@2M") ≡ Some (Adding (Some (Add (r
     × (map_option_of (codes "1M%2M") ≡ Some (Other (Some (RemoveAll (range 0x200000 0x100000)))))
 map_option_forms = (refl, refl, refl, refl, refl, refl, refl, refl, refl, refl, refl)
 
--- the widest range, the last byte, and RAM that ends at 0 or nowhere
+-- the largest range, the last byte, and RAM that ends at 0 or isn't limited
 edges : (map_option_of (codes "0xFFFFFFFFFFFFFFFF@0") ≡ Some (Adding (Some (Add (range 0 (2 ^ 64 - 1)) 1))))
     × (map_option_of (codes "1@18446744073709551614") ≡ Some (Adding (Some (Add (range (2 ^ 64 - 2) 1) 1))))
     × (map_option_of (codes "0") ≡ Some (Other (Some (Remove (range 0 (2 ^ 64 - 1)) 1))))
     × (map_option_of (codes "0xFFFFFFFFFFFFFFFF") ≡ Some (Other None))
 edges = (refl, refl, refl, refl)
 
--- a type of 0 counts as not written
+-- the type 0 counts as not given
 types_of_zero : (map_option_of (codes "1%2-0+5") ≡ map_option_of (codes "1%2+5"))
     × (map_option_of (codes "1%2-5+0") ≡ map_option_of (codes "1%2-5"))
     × (map_option_of (codes "1%2-0+0") ≡ Some (Other (Some (RemoveAll (range 2 1)))))
@@ -79,30 +80,32 @@ types_of_zero : (map_option_of (codes "1%2-0+5") ≡ map_option_of (codes "1%2+5
     × (map_option_of (codes "1%2+0") ≡ map_option_of (codes "1%2"))
 types_of_zero = (refl, refl, refl, refl, refl)
 
--- types in other bases, and the greatest one
+-- types in other bases, and the largest type
 types_as_numbers : (map_option_of (codes "1%2-0x10+021") ≡ Some (Other (Some (Change (range 2 1) 16 17))))
     × (map_option_of (codes "1%2-4294967295") ≡ Some (Other (Some (Remove (range 2 1) (2 ^ 32 - 1)))))
 types_as_numbers = (refl, refl)
 
--- an empty range makes no edit, but the map option counts as adding memory; a range past the end is malformed
+-- an empty range makes no edit, but the map option still counts as one that adds memory; a range
+-- past 2^64 - 1 is malformed
 empty_or_malformed : (map_option_of (codes "0@1M") ≡ Some (Adding None)) × (map_option_of [] ≡ None) × (map_option_of (codes "1M@") ≡ None)
     × (map_option_of (codes "1M@2MB") ≡ None) × (map_option_of (codes "1M&2M") ≡ None) × (map_option_of (codes "1M%2M-3+3") ≡ None)
     × (map_option_of (codes "15E@15E") ≡ None)
 empty_or_malformed = (refl, refl, refl, refl, refl, refl, refl)
 
--- rubbish in front, behind and between; names that are almost one; ranges past the end
+-- malformed: text before, after and between the parts; names that are almost right; ranges past
+-- 2^64 - 1
 no_map_options : (map_option_of (codes "@1M") ≡ None) × (map_option_of (codes "1KK") ≡ None) × (map_option_of (codes "1M@2M@3M") ≡ None)
     × (map_option_of (codes "1M@-2M") ≡ None) × (map_option_of (codes "exactmapx") ≡ None) × (map_option_of (codes "EXACTMAP") ≡ None)
     × (map_option_of (codes "16E@0") ≡ None) × (map_option_of (codes "2@0xFFFFFFFFFFFFFFFE") ≡ None)
 no_map_options = (refl, refl, refl, refl, refl, refl, refl, refl)
 
--- types without digits, with a suffix, in the other order, past 2^32 - 1
+-- malformed types: without digits, with a suffix, in the other order, above 2^32 - 1
 no_types : (map_option_of (codes "1%2-") ≡ None) × (map_option_of (codes "1%2-3+") ≡ None) × (map_option_of (codes "1%2-1K") ≡ None)
     × (map_option_of (codes "1%2+3-4") ≡ None) × (map_option_of (codes "1%2+08") ≡ None) × (map_option_of (codes "1%2-0x10+020") ≡ None)
     × (map_option_of (codes "1%2+4294967296") ≡ None) × (map_option_of (codes "1%2-18446744073709551616") ≡ None)
 no_types = (refl, refl, refl, refl, refl, refl, refl, refl)
 
--- the steps of a map option
+-- the parts of a map option
 steps_of_adding : (adding_option 3 0x1000 (codes "2M") ≡ Some (Adding (Some (Add (range 0x200000 0x1000) 3))))
     × (adding_option 3 0x1000 (codes "2M ") ≡ None)
 steps_of_adding = (refl, refl)
@@ -135,7 +138,7 @@ retyped_ranges = (refl, refl)
 changed_ranges : (changed 8 (codes "0-1+7") ≡ Some (Other (Some (Change (range 0 8) 1 7)))) × (changed 8 (codes "0+7-1") ≡ None)
 changed_ranges = (refl, refl)
 
--- `mem=`: RAM ends somewhere above 0
+-- `mem=` ends RAM at an address above 0
 mem_values : (mem_of (codes "4G") ≡ Some (Other (Some (Remove (range 0x100000000 (2 ^ 64 - 1 - 0x100000000)) 1))))
     × (mem_of (codes "nopentium") ≡ Some (Other None)) × (mem_of (codes "0") ≡ None) × (mem_of (codes "4G@0") ≡ None)
     × (mem_of (codes "0xFFFFFFFFFFFFFFFF") ≡ Some (Other None)) × (mem_of (codes "16E") ≡ None) × (mem_of [] ≡ None)
@@ -144,7 +147,7 @@ mem_values = (refl, refl, refl, refl, refl, refl, refl)
 ends_of_ram : (ram_up_to 1 ≡ Some (Other (Some (Remove (range 1 (2 ^ 64 - 2)) 1)))) × (ram_up_to 0 ≡ None)
 ends_of_ram = (refl, refl)
 
--- the line ends before the first zero byte, and one newline at its end doesn't count
+-- the line ends before the first zero byte, and one newline at its end is dropped
 raw_lines : (raw_line (codes "quiet\n") ≡ codes "quiet") × (raw_line (113 ∷ 10 ∷ 10 ∷ 0 ∷ 120 ∷ []) ≡ 113 ∷ 10 ∷ []) × (raw_line [] ≡ [])
 raw_lines = (refl, refl, refl)
 
@@ -154,11 +157,11 @@ closed_lines = (refl, refl)
 lines : (line_of (codes "mem=\"4G\"\n") ≡ Ok (codes "mem=\"4G\"")) × (line_of (codes "mem=\"4G\n") ≡ Err faults.OpenQuote)
 lines = (refl, refl)
 
--- the longest line has 2,047 bytes, and one byte more is too long
+-- a line of 2,047 bytes is accepted, and one of 2,048 is too long
 checked_lines : (checked_line (replicate 2047 97) ≡ Ok (replicate 2047 97)) × (checked_line (replicate 2048 34) ≡ Err faults.TooLong)
 checked_lines = (refl, refl)
 
--- map options between commas, each of which has to be one, also behind the last comma
+-- each text between commas must be a map option, also the one after the last comma
 options_in_order : (memmap_of (codes "exactmap,8@0") ≡ Some (OfMap (ExactMap ∷ Adding (Some (Add (range 0 8) 1)) ∷ [])))
     × (memmap_of (codes "exactmap,") ≡ None) × (memmap_of [] ≡ None)
 options_in_order = (refl, refl, refl)
@@ -174,7 +177,7 @@ numa_values = (refl, refl)
 said_or_fault : (or_fault (faults.BadNuma 3) None ≡ Err (faults.BadNuma 3)) × (or_fault (faults.BadNuma 3) (Some NumaOff) ≡ Ok NumaOff)
 said_or_fault = (refl, refl)
 
--- name and value, which loses its quotation marks
+-- the name and the value of a word; the value loses its quotation marks
 names : (name_value_of (codes "mem=\"4G\"") ≡ (codes "mem", Some (codes "4G")))
     × (name_value_of (codes "quiet") ≡ (codes "quiet", None)) × (name_value_of (codes "mem=") ≡ (codes "mem", Some []))
 names = (refl, refl, refl)
@@ -183,7 +186,7 @@ cuts : (at_cut (codes "quiet") None ≡ (codes "quiet", None))
     × (at_cut (codes "a=\"b") (Some (codes "a", codes "\"b")) ≡ (codes "a", Some (codes "b")))
 cuts = (refl, refl)
 
--- what one word says: by its whole name, and with the word's number in its fault
+-- the meaning of a word depends on its whole name; a fault has the number of the word
 said_words : (said_by 2 (codes "mem", Some (codes "nopentium")) ≡ Ok (of_one (Other None)))
     × (said_by 2 (codes "numa", Some (codes "off")) ≡ Ok NumaOff) × (said_by 2 (codes "memory", Some (codes "4G")) ≡ Ok (OfMap []))
     × (said_by 2 (codes "mem", None) ≡ Err (faults.BadMem 2))
@@ -191,26 +194,26 @@ said_words : (said_by 2 (codes "mem", Some (codes "nopentium")) ≡ Ok (of_one (
     × (said_by 4 (codes "numa", Some (codes "fake=2")) ≡ Err (faults.BadNuma 4))
 said_words = (refl, refl, refl, refl, refl, refl)
 
--- `add_efi_memmap` has no value, and whatever it has says the same; by its whole name
+-- `add_efi_memmap` means the same with any value and without one; its whole name is needed
 efi_words : (said_by 2 (codes "add_efi_memmap", None) ≡ Ok AddEfi) × (said_by 2 (codes "add_efi_memmap", Some (codes "0")) ≡ Ok AddEfi)
     × (said_by 2 (codes "add_efi_memmaps", None) ≡ Ok (OfMap [])) × (said_by 2 (codes "add_efi", None) ≡ Ok (OfMap []))
 efi_words = (refl, refl, refl, refl)
 
--- the words up to `--`, each without its quotation marks
+-- the words before `--`, each without its quotation marks
 words_up_to_the_end : (until_end (codes "a" ∷ codes "--" ∷ codes "b" ∷ []) ≡ codes "a" ∷ [])
     × (until_end (codes "a" ∷ codes "--x" ∷ []) ≡ codes "a" ∷ codes "--x" ∷ [])
 words_up_to_the_end = (refl, refl)
 
--- none stands in front of a first `--`
+-- if `--` is the first word, no word comes before it
 words_of_options : (option_words (codes "a \"b\" -- c") ≡ codes "a" ∷ codes "b" ∷ []) × (option_words (codes "-- a") ≡ [])
 words_of_options = (refl, refl)
 
--- the fault of the lowest word goes first, and the words are numbered from the number that is given
+-- the fault of the lowest malformed word is reported; words are numbered from the given number on
 first_fault : (said_from 1 (codes "quiet" ∷ codes "numa=on" ∷ codes "mem=0" ∷ []) ≡ Err (faults.BadNuma 2))
     × (said_from 1 (codes "quiet" ∷ codes "numa=off" ∷ []) ≡ Ok ((1, OfMap []) ∷ (2, NumaOff) ∷ []))
 first_fault = (refl, refl)
 
--- word 1 says `exactmap,0@1M`, word 2 `numa=off`, word 3 `8@0`
+-- word 1 is `memmap=exactmap,0@1M`, word 2 `numa=off`, word 3 `memmap=8@0`
 abbrev a_page : MapOption
 a_page = Adding (Some (Add (range 0 8) 1))
 
@@ -225,7 +228,7 @@ numbered_options : (numbered 4 (ExactMap ∷ a_page ∷ []) [] ≡ (4, ExactMap)
     × (numbered 4 [] ((5, a_page) ∷ []) ≡ (5, a_page) ∷ [])
 numbered_options = (refl, refl)
 
--- an adding map option with an empty range makes no edit
+-- a map option that adds an empty range makes no edit
 edits_of_options : (edits_of (all_map_options three_words) ≡ Clear ∷ Add (range 0 8) 1 ∷ []) × (edit_of (Adding None) ≡ None)
     × (edit_of ExactMap ≡ Some Clear) × (edits_of [] ≡ [])
 edits_of_options = (refl, refl, refl, refl)
@@ -237,12 +240,13 @@ efi_is_added : (is_efi_added three_words ≡ false) × (is_efi_added ((1, NumaOf
     × (is_numa_off ((1, AddEfi) ∷ []) ≡ false)
 efi_is_added = (refl, refl, refl)
 
--- the last `exactmap` counts, and the adding map options behind it
+-- the last `exactmap`, and the number of map options that add memory after it
 two_behind_it : (last_exact (all_map_options three_words) ≡ Some (1, 2)) × (count_adding (all_map_options three_words) ≡ 2)
     × (count_adding ((1, ExactMap) ∷ (2, Other None) ∷ []) ≡ 0)
 two_behind_it = (refl, refl, refl)
 
--- one behind the last of two, and no `exactmap`
+-- two words with `exactmap`: after the last there is one map option that adds memory; and a line
+-- without `exactmap`
 last_exactmap : (last_exact ((1, ExactMap) ∷ (1, a_page) ∷ (2, ExactMap) ∷ (3, a_page) ∷ (4, Other None) ∷ []) ≡ Some (2, 1))
     × (last_exact ((1, a_page) ∷ (2, Other None) ∷ []) ≡ None)
 last_exactmap = (refl, refl)
@@ -251,7 +255,7 @@ here_or_behind : (or_here None 3 ExactMap 2 ≡ Some (3, 2)) × (or_here (Some (
     × (or_here None 3 a_page 2 ≡ None)
 here_or_behind = (refl, refl, refl)
 
--- a user map wants two adding map options
+-- a user map needs two map options that add memory
 abbrev nothing_chosen : Chosen
 nothing_chosen = record { edits = []; crash = no_crash; numa_off = false; add_efi = false }
 
@@ -264,7 +268,8 @@ words_with_user_maps : (with_user_map three_words
     × (with_user_map ((1, OfMap (ExactMap ∷ a_page ∷ [])) ∷ []) ≡ Err (faults.UserMapInvalid 1))
 words_with_user_maps = (refl, refl)
 
--- what contracts see of options: the edits, without the vector that holds them, whether the SRAT is read, and the EFI map added
+-- contracts see the edits, without the vector that holds them, and whether `numa=off` and
+-- `add_efi_memmap` are set
 chosen_options : (options : Options) → options.edits.items ≡ Clear ∷ [] → options.numa_off ≡ true → options.add_efi ≡ true
     → chosen options ≡ record { edits = Clear ∷ []; crash = crash_view options.crash; numa_off = true; add_efi = true }
 chosen_options options edits off efi = rw (edits, off, efi) refl
@@ -277,7 +282,8 @@ chosen_words : (chosen_by [] ≡ nothing_chosen)
     × (chosen_by ((2, NumaOff) ∷ []) ≡ record { edits = []; crash = no_crash; numa_off = true; add_efi = false })
 chosen_words = (refl, refl)
 
--- whole lines: two edits, in their order; nothing behind `--` counts; the EFI map; a third word that is faulty; a user map of one option
+-- whole lines: two edits, in their order; words after `--` are ignored; `add_efi_memmap`; a
+-- malformed third word; a user map with one map option
 whole_lines : (options_of (codes "quiet mem=4G memmap=1G!2G\n")
     ≡ Ok (record nothing_chosen {
       edits = Remove (range 0x100000000 (2 ^ 64 - 1 - 0x100000000)) 1 ∷ Add (range 0x80000000 0x40000000) 12 ∷ [];
@@ -290,7 +296,7 @@ whole_lines : (options_of (codes "quiet mem=4G memmap=1G!2G\n")
     × (options_of (codes "a memmap=exactmap memmap=1M@0") ≡ Err (faults.UserMapInvalid 2))
 whole_lines = (refl, refl, refl, refl, refl, refl, refl)
 
--- ranges of edits, and numbers of words in faults
+-- edits with and without an empty range, and numbers of words in faults
 ranges_of_edits : HaveRanges (Add (range 0 8) 1 ∷ Clear ∷ []) × (HaveRanges (Clear ∷ RemoveAll (range 5 0) ∷ []) → ⊥)
 ranges_of_edits = ((omega arith, (tt, tt)), λ have. let has = have.1.0 in omega arith)
 
@@ -300,7 +306,8 @@ has_range = (omega arith, λ has. omega arith)
 numbered_faults : IsNumbered (faults.BadMem 1) × IsNumbered faults.OpenQuote
 numbered_faults = (omega arith, tt)
 
--- a line half read: behind `exactmap` two adding map options are wanted, and each one that is read is one fewer
+-- in the middle of a line: after `exactmap` two map options that add memory are needed, and each
+-- one that is read is one fewer
 read_three_words : after_all start three_words
     ≡ record {
       edits = Clear ∷ Add (range 0 8) 1 ∷ [];
@@ -346,7 +353,7 @@ read_or_fault = (refl, refl, refl, refl)
 read_all_or_fault : (read_all start (Err (faults.BadMem 2)) ≡ Err (faults.BadMem 2)) × (read_all start (Ok []) ≡ Ok start)
 read_all_or_fault = (refl, refl)
 
--- the reader keeps the edits of its state; where it ran out of memory, its state has some
+-- the reader has the edits of its state; if it ran out of memory, its state has at least one edit
 edits_are_kept : (kept : Vec Edit Global) → kept.items ≡ Clear ∷ [] → KeepsItems (Ok kept) (Clear ∷ [])
 edits_are_kept kept is = is
 
@@ -362,7 +369,7 @@ half_read m = record {
   user_map = None;
 }
 
--- all but the edits it has, also without memory
+-- even without memory for the edits, the reader has everything else of its state
 at_a_state_without_memory : (m : Memory) → IsReadTo (half_read m) (after 1 (after_map_option 1 start (Other (Some Clear))) NumaOff)
 at_a_state_without_memory m =
     record {
@@ -376,7 +383,7 @@ at_a_state_without_memory m =
 other_numa_off : (m : Memory) → IsReadTo (half_read m) (after_map_option 1 start (Other (Some Clear))) → ⊥
 other_numa_off m has = let off = has.numa_off in cc off
 
--- a reader that goes on has no fault, and one that answers a fault has the definition's
+-- a reader that goes on has no fault, and the fault that it returns is the definition's
 no_state_with_a_fault : (m : Memory) → IsAtSome (half_read m) (Err (faults.BadMem 1)) → ⊥
 no_state_with_a_fault m is = is
 

@@ -1,4 +1,5 @@
--- A word has a fault exactly if it is malformed, and the line that of the lowest such word.
+-- Lemmas: a word has a fault exactly if it is malformed, and the line has the fault of the lowest
+-- such word.
 use Rattle.std.proofs.Common.{◌≡◌, ◌≢◌, ◌↔◌, ℕ, ◌+◌, ◌%◌, ◌==◌, nat_lt, if◌then◌else◌, Bool, true, false, not, suc, Option, Some, None, List, [], ◌∷◌, ◌++◌, length, map, refl, subst, ap, sym, ◌∙◌, codes, Result, Ok, Err, arith}
 use Rattle.std.proofs.lemmas.Bool.{eqb-true}
 use Rattle.std.proofs.lemmas.List.Sums.{sum_by-cons}
@@ -24,7 +25,7 @@ use Rattle.boot_options.proofs.CrashSpellingLaws.{Lacks, cut-mark, cut-none}
 use Rattle.boot_options.proofs.SpelledCrashLaws.{cut-spelled, form-exactly}
 use Rattle.boot_options.proofs.SpelledLaws.{map_options-exactly, mem-exactly}
 
--- the words that may be malformed
+-- the names whose words may be malformed
 pub data Name : Type 0 where
   mem : Name
   memmap : Name
@@ -56,12 +57,12 @@ same_fault crash crash w k is = (refl, cc)
 same_fault numa numa w k is = (refl, cc)
 same_fault n m w k is = cc
 
--- the word has no such value
+-- the word has no value that its name may have
 abbrev NoValue : Name → Option (List ℕ) → Type 0
 NoValue n None = Unit {0}
 NoValue n (Some value) = IsValue n value → ⊥
 
--- what a value says
+-- the meaning of a value
 abbrev pub said_value : Name → Option (List ℕ) → Option Said
 said_value mem value = option_map of_one (option_and_then mem_of value)
 said_value memmap value = option_and_then memmap_of value
@@ -89,7 +90,7 @@ said_none numa (Some value) = by_test (bytes_eq value (codes "off")) (bytes_eq-D
     by_test true decides = (λ is. cc, λ none. absurd (none (decides.0 refl)))
     by_test false decides = (λ is off. let told : false ≡ true = decides.1 off in cc told, λ none. refl)
 
--- by the name of a word and its value
+-- the fault of a word, by its name and its value
 is_fault : (fault : OptionFault) (o : Option Said) (found : OptionFault) → or_fault fault o ≡ Err found → (o ≡ None) × (found ≡ fault)
 is_fault fault None found is = (refl, cc)
 is_fault fault (Some said) found is = cc
@@ -154,7 +155,7 @@ none-malformed n word = by_cut (cut 61 word) (cut-spelled 61 word)
         let whole : word ≡ text_of n ++ (61 ∷ halves.1) = spelled halves refl ∙ ap (λ (name : List ℕ). name ++ (61 ∷ halves.1)) has.0 in
         rw whole (other_value halves.1 (unquoted halves.1) ((unquoted_exactly halves.1 (unquoted halves.1)).0 refl) has.1)
 
--- a word without a fault is sound, and only such a word
+-- a word has no fault exactly if it isn't malformed
 pub sound-ok : (number : ℕ) (word : List ℕ) (said : Said) → said_by number (name_value_of word) ≡ Ok said → IsSoundWord word
 sound-ok number word said is =
     record { mem = sound mem; memmap = sound memmap; crash = sound crash; numa = sound numa }
@@ -247,7 +248,7 @@ said_from-first number (first ∷ front) word behind n sound has =
     let place : number + 1 + length front ≡ number + suc (length front) = omega arith in
     rw (said.1, rest, place) refl
 
--- the words of a line, up to `--`
+-- the words of a line up to `--`
 pub until_end-words : (raws words : List (List ℕ)) → OptionWords raws words → until_end (map unquoted raws) ≡ words
 until_end-words raws words line_end = refl
 until_end-words raws words (two_dashes raw others unquotes) = rw ((unquoted_exactly raw (codes "--")).1 unquotes) refl
@@ -272,7 +273,7 @@ OptionWords-until_end (raw ∷ raws) =
         a_word raw (unquoted raw) raws (until_end (map unquoted raws)) ((unquoted_exactly raw (unquoted raw)).0 refl)
         (λ same. let told : false ≡ true = decides.1 same in cc told) rest
 
--- each quotation of a line with an even number of marks closes
+-- in a line with an even number of quotation marks each quotation is closed
 marks_close : (quoted : Bool) (line : List ℕ) → (count_by (λ b. b == 34) line + (if quoted then 1 else 0)) % 2 ≡ 0
     → QuotesClose CommandLine quoted line
 marks_close true [] even = absurd (omega arith)
@@ -290,7 +291,8 @@ marks_close quoted (b ∷ bs) even =
     by_test false true close even = close true (omega arith)
     by_test false false close even = close false (omega arith)
 
--- the line has no fault of a word, and its quotations close
+-- the checks of the line don't return the fault of a word, and in a checked line each quotation is
+-- closed
 abbrev checked : Bool → Bool → List ℕ → Result (List ℕ) OptionFault
 checked long closed line = if long then Err faults.TooLong else (if closed then Ok line else Err faults.OpenQuote)
 
@@ -329,7 +331,7 @@ line-fault bytes n w = by_tests (nat_lt LONGEST_LINE (length (raw_line bytes))) 
     by_tests false false is = open_fault n w cc
     by_tests false true is = cc
 
--- neither has the user map
+-- nor does the check of the user map
 user_map-fault : (said : List (ℕ × Said)) (n : Name) (w : ℕ) → with_user_map said ≢ Err (fault_at n w)
 user_map-fault said n w = by_exact (last_exact (all_map_options said))
   where
@@ -341,7 +343,7 @@ user_map-fault said n w = by_exact (last_exact (all_map_options said))
     by_exact None is = cc
     by_exact (Some exact) is = by_count exact.0 (nat_lt exact.1 2) is
 
--- the fault of a word is that of the lowest one
+-- the fault of a word is reported exactly if it is that of the lowest malformed word
 pub first-exactly : (n : Name) (bytes : List ℕ) (w : ℕ)
     → options_of bytes ≡ Err (fault_at n w) ↔ IsFirstFault bytes w (IsMalformed (text_of n) (IsValue n))
 first-exactly n bytes w = (by_line (line_of bytes) refl, told)

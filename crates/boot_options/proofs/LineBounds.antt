@@ -1,4 +1,5 @@
--- What the options of a line keep: types above 0, ranges with an address, words from 1 on.
+-- Lemmas on the options of a line: types are above 0, ranges aren't empty, and words are numbered
+-- from 1.
 use Rattle.std.proofs.Common.{◌≡◌, ◌≢◌, ℕ, ◌+◌, ◌<◌, nat_lt, if◌then◌else◌, Bool, true, false, Option, Some, None, List, [], ◌∷◌, length, Result, Ok, Err, IfSome, IfOk, IfErr, arith, codes}
 use Rattle.std.specs.List.{cons_option}
 use Rattle.std.specs.Option.{option_and_then, option_map, option_or}
@@ -27,7 +28,7 @@ IsSoundWord (OfCrash form) = IsSoundForm form
 IsSoundWord NumaOff = Unit {0}
 IsSoundWord AddEfi = Unit {0}
 
--- each word has a number above 0 and says something sound
+-- each word has a number above 0, and its meaning has sound edits and ranges
 abbrev pub AreSoundWords : List (ℕ × Said) → Type 0
 AreSoundWords [] = Unit {0}
 AreSoundWords (s ∷ said) = (0 < s.0) × IsSoundWord s.1 × AreSoundWords said
@@ -36,7 +37,7 @@ abbrev pub AreNumbered : List (ℕ × MapOption) → Type 0
 AreNumbered [] = Unit {0}
 AreNumbered (p ∷ ps) = (0 < p.0) × IsSoundOption p.1 × AreNumbered ps
 
--- a fault that a line may have: its word has a number, and it isn't want of memory
+-- a fault that a line may have: the number of its word is above 0, and it isn't `Memory`
 abbrev pub IsLineFault : OptionFault → Type 0
 IsLineFault faults.TooLong = Unit {0}
 IsLineFault faults.OpenQuote = Unit {0}
@@ -47,7 +48,7 @@ IsLineFault (faults.UserMapInvalid word) = 0 < word
 IsLineFault (faults.BadNuma word) = 0 < word
 IsLineFault faults.Memory = ⊥
 
--- what a step gives is sound, or its fault is one that a line may have
+-- the result of a step is sound, or is a fault that a line may have
 abbrev pub IsFit : {A : Type 0} → (A → Type 0) → Result A OptionFault → Type 0
 IsFit P (Ok a) = P a
 IsFit P (Err fault) = IsLineFault fault
@@ -60,7 +61,7 @@ pub fit-if : {A : Type 0} (P : A → Type 0) (t : Bool) (x y : Result A OptionFa
 fit-if P true x y a b = a
 fit-if P false x y a b = b
 
--- what a word says is sound, and its fault has its number
+-- the meaning of a word is sound, and its fault has the word's number
 pub fit-said_by : (number : ℕ) (word : List ℕ × Option (List ℕ)) → 0 < number → IsFit IsSoundWord (said_by number word)
 fit-said_by number word above =
     fit-if IsSoundWord (bytes_eq word.0 (codes "mem")) _ _
@@ -82,13 +83,14 @@ fit-said_by number word above =
     ifsome-if IsSoundWord (bytes_eq value (codes "off")) (Some NumaOff) None tt tt)))
     (fit-if IsSoundWord (bytes_eq word.0 (codes "add_efi_memmap")) _ _ tt tt))))
 
--- a fact of a later step, by what the earlier one gives
+-- if one step's result is sound, and the next step's result is sound for each sound input, so is
+-- that of both
 pub fit-then : {A B : Type 0} (P : A → Type 0) (Q : B → Type 0) (r : Result A OptionFault) (f : A → Result B OptionFault)
     → IsFit P r → ((a : A) → P a → IsFit Q (f a)) → IsFit Q (r >>= f)
 fit-then P Q (Ok a) f is each = each a is
 fit-then P Q (Err fault) f is each = is
 
--- every word, with the words behind it
+-- the meanings of all words are sound
 pub fit-said_from : (number : ℕ) (words : List (List ℕ)) → 0 < number → IsFit AreSoundWords (said_from number words)
 fit-said_from number [] above = tt
 fit-said_from number (word ∷ words) above =
@@ -96,7 +98,7 @@ fit-said_from number (word ∷ words) above =
     fit-then AreSoundWords AreSoundWords (said_from (number + 1) words) _
     (fit-said_from (number + 1) words (omega arith)) (λ others are. (above, is, are)))
 
--- the map options of all words
+-- the map options of all words are sound
 pub sound-numbered : (number : ℕ) (ps : List MapOption) (behind : List (ℕ × MapOption))
     → 0 < number → AreSound ps → AreNumbered behind → AreNumbered (numbered number ps behind)
 sound-numbered number [] behind above are rest = rest
@@ -110,7 +112,7 @@ sound-all_map_options ((number, OfCrash form) ∷ said) are = sound-all_map_opti
 sound-all_map_options ((number, NumaOff) ∷ said) are = sound-all_map_options said are.2
 sound-all_map_options ((number, AddEfi) ∷ said) are = sound-all_map_options said are.2
 
--- the plain form that counts
+-- the last plain form has ranges, in order
 pub sound-last_plain : (said : List (ℕ × Said)) → AreSoundWords said → IfSome (last_said plain_said said) IsPlain
 sound-last_plain [] are = tt
 sound-last_plain (s ∷ said) are = or_this (last_said plain_said said) s.1 (sound-last_plain said are.2) are.1
@@ -124,7 +126,7 @@ sound-last_plain (s ∷ said) are = or_this (last_said plain_said said) s.1 (sou
     or_this None NumaOff is sound = tt
     or_this None AddEfi is sound = tt
 
--- their edits
+-- the edits of sound map options have types above 0 and ranges that aren't empty
 pub types-edits : (ps : List (ℕ × MapOption)) → AreNumbered ps → HaveTypes (edits_of ps) × HaveRanges (edits_of ps)
 types-edits [] are = (tt, tt)
 types-edits (p ∷ ps) are = with_one (edit_of p.1) are.1 (types-edits ps are.2)
@@ -134,7 +136,7 @@ types-edits (p ∷ ps) are = with_one (edit_of p.1) are.1 (types-edits ps are.2)
     with_one None is rest = rest
     with_one (Some e) is rest = ((is.0, rest.0), (is.1, rest.1))
 
--- the word of the last `exactmap`
+-- the number of the word with the last `exactmap` is above 0
 pub numbered-last_exact : (ps : List (ℕ × MapOption)) → AreNumbered ps → IfSome (last_exact ps) (λ exact. 0 < exact.0)
 numbered-last_exact [] are = tt
 numbered-last_exact ((number, p) ∷ ps) are = or_this (last_exact ps) p (numbered-last_exact ps are.2)
@@ -146,7 +148,7 @@ numbered-last_exact ((number, p) ∷ ps) are = or_this (last_exact ps) p (number
     or_this None (Adding e) is = tt
     or_this None (Other e) is = tt
 
--- the with_user_map line
+-- the options of the whole line are sound
 abbrev pub IsSoundChoice : Chosen → Type 0
 IsSoundChoice c = HaveTypes c.edits × HaveRanges c.edits × IfSome c.crash.plain IsPlain
 
@@ -170,14 +172,14 @@ pub fit-line : (bytes : List ℕ) → IsFit IsAnyLine (line_of bytes)
 fit-line bytes =
     fit-if IsAnyLine (nat_lt 2047 (length (raw_line bytes))) _ _ tt (fit-if IsAnyLine (is_closed (raw_line bytes)) _ _ tt tt)
 
--- the options of the bytes, and their faults
+-- the options of the bytes are sound, or their fault is one that a line may have
 pub fit-options : (bytes : List ℕ) → IsFit IsSoundChoice (options_of bytes)
 fit-options bytes =
     fit-then IsAnyLine IsSoundChoice (line_of bytes) _ (fit-line bytes) (λ line _.
     fit-then AreSoundWords IsSoundChoice (said_from 1 (option_words line)) with_user_map
     (fit-said_from 1 (option_words line) (omega arith)) fit-with_user_map)
 
--- the same of what a call gives
+-- the options that a call returns have types above 0 and ranges that aren't empty
 pub types-given : (bytes : List ℕ) (r : Result Options OptionFault) → Answers faults.Memory chosen r (options_of bytes)
     → IfOk r (λ options. HaveTypes options.edits.items)
 types-given bytes (Ok options) is = (rw is at (fit-options bytes)).0
@@ -212,6 +214,6 @@ numbered-given bytes (Err fault) is = by_fault fault is
     by_fault (faults.BadNuma word) is = rw (is (λ same. cc)) at (fit-options bytes)
     by_fault faults.Memory is = tt
 
--- no line says that memory ran out
+-- "out of memory" is never a fault of the bytes
 pub options-remembered : (bytes : List ℕ) → options_of bytes ≢ Err faults.Memory
 options-remembered bytes is = rw is at (fit-options bytes)

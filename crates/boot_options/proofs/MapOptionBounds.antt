@@ -1,4 +1,4 @@
--- What the map options of `mem=` and `memmap=` keep: types above 0, and ranges with an address.
+-- Lemmas on map options: their types are above 0, and their ranges aren't empty.
 use Rattle.std.proofs.Common.{◌≡◌, ℕ, ◌<◌, ◌==◌, nat_lt, if◌then◌else◌, Bool, true, false, Option, Some, None, List, [], ◌∷◌, refl, IfSome, arith, codes}
 use Rattle.std.proofs.lemmas.Bool.{ltb-true}
 use Rattle.std.proofs.lemmas.Bool.Decides.{nat_tests}
@@ -14,7 +14,7 @@ use Rattle.boot_options.specs.declared.map_option.MapOption.TheVariants.{ExactMa
 use Rattle.boot_options.specs.MapOptions.{front_size, whole_size, at_end, range_at, unless_empty, range_above, ram_above, adding_option, kind_behind, retyped, changed, by_mark, sized_map_option, map_option_of, ram_up_to, mem_of}
 use Rattle.boot_options.specs.Options.{map_options_of, edit_of, HasRange}
 
--- the edit names types, and its range has an address
+-- the edit has types above 0, and its range isn't empty
 abbrev pub IsSound : Option Edit → Type 0
 IsSound None = Unit {0}
 IsSound (Some e) = HasTypes e × HasRange e
@@ -26,7 +26,7 @@ abbrev pub AreSound : List MapOption → Type 0
 AreSound [] = Unit {0}
 AreSound (p ∷ ps) = IsSoundOption p × AreSound ps
 
--- a fact of a later step, whatever the earlier one gives
+-- a fact on the result of the second step, if it holds for every input of that step
 pub ifsome-then : {A B : Type 0} (P : B → Type 0) (o : Option A) (f : A → Option B) → ((a : A) → IfSome (f a) P) → IfSome (o >>= f) P
 ifsome-then P None f each = tt
 ifsome-then P (Some a) f each = each a
@@ -49,7 +49,7 @@ pub ifsome-if : {A : Type 0} (P : A → Type 0) (t : Bool) (x y : Option A) → 
 ifsome-if P true x y a b = a
 ifsome-if P false x y a b = b
 
--- an edit of a range that isn't empty
+-- the edit of a range that isn't empty is sound
 pub sound-unless_empty : (range : Extent) (e : Edit) → HasTypes e → (0 < range.size → HasRange e) → IsSound (unless_empty range e)
 sound-unless_empty range e types ranged = by_test (nat_lt 0 range.size) refl
   where

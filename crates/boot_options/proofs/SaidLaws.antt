@@ -1,7 +1,8 @@
--- What a word says by its name: the name is compared with those of the options, one after the other.
+-- Lemmas on the meaning of a word: its name is compared with those of the options, one after
+-- another.
 use Rattle.std.proofs.Common.{◌≡◌, ℕ, Bool, List, sym}
 use Rattle.std.specs.Str.{bytes_eq}
 
--- what the reader compared
+-- the reader's comparison has the result of the definition's
 pub compared : (b : Bool) (name bare known : List ℕ) → bare ≡ known → b ≡ bytes_eq name bare → bytes_eq name known ≡ b
 compared b name bare known is test = sym (rw is at test)

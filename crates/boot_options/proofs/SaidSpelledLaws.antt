@@ -1,4 +1,4 @@
--- A word says exactly what it spells, and a line what its words do.
+-- Lemmas: a word has exactly the meaning that it spells, and so has a line.
 use Rattle.std.proofs.Common.{◌≡◌, ◌↔◌, ℕ, ◌+◌, if◌then◌else◌, Bool, true, false, Option, Some, None, List, [], ◌∷◌, ◌++◌, map, refl, subst, ap, sym, ◌∙◌, codes, Result, Ok, Err}
 use Rattle.std.proofs.lemmas.Slice.Eq.{bytes_eq-Decides}
 use Rattle.std.specs.Option.{option_map}
@@ -20,7 +20,7 @@ use Rattle.boot_options.proofs.FaultLaws.{Name, crash, line-read, mem, memmap, n
 use Rattle.boot_options.proofs.SpelledCrashLaws.{cut-spelled, form-exactly}
 use Rattle.boot_options.proofs.SpelledLaws.{map-some, map_options-exactly, mem-exactly}
 
--- what a value says is spelled after its word's name
+-- the meaning of a value is spelled after the name of its word
 said-spelled : (n : Name) (raw : List ℕ) (said : Said) → said_value n (Some (unquoted raw)) ≡ Some said
     → SpellsSaid (text_of n ++ (61 ∷ raw)) said
 said-spelled mem raw said is =
@@ -123,7 +123,7 @@ word-spelled number word said =
           efi = isnt_name (codes "add_efi_memmap") lacks_efi e_is;
         }))
 
--- what is spelled is said
+-- what is spelled is the meaning
 valued-read : (n : Name) (number : ℕ) (raw value : List ℕ) (said : Said) → Unquotes raw value → said_value n (Some value) ≡ Some said
     → said_by number (name_value_of (text_of n ++ (61 ∷ raw))) ≡ Ok said
 valued-read n number raw value said unquotes says =
@@ -167,7 +167,7 @@ word-read number word said (other_word _ other) =
 pub word-exactly : (number : ℕ) (word : List ℕ) (said : Said) → said_by number (name_value_of word) ≡ Ok said ↔ SpellsSaid word said
 word-exactly number word said = (word-spelled number word said, word-read number word said)
 
--- all words
+-- the meanings of all words
 each-spelled : (number : ℕ) (words : List (List ℕ)) (said : List (ℕ × Said)) → said_from number words ≡ Ok said → SpellEach number words said
 each-spelled number [] said is = let none : [] ≡ said = cc in subst (SpellEach number []) none tt
 each-spelled number (word ∷ words) said is =

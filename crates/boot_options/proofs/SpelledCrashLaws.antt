@@ -1,4 +1,4 @@
--- What is read as a form of `crashkernel=` was spelled so.
+-- Lemmas: what is read as a form of `crashkernel=` was spelled as that form.
 use Rattle.std.proofs.Common.{◌≡◌, ◌↔◌, ℕ, ◌==◌, if◌then◌else◌, Bool, true, false, is_some, Option, Some, None, List, [], ◌∷◌, ◌++◌, refl, subst, ap, sym, ◌∙◌, append_assoc, codes}
 use Rattle.std.proofs.lemmas.Bool.{eqb-true, ltb-true}
 use Rattle.std.proofs.lemmas.List.{append-nil}
@@ -16,7 +16,7 @@ use Rattle.boot_options.specs.Spelling.{SpellRanges, SpellsBase, SpellsEnd, Spel
 use Rattle.boot_options.proofs.CrashSpellingLaws.{form-read}
 use Rattle.boot_options.proofs.SpelledLaws.{joined-parts, map-some, then-both, whole_size-spelled}
 
--- the mark stands where the text was cut
+-- a text that is cut at a mark is the part before the mark, the mark, and the part after it
 pub cut-spelled : (mark : ℕ) (text : List ℕ) (halves : List ℕ × List ℕ) → cut mark text ≡ Some halves
     → text ≡ halves.0 ++ (mark ∷ halves.1)
 cut-spelled mark [] halves is = cc
@@ -34,7 +34,7 @@ cut-spelled mark (b ∷ bs) halves is = by_test (b == mark) refl (cut-spelled ma
         subst (λ (halves : List ℕ × List ℕ). b ∷ bs ≡ halves.0 ++ (mark ∷ halves.1)) rest.2
         (ap (λ (bs : List ℕ). b ∷ bs) (spelled rest.0 rest.1))
 
--- a range
+-- the end of a range, and a range
 end-spelled : (text : List ℕ) (end : Option ℕ) (start : ℕ) → end_of_range text ≡ Some end → is_above end start ≡ true → SpellsEnd text end start
 end-spelled [] None start is above = refl
 end-spelled [] (Some end) start is above = cc

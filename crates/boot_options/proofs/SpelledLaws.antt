@@ -1,4 +1,5 @@
--- What is read as a map option of `memmap=`, or as the value of `mem=`, was spelled so.
+-- Lemmas: what is read as a map option of `memmap=`, or as the value of `mem=`, was spelled as
+-- that.
 use Rattle.std.proofs.Common.{◌≡◌, ◌≢◌, ◌↔◌, ℕ, ◌+◌, ◌^◌, ◌<◌, ◌==◌, nat_lt, if◌then◌else◌, Bool, true, false, Option, Some, None, List, [], ◌∷◌, ◌++◌, refl, subst, ap, sym, ◌∙◌, length, drop, codes, Result, Ok, Err, arith}
 use Rattle.std.proofs.lemmas.Bool.{eqb-true, ltb-true}
 use Rattle.std.proofs.lemmas.Bool.Decides.{nat_tests}
@@ -24,12 +25,12 @@ use Rattle.boot_options.specs.Spelling.{SpellsPlace, SpellsType, a_type, SpellsN
 use Rattle.boot_options.proofs.SpellingLaws.{IsKind, not_there, there, type-kind, no_type-kind, map_option-read, begins-other, begins_with_digit-size, whole_size-end, other_than_zero}
 use Rattle.boot_options.proofs.CrashSpellingLaws.{Lacks, lacks-append, lacks-closed, lacks-size}
 
--- both steps gave a value
+-- if two steps in a row give a value, each of them does
 pub then-both : {A B : Type 0} (o : Option A) (f : A → Option B) (y : B) → (o >>= f) ≡ Some y → (x : A) × (o ≡ Some x) × (f x ≡ Some y)
 then-both None f y is = cc
 then-both (Some x) f y is = (x, refl, is)
 
--- a size, or a number, at the front of a text
+-- a size or a number that is read at the start of a text was spelled there
 front_size-spelled : (text : List ℕ) (front : NumberAndRest) → front_size text ≡ Some front
     → (s : List ℕ) × IsSize s front.0 × (text ≡ s ++ front.1)
 front_size-spelled text front = by_read (size_of text) (size-front text)
@@ -70,7 +71,7 @@ whole_size-spelled text n is =
     whole text s rest m n size is none same =
         let text_is : text ≡ s = is ∙ rw none (append-nil s) in rw (text_is, ← same) size
 
--- the range that two sizes make
+-- the range that a base and a size make
 abbrev range_if : Bool → ℕ → ℕ → Option Extent
 range_if t base size = if t then Some (record { base = base; size = size }) else None
 
@@ -96,7 +97,7 @@ adding_option-spelled kind s a size option size_is is =
     let range = then-both (range_at base.0 size) (λ range. Some (Adding (unless_empty range (Add range kind)))) option base.2 in
     (range.0, place-spelled s a size base.0 range.0 size_is (whole_size-spelled a base.0 base.1) range.1, cc range.2)
 
--- a type after its mark, or none
+-- a type after its mark, or no type
 small_kind-is : (found front : NumberAndRest) → small_kind found ≡ Some front → (found ≡ front) × (found.0 < 2 ^ 32)
 small_kind-is found front = by_test (nat_lt found.0 (2 ^ 32)) refl
   where
@@ -178,7 +179,7 @@ changed-spelled s size place option size_is is =
     (retyped-spelled s a.0 f.0 t.0 range.0 from.0.0 to.0.0 option
     (place-spelled s a.0 size base.0.0 range.0 size_is a.1 range.1) f.1 t.1 ends.1)
 
--- by the mark
+-- the form that the mark selects
 abbrev marked_if : Bool → Bool → Bool → Bool → Bool → ℕ → List ℕ → Option MapOption
 marked_if a b c d e size place =
     if a then adding_option 1 size place else
@@ -228,7 +229,7 @@ map_option-spelled text option = by_test (bytes_eq text (codes "exactmap")) refl
 pub map_option-exactly : (text : List ℕ) (option : MapOption) → map_option_of text ≡ Some option ↔ SpellsMapOption text option
 map_option-exactly text option = (map_option-spelled text option, map_option-read text option)
 
--- no comma stands in a map option
+-- a map option contains no comma
 number-size : (text : List ℕ) (n : ℕ) → IsNumber text n → IsSize text n
 number-size text n is = (size-exactly text n).1 (bare text n ((number-exactly text n).0 is))
 
@@ -279,7 +280,7 @@ map_options-read value options (next_option text rest option more spells others)
     )
     refl
 
--- the parts of a text, with the commas again
+-- the parts of a text, joined with commas, are the text
 pub joined-parts : (text : List ℕ)
     → (first : List ℕ) × (others : List (List ℕ)) × (parts_in (Byte 44) text ≡ first ∷ others) × (joined (first ∷ others) ≡ text)
 joined-parts [] = ([], [], refl, refl)

@@ -1,4 +1,4 @@
--- Small words and values, and how they are spelled.
+-- Worked examples of the spelling of words and values.
 use Rattle.std.proofs.Common.{◌≡◌, ℕ, ◌-◌, ◌^◌, Some, None, [], ◌∷◌, codes, Err, Ok, refl, arith}
 use Rattle.bm_base.specs.Extent.{Extent}
 use Rattle.e820_model.specs.declared.edit.Edit.TheVariants.{Add, Remove, RemoveAll}
@@ -17,19 +17,20 @@ use Rattle.boot_options.proofs.SpelledLaws.{map_option-exactly, map_options-exac
 abbrev range : ℕ → ℕ → Extent
 range base size = record { base = base; size = size }
 
--- a range up to the last byte, and one that passes it
+-- a range up to the last byte is spelled; one past it isn't
 places : SpellsPlace (codes "1") (codes "0xFFFFFFFFFFFFFFFE") (range (2 ^ 64 - 2) 1)
     × (SpellsPlace (codes "2") (codes "0xFFFFFFFFFFFFFFFE") (range (2 ^ 64 - 2) 2) → ⊥)
 places = (record { size = refl; base = refl; ends = omega arith }, λ place. let ends = place.ends in omega arith)
 
--- a type, and what counts as none
+-- a type, and two spellings of no type
 types : SpellsType (codes "-") (codes "-12") 12 × SpellsNoType (codes "+") [] × SpellsNoType (codes "+") (codes "+0")
 types = (a_type (codes "12") 12 refl (omega arith) (omega arith), nothing, type_zero (codes "0") refl)
 
 abbrev a_place : SpellsPlace (codes "1M") (codes "0x200000") (range 0x200000 0x100000)
 a_place = record { size = refl; base = refl; ends = omega arith }
 
--- an adding form, one with two types of which the first counts as not written, and a size alone; a base is missing
+-- a form that adds memory; one with two types, the first of which counts as not given; without
+-- types; a size alone; and no form, since the base is missing
 map_options : SpellsMapOption (codes "1M@0x200000") (Adding (Some (Add (range 0x200000 0x100000) 1)))
     × SpellsMapOption (codes "1M%0x200000-0+5") (Adding (Some (Add (range 0x200000 0x100000) 5)))
     × SpellsMapOption (codes "1M%0x200000") (Other (Some (RemoveAll (range 0x200000 0x100000))))
@@ -44,7 +45,7 @@ map_options = (
   λ option spells. let is : None ≡ Some option = (map_option-exactly (codes "1M@") option).1 spells in cc is,
 )
 
--- two map options, and an empty one after a comma
+-- two map options; an empty one after a comma is malformed
 memmap_values : SpellsMapOptions (codes "exactmap,1M@0x200000") (ExactMap ∷ Adding (Some (Add (range 0x200000 0x100000) 1)) ∷ [])
     × (IsMemmapValue (codes "exactmap,") → ⊥)
 memmap_values = (
@@ -56,7 +57,7 @@ memmap_values = (
 mem_values : SpellsMem (codes "nopentium") (Other None) × IsMemValue (codes "4G") × IsNumaValue (codes "off")
 mem_values = (nopentium, (_, end_of_ram (codes "4G") 0x100000000 refl (omega arith)), refl)
 
--- sizes with a base, without, and with a name; a name in the wrong case
+-- sizes with a base, without one, and with a suffix; a suffix in the wrong case is malformed
 crash_values : SpellsForm (codes "16M@1M") (Plain (one_range 0x1000000 0x100000)) × SpellsForm (codes "16M") (Plain (one_range 0x1000000 0))
     × SpellsForm (codes "16M,high") (High 0x1000000) × SpellsBase [] 0 × (IsCrashValue (codes "16M,HIGH") → ⊥)
 unfolding form_of
@@ -68,7 +69,8 @@ crash_values = (
   λ value. let is : None ≡ Some value.0 = (form-exactly (codes "16M,HIGH") value.0).1 value.1 in cc is,
 )
 
--- malformed words, one without a value; and one of another name
+-- malformed words, one without a value and one with a malformed value; and a sound word of another
+-- name
 words : IsBadMem (codes "mem") × IsBadMemmap (codes "memmap=\"exactmap,\"") × IsSoundWord (codes "quiet")
 words = (
   no_value,
@@ -76,7 +78,7 @@ words = (
   sound-ok 1 (codes "quiet") (OfMap []) refl,
 )
 
--- the words before `--`, also where it is quoted
+-- the words before `--`, also if that is quoted
 option_words : OptionWords (codes "a" ∷ codes "\"--\"" ∷ codes "b" ∷ []) (codes "a" ∷ []) × OptionWords [] []
 option_words = (
   a_word (codes "a") (codes "a") _ [] (no_mark (codes "a") (λ rest same. cc same)) (λ same. cc same)
@@ -88,7 +90,7 @@ option_words = (
 first_fault : IsFirstFault (codes "quiet memmap=1M@ memmap=2") 2 IsBadMemmap
 first_fault = (memmap-exactly_first (codes "quiet memmap=1M@ memmap=2") 2).0 refl
 
--- words with a value in quotation marks, without one, and of another name
+-- words with a quoted value, without a value, and with another name
 said_words : SpellsSaid (codes "crashkernel=\"16M,high\"") (OfCrash (High 0x1000000)) × SpellsSaid (codes "add_efi_memmap") AddEfi
     × HasName (codes "numa") (codes "numa=on") × SpellsSaid (codes "quiet") (OfMap []) × ((said : Said) → SpellsSaid (codes "numa") said → ⊥)
 said_words = (
@@ -99,11 +101,11 @@ said_words = (
   λ said spells. let is : Err (faults.BadNuma 1) ≡ Ok said = (word-exactly 1 (codes "numa") said).1 spells in cc is,
 )
 
--- a word of another name has none of the five
+-- words with one of the five names aren't words of another name
 other_words : (IsOtherWord (codes "mem") → ⊥) × (IsOtherWord (codes "numa=on") → ⊥)
 other_words = (λ other. other.mem alone, λ other. other.numa (with_value (codes "on")))
 
--- two words and their numbers, and a line of one word
+-- the meanings of two numbered words, and of a line with one word
 said_line : SpellEach 1 (codes "quiet" ∷ codes "add_efi_memmap" ∷ []) ((1, OfMap []) ∷ (2, AddEfi) ∷ [])
     × SpellsLine (codes " quiet") ((1, OfMap []) ∷ [])
 said_line = (

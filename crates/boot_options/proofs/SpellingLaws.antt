@@ -1,4 +1,4 @@
--- What is spelled as a map option of `memmap=` is read as that map option.
+-- Lemmas: what is spelled as a map option of `memmap=` is read as that map option.
 use Rattle.std.proofs.Common.{◌≡◌, ℕ, ◌+◌, ◌^◌, ◌<◌, ◌==◌, if◌then◌else◌, Bool, true, false, Option, Some, List, [], ◌∷◌, ◌++◌, length, drop, refl, ◌∙◌, eq-eqb, codes, Result, Ok, Err, arith}
 use Rattle.std.proofs.Math.Seq.{drop-append_seam, drop-length}
 use Rattle.bm_base.specs.declared.size.NumFault.TheVariants.{NoDigits}
@@ -18,11 +18,11 @@ use Rattle.boot_options.specs.MapOptions.{number_and_rest, front_size, front_num
 use Rattle.boot_options.specs.declared.map_option.MapOption.{MapOption}
 use Rattle.boot_options.specs.Spelling.{SpellsPlace, SpellsType, a_type, SpellsNoType, nothing, type_zero, SpellsMapOption, exactmap, ram, acpi, reserved, persistent, size_alone, every_type, one_type, new_type, other_type}
 
--- the later step, where the earlier one gives a value
+-- the second step alone, if the first gives a value
 pub then-some : {A B : Type 0} (o : Option A) (f : A → Option B) (x : A) → o ≡ Some x → (o >>= f) ≡ f x
 then-some o f x is = rw is refl
 
--- what is read of a text up to the byte before the rest, or to its end
+-- a number that ends where the rest of the text begins is read there
 pub number_and_rest-front : (s rest : List ℕ) (r : Result (ℕ × ℕ) NumFault) (n : ℕ) → r ≡ Ok (n, length s)
     → number_and_rest (s ++ rest) r ≡ Some (n, rest)
 number_and_rest-front s rest r n is = rw (is, drop-append_seam s rest) refl
@@ -30,7 +30,8 @@ number_and_rest-front s rest r n is = rw (is, drop-append_seam s rest) refl
 pub number_and_rest-whole : (s : List ℕ) (r : Result (ℕ × ℕ) NumFault) (n : ℕ) → r ≡ Ok (n, length s) → number_and_rest s r ≡ Some (n, [])
 number_and_rest-whole s r n is = rw (is, drop-length s) refl
 
--- a size, or a number, before a byte that is no digit and no letter, or at the end of the text
+-- a size or a number is read up to the next byte that isn't a digit or letter, or to the end of
+-- the text
 pub front_size-mark : (s : List ℕ) (n mark : ℕ) (rest : List ℕ) → IsSize s n → is_digit mark 36 ≡ false
     → front_size (s ++ (mark ∷ rest)) ≡ Some (n, mark ∷ rest)
 front_size-mark s n mark rest size is = number_and_rest-front s (mark ∷ rest) _ n (size_of-mark s rest mark is ∙ size)
@@ -68,14 +69,14 @@ pub exactmap-other : (s rest : List ℕ) → begins_with_digit s ≡ true → by
 exactmap-other [] rest begins = cc
 exactmap-other (b ∷ bs) rest begins = begins-other (b ∷ (bs ++ rest)) 101 (codes "xactmap") begins refl
 
--- the size in front of a mark
+-- a size before a mark is read up to the mark
 pub map_option-mark : (s : List ℕ) (n mark : ℕ) (rest : List ℕ) → IsSize s n → is_digit mark 36 ≡ false
     → map_option_of (s ++ (mark ∷ rest)) ≡ by_mark n (mark ∷ rest)
 map_option-mark s n mark rest size is =
     rw (exactmap-other s (mark ∷ rest) (begins_with_digit-size s n size))
     (then-some (front_size (s ++ (mark ∷ rest))) (λ size. by_mark size.0 size.1) (n, mark ∷ rest) (front_size-mark s n mark rest size is))
 
--- the range, and an edit of it
+-- a range that ends in the address space is read, and so is its edit
 pub range_at-ends : (range : Extent) → range.base + range.size < 2 ^ 64 → range_at range.base range.size ≡ Some range
 range_at-ends range ends = rw (lt-ltb (range.base + range.size) (2 ^ 64) ends) refl
 
@@ -85,24 +86,24 @@ adding_option-spelled kind s a range spell =
     then-some (whole_size a) _ range.base (whole_size-end a range.base spell.base)
     ∙ then-some (range_at range.base range.size) (λ r. Some (Adding (unless_empty r (Add r kind)))) range (range_at-ends range spell.ends)
 
--- a mark of an adding form, which means that type
+-- a form whose mark adds memory of this type
 pub map_option-adding : (s a : List ℕ) (range : Extent) (mark kind : ℕ) → is_digit mark 36 ≡ false
     → by_mark range.size (mark ∷ a) ≡ adding_option kind range.size a → SpellsPlace s a range
     → map_option_of (s ++ (mark ∷ a)) ≡ Some (Adding (unless_empty range (Add range kind)))
 map_option-adding s a range mark kind is means spell =
     map_option-mark s range.size mark a spell.size is ∙ means ∙ adding_option-spelled kind s a range spell
 
--- a type below 2^32 is one
+-- a type below 2^32 is accepted
 pub small_kind-below : (n : ℕ) (rest : List ℕ) → n < 2 ^ 32 → small_kind (n, rest) ≡ Some (n, rest)
 small_kind-below n rest is = rw (lt-ltb n (2 ^ 32) is) refl
 
--- `S` alone
+-- the form `S`
 pub map_option-above : (s : List ℕ) (size : ℕ) → IsSize s size → map_option_of s ≡ Some (Other (ram_above size))
 map_option-above s size is =
     let other : bytes_eq s (codes "exactmap") ≡ false = rw (append-nil s) at (exactmap-other s [] (begins_with_digit-size s size is)) in
     rw other (then-some (front_size s) (λ front. by_mark front.0 front.1) (size, []) (front_size-end s size is))
 
--- nothing, or a byte that is no digit and no letter and what stands behind it
+-- the text is empty, or begins with a byte that isn't a digit or letter
 abbrev pub IsMarked : List ℕ → Type 0
 IsMarked [] = Unit {0}
 IsMarked (b ∷ bs) = is_digit b 36 ≡ false
@@ -116,7 +117,7 @@ pub front_number-marked : (s : List ℕ) (n : ℕ) (rest : List ℕ) → IsNumbe
 front_number-marked s n [] number marked = rw (append-nil s) (front_number-end s n number)
 front_number-marked s n (b ∷ bs) number marked = front_number-mark s n b bs number marked
 
--- a type with its mark, 0 where it counts as not written
+-- a type after its mark, or 0 if no type is given
 pub data IsKind (mark : ℕ) : List ℕ → ℕ → Type 0 where
   not_there : IsKind mark [] 0
   there : (text : List ℕ) (kind : ℕ) → IsNumber text kind → kind < 2 ^ 32 → IsKind mark (mark ∷ text) kind
@@ -128,7 +129,7 @@ pub no_type-kind : (mark : ℕ) (text : List ℕ) → SpellsNoType (mark ∷ [])
 no_type-kind mark text nothing = not_there
 no_type-kind mark text (type_zero number is) = there number 0 is (omega arith)
 
--- such a type before what doesn't begin with its mark
+-- the text doesn't begin with this mark, so a type before it is read as spelled
 abbrev pub BeginsOther : ℕ → List ℕ → Type 0
 BeginsOther mark [] = Unit {0}
 BeginsOther mark (b ∷ bs) = b == mark ≡ false
@@ -176,7 +177,7 @@ other_than_zero n above = grind (arith, nat_tests)
 type-above : (mark text : List ℕ) (kind : ℕ) → SpellsType mark text kind → 0 < kind
 type-above mark text kind (a_type _ _ is above small) = above
 
--- what is spelled is read
+-- each map option that is spelled is read as that map option
 pub map_option-read : (text : List ℕ) (option : MapOption) → SpellsMapOption text option → map_option_of text ≡ Some option
 map_option-read text option exactmap = refl
 map_option-read text option (ram s a range spell) = map_option-adding s a range 64 1 refl refl spell

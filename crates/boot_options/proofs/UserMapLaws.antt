@@ -1,4 +1,5 @@
--- What a line that is read word by word comes to, by the lists of what its words say.
+-- Lemmas: the state after reading word by word is the result of the definitions over the lists of
+-- all words.
 use Rattle.std.proofs.Common.{◌≡◌, ℕ, ◌+◌, ◌-◌, ◌==◌, nat_lt, if◌then◌else◌, Bool, ◌||◌, Option, Some, None, List, [], ◌∷◌, ◌++◌, refl, ap, sym, ◌∙◌, append_assoc, Result, Ok, Err, arith}
 use Rattle.std.proofs.Math.Bool.{or-false, or-true}
 use Rattle.std.proofs.lemmas.List.{append-nil}
@@ -15,7 +16,7 @@ use Rattle.boot_options.specs.Crash.{CrashWords, Plain, High, Low, no_crash}
 use Rattle.boot_options.specs.Options.{Said, OfMap, OfCrash, NumaOff, AddEfi, Chosen, chosen_by, crash_by, line_of, said_from, option_words, numbered, all_map_options, edit_of, edits_of, is_efi_added, is_numa_off, count_adding, or_here, last_exact, unless_incomplete, with_user_map, options_of}
 use Rattle.boot_options.specs.Reading.{State, start, after, after_form, one_fewer, user_map_behind, after_map_option, after_map_options, after_all, read_all, when_complete, at_line_end}
 
--- one edit behind others
+-- an edit appended to others, followed by the edits after it
 pub edits-step : (front : List Edit) (e : Option Edit) (behind : List Edit)
     → (front ++ cons_option e []) ++ behind ≡ front ++ cons_option e behind
 edits-step front None behind = rw append-nil refl
@@ -38,7 +39,7 @@ edits-all st ((number, OfCrash form) ∷ said) = edits-all (after number st (OfC
 edits-all st ((number, NumaOff) ∷ said) = edits-all (after number st NumaOff) said
 edits-all st ((number, AddEfi) ∷ said) = edits-all (after number st AddEfi) said
 
--- what one map option leaves as it is, those of a word leave
+-- a part of the state that no map option changes isn't changed by the map options of a word
 pub same-map_options : {X : Type 0} (part : State → X)
     → ((number : ℕ) (st : State) (p : MapOption) → part (after_map_option number st p) ≡ part st)
     → (number : ℕ) (st : State) (ps : List MapOption) → part (after_map_options number st ps) ≡ part st
@@ -46,7 +47,7 @@ same-map_options part same number st [] = refl
 same-map_options part same number st (p ∷ ps) =
     same-map_options part same number (after_map_option number st p) ps ∙ same number st p
 
--- whether some word says `numa=off`
+-- `numa_off` is set if a word is `numa=off`
 pub numa_off-all : (st : State) (said : List (ℕ × Said)) → (after_all st said).numa_off ≡ (st.numa_off || is_numa_off said)
 numa_off-all st [] = sym (or-false st.numa_off)
 numa_off-all st ((number, OfMap ps) ∷ said) =
@@ -56,7 +57,7 @@ numa_off-all st ((number, OfCrash form) ∷ said) = numa_off-all (after number s
 numa_off-all st ((number, NumaOff) ∷ said) = numa_off-all (after number st NumaOff) said ∙ sym (or-true st.numa_off)
 numa_off-all st ((number, AddEfi) ∷ said) = numa_off-all (after number st AddEfi) said
 
--- the same of `add_efi_memmap`
+-- `add_efi` is set if a word is `add_efi_memmap`
 pub add_efi-all : (st : State) (said : List (ℕ × Said)) → (after_all st said).add_efi ≡ (st.add_efi || is_efi_added said)
 add_efi-all st [] = sym (or-false st.add_efi)
 add_efi-all st ((number, OfMap ps) ∷ said) =
@@ -66,7 +67,7 @@ add_efi-all st ((number, OfCrash form) ∷ said) = add_efi-all (after number st 
 add_efi-all st ((number, NumaOff) ∷ said) = add_efi-all (after number st NumaOff) said
 add_efi-all st ((number, AddEfi) ∷ said) = add_efi-all (after number st AddEfi) said ∙ sym (or-true st.add_efi)
 
--- of two values of a form the later one counts
+-- the later of two values of each form
 abbrev pub later : CrashWords → CrashWords → CrashWords
 later c before = record {
   plain = option_or c.plain before.plain;
@@ -109,7 +110,7 @@ crash-all st ((number, AddEfi) ∷ said) =
 pub crash-start : (said : List (ℕ × Said)) → (after_all start said).crash ≡ crash_by said
 crash-start said = crash-all start said ∙ later-nothing (crash_by said)
 
--- the user map behind the map options of all words
+-- the user map after all these map options
 abbrev pub map_behind : List (ℕ × MapOption) → Option UserMap → Option UserMap
 map_behind [] m = m
 map_behind (p ∷ ps) m = map_behind ps (user_map_behind p.0 p.1 m)
@@ -127,16 +128,17 @@ user_map-all st ((number, OfCrash form) ∷ said) = user_map-all (after number s
 user_map-all st ((number, NumaOff) ∷ said) = user_map-all (after number st NumaOff) said
 user_map-all st ((number, AddEfi) ∷ said) = user_map-all (after number st AddEfi) said
 
--- the adding map options that a user map wants still, that many map options later
+-- the user map after n more map options that add memory
 abbrev pub fewer : ℕ → UserMap → UserMap
 fewer n m = record { word = m.word; wanting = m.wanting - n }
 
--- the user map by the last `exactmap`: two map options less those behind it
+-- the user map that the last `exactmap` gives: two map options, less those that add memory after
+-- it
 abbrev pub wanted : Option (ℕ × ℕ) → ℕ → Option UserMap → Option UserMap
 wanted None n m = option_map (fewer n) m
 wanted (Some exact) n m = Some (record { word = exact.0; wanting = 2 - exact.1 })
 
--- the count from the front is the count from the last `exactmap` on
+-- counting from the start of the line gives what counting from the last `exactmap` gives
 pub map_behind-wanted : (ps : List (ℕ × MapOption)) (m : Option UserMap) → map_behind ps m ≡ wanted (last_exact ps) (count_adding ps) m
 map_behind-wanted [] None = refl
 map_behind-wanted [] (Some m) =
@@ -159,7 +161,7 @@ map_behind-wanted ((number, p) ∷ ps) m =
     step None (Adding e) (Some m) = ap (λ (map : UserMap). Some map) (fewer_still m (count_adding ps))
     step None (Other e) m = refl
 
--- a line that was read to its end is with_user_map by its last `exactmap`
+-- the check at the end of the line gives what the definition gives for the last `exactmap`
 pub at_line_end-with_user_map : (said : List (ℕ × Said)) → at_line_end (after_all start said) ≡ with_user_map said
 at_line_end-with_user_map said =
     rw (
@@ -181,7 +183,7 @@ at_line_end-with_user_map said =
     by_exact chosen None = refl
     by_exact chosen (Some exact) = by_count chosen _ exact.1
 
--- the options of the bytes are those of the state that the words of the line lead to
+-- the options of the bytes are those of the state after all words
 pub options-read : (bytes line : List ℕ) (st : State) → line_of bytes ≡ Ok line
     → read_all start (said_from 1 (option_words line)) ≡ Ok st → options_of bytes ≡ at_line_end st
 options-read bytes line st is read = rw is (by_said (said_from 1 (option_words line)) read)
@@ -192,7 +194,7 @@ options-read bytes line st is read = rw is (by_said (said_from 1 (option_words l
         sym (at_line_end-with_user_map said) ∙ ap at_line_end same
     by_said (Err fault) read = cc
 
--- a fault of the line's words is that of the bytes
+-- a fault of a word is the fault of the bytes
 pub options-fault : (bytes line : List ℕ) (fault : OptionFault) → line_of bytes ≡ Ok line
     → read_all start (said_from 1 (option_words line)) ≡ Err fault → options_of bytes ≡ Err fault
 options-fault bytes line fault is read = rw is (by_said (said_from 1 (option_words line)) read)

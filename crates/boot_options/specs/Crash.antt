@@ -1,5 +1,6 @@
--- What the value of `crashkernel=` says (`parse_crashkernel_simple`, `parse_crashkernel_mem` and
--- `parse_crashkernel_suffix` of kernel/crash_core.c). None: the value is malformed.
+-- The value of `crashkernel=` (`parse_crashkernel_simple`, `parse_crashkernel_mem` and
+-- `parse_crashkernel_suffix` of kernel/crash_core.c). A definition gives None if its text is
+-- malformed.
 use Rattle.std.specs.Prelude.{ℕ, ◌<◌, Bool, true, is_some, nat_lt, if◌then◌else◌, Option, Some, None, IfSome, List, [], ◌∷◌, length, codes}
 use Rattle.std.specs.Option.{option_map}
 use Rattle.std.specs.Str.{bytes_eq}
@@ -11,7 +12,7 @@ use Rattle.boot_options.specs.declared.crash.CrashPlain.{CrashPlain}
 use Rattle.boot_options.specs.declared.crash.CrashOption.{CrashOption}
 use Rattle.boot_options.specs.MapOptions.{whole_size}
 
--- the marks of a value: `:`, `-`, `,` and `@`
+-- the marks in a value: `:`, `-`, `,` and `@`
 abbrev pub colon : ℕ
 colon = 58
 
@@ -24,7 +25,8 @@ comma = 44
 abbrev pub at_sign : ℕ
 at_sign = 64
 
--- the plain form: ranges of the total memory, each with a size, and a base, where 0 means none
+-- the plain form: ranges of total memory, each with a size, and a base; the base 0 means that none
+-- is given
 pub record PlainForm : Type 0 where
   pub ranges : List CrashRange
   pub base : ℕ
@@ -35,12 +37,12 @@ pub data Form : Type 0 where
   High : (size : ℕ) → Form
   Low : (size : ℕ) → Form
 
--- where a range ends: behind the `-` stands a size or nothing
+-- the end of a range: the text after the `-` is a size, or is empty if the range has no end
 abbrev pub end_of_range : List ℕ → Option (Option ℕ)
 end_of_range [] = Some None
 end_of_range (b ∷ bs) = option_map (λ end. Some end) (whole_size (b ∷ bs))
 
--- a range ends above its start, where it ends
+-- a range ends above its start, if it has an end
 abbrev pub is_above : Option ℕ → ℕ → Bool
 is_above None start = true
 is_above (Some end) start = nat_lt start end
@@ -48,7 +50,7 @@ is_above (Some end) start = nat_lt start end
 abbrev pub in_order : CrashRange → Option CrashRange
 in_order r = if is_above r.end r.start then Some r else None
 
--- `start-end:S` or `start-:S`
+-- one range: `start-end:S` or `start-:S`
 abbrev pub crash_range_of : List ℕ → Option CrashRange
 crash_range_of text = do
   halves ← cut colon text
@@ -58,7 +60,7 @@ crash_range_of text = do
   size ← whole_size halves.1
   in_order (record { start = start; end = end; size = size })
 
--- each of these texts is a range
+-- the ranges that these texts spell; None if one is malformed
 abbrev pub crash_ranges_of : List (List ℕ) → Option (List CrashRange)
 crash_ranges_of [] = Some []
 crash_ranges_of (text ∷ texts) = do
@@ -66,7 +68,7 @@ crash_ranges_of (text ∷ texts) = do
   ranges ← crash_ranges_of texts
   Some (range ∷ ranges)
 
--- what stands before the first `@`, and the base behind it; 0 where there is no `@`
+-- the text before the first `@`, and the base after it; the base is 0 if there is no `@`
 abbrev pub with_base : List ℕ → Option (List ℕ × List ℕ) → Option (List ℕ × ℕ)
 with_base text None = Some (text, 0)
 with_base text (Some halves) = option_map (λ base. (halves.0, base)) (whole_size halves.1)
@@ -74,14 +76,14 @@ with_base text (Some halves) = option_map (λ base. (halves.0, base)) (whole_siz
 abbrev pub place_of : List ℕ → Option (List ℕ × ℕ)
 place_of text = with_base text (cut at_sign text)
 
--- one range or more with commas between, and perhaps a base
+-- one range or more, with commas between them, and an optional base
 abbrev pub ranges_form : List ℕ → Option Form
 ranges_form value = do
   place ← place_of value
   ranges ← crash_ranges_of (parts_in (Byte comma) place.0)
   Some (Plain (record { ranges = ranges; base = place.1 }))
 
--- a size, and perhaps a base: one range from 0 on without an end
+-- a size and an optional base: one range from 0 without an end
 abbrev pub one_range : ℕ → ℕ → PlainForm
 one_range size base = record { ranges = record { start = 0; end = None; size = size } ∷ []; base = base }
 
@@ -91,7 +93,7 @@ simple_form value = do
   size ← whole_size place.0
   Some (Plain (one_range size place.1))
 
--- a size, and behind the comma which part it is of
+-- a size, and after the comma the name of the part that it is for
 abbrev pub suffixed : List ℕ → ℕ → Option Form
 suffixed name size =
     if bytes_eq name (codes "high") then Some (High size)
@@ -102,16 +104,17 @@ suffix_form halves = do
   size ← whole_size halves.0
   suffixed halves.1 size
 
--- a value without a colon has a comma before a suffix, or none
+-- a value without a colon: with a comma it has a suffix, without one it is a size with an optional
+-- base
 abbrev pub without_colon : List ℕ → Option (List ℕ × List ℕ) → Option Form
 without_colon value None = simple_form value
 without_colon value (Some halves) = suffix_form halves
 
--- the value of `crashkernel=`: a colon stands in ranges alone
+-- the form of a value of `crashkernel=`; only ranges have a colon
 unfoldable pub form_of : List ℕ → Option Form
 form_of value = if is_some (cut colon value) then ranges_form value else without_colon value (cut comma value)
 
--- what all words come to: the last value of each form, where there is one
+-- the `crashkernel=` options of all words: the last value of each form, if there is one
 pub record CrashWords : Type 0 where
   pub plain : Option PlainForm
   pub high : Option ℕ
@@ -120,19 +123,20 @@ pub record CrashWords : Type 0 where
 abbrev pub no_crash : CrashWords
 no_crash = record { plain = None; high = None; low = None }
 
--- the same of the value that a reader makes
+-- what contracts see of the code's `CrashPlain` and `CrashOption`
 abbrev pub plain_view : CrashPlain → PlainForm
 plain_view plain = record { ranges = plain.ranges.items; base = plain.base }
 
 abbrev pub crash_view : CrashOption → CrashWords
 crash_view crash = record { plain = option_map plain_view crash.plain; high = crash.high; low = crash.low }
 
--- each range that ends does so above its start
+-- each range that has an end ends above its start
 abbrev pub AreInOrder : List CrashRange → Type 0
 AreInOrder [] = Unit {0}
 AreInOrder (r ∷ rs) = IfSome r.end (λ end. r.start < end) × AreInOrder rs
 
--- what holds of every plain form: it has a range, and its ranges end above their starts
+-- what is true of every plain form: it has at least one range, and each that ends does so above
+-- its start
 pub record IsPlain (form : PlainForm) : Type 0 where
   pub some : 0 < length form.ranges
   pub order : AreInOrder form.ranges

@@ -1,4 +1,4 @@
--- What a reader keeps that may have run out of memory for a list.
+-- The lists that a reader builds, for which it may have run out of memory.
 use Rattle.std.specs.Prelude.{◌≡◌, ◌<◌, Option, Some, None, List, length, Result, Ok, Err, Vec}
 use Rattle.std.specs.declared.alloc.Global.{Global}
 use Rattle.bm_base.specs.declared.memory.Memory.{Memory}
@@ -8,23 +8,25 @@ use Rattle.boot_options.specs.declared.crash.CrashRange.{CrashRange}
 use Rattle.boot_options.specs.declared.crash.PlainRead.{PlainRead}
 use Rattle.boot_options.specs.Crash.{Form, PlainForm, Plain, High, Low}
 
--- the items that are kept are these; where memory ran out for one, there are some
+-- the list has these items; if the reader ran out of memory for the list, there is at least one
+-- item
 abbrev pub KeepsItems : {A : Type 0} → Result (Vec A Global) Memory → List A → Type 0
 KeepsItems (Ok kept) items = kept.items ≡ items
 KeepsItems (Err memory) items = 0 < length items
 
--- the same of ranges that are read, and of texts that may be malformed
+-- this fact for ranges that may be malformed: then neither the reader nor the definition has
+-- ranges
 abbrev pub KeepsRanges : Option (Result (Vec CrashRange Global) Memory) → Option (List CrashRange) → Type 0
 KeepsRanges None said = said ≡ None
 KeepsRanges (Some kept) None = ⊥
 KeepsRanges (Some kept) (Some ranges) = KeepsItems kept ranges
 
--- the plain form that is kept is this one, but for memory for its ranges
+-- the reader has this plain form, except that it may have run out of memory for its ranges
 pub record KeepsPlain (kept : PlainRead) (form : PlainForm) : Type 0 where
   pub ranges : KeepsItems kept.ranges form.ranges
   pub base : kept.base ≡ form.base
 
--- the form that is kept is what a value says
+-- the reader has the form that the definition gives for a value, or neither has one
 abbrev pub KeepsSame : CrashForm → Form → Type 0
 KeepsSame (forms.Plain kept) (Plain form) = KeepsPlain kept form
 KeepsSame (forms.Plain kept) (High size) = ⊥
@@ -37,7 +39,7 @@ KeepsForm None said = said ≡ None
 KeepsForm (Some kept) None = ⊥
 KeepsForm (Some kept) (Some form) = KeepsSame kept form
 
--- what is kept of the last plain form
+-- the reader has the last plain form that the definition gives, or neither has one
 abbrev pub KeepsLast : Option PlainRead → Option PlainForm → Type 0
 KeepsLast None said = said ≡ None
 KeepsLast (Some kept) None = ⊥

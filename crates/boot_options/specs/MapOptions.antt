@@ -1,5 +1,5 @@
--- What the value of `mem=` and one map option of `memmap=` say of the map (`parse_memopt` and
--- `parse_memmap_one` of arch/x86/kernel/e820.c). None: the value is malformed.
+-- The value of `mem=`, and one map option of `memmap=` (`parse_memopt` and `parse_memmap_one` of
+-- arch/x86/kernel/e820.c). A definition gives None if its text is malformed.
 use Rattle.std.specs.Prelude.{ℕ, ◌+◌, ◌-◌, ◌^◌, ◌==◌, nat_lt, if◌then◌else◌, Option, Some, None, List, [], ◌∷◌, drop, codes, Result, Ok, Err}
 use Rattle.std.specs.Str.{bytes_eq}
 use Rattle.bm_base.specs.Extent.{Extent}
@@ -12,7 +12,8 @@ use Rattle.e820_model.specs.declared.edit.Edit.TheVariants.{Add, Remove, RemoveA
 use Rattle.boot_options.specs.declared.map_option.MapOption.{MapOption}
 use Rattle.boot_options.specs.declared.map_option.MapOption.TheVariants.{ExactMap, Adding, Other}
 
--- the marks of a map option: `@`, `#`, `$`, `!` and `%` behind its size, and `-` and `+` before its types
+-- the marks in a map option: `@`, `#`, `$`, `!` and `%` after its size, and `-` and `+` before its
+-- types
 abbrev pub ram_mark : ℕ
 ram_mark = 64
 
@@ -34,7 +35,7 @@ from_mark = 45
 abbrev pub to_mark : ℕ
 to_mark = 43
 
--- a number at the front of a text, and what stands behind it
+-- a number at the start of a text, and the rest of the text after it
 abbrev pub NumberAndRest : Type 0
 NumberAndRest = ℕ × List ℕ
 
@@ -42,47 +43,49 @@ abbrev pub number_and_rest : List ℕ → Result (ℕ × ℕ) NumFault → Optio
 number_and_rest text (Ok found) = Some (found.0, drop found.1 text)
 number_and_rest text (Err fault) = None
 
--- a size, or a number without a suffix
+-- a size at the start of a text, or a number without a suffix, and the rest
 abbrev pub front_size : List ℕ → Option NumberAndRest
 front_size text = number_and_rest text (size_of text)
 
 abbrev pub front_number : List ℕ → Option NumberAndRest
 front_number text = number_and_rest text (number_of text)
 
--- what was read, where nothing stands behind it
+-- what was read, if nothing is left of the text; else None
 abbrev pub at_end : {A : Type 0} → List ℕ → Option A → Option A
 at_end [] read = read
 at_end (b ∷ bs) read = None
 
--- the size that takes the whole text
+-- the size that the whole text spells
 abbrev pub whole_size : List ℕ → Option ℕ
 whole_size text = do
   front ← front_size text
   at_end front.1 (Some front.0)
 
--- the range of that size from the address on, where both together are at most 2^64 - 1
+-- the range of this size from the address on, if both together are at most 2^64 - 1
 abbrev pub range_at : ℕ → ℕ → Option Extent
 range_at base size = if nat_lt (base + size) (2 ^ 64) then Some (record { base = base; size = size }) else None
 
--- an empty range makes no edit
+-- the edit, or None if its range is empty
 abbrev pub unless_empty : Extent → Edit → Option Edit
 unless_empty range edit = if nat_lt 0 range.size then Some edit else None
 
--- RAM goes from the address on, to 2^64 - 2: a range ends at 2^64 - 1 at most
+-- the range from this address up to 2^64 - 2 (a range ends at 2^64 - 1 or below), and the edit
+-- that removes RAM in it
 abbrev pub range_above : ℕ → Extent
 range_above size = record { base = size; size = 2 ^ 64 - 1 - size }
 
 abbrev pub ram_above : ℕ → Option Edit
 ram_above size = unless_empty (range_above size) (Remove (range_above size) E820_TYPE_RAM)
 
--- `S@A`, `S#A`, `S$A` and `S!A`: the range is of that type
+-- the option `S@A`, `S#A`, `S$A` or `S!A`: adds the range with this type
 abbrev pub adding_option : ℕ → ℕ → List ℕ → Option MapOption
 adding_option kind size place = do
   base ← whole_size place
   range ← range_at base size
   Some (Adding (unless_empty range (Add range kind)))
 
--- a type behind its mark, at most 2^32 - 1; one that isn't written is 0
+-- the type after its mark, at most 2^32 - 1, and the rest of the text; the type is 0 if the mark
+-- isn't there
 abbrev pub small_kind : NumberAndRest → Option NumberAndRest
 small_kind front = if nat_lt front.0 (2 ^ 32) then Some front else None
 
@@ -90,22 +93,22 @@ abbrev pub kind_behind : ℕ → List ℕ → Option NumberAndRest
 kind_behind mark [] = Some (0, [])
 kind_behind mark (b ∷ bs) = if b == mark then front_number bs >>= small_kind else Some (0, b ∷ bs)
 
--- without f: every type is taken away, or type t is adding_option
+-- if no type `f` is given: type `t` is added, or without `t` all types are removed
 abbrev pub retyped_to : Extent → ℕ → Option MapOption
 retyped_to range to =
     if to == 0 then Some (Other (unless_empty range (RemoveAll range))) else Some (Adding (unless_empty range (Add range to)))
 
--- with f: it is taken away, or turned into t, which must differ
+-- if a type `f` is given: it is removed, or changed to `t`, which must differ from it
 abbrev pub retyped_from : Extent → ℕ → ℕ → Option MapOption
 retyped_from range from to =
     if to == 0 then Some (Other (unless_empty range (Remove range from))) else
     (if from == to then None else Some (Other (unless_empty range (Change range from to))))
 
--- what the types `-f` and `+t` make of the range, each 0 where it isn't written
+-- the option for the types `-f` and `+t`; each is 0 if it isn't given
 abbrev pub retyped : Extent → ℕ → ℕ → Option MapOption
 retyped range from to = if from == 0 then retyped_to range to else retyped_from range from to
 
--- `S%A-f+t`, with f and t as they are written
+-- the option `S%A-f+t`; the types `f` and `t` are optional
 abbrev pub changed : ℕ → List ℕ → Option MapOption
 changed size place = do
   base ← front_size place
@@ -114,7 +117,7 @@ changed size place = do
   to ← kind_behind to_mark from.1
   at_end to.1 (retyped range from.0 to.0)
 
--- by the mark behind S, or the end of the map option
+-- the option that the mark after `S` selects; without a mark, RAM ends at `S`
 abbrev pub by_mark : ℕ → List ℕ → Option MapOption
 by_mark size [] = Some (Other (ram_above size))
 by_mark size (mark ∷ place) =
@@ -133,10 +136,10 @@ sized_map_option text = do
 abbrev pub map_option_of : List ℕ → Option MapOption
 map_option_of text = if bytes_eq text (codes "exactmap") then Some ExactMap else sized_map_option text
 
--- `mem=S`: RAM ends at S, which is above 0
+-- the option of `mem=S`: RAM ends at `S`, which must be above 0
 abbrev pub ram_up_to : ℕ → Option MapOption
 ram_up_to size = if size == 0 then None else Some (Other (ram_above size))
 
--- the value of `mem=`; `nopentium` does nothing
+-- the value of `mem=`; `nopentium` changes nothing
 abbrev pub mem_of : List ℕ → Option MapOption
 mem_of text = if bytes_eq text (codes "nopentium") then Some (Other None) else whole_size text >>= ram_up_to

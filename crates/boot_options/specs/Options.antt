@@ -1,5 +1,5 @@
--- What a command line says of the map, word by word (`parse_early_param`, `next_arg` of
--- lib/cmdline.c, and the handlers of `mem=`, `memmap=`, `crashkernel=`, `numa=` and `add_efi_memmap`).
+-- The options of a command line, word by word (`parse_early_param`, `next_arg` of lib/cmdline.c,
+-- and the handlers of `mem=`, `memmap=`, `crashkernel=`, `numa=` and `add_efi_memmap`).
 use Rattle.std.specs.Prelude.{ℕ, ◌+◌, ◌%◌, ◌<◌, ◌==◌, ◌⊎◌, IsSome, Bool, true, false, nat_lt, if◌then◌else◌, Option, Some, None, List, [], ◌∷◌, map, length, codes, Result, Ok, Err}
 use Rattle.std.specs.Option.{option_map, option_and_then, option_or}
 use Rattle.std.specs.List.{filter_map}
@@ -20,8 +20,8 @@ use Rattle.boot_options.specs.declared.map_option.MapOption.TheVariants.{ExactMa
 use Rattle.boot_options.specs.Crash.{CrashWords, Form, PlainForm, Plain, High, Low, crash_view, form_of}
 use Rattle.boot_options.specs.MapOptions.{map_option_of, mem_of}
 
--- the line: the bytes before the first zero byte, without a newline at its end. It has at most
--- 2,047 bytes (`COMMAND_LINE_SIZE` less the zero byte), and an even number of `"`
+-- the line: the bytes before the first zero byte, without a newline at the end. It must have at
+-- most 2,047 bytes (`COMMAND_LINE_SIZE` less the zero byte) and an even number of `"`.
 abbrev pub raw_line : List ℕ → List ℕ
 raw_line bytes = without_last 10 (before 0 bytes)
 
@@ -36,14 +36,14 @@ checked_line line =
 abbrev pub line_of : List ℕ → Result (List ℕ) OptionFault
 line_of bytes = checked_line (raw_line bytes)
 
--- what one word says
+-- the meaning of one word
 pub data Said : Type 0 where
   OfMap : (options : List MapOption) → Said
   OfCrash : (form : Form) → Said
   NumaOff : Said
   AddEfi : Said
 
--- the value of `memmap=` is one or more map options with commas between
+-- the value of `memmap=` is one or more map options, with commas between them
 abbrev pub map_options_of : List (List ℕ) → Option (List MapOption)
 map_options_of [] = Some []
 map_options_of (text ∷ texts) = option_and_then (λ p. option_map (λ ps. p ∷ ps) (map_options_of texts)) (map_option_of text)
@@ -55,11 +55,11 @@ memmap_of value = option_map OfMap (map_options_of (parts_in (Byte 44) value))
 abbrev pub of_one : MapOption → Said
 of_one p = OfMap (p ∷ [])
 
--- the value of `crashkernel=` is of one form
+-- the value of `crashkernel=` has one form
 abbrev pub crash_of : List ℕ → Option Said
 crash_of value = option_map OfCrash (form_of value)
 
--- the value of `numa=` is `off`
+-- the value of `numa=` must be `off`; a word without a meaning has this fault
 abbrev pub numa_of : List ℕ → Option Said
 numa_of value = if bytes_eq value (codes "off") then Some NumaOff else None
 
@@ -67,8 +67,9 @@ abbrev pub or_fault : OptionFault → Option Said → Result Said OptionFault
 or_fault fault None = Err fault
 or_fault fault (Some said) = Ok said
 
--- by the name of the word; a word of another name says nothing. A word of one of these names without
--- a value is malformed, but for `add_efi_memmap`, which says the same with any value and without one (`setup_add_efi_memmap`)
+-- the meaning of a word, by its name; a word with another name has no effect. A word with one of
+-- these names but without a value is malformed. The exception is `add_efi_memmap`, which means the
+-- same with and without a value (`setup_add_efi_memmap`).
 abbrev pub said_by : ℕ → List ℕ × Option (List ℕ) → Result Said OptionFault
 said_by number word =
     if bytes_eq word.0 (codes "mem") then or_fault (faults.BadMem number) (option_map of_one (option_and_then mem_of word.1)) else
@@ -78,7 +79,8 @@ said_by number word =
     (if bytes_eq word.0 (codes "add_efi_memmap") then Ok AddEfi else
     Ok (OfMap [])))))
 
--- the name of a word stands before its first `=`, the value behind it, without its quotation marks
+-- the name of a word is the text before its first `=`; the value is the text after it, without
+-- quotation marks
 abbrev pub at_cut : List ℕ → Option (List ℕ × List ℕ) → List ℕ × Option (List ℕ)
 at_cut word None = (word, None)
 at_cut word (Some halves) = (halves.0, Some (unquoted halves.1))
@@ -94,7 +96,7 @@ until_end (word ∷ words) = if bytes_eq word (codes "--") then [] else word ∷
 abbrev pub option_words : List ℕ → List (List ℕ)
 option_words line = until_end (map unquoted (words_in CommandLine line))
 
--- what each word says, with its number; or the fault of the first one that has one
+-- the meaning of each word with its number, or the fault of the first malformed word
 abbrev pub said_from : ℕ → List (List ℕ) → Result (List (ℕ × Said)) OptionFault
 said_from number [] = Ok []
 said_from number (word ∷ words) = do
@@ -102,7 +104,7 @@ said_from number (word ∷ words) = do
   others ← said_from (number + 1) words
   Ok ((number, said) ∷ others)
 
--- the map options in the order of the line, each with the number of its word
+-- all map options in the order of the line, each with the number of its word
 abbrev pub numbered : ℕ → List MapOption → List (ℕ × MapOption) → List (ℕ × MapOption)
 numbered number [] behind = behind
 numbered number (p ∷ ps) behind = (number, p) ∷ numbered number ps behind
@@ -114,7 +116,7 @@ all_map_options ((number, OfCrash form) ∷ said) = all_map_options said
 all_map_options ((number, NumaOff) ∷ said) = all_map_options said
 all_map_options ((number, AddEfi) ∷ said) = all_map_options said
 
--- the edit of a map option, where it makes one
+-- the edit that a map option makes, if any
 abbrev pub edit_of : MapOption → Option Edit
 edit_of ExactMap = Some Clear
 edit_of (Adding edit) = edit
@@ -123,7 +125,7 @@ edit_of (Other edit) = edit
 abbrev pub edits_of : List (ℕ × MapOption) → List Edit
 edits_of ps = filter_map (λ p. edit_of p.1) ps
 
--- some word says `numa=off`
+-- some word is `numa=off`
 abbrev pub is_numa_off : List (ℕ × Said) → Bool
 is_numa_off [] = false
 is_numa_off ((number, OfMap ps) ∷ said) = is_numa_off said
@@ -131,7 +133,7 @@ is_numa_off ((number, OfCrash form) ∷ said) = is_numa_off said
 is_numa_off ((number, NumaOff) ∷ said) = true
 is_numa_off ((number, AddEfi) ∷ said) = is_numa_off said
 
--- some word says `add_efi_memmap`
+-- some word is `add_efi_memmap`
 abbrev pub is_efi_added : List (ℕ × Said) → Bool
 is_efi_added [] = false
 is_efi_added ((number, OfMap ps) ∷ said) = is_efi_added said
@@ -139,7 +141,7 @@ is_efi_added ((number, OfCrash form) ∷ said) = is_efi_added said
 is_efi_added ((number, NumaOff) ∷ said) = is_efi_added said
 is_efi_added ((number, AddEfi) ∷ said) = true
 
--- the value of one form, where the word says it
+-- the value of one form of `crashkernel=`, if the word has that form
 abbrev pub plain_said : Said → Option PlainForm
 plain_said (OfMap ps) = None
 plain_said (OfCrash (Plain form)) = Some form
@@ -164,23 +166,24 @@ low_said (OfCrash (Low size)) = Some size
 low_said NumaOff = None
 low_said AddEfi = None
 
--- the last word that says it counts
+-- the value in the last word that has one
 abbrev pub last_said : {A : Type 0} → (Said → Option A) → List (ℕ × Said) → Option A
 last_said pick [] = None
 last_said pick (s ∷ said) = option_or (last_said pick said) (pick s.1)
 
--- the crash area that all words ask for, form by form
+-- the `crashkernel=` options of all words: the last value of each form
 abbrev pub crash_by : List (ℕ × Said) → CrashWords
 crash_by said = record { plain = last_said plain_said said; high = last_said high_said said; low = last_said low_said said }
 
--- the number of adding map options
+-- the number of map options that add memory
 abbrev pub count_adding : List (ℕ × MapOption) → ℕ
 count_adding [] = 0
 count_adding ((number, ExactMap) ∷ ps) = count_adding ps
 count_adding ((number, Adding edit) ∷ ps) = count_adding ps + 1
 count_adding ((number, Other edit) ∷ ps) = count_adding ps
 
--- the last `exactmap`: the number of its word, and the number of adding map options behind it
+-- the last `exactmap`: the number of its word, and the number of map options that add memory after
+-- it
 abbrev pub or_here : Option (ℕ × ℕ) → ℕ → MapOption → ℕ → Option (ℕ × ℕ)
 or_here (Some found) number p behind = Some found
 or_here None number ExactMap behind = Some (number, behind)
@@ -191,7 +194,8 @@ abbrev pub last_exact : List (ℕ × MapOption) → Option (ℕ × ℕ)
 last_exact [] = None
 last_exact (p ∷ ps) = or_here (last_exact ps) p.0 p.1 (count_adding ps)
 
--- what the options of a line come to
+-- the options of a line, what contracts see of the code's `Options`, and the options that the
+-- words of a line set
 pub record Chosen : Type 0 where
   pub edits : List Edit
   pub crash : CrashWords
@@ -214,7 +218,7 @@ chosen_by said = record {
   add_efi = is_efi_added said;
 }
 
--- a user map wants two adding map options behind the last `exactmap`
+-- after the last `exactmap` there must be at least two map options that add memory
 abbrev pub unless_incomplete : Chosen → Option (ℕ × ℕ) → Result Chosen OptionFault
 unless_incomplete chosen None = Ok chosen
 unless_incomplete chosen (Some exact) = if nat_lt exact.1 2 then Err (faults.UserMapInvalid exact.0) else Ok chosen
@@ -222,14 +226,15 @@ unless_incomplete chosen (Some exact) = if nat_lt exact.1 2 then Err (faults.Use
 abbrev pub with_user_map : List (ℕ × Said) → Result Chosen OptionFault
 with_user_map said = unless_incomplete (chosen_by said) (last_exact (all_map_options said))
 
--- the options of a file's bytes, or its first fault: the line's, that of the lowest word, the user map's
+-- the options of a file's bytes, or the first fault: that of the line, then of the lowest
+-- malformed word, then of the user map
 abbrev pub options_of : List ℕ → Result Chosen OptionFault
 options_of bytes = do
   line ← line_of bytes
   said ← said_from 1 (option_words line)
   with_user_map said
 
--- the range of the edit has an address
+-- the range of the edit isn't empty
 abbrev pub HasRange : Edit → Type 0
 HasRange (Add range kind) = 0 < range.size
 HasRange (Remove range kind) = 0 < range.size
@@ -241,7 +246,7 @@ abbrev pub HaveRanges : List Edit → Type 0
 HaveRanges [] = Unit {0}
 HaveRanges (e ∷ es) = HasRange e × HaveRanges es
 
--- words are numbered from 1
+-- the number of a word in a fault is 1 or more
 abbrev pub IsNumbered : OptionFault → Type 0
 IsNumbered faults.TooLong = Unit {0}
 IsNumbered faults.OpenQuote = Unit {0}
@@ -252,6 +257,6 @@ IsNumbered (faults.UserMapInvalid word) = 0 < word
 IsNumbered (faults.BadNuma word) = 0 < word
 IsNumbered faults.Memory = Unit {0}
 
--- the line asks for something that takes memory: an edit, or a crash area by ranges
+-- the line needs memory: for an edit, or for the ranges of a plain form of `crashkernel=`
 abbrev pub WantsMemory : Chosen → Type 0
 WantsMemory chosen = (0 < length chosen.edits) ⊎ IsSome chosen.crash.plain

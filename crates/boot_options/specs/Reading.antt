@@ -1,5 +1,6 @@
--- A command line half read: what the words so far have come to. The reader keeps of the user map only
--- how many adding map options it still wants.
+-- The state of the reader in the middle of a command line: the result of the words so far. Of the
+-- user map, the state has only the last `exactmap` and how many map options that add memory are
+-- still needed.
 use Rattle.std.specs.Prelude.{◌≡◌, ℕ, ◌-◌, ◌==◌, if◌then◌else◌, Bool, true, false, Option, Some, None, List, [], ◌∷◌, ◌++◌, Result, Ok, Err, IsErr}
 use Rattle.std.specs.List.{cons_option}
 use Rattle.std.specs.Option.{option_map}
@@ -26,7 +27,7 @@ pub record State : Type 0 where
 abbrev pub start : State
 start = record { edits = []; crash = no_crash; numa_off = false; add_efi = false; user_map = None }
 
--- one adding map option fewer is wanted
+-- the state after another map option: an option that adds memory is one fewer to come
 abbrev pub one_fewer : UserMap → UserMap
 one_fewer m = record { word = m.word; wanting = m.wanting - 1 }
 
@@ -48,7 +49,7 @@ abbrev pub after_map_options : ℕ → State → List MapOption → State
 after_map_options number st [] = st
 after_map_options number st (p ∷ ps) = after_map_options number (after_map_option number st p) ps
 
--- a later value of a form takes the place of an earlier one
+-- the state after another word: a later value of a form of `crashkernel=` replaces an earlier one
 abbrev pub after_form : CrashWords → Form → CrashWords
 after_form c (Plain form) = record { plain = Some form; high = c.high; low = c.low }
 after_form c (High size) = record { plain = c.plain; high = Some size; low = c.low }
@@ -73,7 +74,7 @@ abbrev pub after_all : State → List (ℕ × Said) → State
 after_all st [] = st
 after_all st (s ∷ said) = after_all (after s.0 st s.1) said
 
--- the same where a word, or a map option, may be malformed
+-- the state after a word, all words, or map options that may be malformed
 abbrev pub read_on : ℕ → State → Result Said OptionFault → Result State OptionFault
 read_on number st (Ok said) = Ok (after number st said)
 read_on number st (Err fault) = Err fault
@@ -85,7 +86,7 @@ read_all st (Err fault) = Err fault
 abbrev pub read_map_options : ℕ → State → Option (List MapOption) → Option State
 read_map_options number st ps = option_map (after_map_options number st) ps
 
--- at the end of the line the user map may want no further map option
+-- at the end of the line no map option may still be needed for the user map
 abbrev pub when_complete : Chosen → Option UserMap → Result Chosen OptionFault
 when_complete chosen None = Ok chosen
 when_complete chosen (Some m) = if m.wanting == 0 then Ok chosen else Err (UserMapInvalid m.word)
@@ -94,13 +95,14 @@ abbrev pub at_line_end : State → Result Chosen OptionFault
 at_line_end st =
     when_complete (record { edits = st.edits; crash = st.crash; numa_off = st.numa_off; add_efi = st.add_efi }) st.user_map
 
--- what is kept of the crash area, but for memory for ranges
+-- the reader has these `crashkernel=` options, except that it may have run out of memory for the
+-- ranges
 pub record KeepsCrash (r : CrashRead) (c : CrashWords) : Type 0 where
   pub plain : KeepsLast r.plain c.plain
   pub high : r.high ≡ c.high
   pub low : r.low ≡ c.low
 
--- the reader is at that state; it may have run out of memory for its edits or ranges
+-- the reader is in this state, except that it may have run out of memory for its edits or ranges
 pub record IsReadTo (r : Reading) (st : State) : Type 0 where
   pub edits : KeepsItems r.edits st.edits
   pub crash : KeepsCrash r.crash st.crash
@@ -108,17 +110,17 @@ pub record IsReadTo (r : Reading) (st : State) : Type 0 where
   pub add_efi : r.add_efi ≡ st.add_efi
   pub user_map : r.user_map ≡ st.user_map
 
--- there is such a state, and the reader is at it
+-- the definition gives a state, and the reader is in it
 abbrev pub IsAtSome : Reading → Result State OptionFault → Type 0
 IsAtSome r (Ok st) = IsReadTo r st
 IsAtSome r (Err fault) = ⊥
 
--- the answer is the definition's: its state, at which the reader is, or its fault
+-- the result matches the definition: the reader is in its state, or returns its fault
 abbrev pub ReadsAs : {X : Type 0} → (X → Reading) → Result X OptionFault → Result State OptionFault → Type 0
 ReadsAs view (Ok x) definition = IsAtSome (view x) definition
 ReadsAs view (Err fault) definition = definition ≡ Err fault
 
--- memory ran out for the ranges of the plain form that counts
+-- the program ran out of memory for the ranges of the last plain form
 abbrev pub LacksRanges : Option PlainRead → Type 0
 LacksRanges None = ⊥
 LacksRanges (Some kept) = IsErr kept.ranges

@@ -1,5 +1,6 @@
--- How the words of a command line and their values are spelled, form by form, in the words of the grammar (`next_arg` of lib/cmdline.c,
--- `parse_memopt` and `parse_memmap_one` of arch/x86/kernel/e820.c, `parse_crashkernel` of kernel/crash_core.c).
+-- The spelling of the words of a command line and of their values, form by form, as a grammar
+-- (`next_arg` of lib/cmdline.c, `parse_memopt` and `parse_memmap_one` of arch/x86/kernel/e820.c,
+-- `parse_crashkernel` of kernel/crash_core.c).
 use Rattle.std.specs.Prelude.{◌≡◌, ◌≢◌, ℕ, ◌+◌, ◌^◌, ◌<◌, Option, Some, None, List, [], ◌∷◌, ◌++◌, length, codes, Ok}
 use Rattle.std.specs.List.{AllByRecursion}
 use Rattle.bm_base.specs.Extent.{Extent}
@@ -15,17 +16,17 @@ use Rattle.boot_options.specs.Crash.{Form, Plain, High, Low, comma, one_range}
 use Rattle.boot_options.specs.MapOptions.{ram_above, unless_empty}
 use Rattle.boot_options.specs.Options.{AddEfi, NumaOff, OfCrash, OfMap, Said, line_of}
 
--- the two texts are the size and the address of the range; both together are at most 2^64 - 1
+-- the two texts spell the size and the address of the range; both together are at most 2^64 - 1
 pub record SpellsPlace (s a : List ℕ) (range : Extent) : Type 0 where
   pub size : IsSize s range.size
   pub base : IsSize a range.base
   pub ends : range.base + range.size < 2 ^ 64
 
--- a type after its mark: a number above 0, at most 2^32 - 1
+-- a type after its mark: a number from 1 to 2^32 - 1
 pub data SpellsType (mark : List ℕ) : List ℕ → ℕ → Type 0 where
   a_type : (text : List ℕ) (kind : ℕ) → IsNumber text kind → 0 < kind → kind < 2 ^ 32 → SpellsType mark (mark ++ text) kind
 
--- a type that counts as not written: nothing, or a 0 after its mark
+-- no type: nothing, or a 0 after the mark
 pub data SpellsNoType (mark : List ℕ) : List ℕ → Type 0 where
   nothing : SpellsNoType mark []
   type_zero : (text : List ℕ) → IsNumber text 0 → SpellsNoType mark (mark ++ text)
@@ -54,7 +55,7 @@ pub data SpellsMapOption : List ℕ → MapOption → Type 0 where
       → SpellsType (codes "+") t to → from ≢ to
       → SpellsMapOption (s ++ (codes "%" ++ (a ++ (f ++ t)))) (Other (unless_empty range (Change range from to)))
 
--- the value of `memmap=`: one map option or more, with commas between
+-- the value of `memmap=`: one or more map options, with commas between them
 pub data SpellsMapOptions : List ℕ → List MapOption → Type 0 where
   last_option : (text : List ℕ) (option : MapOption) → SpellsMapOption text option → SpellsMapOptions text (option ∷ [])
   next_option : (text value : List ℕ) (option : MapOption) (options : List MapOption) → SpellsMapOption text option
@@ -65,7 +66,7 @@ pub data SpellsMem : List ℕ → MapOption → Type 0 where
   nopentium : SpellsMem (codes "nopentium") (Other None)
   end_of_ram : (s : List ℕ) (size : ℕ) → IsSize s size → 0 < size → SpellsMem s (Other (ram_above size))
 
--- how the end of a range is spelled, and a range
+-- the end of a range, which may be missing, and a range
 abbrev pub SpellsEnd : List ℕ → Option ℕ → ℕ → Type 0
 SpellsEnd text None start = text ≡ []
 SpellsEnd text (Some end) start = IsSize text end × (start < end)
@@ -79,20 +80,20 @@ pub record SpellsRange (spelled : List ℕ) (r : CrashRange) : Type 0 where
   pub end : SpellsEnd end_text r.end r.start
   pub size : IsSize size_text r.size
 
--- each text spells its range
+-- each text spells the range at its place in the list
 abbrev pub SpellRanges : List (List ℕ) → List CrashRange → Type 0
 SpellRanges [] [] = Unit {0}
 SpellRanges [] (r ∷ rs) = ⊥
 SpellRanges (text ∷ texts) [] = ⊥
 SpellRanges (text ∷ texts) (r ∷ rs) = SpellsRange text r × SpellRanges texts rs
 
--- the texts with commas between
+-- the texts with commas between them
 abbrev pub joined : List (List ℕ) → List ℕ
 joined [] = []
 joined (text ∷ []) = text
 joined (text ∷ next ∷ texts) = text ++ (comma ∷ joined (next ∷ texts))
 
--- the base of a plain form: nothing, which is 0, or a size after `@`
+-- the base of a plain form: nothing, which means 0, or a size after `@`
 pub data SpellsBase : List ℕ → ℕ → Type 0 where
   no_base : SpellsBase [] 0
   a_base : (text : List ℕ) (base : ℕ) → IsSize text base → SpellsBase (codes "@" ++ text) base
@@ -105,7 +106,7 @@ pub data SpellsForm : List ℕ → Form → Type 0 where
   high : (s : List ℕ) (size : ℕ) → IsSize s size → SpellsForm (s ++ codes ",high") (High size)
   low : (s : List ℕ) (size : ℕ) → IsSize s size → SpellsForm (s ++ codes ",low") (Low size)
 
--- what the values of the four names may be
+-- the values that each of the four names may have
 abbrev pub IsMemValue : List ℕ → Type 0
 IsMemValue value = (option : MapOption) × SpellsMem value option
 
@@ -118,7 +119,8 @@ IsCrashValue value = (form : Form) × SpellsForm value form
 abbrev pub IsNumaValue : List ℕ → Type 0
 IsNumaValue value = value ≡ codes "off"
 
--- a malformed word of that name: it has no `=`, or its value, without quotation marks, isn't one of those
+-- a malformed word with this name: it has no `=`, or its value, without quotation marks, isn't one
+-- that the name may have
 pub data IsMalformed (name : List ℕ) (IsValue : List ℕ → Type 0) : List ℕ → Type 0 where
   no_value : IsMalformed name IsValue name
   other_value : (raw value : List ℕ) → Unquotes raw value → (IsValue value → ⊥) → IsMalformed name IsValue (name ++ (codes "=" ++ raw))
@@ -135,7 +137,7 @@ IsBadCrash = IsMalformed (codes "crashkernel") IsCrashValue
 abbrev pub IsBadNuma : List ℕ → Type 0
 IsBadNuma = IsMalformed (codes "numa") IsNumaValue
 
--- a word of another name, or with a value that its name may have
+-- a word with another name, or with a value that its name may have
 pub record IsSoundWord (word : List ℕ) : Type 0 where
   pub mem : IsBadMem word → ⊥
   pub memmap : IsBadMemmap word → ⊥
@@ -149,7 +151,8 @@ pub data OptionWords : List (List ℕ) → List (List ℕ) → Type 0 where
   a_word : (raw word : List ℕ) (raws words : List (List ℕ)) → Unquotes raw word → word ≢ codes "--" → OptionWords raws words
       → OptionWords (raw ∷ raws) (word ∷ words)
 
--- the lowest word of the bytes' line that isn't sound: it has that number, counted from 1, and that fault
+-- the lowest malformed word of the line in these bytes: it has this number, counted from 1, and
+-- this fault
 pub record IsFirstFault (bytes : List ℕ) (number : ℕ) (IsBad : List ℕ → Type 0) : Type 0 where
   pub line : List ℕ
   pub raws : List (List ℕ)
@@ -163,12 +166,12 @@ pub record IsFirstFault (bytes : List ℕ) (number : ℕ) (IsBad : List ℕ → 
   pub place : number ≡ length front + 1
   pub bad : IsBad word
 
--- the name of the word, which stands alone or before a `=` and a text
+-- the word has this name: it is the name, or the name, a `=` and any text
 pub data HasName (name : List ℕ) : List ℕ → Type 0 where
   alone : HasName name name
   with_value : (raw : List ℕ) → HasName name (name ++ (codes "=" ++ raw))
 
--- a word of none of the five names
+-- a word with none of the five names
 pub record IsOtherWord (word : List ℕ) : Type 0 where
   pub mem : HasName (codes "mem") word → ⊥
   pub memmap : HasName (codes "memmap") word → ⊥
@@ -176,7 +179,8 @@ pub record IsOtherWord (word : List ℕ) : Type 0 where
   pub numa : HasName (codes "numa") word → ⊥
   pub efi : HasName (codes "add_efi_memmap") word → ⊥
 
--- a word and what it says, by its name and its value without quotation marks; a word of another name says nothing
+-- the meaning of a word, by its name and its value without quotation marks; a word with another
+-- name has no effect
 pub data SpellsSaid : List ℕ → Said → Type 0 where
   mem_word : (raw value : List ℕ) (option : MapOption) → Unquotes raw value → SpellsMem value option
       → SpellsSaid (codes "mem" ++ (codes "=" ++ raw)) (OfMap (option ∷ []))
@@ -188,14 +192,14 @@ pub data SpellsSaid : List ℕ → Said → Type 0 where
   efi_word : (word : List ℕ) → HasName (codes "add_efi_memmap") word → SpellsSaid word AddEfi
   other_word : (word : List ℕ) → IsOtherWord word → SpellsSaid word (OfMap [])
 
--- each word says that, and they are numbered from there on
+-- each word has the meaning at its place in the list, and the words are numbered from `number` on
 abbrev pub SpellEach : ℕ → List (List ℕ) → List (ℕ × Said) → Type 0
 SpellEach number [] [] = Unit {0}
 SpellEach number [] (s ∷ said) = ⊥
 SpellEach number (word ∷ words) [] = ⊥
 SpellEach number (word ∷ words) (s ∷ said) = (s.0 ≡ number) × SpellsSaid word s.1 × SpellEach (number + 1) words said
 
--- the line has words that say that
+-- the words of the line have these meanings
 pub record SpellsLine (line : List ℕ) (said : List (ℕ × Said)) : Type 0 where
   pub raws : List (List ℕ)
   pub words : List (List ℕ)

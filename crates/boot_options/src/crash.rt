@@ -1,10 +1,10 @@
-//! The value of `crashkernel=`: how much memory is kept for a kernel that takes over after a crash, and where.
+//! Reads the value of `crashkernel=`: how much memory is set aside for a crash kernel, and where.
 //!
-//! There are three forms (kernel/crash_core.c): the plain one, whose ranges make the size depend on how much memory
-//! there is, and `S,high` and `S,low`, which ask for a part above and a part below 4 GiB. One value at a time is read
-//! here, and a malformed one is `None`. Memory is taken for ranges alone; where it runs out the value is still read to
-//! its end, so that a malformed one is never told as want of memory. At the end stands the law:
-//! a value is read as a form exactly if it is spelled so.
+//! There are three forms (kernel/crash_core.c). The plain form may give several ranges of total
+//! memory, each with a size of its own. `S,high` requests an area that may lie above 4 GiB, and
+//! `S,low` a part below 4 GiB. A function here reads one value, and returns `None` if it is
+//! malformed. Only the ranges of the plain form allocate. If memory runs out, the value is still
+//! read to its end, so a malformed value is never reported as out of memory.
 
 ghost use Rattle.std.specs.Prelude.{◌≡◌, ◌↔◌, ℕ, List, ◌∷◌, [], Some};
 ghost use Rattle.std.specs.Option.{option_map};
@@ -20,14 +20,16 @@ use bm_base::Memory;
 use std::alloc::Global;
 use text_words::{Separators, cut, next_part};
 
-/// How much is kept where the total memory lies in a range, in bytes.
+/// A range of total memory, and how much is set aside if total memory lies in it. All numbers are
+/// in bytes.
 #[derive(Clone, Copy, Debug, PartialEq, Eq)]
 pub struct CrashRange {
     /// The least total memory of the range.
     pub start: u64,
-    /// The total memory from which on the range doesn't hold it, above `start`; none where it has no end.
+    /// The first total memory above the range, greater than `start`; `None` if the range has no
+    /// end.
     pub end: Option<u64>,
-    /// The size that is kept; 0 keeps nothing.
+    /// The size that is set aside; 0 means nothing.
     pub size: u64,
 }
 
@@ -36,30 +38,30 @@ pub struct CrashRange {
 pub struct CrashPlain {
     /// The ranges, in the order of the value; at least one.
     pub ranges: Vec<CrashRange>,
-    /// The first byte of the area; 0 where its place is free.
+    /// The first address of the area; 0 if the kernel chooses it.
     pub base: u64,
 }
 
-/// What the line says by `crashkernel=`: the last value of each form.
+/// The `crashkernel=` options of a line: the last value of each form.
 #[derive(Debug, Drop)]
 pub struct CrashOption {
-    /// The plain form, if there is one.
+    /// The plain form, if the line has one.
     pub plain: Option<CrashPlain>,
-    /// The size in bytes of `S,high`.
+    /// The size in bytes of the last `S,high`.
     pub high: Option<u64>,
-    /// The size in bytes of `S,low`.
+    /// The size in bytes of the last `S,low`.
     pub low: Option<u64>,
 }
 
 /// A plain form as it is read.
 #[derive(Drop)]
 pub struct PlainRead {
-    /// The ranges, or want of memory for one of them.
+    /// The ranges, or `Memory` if the program ran out of memory for one of them.
     pub ranges: Result<Vec<CrashRange>, Memory>,
     pub base: u64,
 }
 
-/// What one value says.
+/// The form that one value has.
 #[derive(Drop)]
 pub enum CrashForm {
     Plain(PlainRead),
@@ -67,7 +69,8 @@ pub enum CrashForm {
     Low(u64),
 }
 
-/// What the value of `crashkernel=` says (`parse_crashkernel`); `None` where it is malformed.
+/// Returns the form of a value of `crashkernel=` (`parse_crashkernel`), or `None` if it is
+/// malformed.
 #[tactic(auto, unfolding(crate::specs::Crash::form_of))]
 pub fn read_form(alloc: Global, value: &[u8]) -> Option<CrashForm>
     ensures { KeepsForm result (form_of value.now) }
@@ -81,7 +84,7 @@ pub fn read_form(alloc: Global, value: &[u8]) -> Option<CrashForm>
     }
 }
 
-/// `R:S,R:S..` with an optional `@B` behind them.
+/// Reads `R:S,R:S..`, with an optional `@B` at the end. Returns `None` if it is malformed.
 fn read_ranges_form(alloc: Global, value: &[u8]) -> Option<CrashForm>
     ensures { KeepsForm result (ranges_form value.now) }
 {
@@ -90,7 +93,7 @@ fn read_ranges_form(alloc: Global, value: &[u8]) -> Option<CrashForm>
     Some(CrashForm::Plain(PlainRead { ranges, base }))
 }
 
-/// `S` or `S@B`: one range from 0 on without an end.
+/// Reads `S` or `S@B`: one range from 0 without an end. Returns `None` if it is malformed.
 fn read_simple_form(alloc: Global, value: &[u8]) -> Option<CrashForm>
     ensures { KeepsForm result (simple_form value.now) }
 {
@@ -107,7 +110,11 @@ fn read_simple_form(alloc: Global, value: &[u8]) -> Option<CrashForm>
     }))
 }
 
-/// The list of this range alone.
+/// Returns a list that has only this range.
+///
+/// # Errors
+///
+/// - `Memory`: the program ran out of memory.
 fn one_range(alloc: Global, range: CrashRange) -> Result<Vec<CrashRange>, Memory>
     ensures { KeepsItems result (range ∷ []) }
 {
@@ -116,7 +123,8 @@ fn one_range(alloc: Global, range: CrashRange) -> Result<Vec<CrashRange>, Memory
     Ok(ranges)
 }
 
-/// The size before the comma, and the name behind it: `S,high` or `S,low`.
+/// Returns the form for the size before the comma and the name after it: `S,high` or `S,low`.
+/// Returns `None` if either is malformed.
 fn read_suffix_form(size: &[u8], name: &[u8]) -> Option<CrashForm>
     ensures { KeepsForm result (suffix_form (size.now, name.now)) }
 {
@@ -130,7 +138,8 @@ fn read_suffix_form(size: &[u8], name: &[u8]) -> Option<CrashForm>
     None
 }
 
-/// What stands before the first `@`, and the base behind it, 0 where there is no `@`.
+/// Returns the text before the first `@`, and the base after it, or 0 if there is no `@`. Returns
+/// `None` if the base is malformed.
 fn read_place(text: &[u8]) -> Option<(&[u8], u64)>
     ensures { option_map (λ place. (place.0.now, place.1)) result ≡ place_at text.now }
 {
@@ -140,7 +149,8 @@ fn read_place(text: &[u8]) -> Option<(&[u8], u64)>
     }
 }
 
-/// The ranges between the commas.
+/// Reads ranges with commas between them. Returns `None` if one is malformed, else the ranges, or
+/// `Memory` if the program ran out of memory for them.
 fn read_ranges(alloc: Global, text: &[u8]) -> Option<Result<Vec<CrashRange>, Memory>>
     ensures { KeepsRanges result (crash_ranges_of (parts_in (any_byte comma) text.now)) }
 {
@@ -157,7 +167,7 @@ fn read_ranges(alloc: Global, text: &[u8]) -> Option<Result<Vec<CrashRange>, Mem
     Some(ranges)
 }
 
-/// `start-end:S` or `start-:S`.
+/// Reads one range: `start-end:S` or `start-:S`. Returns `None` if it is malformed.
 fn read_range(text: &[u8]) -> Option<CrashRange>
     ensures { result ≡ crash_range_of text.now }
 {
@@ -172,7 +182,8 @@ fn read_range(text: &[u8]) -> Option<CrashRange>
     Some(CrashRange { start, end, size })
 }
 
-/// The end of a range, which may be missing.
+/// Reads the end of a range, which may be missing: `Some(None)` if the text is empty, and `None`
+/// if it is malformed.
 fn read_end(text: &[u8]) -> Option<Option<u64>>
     ensures { result ≡ end_of_range text.now }
 {
@@ -182,7 +193,7 @@ fn read_end(text: &[u8]) -> Option<Option<u64>>
     Some(Some(read_whole_size(text)?))
 }
 
-/// Law: a value of `crashkernel=` is read as a form exactly if it is spelled as that form.
+/// Law: a value of `crashkernel=` is read as a form exactly if the grammar spells it as that form.
 pub fn crash_forms_are_spelled()
     ensures { (value : List ℕ) (form : Form) → form_of value ≡ Some form ↔ SpellsForm value form }
 {}

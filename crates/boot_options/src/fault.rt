@@ -1,14 +1,16 @@
-//! Why a command line isn't read, on its own because both the reading of the words and the line's
-//! end answer it. The kernel tells most of these on its log, or not at all, and boots on.
+//! The reason why a command line is refused. It has a file of its own because both the reader of
+//! the words and the check at the end of the line return it. For most of these the kernel logs a
+//! warning, or nothing, and continues the boot.
 
 use bm_base::Memory;
 
-/// Why a command line isn't read. A `word` is the number of a word of the line, from 1 on.
+/// The reason why a command line is refused. `word` is the number of a word of the line; the first
+/// word is 1.
 #[derive(Clone, Copy, Debug, PartialEq, Eq)]
 pub enum OptionFault {
     /// The line has more than 2,047 bytes.
     TooLong,
-    /// The number of `"` in the line is odd.
+    /// The line has an odd number of quotation marks (`"`).
     OpenQuote,
     /// The word is a malformed `mem=`.
     BadMem { word: u32 },
@@ -16,13 +18,13 @@ pub enum OptionFault {
     BadMemmap { word: u32 },
     /// The word is a malformed `crashkernel=`.
     BadCrash { word: u32 },
-    /// No other fault is found, and fewer than two adding map options follow the last `exactmap`,
-    /// which stands in this word.
+    /// The line has no other fault, but after its last `exactmap` there are fewer than two map
+    /// options that add memory. `word` is the word of that `exactmap`.
     UserMapInvalid { word: u32 },
     /// The word is a malformed `numa=`.
     BadNuma { word: u32 },
-    /// The program's own memory ran out for an edit or a range; only where the line has none of the
-    /// faults above.
+    /// The program ran out of memory for an edit or a range. This is returned only for a line
+    /// without any other fault.
     Memory,
 }
 

@@ -1,5 +1,5 @@
-//! Lists that a reader makes while it goes on. Where memory runs out for an item the list is lost, and the reader goes on
-//! without it, so that a fault is told wherever it stands.
+//! Lists that a reader builds while it goes on. If the program runs out of memory for an item, the
+//! list is lost, but the reader continues. So it finds a fault anywhere in the text.
 
 ghost use Rattle.std.specs.Prelude.{List, [], ◌++◌};
 ghost use Rattle.std.specs.List.{cons_option};
@@ -7,7 +7,8 @@ ghost use Rattle.boot_options.specs.Kept.{KeepsItems};
 
 use bm_base::Memory;
 
-/// Keeps the item, where there is one, behind the others.
+/// Appends the item, if there is one, to the list. If the program runs out of memory, the list
+/// becomes `Err(Memory)`.
 pub fn keep<T: Copy>(item: &Option<T>, items: &mut Result<Vec<T>, Memory>)
     ensures { (before : List T) → KeepsItems items.old before →
         KeepsItems items.new (before ++ cons_option item.now []) }

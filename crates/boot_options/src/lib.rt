@@ -1,27 +1,36 @@
-//! The command line: what it asks of the memory set-up.
+//! Reads the kernel command line: the options that change the memory set-up.
 //!
-//! The kernel's own options for memory are words of one line: `mem=` ends RAM, `memmap=` adds
-//! ranges, takes them away or changes their type, `crashkernel=` asks for an area that is kept for
-//! a kernel after a crash, `numa=off` has the SRAT not used, `add_efi_memmap` adds the firmware's EFI map. This crate
-//! follows `next_arg` and `parse_args` for the words, `memparse` for the numbers, `parse_memopt` and `parse_memmap_one` of
-//! arch/x86/kernel/e820.c and `parse_crashkernel` of kernel/crash_core.c for the values. A malformed
-//! value is a fault here, where the kernel warns or says nothing; a word of another name is passed
-//! over.
+//! The kernel's options for memory are words of one line. `mem=` ends RAM at an address. `memmap=`
+//! adds ranges, removes them, or changes their type. `crashkernel=` requests an area for a crash
+//! kernel. With `numa=off` the SRAT isn't used. With `add_efi_memmap` the entries of the EFI map
+//! are added to the map.
 //!
-//! [`read_options`] gives [`Options`]: the [`Edit`]s of the map in the order of the line, which
-//! `e820_sanitise` applies, the last value of each form of `crashkernel=`, and whether `numa=off`
-//! and `add_efi_memmap` were there. Its contract says value and fault exactly, by `options_of` of `specs/Options.antt`:
-//! what each word says alone, the first fault by a walk over the words, and what all of them come
-//! to. `specs/MapOptions.antt` has the values of `mem=` and `memmap=`, `specs/Crash.antt` those of
-//! `crashkernel=`; `specs/Reading.antt` and `specs/Kept.antt` serve the proof alone.
+//! This crate follows `next_arg` and `parse_args` for the words and `memparse` for the numbers.
+//! For the values it follows `parse_memopt` and `parse_memmap_one` of arch/x86/kernel/e820.c, and
+//! `parse_crashkernel` of kernel/crash_core.c. A malformed value is a fault here; the kernel logs
+//! a warning, or ignores it. Words with other names are ignored.
 //!
-//! `specs/Spelling.antt` says how each form is spelled, in the grammar's own words. Laws say that
-//! this is what is read: [`map_options_are_spelled`], [`crash_forms_are_spelled`],
-//! [`words_say_what_they_spell`] and [`malformed_words_are_faults`].
+//! [`read_options`] returns [`Options`]: the [`Edit`]s of the map in the order of the line, the
+//! last value of each form of `crashkernel=`, and whether `numa=off` and `add_efi_memmap` are
+//! present. Or it returns the first fault, an [`OptionFault`].
 //!
-//! The layer above may rest on this: no type in an edit is 0, no range in one is empty, a plain
-//! form has a range and each of them ends above its start, words are numbered from 1, and want of
-//! memory comes only where the line has no fault, and makes an edit or asks for an area by ranges.
+//! In contracts, a name means the definition in `specs/`:
+//!
+//! - `Options.antt`: what each word means by itself, the first fault, and the options of the whole
+//!   line (`options_of`)
+//! - `MapOptions.antt`, `Crash.antt`: the values of `mem=` and `memmap=`, and of `crashkernel=`
+//! - `Spelling.antt`: how each form is spelled, as a grammar
+//! - `Reading.antt`, `Kept.antt`: the state of the reader in the middle of a line, for the proof
+//!   alone
+//!
+//! A law is an empty function whose contract is a proven fact. The laws state that the reader
+//! accepts exactly what the grammar spells: [`map_options_are_spelled`],
+//! [`crash_forms_are_spelled`], [`words_say_what_they_spell`] and [`malformed_words_are_faults`].
+//!
+//! The layer above may rest on four facts. No type in an edit is 0, and no range in one is empty.
+//! A plain form has at least one range, and each of its ranges ends above its start. Words are
+//! numbered from 1. The reader runs out of memory only on a line without a fault that has an edit
+//! or a plain form of `crashkernel=`.
 #![tactic(auto)]
 
 mod crash;

@@ -1,10 +1,9 @@
-//! Map options: the value of `mem=`, and what stands between the commas of `memmap=`.
+//! Reads map options: the value of `mem=`, and the texts between the commas of `memmap=`.
 //!
-//! One map option at a time, as `parse_memopt` and `parse_memmap_one` of arch/x86/kernel/e820.c
-//! read it: a size at the front, a mark that says what the range is for, and an address, with
-//! types behind it where they change. Nothing here knows of the line or takes memory; a malformed
-//! text is `None`, and the word that it stands in makes a fault of it. At the end stands the law:
-//! a text is read as a form exactly if it is spelled so.
+//! Each function reads one map option, as `parse_memopt` and `parse_memmap_one` of
+//! arch/x86/kernel/e820.c do: a size, a mark that says what the range is for, and an address. If
+//! types change, they follow the address. Nothing here allocates. A malformed text gives `None`,
+//! and the caller reports the fault with the number of the word.
 
 ghost use Rattle.std.specs.Prelude.{◌≡◌, ◌↔◌, ℕ, List, Some};
 ghost use Rattle.std.specs.Option.{option_map};
@@ -19,18 +18,18 @@ ghost use Rattle.boot_options.specs.Spelling.{SpellsMapOption, SpellsMapOptions,
 use bm_base::{Range, read_number, read_size};
 use e820_model::{E820_TYPE_ACPI, E820_TYPE_PRAM, E820_TYPE_RAM, E820_TYPE_RESERVED, Edit};
 
-/// What the value of `mem=`, or one of the texts between the commas of `memmap=`, says of the map.
+/// A map option: the value of `mem=`, or one of the texts between the commas of `memmap=`.
 #[derive(Clone, Copy, Debug, PartialEq, Eq)]
 pub enum MapOption {
-    /// The map is given by the map options that follow (`exactmap`).
+    /// The map options that follow replace the firmware's map (`exactmap`).
     ExactMap,
-    /// Memory of some type is adding_option; an empty range makes no edit.
+    /// Adds memory of some type. If the range is empty, there is no edit.
     Adding(Option<Edit>),
-    /// Types are taken away or changed; an empty range makes no edit.
+    /// Removes or changes types. If the range is empty, there is no edit.
     Other(Option<Edit>),
 }
 
-/// What the value of `mem=` says (`parse_memopt`); `None` where it is malformed.
+/// Reads the value of `mem=` (`parse_memopt`). Returns `None` if it is malformed.
 pub fn read_mem(text: &[u8]) -> Option<MapOption>
     ensures { result ≡ mem_of text.now }
 {
@@ -44,7 +43,7 @@ pub fn read_mem(text: &[u8]) -> Option<MapOption>
     Some(MapOption::Other(ram_above(size)))
 }
 
-/// What a text between the commas of `memmap=` says (`parse_memmap_one`); `None` where it is
+/// Reads a text between the commas of `memmap=` (`parse_memmap_one`). Returns `None` if it is
 /// malformed.
 pub fn read_map_option(text: &[u8]) -> Option<MapOption>
     ensures { result ≡ map_option_of text.now }
@@ -56,7 +55,8 @@ pub fn read_map_option(text: &[u8]) -> Option<MapOption>
     by_mark(size, rest)
 }
 
-/// What the mark behind the size, and what stands behind the mark, make of the map option.
+/// Returns the map option for a size and the text after it, which begins with a mark. Returns
+/// `None` if the text is malformed. An empty text ends RAM at `size`.
 fn by_mark(size: u64, text: &[u8]) -> Option<MapOption>
     ensures { result ≡ marked_map_option size text.now }
 {
@@ -73,7 +73,8 @@ fn by_mark(size: u64, text: &[u8]) -> Option<MapOption>
     }
 }
 
-/// `S@A` and its like: the range of that type.
+/// Returns the map option that adds `size` bytes of type `kind` at the address in `place`. Returns
+/// `None` if the address is malformed, or the range would exceed 2^64 - 1.
 fn adding_option(kind: u32, size: u64, place: &[u8]) -> Option<MapOption>
     ensures { result ≡ adding_map_option kind size place.now }
 {
@@ -82,7 +83,8 @@ fn adding_option(kind: u32, size: u64, place: &[u8]) -> Option<MapOption>
     Some(MapOption::Adding(unless_empty(range, Edit::Add { range, kind })))
 }
 
-/// `S%A-f+t`: the range whose types change.
+/// Reads `A-f+t`, the text after `S%`: an address, and optional types to change from and to.
+/// Returns `None` if it is malformed, or the range would exceed 2^64 - 1.
 fn changed(size: u64, place: &[u8]) -> Option<MapOption>
     ensures { result ≡ changed_map_option size place.now }
 {
@@ -96,7 +98,8 @@ fn changed(size: u64, place: &[u8]) -> Option<MapOption>
     retyped(range, from, to)
 }
 
-/// What the types make of the range; 0 stands for one that isn't written.
+/// Returns the map option that changes type `from` to type `to` in the range; 0 stands for a type
+/// that isn't given. Returns `None` if both types are given and equal.
 fn retyped(range: Range, from: u32, to: u32) -> Option<MapOption>
     ensures { result ≡ retyped_map_option range from to }
 {
@@ -109,7 +112,8 @@ fn retyped(range: Range, from: u32, to: u32) -> Option<MapOption>
     }
 }
 
-/// The type behind `mark` at the front of the text, 0 where the mark isn't there, and the rest.
+/// Returns the type after `mark`, if the text begins with that mark, and the rest of the text. The
+/// type is 0 if the mark isn't there. Returns `None` if the type is malformed or exceeds 2^32 - 1.
 fn kind_behind(mark: u8, text: &[u8]) -> Option<(u32, &[u8])>
     ensures { option_map (λ front. (front.0, front.1.now)) result ≡ front_kind mark text.now }
 {
@@ -122,7 +126,8 @@ fn kind_behind(mark: u8, text: &[u8]) -> Option<(u32, &[u8])>
     }
 }
 
-/// The edit that takes RAM away from the address on, to 2^64 - 2.
+/// Returns the edit that removes RAM from address `size` up to 2^64 - 2, or `None` if there is no
+/// such address.
 fn ram_above(size: u64) -> Option<Edit>
     ensures { result ≡ edit_above size }
 {
@@ -139,14 +144,14 @@ fn ram_above(size: u64) -> Option<Edit>
     )
 }
 
-/// The edit, where its range has an address.
+/// Returns the edit, or `None` if its range is empty.
 fn unless_empty(range: Range, edit: Edit) -> Option<Edit>
     ensures { result ≡ edit_unless_empty range edit }
 {
     if range.size > 0 { Some(edit) } else { None }
 }
 
-/// The size that takes the whole text.
+/// Returns the size in bytes that the whole text spells, or `None` if it spells none.
 pub fn read_whole_size(text: &[u8]) -> Option<u64>
     ensures { result ≡ whole_size text.now }
 {
@@ -154,7 +159,8 @@ pub fn read_whole_size(text: &[u8]) -> Option<u64>
     if rest.is_empty() { Some(size) } else { None }
 }
 
-/// The size at the front of the text, and the rest.
+/// Returns the size in bytes at the start of the text, and the rest of the text. Returns `None` if
+/// the text doesn't start with a size.
 fn read_front_size(text: &[u8]) -> Option<(u64, &[u8])>
     ensures { option_map (λ front. (front.0, front.1.now)) result ≡ front_size text.now }
 {
@@ -162,7 +168,8 @@ fn read_front_size(text: &[u8]) -> Option<(u64, &[u8])>
     Some((size, text.split_at(taken).1))
 }
 
-/// The number without a suffix at the front of the text, and the rest.
+/// Returns the number without a suffix at the start of the text, and the rest of the text. Returns
+/// `None` if the text doesn't start with a number.
 fn read_front_number(text: &[u8]) -> Option<(u64, &[u8])>
     ensures { option_map (λ front. (front.0, front.1.now)) result ≡ front_number text.now }
 {
@@ -170,8 +177,8 @@ fn read_front_number(text: &[u8]) -> Option<(u64, &[u8])>
     Some((number, text.split_at(taken).1))
 }
 
-/// Law: a text is read as a map option of `memmap=` exactly if it is spelled as that map option.
-/// The value of `memmap=`, which has commas between them, and that of `mem=` are read so, too.
+/// Law: the reader accepts exactly what the grammar spells: single map options, the value of
+/// `memmap=` with commas between them, and the value of `mem=`.
 pub fn map_options_are_spelled()
     ensures one { (text : List ℕ) (option : AnyOption) →
         map_option_of text ≡ Some option ↔ SpellsMapOption text option }

@@ -1,7 +1,5 @@
-//! The options of a line: its bounds first, then its words, then what all of them must come to.
-//!
-//! This is the entry of the crate. What a file holds becomes a line here, and where the reader is
-//! at the end of the line, the options are told: a user map must be complete by then.
+//! Reads the options of a whole line: its limits first, then its words, and then what all words
+//! together must fulfil. This is the entry point of the crate.
 
 ghost use Rattle.std.specs.Prelude.{◌≡◌, ◌↔◌, ℕ, List, ◌<◌, ◌≤◌, length, MatchResult, Ok, Err, IfOk, IfErr, IfSome, Option, IsOkAnd, IsErr, OnErr, ◌⊎◌};
 ghost use Rattle.bm_base.specs.Answers.{Answers};
@@ -23,25 +21,29 @@ use e820_model::Edit;
 use std::alloc::Global;
 use text_words::{before, without_last};
 
-/// What the command line asks of the memory set-up.
+/// The options that a command line sets for the memory set-up.
 #[derive(Debug, Drop)]
 pub struct Options {
-    /// The edits of the map by `mem=` and `memmap=`, in the order of the line.
+    /// The edits of the map from `mem=` and `memmap=`, in the order of the line.
     pub edits: Vec<Edit>,
-    /// The crash area that `crashkernel=` asks for, form by form.
+    /// The crash area that `crashkernel=` requests, form by form.
     pub crash: CrashOption,
-    /// Whether `numa=off` stands in the line: the SRAT isn't used then.
+    /// True if the line has `numa=off`: the SRAT isn't used.
     pub numa_off: bool,
-    /// Whether `add_efi_memmap` stands in the line: the entries of the EFI map come into the map of memory then.
+    /// True if the line has `add_efi_memmap`: the entries of the EFI map are added to the map.
     pub add_efi: bool,
 }
 
-/// The options of the bytes of a command line's file, or the first fault: `TooLong`, then
-/// `OpenQuote`, then the fault of the lowest word that has one, then `UserMapInvalid`.
+/// Reads the options from the bytes of a command line's file.
 ///
-/// The line ends before the first zero byte, without one newline at its end, and has at most
-/// 2,047 bytes (`COMMAND_LINE_SIZE`). The word `--` ends the options. `Memory` comes only where
-/// the line has none of these faults, and makes an edit or asks for a crash area by ranges.
+/// The line ends before the first zero byte, and one newline at its end is dropped. It has at most
+/// 2,047 bytes (`COMMAND_LINE_SIZE` less the zero byte). The word `--` ends the options.
+///
+/// # Errors
+///
+/// - The first fault of the line: `TooLong`, then `OpenQuote`, then the fault of the lowest
+///   malformed word, then `UserMapInvalid`.
+/// - `Memory`: the line has no fault, but the program ran out of memory for an edit or a range.
 pub fn read_options(alloc: Global, bytes: &[u8]) -> Result<Options, OptionFault>
     ensures answers { Answers OptionFault.Memory chosen result (options_of bytes.now) }
     ensures memory { result ≡ Err OptionFault.Memory →
@@ -56,9 +58,10 @@ pub fn read_options(alloc: Global, bytes: &[u8]) -> Result<Options, OptionFault>
     finish(reading)
 }
 
-/// Law: a line has the fault [`OptionFault::BadMemmap`] of a word exactly if the word is the lowest
-/// malformed one and named `memmap`, and so for the three other names. A word is malformed if it
-/// has no `=`, or if its value, without quotation marks, is spelled in no form of its name.
+/// Law: a line has the fault [`OptionFault::BadMemmap`] of a word exactly if that word is the
+/// lowest malformed one, and its name is `memmap`. The other clauses say this of `mem`,
+/// `crashkernel` and `numa`. A word is malformed if it has no `=`, or if its value, without
+/// quotation marks, isn't spelled in any form of its name.
 pub fn malformed_words_are_faults()
     ensures mem { (bytes : List ℕ) (word : ℕ) →
         options_of bytes ≡ Err (faults.BadMem word) ↔ IsFirstFault bytes word IsBadMem }
@@ -70,8 +73,8 @@ pub fn malformed_words_are_faults()
         options_of bytes ≡ Err (faults.BadNuma word) ↔ IsFirstFault bytes word IsBadNuma }
 {}
 
-/// Law: a word says exactly what it spells, by its name and its value without quotation marks. So
-/// does a line: its words are those that lie in it with separators around them, up to `--`.
+/// Law: a word has exactly the meaning that its name and its value, without quotation marks,
+/// spell. A line has the meanings of its words: the texts between separators, up to `--`.
 pub fn words_say_what_they_spell()
     ensures word { (number : ℕ) (word : List ℕ) (said : Said) →
         said_by number (name_value_of word) ≡ Ok said ↔ SpellsSaid word said }
@@ -79,10 +82,17 @@ pub fn words_say_what_they_spell()
         said_from 1 (option_words line) ≡ Ok said ↔ SpellsLine line said }
 {}
 
-/// The greatest number of bytes of a line, which a zero byte ends (`COMMAND_LINE_SIZE` - 1).
+/// The largest number of bytes of a line without the zero byte that ends it (`COMMAND_LINE_SIZE` -
+/// 1).
 const LONGEST_LINE: usize = 2047;
 
-/// The line of the file: the bytes before the first zero byte, without a newline at the end.
+/// Returns the line in the file: the bytes before the first zero byte, without a newline at the
+/// end.
+///
+/// # Errors
+///
+/// - `TooLong`: the line has more than 2,047 bytes.
+/// - `OpenQuote`: the line has an odd number of quotation marks.
 fn read_line(bytes: &[u8]) -> Result<&[u8], OptionFault>
     ensures line { MatchResult result (λ line. line_of bytes.now ≡ Ok line.now)
         (λ fault. line_of bytes.now ≡ Err fault) }
@@ -98,8 +108,13 @@ fn read_line(bytes: &[u8]) -> Result<&[u8], OptionFault>
     Ok(line)
 }
 
-/// The options, unless the user map wants further map options. It takes no memory, and tells
-/// where it was wanting for an edit.
+/// Returns the options after all words have been read. Allocates nothing.
+///
+/// # Errors
+///
+/// - `UserMapInvalid`: fewer than two map options that add memory follow the last `exactmap`.
+/// - `Memory`: the user map is complete, but the program ran out of memory for an edit or a range
+///   while it read the words.
 fn finish(reading: Reading) -> Result<Options, OptionFault>
     ensures answers { (st : State) → IsReadTo reading st →
         Answers OptionFault.Memory chosen result (at_line_end st) }
@@ -120,7 +135,11 @@ fn finish(reading: Reading) -> Result<Options, OptionFault>
     })
 }
 
-/// What was read of the crash area, where memory didn't run out for the ranges that count.
+/// Returns the crash options after all words have been read.
+///
+/// # Errors
+///
+/// - `Memory`: the program ran out of memory for the ranges of the last plain form.
 fn finish_crash(crash: CrashRead) -> Result<CrashOption, Memory>
     ensures value { (said : CrashWords) → KeepsCrash crash said →
         IfOk result (λ option. said ≡ crash_view option) }
@@ -133,7 +152,11 @@ fn finish_crash(crash: CrashRead) -> Result<CrashOption, Memory>
     })
 }
 
-/// The plain form, with the ranges that were read for it.
+/// Returns the last plain form with its ranges, or `None` if the line has none.
+///
+/// # Errors
+///
+/// - `Memory`: the program ran out of memory for the ranges.
 fn finish_plain(plain: Option<PlainRead>) -> Result<Option<CrashPlain>, Memory>
     ensures value { (said : Option PlainForm) → KeepsLast plain said →
         IfOk result (λ plain. said ≡ option_map plain_view plain) }

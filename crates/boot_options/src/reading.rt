@@ -1,12 +1,12 @@
-//! The words of a line, read one after the other.
+//! Reads the words of a line, one after another.
 //!
-//! Each word has its meaning alone, by its name; a [`Reading`] is what all words so far have come
-//! to. The edits are kept in the order of the line, and of the user map only what the end of the
-//! line asks: the word of the last `exactmap`, and how many adding map options it still wants.
+//! Each word has a meaning by itself, which depends on its name. A [`Reading`] has the result of
+//! all words so far. The edits are kept in the order of the line. Of the user map, only what the
+//! check at the end of the line needs is kept: the word of the last `exactmap`, and how many map
+//! options that add memory are still needed.
 //!
-//! Memory is taken here alone, for the edits and the ranges of `crashkernel=`. Where it runs out the
-//! line is still read on without them, so that a fault is told wherever it stands; no call here
-//! answers want of memory.
+//! Only this file and the values of `crashkernel=` allocate. If memory runs out, the rest of the
+//! line is still read, so that a fault anywhere in it is found. No function here returns `Memory`.
 
 ghost use Rattle.std.specs.Prelude.{◌≡◌, ℕ, ◌≤◌, ◌+◌, length, Result, Ok, Err};
 ghost use Rattle.std.specs.Option.{option_map, option_and_then};
@@ -24,10 +24,11 @@ use e820_model::Edit;
 use std::alloc::Global;
 use text_words::{Separators, cut, next_part, next_word, unquoted};
 
-/// What the words so far have come to.
+/// The result of the words that have been read so far.
 #[derive(Drop)]
 pub struct Reading {
-    /// The edits of all words, or want of memory for one of them.
+    /// The edits of all words so far, or `Memory` if the program ran out of memory for one of
+    /// them.
     pub edits: Result<Vec<Edit>, Memory>,
     pub crash: CrashRead,
     pub numa_off: bool,
@@ -43,15 +44,19 @@ pub struct CrashRead {
     pub low: Option<u64>,
 }
 
-/// The last `exactmap` so far: its word, and how many adding map options are still wanted behind
-/// it.
+/// The last `exactmap` so far: the number of its word, and how many map options that add memory
+/// are still needed after it.
 #[derive(Clone, Copy, Debug, PartialEq, Eq)]
 pub struct UserMap {
     pub word: u32,
     pub wanting: u32,
 }
 
-/// Reads the words of the line, up to `--`.
+/// Reads the words of the line up to `--`. The line has at most 2,047 bytes.
+///
+/// # Errors
+///
+/// - The fault of the first malformed word.
 pub fn read_words(alloc: Global, line: &[u8]) -> Result<Reading, OptionFault>
     requires { length line.now ≤ LONGEST_LINE }
     ensures { ReadsAs (λ reading. reading) result
@@ -84,7 +89,11 @@ pub fn read_words(alloc: Global, line: &[u8]) -> Result<Reading, OptionFault>
     Ok(reading)
 }
 
-/// Reads one word, by its name; a word of another name is passed over.
+/// Reads one word, whose number in the line is `number`. A word with another name changes nothing.
+///
+/// # Errors
+///
+/// - The fault of the word, if it is malformed.
 fn read_word(
     alloc: Global,
     word: &[u8],
@@ -122,7 +131,7 @@ fn read_word(
     Ok(())
 }
 
-/// The name of a word, and its value without quotation marks, where there is a `=`.
+/// Returns the name of a word, and its value without quotation marks if the word has a `=`.
 fn name_and_value(word: &[u8]) -> (&[u8], Option<&[u8]>)
     ensures { (result.0.now, option_map (λ value. value.now) result.1) ≡ name_value_of word.now }
 {
@@ -132,7 +141,11 @@ fn name_and_value(word: &[u8]) -> (&[u8], Option<&[u8]>)
     }
 }
 
-/// Reads the map options of `memmap=`, one after the other.
+/// Reads the value of `memmap=`: map options with commas between them.
+///
+/// # Errors
+///
+/// - `BadMemmap`: one of the map options is malformed.
 fn read_memmap(value: &[u8], number: u32, reading: &mut Reading) -> Result<(), OptionFault>
     ensures { (st : State) → IsReadTo reading.old st →
         ReadsAs (λ _. reading.new) result
@@ -150,7 +163,11 @@ fn read_memmap(value: &[u8], number: u32, reading: &mut Reading) -> Result<(), O
     Ok(())
 }
 
-/// Reads the value of `crashkernel=`.
+/// Reads the value of `crashkernel=`. It replaces an earlier value of the same form.
+///
+/// # Errors
+///
+/// - `BadCrash`: the value is malformed.
 fn read_crash(
     alloc: Global,
     value: &[u8],
@@ -170,7 +187,7 @@ fn read_crash(
     Ok(())
 }
 
-/// Takes what one map option says.
+/// Adds the result of one map option, which is in the word `number`.
 fn take_map_option(option: &MapOption, number: u32, reading: &mut Reading)
     ensures { (st : State) → IsReadTo reading.old st →
         IsReadTo reading.new (after_map_option number st option.now) }
@@ -191,7 +208,7 @@ fn take_map_option(option: &MapOption, number: u32, reading: &mut Reading)
     }
 }
 
-/// The user map that wants one adding map option fewer.
+/// Returns the user map with one map option fewer to come.
 fn one_fewer(map: &Option<UserMap>) -> Option<UserMap>
     ensures { result ≡ option_map one_fewer_wanted map.now }
 {

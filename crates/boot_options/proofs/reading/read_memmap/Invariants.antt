@@ -6,7 +6,8 @@ use Rattle.boot_options.specs.Options.{map_options_of}
 use Rattle.boot_options.specs.Reading.{State, IsReadTo, read_map_options}
 use Rattle.boot_options.proofs.reading.read_memmap.Given as goal
 
--- from the state at which the reader is, the texts that are left lead where all texts lead from the first one
+-- reading the texts that are left from the current state gives what reading all texts from the
+-- first state gives
 abbrev pub invariant-loop-rest : goal.invariant-loop-rest
 invariant-loop-rest l =
     (st : State) → IsReadTo l.fn.reading st → (mid : State) × IsReadTo l.reading mid
