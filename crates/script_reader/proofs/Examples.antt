@@ -1,4 +1,4 @@
--- Small words, lines and scripts: what the definitions say of them, by computing.
+-- Worked examples of words, lines and scripts.
 use Rattle.std.proofs.Common.{◌≡◌, ℕ, ◌-◌, ◌^◌, true, false, List, Some, None, [], ◌∷◌, Ok, Err, codes, refl, ap, inl, inr, lit<, lit≤, arith}
 use Rattle.text_words.specs.Words.{words_in, IsWord}
 use Rattle.text_words.specs.declared.separators.Separators.TheVariants as separators
@@ -12,7 +12,7 @@ use Rattle.script_reader.specs.ScriptSpelling.{HasSectionsLine, LineAsksFor, Lin
 use Rattle.script_reader.proofs.StepLaws.{words_spelled}
 use Rattle.script_reader.specs.Script.{fault_at, is_sections, seen_behind, asked, line_at, lines_from, script_of}
 
--- words of a line, and of the rest of one
+-- the words of a line, or of the rest of one
 abbrev in_words : List ℕ → Words
 in_words text = words_in separators.Script text
 
@@ -27,7 +27,7 @@ words_taken : (no_words [] ≡ Ok tt) × (no_words (in_words (codes "a")) ≡ Er
     × (three_words (in_words (codes "a b")) ≡ Err wrong.Form)
 words_taken = (refl, refl, refl, refl, refl, refl, refl, refl, refl, refl)
 
--- a key stands before its word; without a word behind it, it is none
+-- a key is followed by its word; a key without a word after it isn't a key
 key_and_word : (optional (codes "min") (in_words (codes "min 1 max 2")) ≡ (Some (codes "1"), in_words (codes "max 2")))
     × (optional (codes "min") (in_words (codes "max 2")) ≡ (None, in_words (codes "max 2")))
     × (optional (codes "min") (in_words (codes "min")) ≡ (None, in_words (codes "min")))
@@ -51,7 +51,7 @@ powers_sizes_and_ranges : (power 4096 ≡ Ok 4096) × (power 3 ≡ Err wrong.Ali
 unfolding lib.Count.ones
 powers_sizes_and_ranges = (refl, refl, refl, refl, refl, refl, refl)
 
--- `exact` behind a node alone
+-- `exact` counts only after a node
 exact_or_not : (optional_exact (Some (codes "3")) (in_words (codes "exact")) ≡ (true, []))
     × (optional_exact None (in_words (codes "exact")) ≡ (false, in_words (codes "exact")))
 exact_or_not = (refl, refl)
@@ -61,8 +61,8 @@ allocation_words : (alloc_words (in_words (codes "1 2 4 max 5"))
     × (alloc_words (in_words (codes "1 2 4 max 5 min 3")) ≡ Err wrong.Form)
 allocation_words = (refl, refl)
 
--- an allocation, and one with a fault of each kind: the form goes before a number, a number before the alignment, the
--- alignment before the size
+-- an allocation, and one with each fault: the form is checked before the numbers, the numbers
+-- before the alignment, the alignment before the size
 allocations : (alloc_line (in_words (codes "1 8K 4 node 3 exact"))
     ≡ Ok (acts.Alloc 1 (record { size = 8192; align = 4; min = 0; max = None; node = Some 3; exact = true })))
     × (alloc_line (in_words (codes "x 0 3 exact")) ≡ Err wrong.Form) × (alloc_line (in_words (codes "1 0 3 node 1024")) ≡ Err wrong.Number)
@@ -80,7 +80,7 @@ forms_of_lines : (reserve_line (in_words (codes "1 0x1000 1")) ≡ Ok (acts.Rese
     × (peek_line (in_words (codes "0 65")) ≡ Err wrong.Number) × (peek_line (in_words (codes "0xffffffffffffffc0 64")) ≡ Err wrong.TooFar)
 forms_of_lines = (refl, refl, refl, refl, refl, refl, refl, refl, refl, refl, refl, refl)
 
--- sections are placed once; a line that has another word besides has no form
+-- `sections` may occur once; with another word after it, the line has no form
 places_of_sections : (sections_line false [] ≡ Ok acts.Sections) × (sections_line true [] ≡ Err wrong.SecondSections)
     × (sections_line true (in_words (codes "1")) ≡ Err wrong.Form)
 places_of_sections = (refl, refl, refl)
@@ -97,14 +97,14 @@ asked_examples : (asked_by (by_name false) [] ≡ Ok None) × (asked_by (by_name
     × (asked false (codes " free\t1\r") ≡ Ok (Some (acts.Free 1)))
 asked_examples = (refl, refl, refl, refl, refl)
 
--- the bounds of an act
+-- the limits of an act
 has_bounds : HasBounds (acts.Peek 0 64) × HasBounds (acts.Trim 1 1)
 has_bounds = ((omega arith, omega arith, omega arith), omega arith)
 
 has_none : HasBounds (acts.Peek 0 65) → ⊥
 has_none bounds = let few = bounds.1 in omega (arith, few)
 
--- a fault with its line; `sections` is seen from its line on
+-- a fault with its line; `sections` counts from its line on
 lines_one_by_one : (fault_at 3 wrong.Form ≡ faults.BadLine 3) × (fault_at 7 wrong.TooFar ≡ faults.TooFar 7)
     × (is_sections acts.Sections ≡ true) × (is_sections (acts.Free 1) ≡ false) × (seen_behind false (Some acts.Sections) ≡ true)
     × (seen_behind true None ≡ true) × (seen_behind false None ≡ false) × (line_at 4 None ≡ None)
@@ -112,7 +112,8 @@ lines_one_by_one : (fault_at 3 wrong.Form ≡ faults.BadLine 3) × (fault_at 7 w
     × (lines_from false 5 (codes "" ∷ codes "free 1" ∷ []) ≡ Ok (record { number = 6; act = acts.Free 1 } ∷ []))
 lines_one_by_one = (refl, refl, refl, refl, refl, refl, refl, refl, refl, refl)
 
--- whole scripts: the last line may lack its newline; the lowest line's fault is told, whatever comes behind it
+-- whole scripts: the last line may lack its newline; the fault of the lowest line is reported,
+-- whatever lines follow
 whole_scripts : (script_of (codes "free 1\n\nfree 2")
     ≡ Ok (record { number = 1; act = acts.Free 1 } ∷ record { number = 3; act = acts.Free 2 } ∷ [])) × (script_of [] ≡ Ok [])
     × (script_of (codes "\n") ≡ Ok []) × (script_of (codes "free 1\nfree x\nfree\n") ≡ Err (faults.BadNumber 2))
@@ -129,11 +130,11 @@ spelled_words =
       word_first (codes "free") 32 (codes "7") (codes "7" ∷ []) name refl (word_alone (codes "7") id),
     )
 
--- a line without words, and a comment, ask for nothing
+-- a line without words, and a comment, have no command
 passed_over : IsPassedOver [] × IsPassedOver (codes "#free" ∷ codes "1" ∷ [])
 passed_over = (no_word, comment (codes "free") (codes "1" ∷ []))
 
--- what may be left out of an `alloc`
+-- the optional words of an `alloc`
 spelled_options : (keyed (codes "min") None ≡ []) × (keyed (codes "min") (Some (codes "1M")) ≡ codes "min" ∷ codes "1M" ∷ [])
     × (node_words no_node ≡ []) × (node_words (near_node (codes "3")) ≡ codes "node" ∷ codes "3" ∷ [])
     × (node_words (exact_node (codes "3")) ≡ codes "node" ∷ codes "3" ∷ codes "exact" ∷ []) × (node_number no_node ≡ None)
@@ -141,7 +142,7 @@ spelled_options : (keyed (codes "min") None ≡ []) × (keyed (codes "min") (Som
     × (is_exact (exact_node (codes "3")) ≡ true)
 spelled_options = (refl, refl, refl, refl, refl, refl, refl, refl, refl)
 
--- any word may stand for a number: `max` twice for a lower bound and as the key behind it
+-- any word may stand for a number: here `max` is a lower limit, and then the key after it
 any_word_for_a_number : HasForm (codes "alloc" ∷ codes "1" ∷ codes "1" ∷ codes "1" ∷ codes "min" ∷ codes "max" ∷ codes "max" ∷ codes "1" ∷ [])
     × HasForm (codes "alloc" ∷ codes "1" ∷ codes "1" ∷ codes "1" ∷ codes "node" ∷ codes "exact" ∷ [])
 any_word_for_a_number = (
@@ -149,7 +150,7 @@ any_word_for_a_number = (
   (alloc (codes "1") (codes "1") (codes "1") None None (near_node (codes "exact")), refl),
 )
 
--- a size within its bound, a word that is no size, and the values
+-- a size within its limit, one above it, and a word that isn't a size; values of words
 sizes_within : IsWithin 255 (codes "0xff") × (IsWithin 255 (codes "256") → ⊥) × (IsWithin 255 (codes "x") → ⊥)
     × (value (codes "64K") ≡ 65536) × (front_value (Ok (12, 2)) ≡ 12)
 sizes_within = (
@@ -200,7 +201,7 @@ faults_of_words = (
   (spells_sections, refl),
 )
 
--- whole scripts: a comment asks for nothing, and the fault of the first line
+-- whole scripts: a comment has no command; the fault of the first line
 none_earlier : HasSectionsLine [] → ⊥
 none_earlier has = omega (arith, has.1.1)
 

@@ -1,4 +1,4 @@
--- Lines read one after another come to what the definition says of all of them.
+-- Lemmas: reading the lines one after another gives what the definition gives for all of them.
 use Rattle.std.proofs.Common.{◌≡◌, ℕ, ◌+◌, ◌<◌, ◌≤◌, Bool, List, [], ◌∷◌, ◌++◌, length, length-append, Option, Some, None, option_to_list, Result, Ok, Err, Vec, Global, Bor, refl, sym, ◌∙◌, ap, subst, arith, append_assoc, ◌⊎◌, inl, inr}
 use Rattle.std.specs.Prelude.{IfOk, IfErr, IfSome, IsOkAnd, IsErr, IsSome}
 use Rattle.std.specs.List.{All, cons_option}
@@ -11,7 +11,7 @@ use Rattle.script_reader.specs.declared.act.Line.{Line}
 use Rattle.script_reader.specs.Forms.{HasBounds}
 use Rattle.script_reader.specs.Script.{line_at, seen_behind, asked, lines_from}
 
--- lines behind those that are there
+-- these lines, followed by the others or replaced by their fault
 abbrev pub behind : {L E : Type 0} → List L → Result (List L) E → Result (List L) E
 behind front (Ok lines) = Ok (front ++ lines)
 behind front (Err fault) = Err fault
@@ -27,7 +27,7 @@ with_others {L = L} front line (Ok lines) =
     (ap (λ (ls : List L). front ++ ls) (in_front line lines) ∙ sym (append_assoc front (option_to_list line) lines))
 with_others front line (Err fault) = refl
 
--- a line that was read, and those behind it
+-- the first line that is left becomes the last one that was read
 pub line_read : (seen : Bool) (number : ℕ) (front : List Line) (text : List ℕ) (texts : List (List ℕ)) (act : Option Act)
     → asked seen text ≡ Ok act
     → behind front (lines_from seen number (text ∷ texts))
@@ -35,12 +35,12 @@ pub line_read : (seen : Bool) (number : ℕ) (front : List Line) (text : List �
 line_read seen number front text texts act is =
     rw is (with_others front (line_at number act) (lines_from (seen_behind seen act) (number + 1) texts))
 
--- what is left behind a line is less
+-- after a line, less of the text is left
 pub left_behind : (rest : Option (Bor (List ℕ))) (n : ℕ) → IfSome rest (λ text. length text.now < n) → left rest ≤ n
 left_behind None n shorter = omega arith
 left_behind (Some text) n shorter = omega (arith, shorter)
 
--- the lines that were kept are those that were read
+-- the lines in the list are those that were read
 pub kept_are : {L : Type 0} (result lines : Result (Vec L Global) Memory) (front added : List L)
     → IfOk result (λ kept. IsOkAnd lines (λ before. kept.items ≡ before.items ++ added))
     → IfOk lines (λ before. before.items ≡ front) → IfOk result (λ kept. kept.items ≡ front ++ added)
@@ -48,7 +48,7 @@ kept_are {L = L} (Ok kept) (Ok before) front added line are = line ∙ ap (λ (l
 kept_are (Ok kept) (Err memory) front added line are = absurd line
 kept_are (Err memory) lines front added line are = tt
 
--- what holds of the lines so far and stays so with the one that was kept holds of all of them
+-- what is true of the lines so far, and stays true with the next, is true of all lines
 pub kept_hold : {L : Type 0} (P : List L → Type 0) (result lines : Result (Vec L Global) Memory) (added : List L)
     → IfOk result (λ kept. IsOkAnd lines (λ before. kept.items ≡ before.items ++ added))
     → IfOk lines (λ before. P before.items) → ((ls : List L) → P ls → P (ls ++ added)) → IfOk result (λ kept. P kept.items)
@@ -56,7 +56,7 @@ kept_hold P (Ok kept) (Ok before) added line hold one = subst P (sym line) (one 
 kept_hold P (Ok kept) (Err memory) added line hold one = absurd line
 kept_hold P (Err memory) lines added line hold one = tt
 
--- and their bounds are as they must be
+-- the limits of each act are kept
 abbrev IsBounded : Line → Type 0
 IsBounded line = HasBounds line.act
 
@@ -73,7 +73,7 @@ some_in_front : {L : Type 0} (front : List L) (line : Option L) → (0 < length 
 some_in_front front None some = elim some [ inl more ↦ rw (length-append front []) (omega (arith, more)) | inr is ↦ cc is ]
 some_in_front front (Some line) some = rw (length-append front (option_to_list (Some line))) (omega arith)
 
--- memory was wanting for a line
+-- if the program ran out of memory, some line has a command
 pub wanting_for_some : {L : Type 0} (result lines : Result (Vec L Global) Memory) (front : List L) (line : Option L)
     → (IsErr result → IsErr lines ⊎ IsSome line) → IfErr lines (λ memory. 0 < length front)
     → IfErr result (λ memory. 0 < length (front ++ option_to_list line))

@@ -1,4 +1,5 @@
--- A script is read as what its lines spell, or has the fault of the lowest line that has one.
+-- Lemmas: a script is read as what its lines spell, or has the fault of the lowest line that has
+-- one.
 use Rattle.std.proofs.Common.{◌≡◌, ℕ, ◌+◌, ◌<◌, Bool, true, false, List, [], ◌∷◌, ◌++◌, codes, length, length-append, Option, Some, None, Result, Ok, Err, refl, ◌∙◌, ap, sym, get_or, suc, zero, arith, append_assoc, ◌⊎◌, ◌↔◌, inl, inr}
 use Rattle.std.specs.Prelude.{Contains}
 use Rattle.std.specs.List.{cons_option}
@@ -18,7 +19,7 @@ use Rattle.script_reader.specs.ScriptSpelling.{HasSectionsLine, LineAsksFor, Lin
 use Rattle.script_reader.proofs.StepLaws.{has_words, words_spelled}
 use Rattle.script_reader.proofs.SpellingLaws.{act_read, nothing_read, fault_read}
 
--- `seen` says whether one of the earlier lines is `sections`
+-- `seen` is true exactly if one of the earlier lines is `sections`
 abbrev pub SeenIn : List (List ℕ) → Bool → Type 0
 SeenIn earlier seen = (seen ≡ true) ↔ HasSectionsLine earlier
 
@@ -32,7 +33,7 @@ not_seen : (earlier : List (List ℕ)) (seen : Bool) → SeenIn earlier seen →
 not_seen earlier true of = (λ is. cc, λ none. absurd (none (of.0 refl)))
 not_seen earlier false of = (λ is has. let other : false ≡ true = of.1 has in cc, λ none. refl)
 
--- one line, after the earlier ones
+-- one line after the earlier ones
 line_asks : (earlier : List (List ℕ)) (seen : Bool) (text : List ℕ) (act : Option Act) → SeenIn earlier seen
     → (asked seen text ≡ Ok act) ↔ LineAsksFor earlier text act
 line_asks earlier seen text None of = (
@@ -59,7 +60,7 @@ line_at_fault earlier seen text fault of = (
   λ at. rw (has_words text at.words at.spelled, same_seen seen at.seen of at.sections) ((fault_read at.seen at.words fault).1 at.fault),
 )
 
--- a line is `sections` where its words are
+-- a line is `sections` if its words are
 sections_words : (form : Form) → act_of form ≡ acts.Sections → words_of form ≡ codes "sections" ∷ []
 sections_words sections is = refl
 sections_words form is = cc
@@ -82,7 +83,7 @@ is_sections_or None = inr refl
 is_sections_or (Some acts.Sections) = inl refl
 is_sections_or (Some act) = inr refl
 
--- so it is seen by the end of a line
+-- whether `sections` has occurred, after one more line
 only_one : (x y : List ℕ) → Contains (x ∷ []) y → y ≡ x
 only_one x y has = at has.0 has.1 has.2
   where
@@ -115,7 +116,7 @@ seen_on earlier false text act of is =
       )
     ]
 
--- lines after the earlier ones: one of them, and the others
+-- the lines after the earlier ones: the first of them, and the others
 length_on : (earlier : List (List ℕ)) (text : List ℕ) → length (earlier ++ (text ∷ [])) + 1 ≡ length earlier + 1 + 1
 length_on earlier text = rw (length-append earlier (text ∷ [])) refl
 
@@ -165,7 +166,7 @@ lines_ask earlier seen (text ∷ texts) lines of = (
       rw (was, read) (ap (λ (ls : List Line). Ok ls) (sym asks.3)),
 )
 
--- and one of them has the first fault
+-- if reading them fails, one of them has the first fault
 one_at_fault : (earlier : List (List ℕ)) (seen : Bool) (texts : List (List ℕ)) (told : ScriptFault) → SeenIn earlier seen
     → lines_from seen (length earlier + 1) texts ≡ Err told → IsFirstFault earlier texts told
 one_at_fault earlier seen [] told of is = cc (is)
@@ -222,7 +223,7 @@ fault_told earlier seen texts told of = (
       (fault_of_one earlier seen found.before found.text found.after found.acts found.wrong of found.faultless found.at_fault),
 )
 
--- before the first line none is `sections`
+-- before the first line, no line is `sections`
 pub none_seen : SeenIn [] false
 none_seen = (λ is. cc (is), λ has. absurd (none has.1.0 has.1.1))
   where

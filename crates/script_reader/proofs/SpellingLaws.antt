@@ -1,4 +1,5 @@
--- A line is read as what it spells, and has the fault of the first condition that it doesn't meet.
+-- Lemmas: a line is read as what it spells, and has the fault of the first condition that it
+-- doesn't meet.
 use Rattle.std.proofs.Common.{◌≡◌, ℕ, ◌==◌, Bool, true, false, if◌then◌else◌, List, [], ◌∷◌, ◌++◌, codes, Option, Some, None, Result, Ok, Err, refl, ◌∙◌, ap, arith, ◌⊎◌, ◌↔◌, inl, inr}
 use Rattle.std.specs.Str.{bytes_eq}
 use Rattle.std.proofs.lemmas.Bool.Decides.{nat_tests}
@@ -99,7 +100,7 @@ named seen name words =
       ]
     ]
 
--- the checks on an act whose numbers are good
+-- the checks on an act whose numbers are right
 abbrev checked : Bool → Act → Result Act Wrong
 checked seen (acts.Alloc id request) = do
   align ← power request.align
@@ -120,7 +121,7 @@ checked seen (acts.Peek at len) = do
   Ok (acts.Peek range.base range.size)
 checked seen acts.Sections = if seen then Err wrong.SecondSections else Ok acts.Sections
 
--- the line that has the words of that form
+-- reading a line that has the words of this form
 abbrev form_line : Bool → Form → Result Act Wrong
 form_line seen (alloc id size align min max node) =
     alloc_line (id ∷ size ∷ align ∷ (keyed (codes "min") min ++ (keyed (codes "max") max ++ node_words node)))
@@ -143,7 +144,7 @@ alloc_said i s a min None node = refl
 alloc_said i s a min max no_node = refl
 alloc_said i s a min max node = refl
 
--- a form has its numbers, or a bad one
+-- the numbers of a form are right, or one isn't and the line has that fault
 abbrev Numbered : Bool → Form → Type 0
 Numbered seen form = (HasNumbers form × (form_line seen form ≡ checked seen (act_of form)))
     ⊎ ((¬ (HasNumbers form)) × (form_line seen form ≡ Err wrong.Number))
@@ -211,7 +212,7 @@ numbers_or seen (peek a l) =
     ]
 numbers_or seen sections = inl (tt, refl)
 
--- such an act passes them, or has the fault of the first that fails
+-- an act passes all checks, or has the fault of the first that fails
 record Passes (seen : Bool) (act : Act) : Type 0 where
   aligned : IsAligned act
   size : HasSize act
@@ -262,7 +263,7 @@ act_or seen (acts.Peek at len) =
 act_or true acts.Sections = inr (wrong.SecondSections, (refl, refl), refl)
 act_or false acts.Sections = inl (record { aligned = tt; size = tt; in_space = tt; once = λ is. refl }, refl)
 
--- one that passes has no fault
+-- an act that passes has no fault
 passes_not : (seen : Bool) (act : Act) (fault : Wrong) → Passes seen act → Fails seen act fault → ⊥
 passes_not seen act wrong.Form passes fails = fails
 passes_not seen act wrong.Number passes fails = fails
@@ -275,7 +276,7 @@ checked_passes : (seen : Bool) (act : Act) → Passes seen act → checked seen 
 checked_passes seen act passes =
     elim (act_or seen act) [ inl is ↦ is.1 | inr bad ↦ absurd (passes_not seen act bad.0 passes bad.1) ]
 
--- and one that fails has it
+-- an act that fails a check has its fault
 checked_fails : (seen : Bool) (act : Act) (fault : Wrong) → Fails seen act fault → checked seen act ≡ Err fault
 checked_fails seen act wrong.Form fails = absurd fails
 checked_fails seen act wrong.Number fails = absurd fails
@@ -294,7 +295,7 @@ checked_fails seen (acts.Peek at len) wrong.TooFar fails =
     rw (passed (some_or len) fails.1, failed (range_or at len) fails.2) refl
 checked_fails seen act wrong.TooFar fails = absurd (fails.2 tt)
 
--- the words of a form are read by its line
+-- the words of a form are read by the code for that form
 form_asked : (seen : Bool) (form : Form) → asked_by (by_name seen) (words_of form) ≡ (form_line seen form >>= λ act. Ok (Some act))
 form_asked seen (alloc i s a min max node) = refl
 form_asked seen (reserve i b s) = refl
@@ -312,7 +313,7 @@ spelled_asked seen words act spells =
       | inr bad ↦ absurd (bad.0 spells.numbers)
     ]
 
--- a form is never a bad form
+-- the words of a form never have the fault `Form`
 not_form : (seen : Bool) (form : Form) → form_line seen form ≡ Err wrong.Form → ⊥
 not_form seen form is =
     elim (numbers_or seen form) [
@@ -323,7 +324,7 @@ not_form seen form is =
       | inr bad ↦ cc (is, bad.1)
     ]
 
--- what is said of a line that has those words, as its reader says it
+-- every list of words has one of three meanings: no command, an act, or a fault
 pub data Verdict (seen : Bool) (words : Words) : Type 0 where
   passed_over : IsPassedOver words → asked_by (by_name seen) words ≡ Ok None → Verdict seen words
   asks : (act : Act) → SpellsAct words act → (act ≡ acts.Sections → seen ≡ false) → asked_by (by_name seen) words ≡ Ok (Some act)
@@ -355,7 +356,7 @@ form_judged seen form =
       | inr bad ↦ at_fault wrong.Number (form, refl, bad.0) (rw (form_asked seen form, bad.1) refl)
     ]
 
--- the first word begins a comment, or doesn't
+-- a first word begins a comment, or doesn't
 pub comment_or : (name : List ℕ) → ((word : List ℕ) × (name ≡ codes "#" ++ word)) ⊎ (is_comment name ≡ false)
 comment_or [] = inr refl
 comment_or (b ∷ bs) = by_test (b == 35) refl
@@ -367,7 +368,7 @@ comment_or (b ∷ bs) = by_test (b == 35) refl
 pub not_comment : (name : List ℕ) (words : Words) → is_comment name ≡ false → ¬ (IsPassedOver (name ∷ words))
 not_comment name words isnt (comment word others) = cc
 
--- words that are no comment have a form, or are a bad form
+-- words that aren't a comment have a form, or have the fault `Form`
 named_or : (seen : Bool) (name : List ℕ) (words : Words) → is_comment name ≡ false
     → HasForm (name ∷ words) ⊎ ((¬ (HasForm (name ∷ words))) × (asked_by (by_name seen) (name ∷ words) ≡ Err wrong.Form))
 named_or seen name words isnt =
@@ -392,7 +393,7 @@ line_judged seen (name ∷ words) =
       ]
     ]
 
--- so a line is read as an act where its words spell it
+-- a line is read as an act exactly if its words spell it
 pub act_read : (seen : Bool) (words : Words) (act : Act)
     → (asked_by (by_name seen) words ≡ Ok (Some act)) ↔ (SpellsAct words act × (act ≡ acts.Sections → seen ≡ false))
 act_read seen words act = (
@@ -407,7 +408,7 @@ act_read seen words act = (
       rw (spelled_asked seen words act spells.numbers, checked_passes seen act passes) refl,
 )
 
--- is passed over where it has no words, or is a comment
+-- a line without words, and a comment, have no command
 pub passed_read : {A : Type 0} (forms : List ℕ → Words → Result A Wrong) (words : Words) → IsPassedOver words
     → asked_by forms words ≡ Ok None
 passed_read forms words no_word = refl
@@ -423,7 +424,7 @@ nothing_read seen words = (
   passed_read (by_name seen) words,
 )
 
--- and has the fault of the first condition that it doesn't meet
+-- a line has the fault of the first condition that it doesn't meet
 act_failed : (seen : Bool) (words : Words) (act : Act) (fault : Wrong) → SpellsNumbers words act → Fails seen act fault
     → asked_by (by_name seen) words ≡ Err fault
 act_failed seen words act fault spells fails =

@@ -1,4 +1,5 @@
--- One step of a line each: its words, a number, an alignment, a size, a range. What a step passes is spelled so, and nothing else.
+-- Lemmas on single steps: words, a number, an alignment, a size, a range. A step accepts exactly
+-- what is spelled right.
 use Rattle.std.proofs.Common.{◌≡◌, ℕ, ◌+◌, ◌^◌, ◌<◌, ◌≤◌, ◌==◌, Bool, true, false, IsTrue, nat_le, nat_lt, List, [], ◌∷◌, ◌++◌, length, Option, Some, None, Result, Ok, Err, refl, ◌∙◌, ap, arith, append_assoc, ◌⊎◌, inl, inr}
 use Rattle.std.specs.Prelude.{IfSome, filter}
 use Rattle.std.specs.Option.{option_map}
@@ -21,7 +22,7 @@ use Rattle.script_reader.specs.Forms.{greatest}
 use Rattle.script_reader.specs.Numbers.{Words, no_words, one_word, two_words, three_words, optional, whole, within, number, bounded, optional_number, power, some, range_at}
 use Rattle.script_reader.specs.Spelling.{HasWords, no_byte, blank_first, word_alone, word_first, keyed, IsWithin, front_value, value}
 
--- the words of a text are those that it is spelled with
+-- the words of a text are those with which it is spelled
 pub has_words : (text : List ℕ) (words : Words) → HasWords text words → words_in separators.Script text ≡ words
 has_words text words no_byte = refl
 has_words text words (blank_first b behind ws is rest) = rw is (has_words behind ws rest)
@@ -29,13 +30,13 @@ has_words text words (word_alone word is) = words-one separators.Script word is
 has_words text words (word_first word b behind ws is blank rest) =
     words-spelled separators.Script word b behind is blank ∙ ap (λ (ws : Words). word ∷ ws) (has_words behind ws rest)
 
--- the beginning of a word becomes longer by a byte that doesn't separate
+-- the start of a word is extended by a byte that doesn't separate words
 closed_more : (front : List ℕ) (b : ℕ) → IsClosed separators.Script false front → separates separators.Script b ≡ false
     → IsClosed separators.Script false (front ++ (b ∷ []))
 closed_more [] b closed is = (is, refl)
 closed_more (a ∷ front) b closed is = (closed.0, closed_more front b closed.1 is)
 
--- each text is spelled with its words: the beginning of one, and a text
+-- each text is spelled with its words: the start of a word, and the text after it
 words_from : (front text : List ℕ) → IsClosed separators.Script false front
     → HasWords (front ++ text) (filter is_word (glued front (parts_from separators.Script false text)))
 words_from [] [] closed = no_byte
@@ -59,7 +60,7 @@ words_from front (b ∷ text) closed =
 pub words_spelled : (text : List ℕ) → HasWords text (words_in separators.Script text)
 words_spelled text = rw (glued-nil (parts_from separators.Script false text)) at (words_from [] text refl)
 
--- a step passes where a condition holds, and has its fault where it doesn't
+-- a step succeeds if its condition holds, and returns its fault if not
 abbrev pub Judges : {A : Type 0} → Type 0 → A → Wrong → Result A Wrong → Type 0
 Judges Good value fault r = (Good × (r ≡ Ok value)) ⊎ ((¬ Good) × (r ≡ Err fault))
 
@@ -69,7 +70,7 @@ passed judged good = elim judged [ inl is ↦ is.1 | inr bad ↦ absurd (bad.0 g
 pub failed : {A : Type 0} {Good : Type 0} {v : A} {fault : Wrong} {r : Result A Wrong} → Judges Good v fault r → ¬ Good → r ≡ Err fault
 failed judged bad = elim judged [ inl is ↦ absurd (bad is.0) | inr is ↦ is.1 ]
 
--- a number: a size that takes its whole word, and within its bound
+-- a number: a size that takes its whole word and is within its limit
 abbrev IsWhole : List ℕ → Result (ℕ × ℕ) NumFault → Type 0
 IsWhole word r = (n : ℕ) × (r ≡ Ok (n, length word))
 
@@ -135,7 +136,7 @@ optional_or most None = inl (tt, refl)
 optional_or most (Some word) =
     elim (within_or most word) [ inl is ↦ inl (is.0, rw (is.1) refl) | inr isnt ↦ inr (isnt.0, rw (isnt.1) refl) ]
 
--- an alignment, a size and a range
+-- an alignment, a size that isn't 0, and a range
 pub power_or : (n : ℕ) → Judges (IsTrue (is_power_of_two n)) n wrong.Align (power n)
 power_or n = by_test (is_power_of_two n) refl
   where
@@ -159,7 +160,7 @@ range_or base size = by_test (nat_lt (base + size) (2 ^ 64)) refl
     by_test true fits = inl (grind (arith, nat_tests, fits), rw fits refl)
     by_test false far = inr (λ fits. absurd (grind (arith, nat_tests, far, fits)), rw far refl)
 
--- words are those of a form, or a bad form
+-- words have a form, or the fault `Form`
 pub is_key : (word key : List ℕ) → (word ≡ key) ⊎ (bytes_eq word key ≡ false)
 is_key word key = by_test (bytes_eq word key) refl
   where

@@ -1,5 +1,6 @@
--- The forms of a line: the words behind its first, and what they ask for. The order of the steps is that of the faults: the
--- form, all numbers, the alignment, sizes of 0, a second `sections`, a range that goes too far.
+-- The forms of a line: the words after the first, and the act that they spell. The steps of each
+-- definition are in the order of the faults: the form, all numbers, the alignment, sizes of 0, a
+-- second `sections`, and a range that goes too far.
 use Rattle.std.specs.Prelude.{ℕ, ◌+◌, ◌-◌, ◌^◌, ◌<◌, ◌≤◌, ◌==◌, Bool, true, false, IsTrue, if◌then◌else◌, List, [], ◌∷◌, codes, Option, Some, None, unwrap_or, Result, Ok, Err}
 use Rattle.std.specs.Int.{is_power_of_two}
 use Rattle.std.specs.Str.{bytes_eq}
@@ -10,7 +11,7 @@ use Rattle.script_reader.specs.declared.fault.Wrong.{Wrong}
 use Rattle.script_reader.specs.declared.fault.Wrong.TheVariants as wrong
 use Rattle.script_reader.specs.Numbers.{Words, no_words, first_word, one_word, two_words, three_words, optional, number, bounded, optional_number, power, some, range_at}
 
--- the bounds of an ID, a node, a byte's value and the length of a `peek`
+-- the largest ID, number of a node, value of a byte, and length of a `peek`
 abbrev pub greatest_id : ℕ
 greatest_id = 2 ^ 32 - 1
 
@@ -23,11 +24,11 @@ greatest_byte = 255
 abbrev pub greatest_len : ℕ
 greatest_len = 64
 
--- any u64
+-- the largest u64
 abbrev pub greatest : ℕ
 greatest = 2 ^ 64 - 1
 
--- the words of `alloc ID SIZE ALIGN [min A] [max A] [node N [exact]]` behind the first
+-- the words of `alloc ID SIZE ALIGN [min A] [max A] [node N [exact]]` after the first
 pub record AllocWords : Type 0 where
   pub id : List ℕ
   pub size : List ℕ
@@ -37,7 +38,7 @@ pub record AllocWords : Type 0 where
   pub node : Option (List ℕ)
   pub exact : Bool
 
--- `exact` stands behind a node alone
+-- `exact` may only follow a node
 abbrev pub optional_exact : Option (List ℕ) → Words → Bool × Words
 optional_exact None words = (false, words)
 optional_exact (Some node) [] = (false, [])
@@ -114,13 +115,13 @@ peek_line words = do
   range ← range_at at large
   Ok (acts.Peek range.base range.size)
 
--- sections, where no earlier line has placed them
+-- sections; a fault if an earlier line is `sections`
 abbrev pub sections_line : Bool → Words → Result Act Wrong
 sections_line seen words = do
   none ← no_words words
   if seen then Err wrong.SecondSections else Ok acts.Sections
 
--- by the first word of the line; `seen` says whether an earlier line is `sections`
+-- the act of a line, by its first word; `seen` is true if an earlier line is `sections`
 abbrev pub by_name : Bool → List ℕ → Words → Result Act Wrong
 by_name seen name words =
     if bytes_eq name (codes "alloc") then alloc_line words else
@@ -131,19 +132,20 @@ by_name seen name words =
     (if bytes_eq name (codes "peek") then peek_line words else
     (if bytes_eq name (codes "sections") then sections_line seen words else Err wrong.Form))))))
 
--- a word that begins with `#` begins a comment
+-- a line is a comment if its first word begins with `#`
 abbrev pub is_comment : List ℕ → Bool
 is_comment [] = false
 is_comment (b ∷ bs) = b == 35
 
--- what the words of a line ask for, by the forms of its first word: nothing where there are none, or the first begins a comment
+-- the act that the words of a line spell, by the forms of its first word; None without words, and
+-- for a comment
 abbrev pub asked_by : {A : Type 0} → (List ℕ → Words → Result A Wrong) → Words → Result (Option A) Wrong
 asked_by forms [] = Ok None
 asked_by forms (name ∷ words) = if is_comment name then Ok None else (do
   act ← forms name words
   Ok (Some act))
 
--- the bounds that running an act asks for
+-- the limits that running an act requires
 abbrev pub HasBounds : Act → Type 0
 HasBounds (acts.Alloc id request) = (0 < request.size) × IsTrue (is_power_of_two request.align)
 HasBounds (acts.Reserve id range) = 0 < range.size

@@ -9,15 +9,15 @@ use Rattle.bm_base.specs.declared.size.NumFault.{NumFault}
 use Rattle.script_reader.specs.declared.fault.Wrong.{Wrong}
 use Rattle.script_reader.specs.declared.fault.Wrong.TheVariants as wrong
 
--- the words of a line or of its rest
+-- the words of a line, or of the rest of one
 abbrev pub Words : Type 0
 Words = List (List ℕ)
 
--- what can be wrong with words and numbers as such
+-- the faults that words and numbers by themselves can have
 abbrev pub IsOfWords : Wrong → Type 0
 IsOfWords w = (w ≡ wrong.Form) ⊎ (w ≡ wrong.Number)
 
--- no word, and the first word with those behind it
+-- no word; and the first word with those after it
 abbrev pub no_words : Words → Result (Unit {0}) Wrong
 no_words [] = Ok tt
 no_words (w ∷ ws) = Err wrong.Form
@@ -45,13 +45,14 @@ three_words words = do
   others ← two_words first.1
   Ok (first.0, others.0, others.1)
 
--- the word behind a key, where the words begin with the key and one more, and the words that are left
+-- if the words start with `key WORD`: WORD, and the words after it; else None, and the words
+-- unchanged
 abbrev pub optional : List ℕ → Words → Option (List ℕ) × Words
 optional key [] = (None, [])
 optional key (w ∷ []) = (None, w ∷ [])
 optional key (w ∷ v ∷ ws) = if bytes_eq w key then (Some v, ws) else (None, w ∷ v ∷ ws)
 
--- a number: one size that takes its whole word, up to a bound
+-- a number: a size that takes its whole word, up to a limit
 abbrev pub whole : List ℕ → Result (ℕ × ℕ) NumFault → Result ℕ Wrong
 whole word (Ok found) = if found.1 == length word then Ok found.0 else Err wrong.Number
 whole word (Err fault) = Err wrong.Number
@@ -67,14 +68,14 @@ bounded most word = do
   n ← number word
   within most n
 
--- a number that may be left out
+-- a number that may be missing
 abbrev pub optional_number : ℕ → Option (List ℕ) → Result (Option ℕ) Wrong
 optional_number most None = Ok None
 optional_number most (Some word) = do
   n ← bounded most word
   Ok (Some n)
 
--- an alignment, a size, and a range of addresses
+-- an alignment, a size that isn't 0, and a range of addresses
 abbrev pub power : ℕ → Result ℕ Wrong
 power n = if is_power_of_two n then Ok n else Err wrong.Align
 

@@ -1,4 +1,4 @@
--- A script as a whole: its lines, or the fault of the lowest line that has one.
+-- A whole script: its lines, or the fault of the lowest line that has one.
 use Rattle.std.specs.Prelude.{ℕ, ◌+◌, Bool, true, false, List, [], ◌∷◌, Option, Some, None, Result, Ok}
 use Rattle.std.specs.Option.{option_map}
 use Rattle.std.specs.List.{cons_option}
@@ -15,7 +15,7 @@ use Rattle.script_reader.specs.declared.fault.ScriptFault.{ScriptFault}
 use Rattle.script_reader.specs.declared.fault.ScriptFault.TheVariants as faults
 use Rattle.script_reader.specs.Forms.{by_name, asked_by}
 
--- what is wrong with the line of that number
+-- the fault of a script for what is wrong with the line of this number
 abbrev pub fault_at : ℕ → Wrong → ScriptFault
 fault_at line wrong.Form = faults.BadLine line
 fault_at line wrong.Number = faults.BadNumber line
@@ -24,7 +24,7 @@ fault_at line wrong.ZeroSize = faults.ZeroSize line
 fault_at line wrong.SecondSections = faults.SecondSections line
 fault_at line wrong.TooFar = faults.TooFar line
 
--- whether `sections` was seen by the end of a line
+-- this line or an earlier one is `sections`
 abbrev pub is_sections : Act → Bool
 is_sections (acts.Alloc id request) = false
 is_sections (acts.Reserve id range) = false
@@ -39,15 +39,15 @@ seen_behind true act = true
 seen_behind false None = false
 seen_behind false (Some act) = is_sections act
 
--- what the text of one line asks for
+-- the act of the line with this text, if it has a command
 abbrev pub asked : Bool → List ℕ → Result (Option Act) Wrong
 asked seen text = asked_by (by_name seen) (words_in separators.Script text)
 
--- the line of that number, where it asks for something
+-- the line with this number, if it has a command
 abbrev pub line_at : ℕ → Option Act → Option Line
 line_at number act = option_map (λ act. record { number = number; act = act }) act
 
--- the texts of lines, of which the first has that number
+-- the lines with these texts; the first of them has this number
 abbrev pub lines_from : Bool → ℕ → List (List ℕ) → Result (List Line) ScriptFault
 lines_from seen number [] = Ok []
 lines_from seen number (text ∷ texts) = do
@@ -55,7 +55,7 @@ lines_from seen number (text ∷ texts) = do
   lines ← lines_from (seen_behind seen act) (number + 1) texts
   Ok (cons_option (line_at number act) lines)
 
--- the lines of a script end with newlines, the last one maybe without: what stands behind the last newline is then a line
--- without words
+-- the lines of a script end with newlines; if the script ends with one, the empty text after it is
+-- a line without words
 abbrev pub script_of : List ℕ → Result (List Line) ScriptFault
 script_of bytes = lines_from false 1 (parts_in (separators.Byte 10) bytes)

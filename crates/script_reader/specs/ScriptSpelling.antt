@@ -1,4 +1,5 @@
--- What a whole script says, by what its lines spell: the acts that they ask for, or the fault of the lowest line that has one.
+-- The meaning of a whole script, by what its lines spell: their acts, or the fault of the lowest
+-- line that has one.
 use Rattle.std.specs.Prelude.{◌≡◌, ℕ, ◌+◌, Bool, true, List, [], ◌∷◌, ◌++◌, codes, length, Contains, Option, Some, None, ◌↔◌}
 use Rattle.std.specs.List.{cons_option}
 use Rattle.script_reader.specs.declared.act.Act.{Act}
@@ -14,13 +15,13 @@ use Rattle.script_reader.specs.Spelling.{HasWords, IsPassedOver, SpellsAct, HasF
 abbrev pub HasSectionsLine : List (List ℕ) → Type 0
 HasSectionsLine texts = (text : List ℕ) × Contains texts text × HasWords text (codes "sections" ∷ [])
 
--- after the earlier lines, this one asks for an act, or for nothing
+-- after the earlier lines, this line has this act, or no command
 abbrev pub LineAsksFor : List (List ℕ) → List ℕ → Option Act → Type 0
 LineAsksFor earlier text None = (words : Words) × HasWords text words × IsPassedOver words
 LineAsksFor earlier text (Some act) =
     (words : Words) × HasWords text words × SpellsAct words act × (act ≡ acts.Sections → ¬ (HasSectionsLine earlier))
 
--- after the earlier lines, this one has a fault
+-- after the earlier lines, this line has this fault
 pub record LineHasFault (earlier : List (List ℕ)) (text : List ℕ) (wrong : Wrong) : Type 0 where
   pub words : Words
   pub spelled : HasWords text words
@@ -28,13 +29,15 @@ pub record LineHasFault (earlier : List (List ℕ)) (text : List ℕ) (wrong : W
   pub sections : (seen ≡ true) ↔ HasSectionsLine earlier
   pub fault : HasFault seen words wrong
 
--- after the earlier lines, each of these asks for an act or for nothing, and the list has the acts with the numbers of their lines, from 1
+-- after the earlier lines, none of these has a fault, and the list has their acts with the numbers
+-- of their lines, from 1 on
 abbrev pub LinesAskFor : List (List ℕ) → List (List ℕ) → List Line → Type 0
 LinesAskFor earlier [] lines = lines ≡ []
 LinesAskFor earlier (text ∷ texts) lines = (act : Option Act) × (others : List Line) × LineAsksFor earlier text act
     × (lines ≡ cons_option (line_at (length earlier + 1) act) others) × LinesAskFor (earlier ++ (text ∷ [])) texts others
 
--- after the earlier lines, this is the fault of the first line that has one: all before it ask for acts or for nothing
+-- after the earlier lines, this is the fault of the first line that has one: no line before it has
+-- a fault
 pub record IsFirstFault (earlier texts : List (List ℕ)) (fault : ScriptFault) : Type 0 where
   pub before : List (List ℕ)
   pub text : List ℕ

@@ -1,5 +1,6 @@
--- How a line is spelled: its words with blanks around them, the form of these words, and the conditions on its numbers. A line asks for
--- an act if it has a form and meets each condition. Its fault is the first condition that it doesn't meet.
+-- The spelling of a line: its words with blanks around them, the form of these words, and the
+-- conditions on its numbers. A line spells an act if it has a form and meets all conditions. Its
+-- fault is the first condition that it doesn't meet.
 use Rattle.std.specs.Prelude.{◌≡◌, ℕ, ◌+◌, ◌^◌, ◌<◌, ◌≤◌, Bool, true, false, IsTrue, List, [], ◌∷◌, ◌++◌, codes, Option, Some, None, IfSome, unwrap_or, Result, Ok, Err}
 use Rattle.std.specs.Int.{is_power_of_two}
 use Rattle.std.specs.Option.{option_map}
@@ -15,7 +16,8 @@ use Rattle.script_reader.specs.declared.fault.Wrong.TheVariants as wrong
 use Rattle.script_reader.specs.Numbers.{Words}
 use Rattle.script_reader.specs.Forms.{greatest, greatest_id, greatest_node, greatest_byte, greatest_len}
 
--- the text has those words, with at least one blank between two words, and any number of blanks before the first and after the last
+-- the text has these words, with at least one blank between two words, and any number of blanks
+-- before the first and after the last
 pub data HasWords : List ℕ → Words → Type 0 where
   no_byte : HasWords [] []
   blank_first : (b : ℕ) (text : List ℕ) (words : Words) → separates separators.Script b ≡ true → HasWords text words
@@ -24,7 +26,7 @@ pub data HasWords : List ℕ → Words → Type 0 where
   word_first : (word : List ℕ) (b : ℕ) (text : List ℕ) (words : Words) → IsWord separators.Script word
       → separates separators.Script b ≡ true → HasWords text words → HasWords (word ++ (b ∷ text)) (word ∷ words)
 
--- a line that asks for nothing: one without words, or a comment
+-- a line without a command: it has no words, or is a comment
 pub data IsPassedOver : Words → Type 0 where
   no_words : IsPassedOver []
   comment : (word : List ℕ) (words : Words) → IsPassedOver ((codes "#" ++ word) ∷ words)
@@ -45,7 +47,7 @@ pub data Form : Type 0 where
   peek : (address len : List ℕ) → Form
   sections : Form
 
--- a key and its number, which may be left out
+-- a key and its number, which may be missing
 abbrev pub keyed : List ℕ → Option (List ℕ) → Words
 keyed key None = []
 keyed key (Some word) = key ∷ word ∷ []
@@ -66,7 +68,7 @@ words_of (fill id byte) = codes "fill" ∷ id ∷ byte ∷ []
 words_of (peek address len) = codes "peek" ∷ address ∷ len ∷ []
 words_of sections = codes "sections" ∷ []
 
--- the whole word is a size, at most the bound
+-- the whole word is a size, at most the limit
 abbrev pub IsWithin : ℕ → List ℕ → Type 0
 IsWithin most word = (n : ℕ) × IsSize word n × (n ≤ most)
 
@@ -81,7 +83,7 @@ is_exact no_node = false
 is_exact (near_node node) = false
 is_exact (exact_node node) = true
 
--- each number of the form is a size within its bound
+-- each number of the form is a size within its limit
 abbrev pub HasNumbers : Form → Type 0
 HasNumbers (alloc id size align min max node) = IsWithin greatest_id id × IsWithin greatest size × IsWithin greatest align
     × IfSome min (IsWithin greatest) × IfSome max (IsWithin greatest) × IfSome (node_number node) (IsWithin greatest_node)
@@ -92,7 +94,7 @@ HasNumbers (fill id byte) = IsWithin greatest_id id × IsWithin greatest_byte by
 HasNumbers (peek address len) = IsWithin greatest address × IsWithin greatest_len len
 HasNumbers sections = Unit {0}
 
--- the size at the front of a word; it is the word's value if it takes the whole word
+-- the size at the start of a word; it is the value of the word if it takes the whole word
 abbrev pub front_value : Result (ℕ × ℕ) NumFault → ℕ
 front_value (Ok found) = found.0
 front_value (Err fault) = 0
@@ -100,8 +102,8 @@ front_value (Err fault) = 0
 abbrev pub value : List ℕ → ℕ
 value word = front_value (size_of word)
 
--- what a form asks for, if its numbers are sizes. Without `min` the lower bound is 0; without `max` there is no upper bound, and without
--- `node` no node is preferred
+-- the act of a form whose numbers are sizes. Without `min` the lower limit is 0; without `max`
+-- there is no upper limit, and without `node` no node is preferred.
 abbrev pub act_of : Form → Act
 act_of (alloc id size align min max node) = acts.Alloc (value id) (record {
   size = value size;
@@ -141,7 +143,7 @@ IsInSpace act = Unit {0}
 abbrev pub HasForm : Words → Type 0
 HasForm words = (form : Form) × (words ≡ words_of form)
 
--- the words have a form, its numbers are sizes within their bounds, and the act has these numbers
+-- the words have a form, its numbers are sizes within their limits, and the act has these numbers
 pub record SpellsNumbers (words : Words) (act : Act) : Type 0 where
   pub form : Form
   pub spelled : words ≡ words_of form
@@ -155,7 +157,7 @@ pub record SpellsAct (words : Words) (act : Act) : Type 0 where
   pub size : HasSize act
   pub in_space : IsInSpace act
 
--- the first condition that those words don't meet. `seen` says whether an earlier line is `sections`
+-- the first condition that these words don't meet; `seen` is true if an earlier line is `sections`
 abbrev pub HasFault : Bool → Words → Wrong → Type 0
 HasFault seen words wrong.Form = (¬ (IsPassedOver words)) × (¬ (HasForm words))
 HasFault seen words wrong.Number = (form : Form) × (words ≡ words_of form) × (¬ (HasNumbers form))

@@ -1,33 +1,34 @@
-//! Why a script isn't read: what is wrong with a line, and that with the line's number. They are two types, since
-//! the steps of a line know what is wrong with it, and the walk over the lines alone knows which one it is.
+//! The reason why a script is refused: what is wrong with a line, and the same with the number of
+//! the line. There are two types because the functions that read a line don't know its number;
+//! only the loop over the lines does.
 
 use bm_base::Memory;
 
-/// What is wrong with a line, in the order in which it is told.
+/// What is wrong with a line. If several apply, the first of this list is reported.
 #[derive(Clone, Copy, Debug, PartialEq, Eq)]
 pub enum Wrong {
-    /// It has no form, whatever its numbers are.
+    /// The words have no form, whatever their numbers are.
     Form,
-    /// A number isn't a size that takes its whole word, or is above its bound.
+    /// A word isn't entirely a number, or the number is above its limit.
     Number,
     /// The alignment isn't a power of two.
     Align,
     /// A size, `KEEP` or `LEN` is 0.
     ZeroSize,
-    /// It is `sections`, and so is an earlier line.
+    /// The line is `sections`, and so is an earlier line.
     SecondSections,
-    /// `BASE` and `SIZE`, or `ADDR` and `LEN`, exceed 2^64 - 1 together.
+    /// `BASE` plus `SIZE`, or `ADDR` plus `LEN`, exceeds 2^64 - 1.
     TooFar,
 }
 
-/// Why a script isn't read. A `line` is the number of the lowest line that has a fault, from 1 on; of
-/// its faults the first in the order of this list is told.
+/// The reason why a script is refused. `line` is the number of the lowest line that has a fault,
+/// from 1 on. If the line has several faults, the first of this list is reported.
 #[derive(Clone, Copy, Debug, PartialEq, Eq)]
 pub enum ScriptFault {
-    /// The line has no form, whatever its numbers are.
+    /// The words of the line have no form, whatever their numbers are.
     BadLine { line: u32 },
-    /// A number isn't a size that takes its whole word, or is above its bound: 2^32 - 1 for an ID, 1,023
-    /// for a node, 255 for a byte, 64 for the length of a `peek`.
+    /// A word isn't entirely a number, or the number is above its limit: 2^32 - 1 for an ID, 1,023
+    /// for a node, 255 for a byte, and 64 for the length of a `peek`.
     BadNumber { line: u32 },
     /// The alignment isn't a power of two.
     BadAlign { line: u32 },
@@ -35,9 +36,9 @@ pub enum ScriptFault {
     ZeroSize { line: u32 },
     /// The line is `sections`, and so is an earlier line.
     SecondSections { line: u32 },
-    /// `BASE` and `SIZE`, or `ADDR` and `LEN`, exceed 2^64 - 1 together.
+    /// `BASE` plus `SIZE`, or `ADDR` plus `LEN`, exceeds 2^64 - 1.
     TooFar { line: u32 },
-    /// The program's own memory ran out; only where no line has a fault.
+    /// The program ran out of memory. This is returned only if no line has a fault.
     Memory,
 }
 

@@ -1,4 +1,4 @@
-//! What one line asks for: its form by its first word, and the steps of each form in the order of the
+//! Reads one line. Its first word selects the form; the steps of each form are in the order of the
 //! faults.
 
 ghost use Rattle.std.specs.Prelude.{◌≡◌, ℕ, ◌<◌, ◌≤◌, ◌^◌, List, length, Option, Some, Ok, Err, MatchResult, IfOk, IfErr, IfSome};
@@ -18,7 +18,12 @@ use memblock_model::Request;
 use std::marker::Model;
 use text_words::{Separators, next_word};
 
-/// What the line asks for, if anything. `seen` says whether an earlier line is `sections`.
+/// Returns the command of a line, or `None` if it has no words or is a comment. `seen` is true if
+/// an earlier line is `sections`.
+///
+/// # Errors
+///
+/// - The first fault of the line, in the order of [`Wrong`].
 pub fn read_line(seen: bool, text: &[u8]) -> Result<Option<Act>, Wrong>
     ensures value { result ≡ asked seen text.now }
     ensures bounds { IfOk result (λ act. IfSome act HasBounds) }
@@ -34,7 +39,12 @@ pub fn read_line(seen: bool, text: &[u8]) -> Result<Option<Act>, Wrong>
     Ok(Some(by_name(seen, name, rest)?))
 }
 
-/// By the first word of the line.
+/// Reads the words after the first one, which is the name of the command.
+///
+/// # Errors
+///
+/// - `Form`: there is no command of this name, or the words don't have its form.
+/// - Any other fault of the words.
 fn by_name(seen: bool, name: &[u8], rest: &[u8]) -> Result<Act, Wrong>
     ensures value { result ≡ named_line seen name.now (words_in separators.Script rest.now) }
     ensures bounds { IfOk result HasBounds }
@@ -63,7 +73,7 @@ fn by_name(seen: bool, name: &[u8], rest: &[u8]) -> Result<Act, Wrong>
     Err(Wrong::Form)
 }
 
-/// The words of an `alloc` behind the first.
+/// The words of an `alloc` after the first.
 #[derive(Clone, Copy)]
 struct AllocWords<'a> {
     id: &'a [u8],
@@ -75,7 +85,11 @@ struct AllocWords<'a> {
     exact: bool,
 }
 
-/// The words of `ID SIZE ALIGN [min A] [max A] [node N [exact]]`.
+/// Reads the words `ID SIZE ALIGN [min A] [max A] [node N [exact]]`. The numbers are read later.
+///
+/// # Errors
+///
+/// - `Form`: the words don't have this form.
 fn alloc_words(text: &[u8]) -> Result<AllocWords<'_>, Wrong>
     ensures { MatchResult result
         (λ said. words_of_alloc (words_in separators.Script text.now) ≡ Ok (record {
@@ -108,7 +122,8 @@ fn alloc_words(text: &[u8]) -> Result<AllocWords<'_>, Wrong>
     })
 }
 
-/// Whether `exact` follows a node, and the rest.
+/// Tests whether `exact` comes next, and returns the rest of the text after it. Without a node the
+/// answer is false, and the text is unchanged.
 fn optional_exact<'a>(node: Option<&'a [u8]>, text: &'a [u8]) -> (bool, &'a [u8])
     ensures { exact_word (option_map (λ word. word.now) node.entry) (words_in separators.Script text.now)
         ≡ (result.0, words_in separators.Script result.1.now) }
@@ -146,16 +161,16 @@ fn alloc_line(text: &[u8]) -> Result<Act, Wrong>
     Ok(Act::Alloc { id, request })
 }
 
-/// The greatest ID.
+/// The largest ID.
 pub const GREATEST_ID: u64 = 0xFFFF_FFFF;
 
-/// The greatest number of a node.
+/// The largest number of a node.
 pub const GREATEST_NODE: u64 = 1023;
 
-/// The greatest value of a byte.
+/// The largest value of a byte.
 const GREATEST_BYTE: u64 = 255;
 
-/// The greatest length of a `peek`, in bytes.
+/// The largest length of a `peek`, in bytes.
 const GREATEST_LEN: u64 = 64;
 
 fn reserve_line(text: &[u8]) -> Result<Act, Wrong>

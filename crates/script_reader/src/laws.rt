@@ -1,4 +1,5 @@
-//! The laws of lines and of whole scripts: what they spell is what they are read as, and nothing else is read.
+//! The laws of lines and of whole scripts: they are read as what they spell, and nothing else is
+//! accepted.
 
 ghost use Rattle.std.specs.Prelude.{◌≡◌, ◌↔◌, ℕ, Bool, false, List, [], Some, None, Ok, Err};
 ghost use Rattle.text_words.specs.Parts.{parts_in};
@@ -13,15 +14,15 @@ ghost use Rattle.script_reader.specs.Script.{asked, script_of};
 ghost use Rattle.script_reader.specs.Spelling.{HasWords, IsPassedOver, SpellsAct, HasFault};
 ghost use Rattle.script_reader.specs.ScriptSpelling.{LinesAskFor, IsFirstFault};
 
-/// Law: each text has words, and only one list of words.
+/// Law: each text has exactly one list of words.
 pub fn each_line_has_its_words()
     ensures some { (text : List ℕ) → (words : Words) × HasWords text words }
     ensures one { (text : List ℕ) (words others : Words) →
         HasWords text words → HasWords text others → words ≡ others }
 {}
 
-/// Law: a line is read as an act exactly if its words spell that act and it isn't a second
-/// `sections`. It asks for nothing exactly if it has no words or is a comment. It has a fault
+/// Law: a line is read as an act exactly if its words spell that act, and it isn't a second
+/// `sections`. It has no command exactly if it has no words or is a comment. It has a fault
 /// exactly if that is the first condition that its words don't meet.
 pub fn lines_of_spelling()
     ensures act { (seen : Bool) (text : List ℕ) (words : Words) (act : AnyAct) → HasWords text words →
@@ -33,9 +34,9 @@ pub fn lines_of_spelling()
         ((asked seen text ≡ Err wrong) ↔ HasFault seen words wrong) }
 {}
 
-/// Law: a script is read as a list of lines exactly if these are the acts that its lines ask for,
-/// with their numbers, and every other line asks for nothing. It has a fault exactly if that is the
-/// fault of the lowest line that has one.
+/// Law: a script is read as a list of lines exactly if these are the commands of its lines, with
+/// their numbers, and all other lines have no command. It has a fault exactly if that is the fault
+/// of the lowest line that has one.
 pub fn scripts_of_spelling()
     ensures lines { (bytes : List ℕ) (lines : List AnyLine) →
         ((script_of bytes ≡ Ok lines) ↔ LinesAskFor [] (parts_in (separators.Byte 10) bytes) lines) }

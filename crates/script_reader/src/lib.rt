@@ -1,27 +1,35 @@
-//! The early script: which allocations a user wants made behind the boot's own, before the handover.
+//! Reads the early script: allocations that a user adds to those of the boot, before the buddy
+//! allocator takes over.
 //!
 //! In the kernel, drivers and architecture code call memblock between the set-up of its tables and
-//! the buddy allocator's start. Here a text says what such callers would ask for: a line claims a
-//! place by a search or by its address (`memblock_alloc_range_nid`, `memblock_reserve`), gives it
-//! back whole or in part (`memblock_phys_free`), writes and reads its bytes, or says when sections
-//! are placed. The text is the program's own form; no kernel reads it.
+//! the start of the buddy allocator. The script states what such callers would do, one call a
+//! line. A line claims a range that a search finds, or one at a given address
+//! (`memblock_alloc_range_nid`, `memblock_reserve`). It frees the range, whole or in part
+//! (`memblock_phys_free`), writes or reads its bytes, or says when the memory sections are set up.
+//! The format is the program's own; no kernel reads it.
 //!
-//! [`read_script`] makes [`Line`]s of the text, each an [`Act`] with its line's number, or names the
-//! first fault: that of the lowest line that has one, and of a line the first in the order of
-//! [`ScriptFault`]. `specs/Forms.antt` has the forms, a row each, whose steps are in the order of the
-//! faults; `specs/Script.antt` goes over the lines. Words are those of `text_words`, numbers are
-//! sizes of `bm_base` that take their whole word.
+//! [`read_script`] returns a list of [`Line`]s, each with an [`Act`] and the line's number. Or it
+//! returns the first fault, a [`ScriptFault`]: that of the lowest line that has one.
 //!
-//! `specs/Spelling.antt` has the same forms as what a user writes. By [`lines_of_spelling`] a line is
-//! read as an act exactly if its words spell that act, and has a fault exactly if that is the first
-//! condition that its words don't meet. [`scripts_of_spelling`] says the same of a whole script.
+//! In contracts, a name means the definition in `specs/`:
 //!
-//! A page script (`page_alloc`) has other forms of the same words: what reads them here, one step each ([`one_word`], [`bounded`]
-//! and the like, [`Wrong`] where a step fails), what passes over comments, and what keeps the lines, serves both.
+//! - `Forms.antt`: the form of each command; its steps are in the order of the faults
+//! - `Script.antt`: the lines of a script
+//! - `Numbers.antt`: the words of a line, and the numbers among them
+//! - `Spelling.antt`, `ScriptSpelling.antt`: the same forms as a user writes them
 //!
-//! The layer above, which runs the lines, may rest on this: each act has the bounds that running it
-//! asks for (`HasBounds`), `sections` comes at most once, and want of memory comes only where no line
-//! has a fault.
+//! A law is an empty function whose contract is a proven fact. By [`lines_of_spelling`] a line is
+//! read as an act exactly if its words spell that act, and has a fault exactly if that is the
+//! first condition that its words don't meet. [`scripts_of_spelling`] states this for whole
+//! scripts.
+//!
+//! A page script (`page_alloc`) has other commands in the same words. So the functions that read
+//! words and numbers ([`one_word`], [`bounded`]), the test for comments and the list of lines
+//! serve both.
+//!
+//! The layer above, which runs the lines, may rest on three facts. Each act has the limits that
+//! running it requires (`HasBounds`). `sections` occurs at most once. The reader runs out of
+//! memory only if no line has a fault.
 #![tactic(auto)]
 
 mod act;

@@ -1,7 +1,7 @@
-//! A script as a whole: its lines one after the other, up to the first that has a fault.
+//! Reads a whole script: its lines one after another, up to the first that has a fault.
 //!
-//! Memory is taken here alone, for the lines. Where it runs out the script is still read on without
-//! them, so that a fault is told wherever it stands.
+//! Only the list of lines allocates. If memory runs out, the rest of the script is still read, so
+//! that a fault in any line is found.
 
 ghost use Rattle.std.specs.Prelude.{◌≡◌, ◌≢◌, ℕ, ◌<◌, ◌≤◌, ◌^◌, List, [], ◌∷◌, ◌++◌, length, All, Option, option_to_list, Ok, Err, IfOk, IsErr, IsSome, IfSome, IsOkAnd, ◌⊎◌};
 ghost use Rattle.bm_base.specs.Answers.{Answers};
@@ -16,12 +16,17 @@ use bm_base::Memory;
 use std::alloc::Global;
 use text_words::{Separators, next_part};
 
-/// The lines of a script that ask for something, in order, or the first fault: that of the lowest line
-/// that has one, and of its faults the first in the order of [`ScriptFault`].
+/// Reads a script, and returns the lines that have a command, in their order.
 ///
-/// Lines end with a newline; the last one may lack it. The bytes 0x20, 0x09 and 0x0D separate words. A
-/// line without words, and one whose first word begins with `#`, asks for nothing. The bytes are fewer
-/// than 2^32. `Memory` comes only where no line has a fault and some line asks for something.
+/// Lines end with a newline, which the last one may lack. The bytes 0x20, 0x09 and 0x0D separate
+/// words. A line has no command if it has no words, or its first word begins with `#`. There must
+/// be fewer than 2^32 bytes.
+///
+/// # Errors
+///
+/// - The fault of the lowest line that has one. If that line has several, the first in the order
+///   of [`ScriptFault`].
+/// - `Memory`: no line has a fault and some line has a command, but the program ran out of memory.
 pub fn read_script(alloc: Global, bytes: &[u8]) -> Result<Vec<Line>, ScriptFault>
     requires { length bytes.now < 2 ^ 32 }
     ensures answers { Answers ScriptFault.Memory (λ lines. lines.items) result (script_of bytes.now) }
@@ -47,7 +52,7 @@ pub fn read_script(alloc: Global, bytes: &[u8]) -> Result<Vec<Line>, ScriptFault
     Ok(lines?)
 }
 
-/// The line of that number, where it asks for something.
+/// Returns the line with this number, if it has a command.
 fn line_at(number: u64, act: Option<Act>) -> Option<Line>
     requires { IfSome act (λ _. number < 2 ^ 32) }
     ensures { result ≡ line_of number act }
@@ -61,7 +66,11 @@ fn line_at(number: u64, act: Option<Act>) -> Option<Line>
     }
 }
 
-/// The lines with one more, where there is one. Memory is wanting only where it was, or where there is one more.
+/// Appends a line, if there is one, to the lines read so far.
+///
+/// # Errors
+///
+/// - `Memory`: the program ran out of memory, either for this line or for an earlier one.
 pub fn keep<L: Copy>(lines: Result<Vec<L>, Memory>, line: Option<L>) -> Result<Vec<L>, Memory>
     ensures line { IfOk result (λ kept. IsOkAnd lines (λ before. kept.items ≡ before.items ++ option_to_list line)) }
     ensures memory { IsErr result → IsErr lines ⊎ IsSome line }
@@ -73,14 +82,14 @@ pub fn keep<L: Copy>(lines: Result<Vec<L>, Memory>, line: Option<L>) -> Result<V
     Ok(lines)
 }
 
-/// Whether `sections` was seen by the end of the line.
+/// Tests whether this line or an earlier one is `sections`.
 fn seen_behind(seen: bool, act: &Option<Act>) -> bool
     ensures { result ≡ sections_seen seen act.now }
 {
     seen || matches!(act, Some(Act::Sections))
 }
 
-/// What is wrong with the line of that number.
+/// Returns the fault of a script for what is wrong with the line of this number.
 fn fault_at(line: u32, wrong: Wrong) -> ScriptFault
     ensures { result ≡ line_fault line wrong }
 {

@@ -1,8 +1,8 @@
-//! The words of a line and the numbers among them, one small step each.
+//! Reads the words of a line and the numbers among them, one small step each.
 //!
-//! Nothing here takes memory: a word is a slice of the line, and what is left of the line is passed on.
-//! A step that fails says what is wrong with the line; which fault goes first is the order of the
-//! steps in `crate::forms`.
+//! Nothing here allocates: a word is a slice of the line, and each step returns the rest of the
+//! line. A step that fails returns what is wrong with the line. The order of the steps in
+//! `crate::forms` decides which fault is reported.
 
 ghost use Rattle.std.specs.Prelude.{◌≡◌, ℕ, ◌<◌, ◌≤◌, ◌^◌, List, [], ◌∷◌, length, Option, Ok, Err, MatchResult, OnOk, IfOk, IfErr, IsTrue};
 ghost use Rattle.std.specs.Int.{is_power_of_two};
@@ -16,14 +16,18 @@ use crate::fault::Wrong;
 use bm_base::{Range, read_size};
 use text_words::{Separators, next_word};
 
-/// Whether the word begins a comment.
+/// Tests whether a line with this first word is a comment.
 pub fn is_comment(word: &[u8]) -> bool
     ensures { result ≡ begins_comment word.now }
 {
     word.first() == Some(&b'#')
 }
 
-/// No word is left.
+/// Checks that no word is left.
+///
+/// # Errors
+///
+/// - `Form`: there is another word.
 pub fn no_words(text: &[u8]) -> Result<(), Wrong>
     ensures value { result ≡ has_no_words (words_in separators.Script text.now) }
     ensures of_words { IfErr result IsOfWords }
@@ -34,7 +38,11 @@ pub fn no_words(text: &[u8]) -> Result<(), Wrong>
     }
 }
 
-/// The first word, and a text with the words behind it.
+/// Returns the first word, and the rest of the text after it.
+///
+/// # Errors
+///
+/// - `Form`: there is no word.
 pub fn first_word(text: &[u8]) -> Result<(&[u8], &[u8]), Wrong>
     ensures value { MatchResult result
         (λ found. front_word (words_in separators.Script text.now)
@@ -45,7 +53,11 @@ pub fn first_word(text: &[u8]) -> Result<(&[u8], &[u8]), Wrong>
     next_word(text, Separators::Script).ok_or(Wrong::Form)
 }
 
-/// The one word.
+/// Returns the only word.
+///
+/// # Errors
+///
+/// - `Form`: there is no word, or more than one.
 pub fn one_word(text: &[u8]) -> Result<&[u8], Wrong>
     ensures value { MatchResult result
         (λ word. single_word (words_in separators.Script text.now) ≡ Ok word.now)
@@ -57,7 +69,11 @@ pub fn one_word(text: &[u8]) -> Result<&[u8], Wrong>
     Ok(word)
 }
 
-/// The two words.
+/// Returns the two words.
+///
+/// # Errors
+///
+/// - `Form`: there aren't exactly two words.
 pub fn two_words(text: &[u8]) -> Result<(&[u8], &[u8]), Wrong>
     ensures { MatchResult result
         (λ words. pair_of_words (words_in separators.Script text.now) ≡ Ok (words.0.now, words.1.now))
@@ -68,7 +84,11 @@ pub fn two_words(text: &[u8]) -> Result<(&[u8], &[u8]), Wrong>
     Ok((first, second))
 }
 
-/// The three words.
+/// Returns the three words.
+///
+/// # Errors
+///
+/// - `Form`: there aren't exactly three words.
 pub fn three_words(text: &[u8]) -> Result<(&[u8], &[u8], &[u8]), Wrong>
     ensures { MatchResult result
         (λ words. triple_of_words (words_in separators.Script text.now)
@@ -80,7 +100,8 @@ pub fn three_words(text: &[u8]) -> Result<(&[u8], &[u8], &[u8]), Wrong>
     Ok((first, second, third))
 }
 
-/// The word behind the key, where the text begins with the key and one more word, and the rest.
+/// If the text starts with `key WORD`, returns WORD and the rest of the text. Else returns `None`
+/// and the text unchanged.
 pub fn optional<'a>(key: &[u8], text: &'a [u8]) -> (Option<&'a [u8]>, &'a [u8])
     ensures { optional_word key.now (words_in separators.Script text.now)
         ≡ (option_map (λ word. word.now) result.0, words_in separators.Script result.1.now) }
@@ -97,7 +118,11 @@ pub fn optional<'a>(key: &[u8], text: &'a [u8]) -> (Option<&'a [u8]>, &'a [u8])
     }
 }
 
-/// The size that takes the whole word.
+/// Returns the number that the whole word spells: a size in bytes, with an optional suffix.
+///
+/// # Errors
+///
+/// - `Number`: the word isn't entirely a number.
 pub fn number(word: &[u8]) -> Result<u64, Wrong>
     ensures value { result ≡ number_of word.now }
     ensures of_words { IfErr result IsOfWords }
@@ -108,7 +133,11 @@ pub fn number(word: &[u8]) -> Result<u64, Wrong>
     }
 }
 
-/// The size that takes the whole word and is at most `most`.
+/// Returns the number that the whole word spells, which is at most `most`.
+///
+/// # Errors
+///
+/// - `Number`: the word isn't entirely a number, or the number is above `most`.
 pub fn bounded(most: u64, word: &[u8]) -> Result<u64, Wrong>
     ensures value { result ≡ bounded_number most word.now }
     ensures bound { IfOk result (λ n. n ≤ most) }
@@ -121,7 +150,11 @@ pub fn bounded(most: u64, word: &[u8]) -> Result<u64, Wrong>
     Ok(value)
 }
 
-/// The number that may be left out.
+/// Returns the number that an optional word spells, or `None` if there is no word.
+///
+/// # Errors
+///
+/// - `Number`: the word isn't entirely a number, or the number is above `most`.
 pub fn optional_number(most: u64, word: Option<&[u8]>) -> Result<Option<u64>, Wrong>
     ensures value { result ≡ optional_number_of most (option_map (λ word. word.now) word.entry) }
     ensures bound { IfOk result (λ found. (n : ℕ) → found ≡ Some n → n ≤ most) }
@@ -132,7 +165,11 @@ pub fn optional_number(most: u64, word: Option<&[u8]>) -> Result<Option<u64>, Wr
     }
 }
 
-/// The alignment, a power of two.
+/// Returns the alignment, which is a power of two.
+///
+/// # Errors
+///
+/// - `Align`: it isn't a power of two.
 pub fn power(value: u64) -> Result<u64, Wrong>
     ensures value { result ≡ power_of value }
     ensures power { IfOk result (λ n. IsTrue (is_power_of_two n)) }
@@ -143,7 +180,11 @@ pub fn power(value: u64) -> Result<u64, Wrong>
     Ok(value)
 }
 
-/// The size, at least 1.
+/// Returns the size, which is at least 1.
+///
+/// # Errors
+///
+/// - `ZeroSize`: it is 0.
 pub fn some(value: u64) -> Result<u64, Wrong>
     ensures value { result ≡ some_of value }
     ensures some { IfOk result (λ n. 0 < n) }
@@ -154,7 +195,11 @@ pub fn some(value: u64) -> Result<u64, Wrong>
     Ok(value)
 }
 
-/// The range of that size from the address on.
+/// Returns the range of `size` bytes from address `base` on.
+///
+/// # Errors
+///
+/// - `TooFar`: `base + size` exceeds 2^64 - 1.
 pub fn range_at(base: u64, size: u64) -> Result<Range, Wrong>
     ensures { result ≡ range_of base size }
 {

@@ -1,4 +1,4 @@
--- One more line.
+-- one more line
 use Rattle.std.proofs.Common.{List, ◌++◌, option_to_list, sym, ◌∙◌, arith}
 use Rattle.std.specs.List.{All}
 use Rattle.std.specs.Option.{option_map}
