@@ -1,4 +1,4 @@
--- Small stores, computed: what the definitions say of one byte and of a write.
+-- Worked examples of small stores, of single bytes and of a write.
 use Rattle.std.proofs.Common.{◌≡◌, ℕ, ◌<◌, ◌≤◌, zero, suc, ◌||◌, nat_lt, nat_le, get_or, true, false, List, [], ◌∷◌, refl, arith, IsTrue}
 use Rattle.std.proofs.lemmas.Bool.{false≢true}
 use Rattle.std.proofs.lemmas.Bool.Decides.{nat_tests}
@@ -23,14 +23,14 @@ past_examples = (refl, refl)
 inside_examples : (inside low 3 ≡ false) × (inside low 4 ≡ true) × (inside low 6 ≡ true) × (inside low 7 ≡ false)
 inside_examples = (refl, refl, refl, refl)
 
--- what lies in no extent is 0, and isn't prepared
+-- an address that no extent has reads as 0, and isn't prepared
 byte_examples : (byte_of store 4 ≡ 1) × (byte_of store 6 ≡ 3) × (byte_of store 7 ≡ 0) × (byte_of store 8 ≡ 9) × (byte_of [] 8 ≡ 0)
 byte_examples = (refl, refl, refl, refl, refl)
 
 ready_examples : (is_ready store 6 ≡ true) × (is_ready store 7 ≡ false) × (is_ready store 8 ≡ true) × (is_ready [] 8 ≡ false)
 ready_examples = (refl, refl, refl, refl)
 
--- a range of one extent is prepared, and so is an empty one; a range with a gap isn't
+-- a range in one extent is prepared, and so is an empty range; a range with a gap isn't
 range_examples : AreReady (low ∷ []) 5 2 × AreReady [] 5 0 × ¬ AreReady store 6 3
 range_examples = (
   (λ x from to. grind (arith, nat_tests)),
@@ -57,11 +57,11 @@ one_written =
     (omega arith) (omega arith)
     (λ k below. let none : k ≡ 0 = omega arith in rw none refl) beside).1
 
--- a write of nothing may stand anywhere
+-- a write of no bytes is allowed anywhere
 none_written : Wrote store store 7 0 (λ k. k)
 none_written = record { within = λ k below. absurd (omega arith); outside = λ x off. refl; ready = λ x. refl }
 
--- two extents with a gap of one byte are apart; extents that touch are not
+-- two extents with a gap of one byte don't touch; extents without a gap do
 apart_examples : Apart 0 store × ¬ Apart 5 store × ¬ Apart 0 (low ∷ record { base = 7; bytes = 9 ∷ [] } ∷ [])
 apart_examples = (
   (omega arith, omega arith, omega arith, (omega arith, omega arith, omega arith, tt)),
@@ -72,7 +72,8 @@ apart_examples = (
 nth_examples : (nth store 1 ≡ high) × (nth store 2 ≡ record { base = 0; bytes = [] })
 nth_examples = (refl, refl)
 
--- the addresses from 4 up to 9 are those of both extents and of the gap; address 20 touches none
+-- the addresses from 4 to below 9 are those of both extents and of the gap; address 20 touches
+-- neither
 within : (i : ℕ) → i < 2 → (4 ≤ (nth store i).base) × (past (nth store i) ≤ 9)
 within zero less = (omega arith, omega arith)
 within (suc zero) less = (omega arith, omega arith)

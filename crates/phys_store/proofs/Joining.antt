@@ -1,4 +1,4 @@
--- One extent in place of those that it covers.
+-- Lemmas on replacing extents by one that covers them.
 use Rattle.std.proofs.Common.{◌≡◌, ℕ, zero, suc, ◌+◌, ◌-◌, ◌^◌, ◌<◌, ◌≤◌, Bool, true, false, ◌||◌, List, [], ◌∷◌, ◌++◌, length, min, max, get_or, take, drop, map, refl, sym, ◌∙◌, ap, subst, arith, inl, inr, IsTrue}
 use Rattle.std.proofs.lemmas.Bool.{cases_Bool, cases_lt, or_right}
 use Rattle.std.proofs.lemmas.Bool.Decides.{nat_tests}
@@ -11,11 +11,11 @@ use Rattle.phys_store.specs.Extents.{stored, Apart, nth, Joins, covering, as_one
 use Rattle.phys_store.proofs.ByteLists.{length-bytes_at, get-bytes_at}
 use Rattle.phys_store.proofs.Lookup.{inside-low, inside-high, ready-below, byte-unready, placed, read-at}
 
--- the i-th extent, as it is read
+-- the extent with index `i`, as it is read
 pub nth_piece : (es : List Held) (i : ℕ) (e : Held) → i < length es → e ≡ get_or es i e → nth (map stored es) i ≡ stored e
 nth_piece es i e count is = get_or-map stored es i e (record { base = 0; bytes = [] }) count ∙ ap stored (sym is)
 
--- an earlier extent ends below a later one
+-- an earlier extent ends below the start of a later one
 pub before : (e : ℕ) (ps : List Stored) (i j : ℕ) → Apart e ps → i < j → j < length ps → past (nth ps i) < (nth ps j).base
 before e [] i j apart less count = absurd (omega arith)
 before e (q ∷ ps) i zero apart less count = absurd (omega arith)
@@ -25,7 +25,8 @@ before e (q ∷ ps) zero (suc j) apart less count =
     (get_or_default ps j (nth ps j) (record { base = 0; bytes = [] }) count') in omega (arith, next.0)
 before e (q ∷ ps) (suc i) (suc j) apart less count = before (past q + 1) ps i j apart.3 (omega arith) (omega arith)
 
--- an address that no extent of the front has
+-- for an address outside `p`, dropping the first n extents changes nothing if all of these lie
+-- within `p`
 outside_front : (p : Stored) (n : ℕ) (ps : List Stored) → ((i : ℕ) → i < n → p.base ≤ (nth ps i).base) →
     ((i : ℕ) → i < n → past (nth ps i) ≤ past p) →
     (x : ℕ) → inside p x ≡ false → (byte_of (drop n ps) x ≡ byte_of ps x) × (is_ready (drop n ps) x ≡ is_ready ps x)
@@ -38,7 +39,7 @@ outside_front p (suc n) (q ∷ ps) low high x out =
     let rest = outside_front p n ps (λ i less. low (suc i) (omega arith)) (λ i less. high (suc i) (omega arith)) x out in
     rw off rest
 
--- below what is left only the front counts
+-- for an address below `h`, only the first n extents count if all others begin above `h`
 in_front : (e n h x : ℕ) (ps : List Stored) → Apart e ps → ((i : ℕ) → n ≤ i → i < length ps → h < (nth ps i).base) → x < h →
     byte_of (take n ps) x ≡ byte_of ps x
 in_front e zero h x [] apart above below = refl
@@ -50,7 +51,7 @@ in_front e (suc n) h x [] apart above below = refl
 in_front e (suc n) h x (q ∷ ps) apart above below =
     rw (in_front (past q + 1) n h x ps apart.3 (λ i from count. above (suc i) (omega arith) (omega arith)) below) refl
 
--- what is left is apart from what ends below it
+-- the extents after the first n don't touch anything that ends below them
 apart_left : (e n h : ℕ) (ps : List Stored) → Apart e ps → ((i : ℕ) → n ≤ i → i < length ps → h < (nth ps i).base) →
     Apart (h + 1) (drop n ps)
 apart_left e zero h [] apart above = tt
@@ -61,7 +62,7 @@ apart_left e (suc n) h [] apart above = tt
 apart_left e (suc n) h (q ∷ ps) apart above = apart_left (past q + 1) n h ps apart.3
     (λ i from count. above (suc i) (omega arith) (omega arith))
 
--- what holds once the extent p stands in the list
+-- what is true after the extent `p` has replaced those that it covers
 pub record Joined (e : ℕ) (ps : List Stored) (p : Stored) (new : List Stored) : Type 0 where
   pub apart : Apart e new
   pub bytes : (x : ℕ) → byte_of new x ≡ byte_of ps x
@@ -120,14 +121,14 @@ joined (suc f) e (suc b) n (q ∷ ps) p apart low some small count joins told =
       ready = λ x. rw (rest.ready x) (swapped (inside q x) (inside p x) (is_ready ps x));
     }
 
--- the i-th of several extents that are apart: it ends in the address space, and its addresses are prepared
+-- the extent with index `i` ends in the address space, and its addresses are prepared
 pub there : (ps : List Stored) (i : ℕ) → i < length ps → get_or ps i (nth ps i) ≡ nth ps i
 there ps i count = get_or_default ps i (nth ps i) (record { base = 0; bytes = [] }) count
 
 pub nth-fits : (ps : List Stored) (i : ℕ) → Apart 0 ps → i < length ps → past (nth ps i) < 2 ^ 64
 nth-fits ps i apart count = (placed 0 ps i (nth ps i) apart count (there ps i count)).2
 
--- what a range and the extents so far make
+-- the extents so far, and the addresses that they and the range make up
 pub record Hull (ps : List Stored) (r : Extent) (first behind from to : ℕ) : Type 0 where
   pub order : first ≤ behind
   pub most : behind ≤ length ps
@@ -139,7 +140,7 @@ pub record Hull (ps : List Stored) (r : Extent) (first behind from to : ℕ) : T
   pub high : (i : ℕ) → first ≤ i → i < behind → past (nth ps i) ≤ to
   pub ready : (x : ℕ) → from ≤ x → x < to → IsTrue (covers r x || is_ready ps x)
 
--- an earlier extent ends no later
+-- an earlier extent ends at or below the end of a later one
 pub ends_rise : (ps : List Stored) (i j : ℕ) → Apart 0 ps → i ≤ j → j < length ps → past (nth ps i) ≤ past (nth ps j)
 ends_rise ps i j apart order count =
     elim (cases_lt i j) [
@@ -147,7 +148,7 @@ ends_rise ps i j apart order count =
       | inr most ↦ let is : i ≡ j = omega (arith, order, most) in rw is (omega arith)
     ]
 
--- the next extent, which begins by the end of what they make, is joined to them
+-- the next extent is joined to those so far if it begins at or below their end
 pub hull_more : (ps : List Stored) (r : Extent) (first behind from to : ℕ) → Apart 0 ps → behind < length ps →
     r.base ≤ past (nth ps first) → (nth ps behind).base ≤ to → Hull ps r first behind from to →
     Hull ps r first (behind + 1) (min from (nth ps behind).base) (max to (past (nth ps behind)))
@@ -181,7 +182,7 @@ hull_more ps r first behind from to apart count reach touches h =
       ];
     }
 
--- and where no further extent is joined they are those that are met or touched
+-- if no further extent is joined, they are those that the range overlaps or touches
 pub hull_joins : (ps : List Stored) (r : Extent) (first behind from to : ℕ) → Apart 0 ps → Hull ps r first behind from to →
     (behind < length ps → to < (nth ps behind).base) → Joins ps first behind from to
 hull_joins ps r first behind from to apart h stop = record {
@@ -196,7 +197,7 @@ hull_joins ps r first behind from to apart h stop = record {
   ];
 }
 
--- the i-th of some extents of a list
+-- an extent of a part of the list
 pub nth_part : (es : List Held) (f n i : ℕ) → i < length (take n (drop f es)) →
     nth (map stored (take n (drop f es))) i ≡ nth (map stored es) (f + i)
 nth_part es f n i count =
@@ -206,7 +207,7 @@ nth_part es f n i count =
     ap (λ (ps : List Stored). get_or ps i none) (sym (take-map stored n (drop f es)) ∙ ap (take n) (sym (drop-map stored f es)))
     ∙ get_or-take n (drop f (map stored es)) i none inner ∙ get_or-drop f (map stored es) i none
 
--- the element right behind one is removed
+-- the element right after another is removed
 removed : (xs ys : List Held) (x : Held) → remove (xs ++ x ∷ ys) (suc (length xs)) ≡ xs ++ x ∷ drop 1 ys
 removed [] ys x = refl
 removed (a ∷ xs) ys x = ap (λ (l : List Held). a ∷ l) (removed xs ys x)
@@ -220,7 +221,7 @@ removed_behind es new now x f k most was is =
     is ∙ ap (λ (l : List Held). remove l (f + 1)) was ∙ ap (remove (take f es ++ x ∷ drop k es)) behind
     ∙ removed (take f es) (drop k es) x ∙ ap (λ (l : List Held). take f es ++ x ∷ l) (drop-drop 1 k es)
 
--- what holds once a range is prepared
+-- what is true after a range has been prepared
 pub record Prepared (ps new : List Stored) (r : Extent) : Type 0 where
   pub apart : Apart 0 new
   pub bytes : (x : ℕ) → byte_of new x ≡ byte_of ps x
@@ -229,7 +230,7 @@ pub record Prepared (ps new : List Stored) (r : Extent) : Type 0 where
 some_size : (ps : List Stored) (r : Extent) → (AreReady ps r.base r.size → ⊥) → 0 < r.size
 some_size ps r not_ready = elim (cases_lt 0 r.size) [ inl some ↦ some | inr none ↦ absurd (not_ready (λ x low high. absurd (omega arith))) ]
 
--- an address of the extent is of the range or was prepared, and an address of the range is of the extent
+-- the new extent has exactly the addresses of the range and of the extents that it replaces
 exact : (ps : List Stored) (r : Extent) (p : Stored) → p.base ≤ r.base → end_of r ≤ past p →
     ((x : ℕ) → p.base ≤ x → x < past p → IsTrue (covers r x || is_ready ps x)) → (x : ℕ) →
     (inside p x || is_ready ps x) ≡ (covers r x || is_ready ps x)

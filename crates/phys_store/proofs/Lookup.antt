@@ -1,4 +1,4 @@
--- What lies in one of several extents that are apart, and what a look-up finds.
+-- Lemmas on the bytes of extents that don't touch, and on what a search finds.
 use Rattle.std.proofs.Common.{◌≡◌, ℕ, zero, suc, ◌+◌, ◌-◌, ◌^◌, ◌<◌, ◌≤◌, true, false, not, cond, Some, None, List, [], ◌∷◌, length, get_or, drop, map, refl, sym, ◌∙◌, ap, subst, arith, inl, inr, nat_lt}
 use Rattle.std.proofs.lemmas.Bool.{cases_Bool, cases_lt, false≢true}
 use Rattle.std.proofs.lemmas.Bool.Decides.{nat_tests}
@@ -11,7 +11,7 @@ use Rattle.phys_store.specs.declared.extents.Held.{Held}
 use Rattle.phys_store.specs.Bytes.{Stored, past, inside, byte_of, is_ready, AreReady}
 use Rattle.phys_store.specs.Extents.{stored, Apart}
 
--- an address in a extent, below it and above it
+-- an address inside an extent, below it and above it
 pub inside-in : (p : Stored) (x : ℕ) → p.base ≤ x → x < past p → inside p x ≡ true
 inside-in p x low high = grind (arith, nat_tests)
 
@@ -27,14 +27,14 @@ inside-low p x lies = grind (arith, nat_tests)
 pub inside-high : (p : Stored) (x : ℕ) → inside p x ≡ true → x < past p
 inside-high p x lies = grind (arith, nat_tests)
 
--- nothing is prepared below where the extents begin
+-- nothing is prepared below the first extent
 pub ready-below : (e : ℕ) (ps : List Stored) (x : ℕ) → Apart e ps → x < e → is_ready ps x ≡ false
 ready-below e [] x apart below = refl
 ready-below e (p ∷ ps) x apart below =
     let low : e ≤ p.base = apart.0 in
     rw (inside-below p x (omega arith)) (ready-below (past p + 1) ps x apart.3 (omega arith))
 
--- what isn't prepared is 0
+-- an address that isn't prepared reads as 0
 pub byte-unready : (ps : List Stored) (x : ℕ) → is_ready ps x ≡ false → byte_of ps x ≡ 0
 byte-unready [] x none = refl
 byte-unready (p ∷ ps) x none = elim (cases_Bool (inside p x)) [
@@ -42,7 +42,7 @@ byte-unready (p ∷ ps) x none = elim (cases_Bool (inside p x)) [
   | inr out ↦ rw out (byte-unready ps x (sym (rw out refl) ∙ none))
 ]
 
--- each extent begins behind the bound, has bytes, and ends in the address space
+-- each extent begins at or above the bound, has bytes, and ends in the address space
 pub placed : (e : ℕ) (ps : List Stored) (i : ℕ) (p : Stored) → Apart e ps → i < length ps → get_or ps i p ≡ p →
     (e ≤ p.base) × (0 < length p.bytes) × (past p < 2 ^ 64)
 placed e [] i p apart count there = absurd (omega arith)
@@ -52,7 +52,7 @@ placed e (q ∷ ps) (suc i) p apart count there =
     let rest = placed (past q + 1) ps i p apart.3 (omega arith) there in
     (omega (arith, rest.0, apart.0), rest.1, rest.2)
 
--- the address behind a extent isn't prepared
+-- the address after an extent isn't prepared
 pub unready-past : (e : ℕ) (ps : List Stored) (i : ℕ) (p : Stored) → Apart e ps → i < length ps → get_or ps i p ≡ p →
     is_ready ps (past p) ≡ false
 unready-past e [] i p apart count there = absurd (omega arith)
@@ -63,7 +63,7 @@ unready-past e (q ∷ ps) (suc i) p apart count there =
     let rest = placed (past q + 1) ps i p apart.3 (omega arith) there in
     rw (inside-above q (past p) (omega (arith, rest.0))) (unready-past (past q + 1) ps i p apart.3 (omega arith) there)
 
--- a prepared range that begins in a extent lies in it as a whole
+-- a prepared range that begins in an extent is entirely in it
 pub whole : (e : ℕ) (ps : List Stored) (i : ℕ) (p : Stored) (a n : ℕ) → Apart e ps → i < length ps → get_or ps i p ≡ p →
     p.base ≤ a → a < past p → AreReady ps a n → a + n ≤ past p
 whole e ps i p a n apart count there low high ready =
@@ -72,7 +72,7 @@ whole e ps i p a n apart count there low high ready =
       | inr ends ↦ ends
     ]
 
--- the byte at an address of a extent is that of the extent, whichever it is, and it is prepared
+-- an address in an extent is prepared, and its byte is that of the extent
 pub read-at : (e : ℕ) (ps : List Stored) (i : ℕ) (p : Stored) (x : ℕ) → Apart e ps → i < length ps → get_or ps i p ≡ p →
     p.base ≤ x → x < past p → (byte_of ps x ≡ get_or p.bytes (x - p.base) 0) × (is_ready ps x ≡ true)
 read-at e [] i p x apart count there low high = absurd (omega arith)
@@ -83,7 +83,7 @@ read-at e (q ∷ ps) (suc i) p x apart count there low high =
     let rest = placed (past q + 1) ps i p apart.3 (omega arith) there in
     rw (inside-above q x (omega (arith, rest.0))) (read-at (past q + 1) ps i p x apart.3 (omega arith) there low high)
 
--- the i-th extent holds the n bytes from a on
+-- the extent with index `i` has the n bytes from address `a` on
 pub record Holds (es : List Held) (a n i : ℕ) (e : Held) : Type 0 where
   pub count : i < length (map stored es)
   pub there : get_or (map stored es) i (stored e) ≡ stored e
@@ -94,10 +94,10 @@ pub record Holds (es : List Held) (a n i : ℕ) (e : Held) : Type 0 where
   pub long : length (drop e.front e.bytes.items) ≡ length e.bytes.items - e.front
   pub most : length e.bytes.items < 2 ^ 64
   pub len : length e.bytes.items ≡ e.bytes.len
-  -- and they stand in its bytes, behind those in front
+  -- and they are in its `bytes`, after the spare room
   pub room : e.front + (a - e.base) + n ≤ length e.bytes.items
 
--- what the look-up finds holds the whole of a prepared range
+-- the extent that the search finds has the whole of a prepared range
 pub holds : (es : List Held) (a n i : ℕ) (e : Held) → Apart 0 (map stored es) → AreReady (map stored es) a n →
     position (λ d. inside (stored d) a) es ≡ Some i → e ≡ get_or es i e → Holds es a n i e
 holds es a n i e apart ready found is =
@@ -122,12 +122,12 @@ holds es a n i e apart ready found is =
       room = omega (arith, low, high, ends, long);
     }
 
--- the same of one byte, prepared or not
+-- the extent that the search finds has the one byte at the address
 pub holds_one : (es : List Held) (a i : ℕ) (e : Held) → Apart 0 (map stored es) →
     position (λ d. inside (stored d) a) es ≡ Some i → e ≡ get_or es i e → Holds es a 0 i e
 holds_one es a i e apart found is = holds es a 0 i e apart (λ x low high. absurd (omega arith)) found is
 
--- where no extent has the address it isn't prepared
+-- if no extent has the address, it isn't prepared
 none_passes : (es : List Held) (x : ℕ) → position_or_len (λ d. inside (stored d) x) es ≡ length es → is_ready (map stored es) x ≡ false
 none_passes [] x all = refl
 none_passes (e ∷ es) x all = elim (cases_Bool (inside (stored e) x)) [
@@ -144,18 +144,18 @@ none_cond m n most none =
       | inr above ↦ omega arith
     ]
 
--- where the look-up finds nothing the address isn't prepared
+-- if the search finds nothing, the address isn't prepared
 pub none-found : (es : List Held) (x : ℕ) → position (λ d. inside (stored d) x) es ≡ None → is_ready (map stored es) x ≡ false
 none-found es x none =
     none_passes es x (none_cond _ _ (prefix_len-le-length (λ d. not (inside (stored d) x)) es) none)
 
--- so a prepared range that begins there is empty
+-- if the search finds nothing, a prepared range that begins at the address is empty
 pub none_ready : (es : List Held) (a n : ℕ) → position (λ d. inside (stored d) a) es ≡ None → AreReady (map stored es) a n → n ≡ 0
 none_ready es a zero none ready = refl
 none_ready es a (suc n) none ready =
     absurd (false≢true (sym (none-found es a none) ∙ ready a (omega arith) (omega arith)))
 
--- what is prepared lies below 2^64 - 1
+-- a prepared address is below 2^64 - 1
 ready-small : (e : ℕ) (ps : List Stored) (x : ℕ) → Apart e ps → is_ready ps x ≡ true → x + 1 < 2 ^ 64
 ready-small e [] x apart ready = absurd (false≢true ready)
 ready-small e (p ∷ ps) x apart ready = elim (cases_Bool (inside p x)) [

@@ -1,4 +1,4 @@
--- What the search by halves finds in extents that are apart.
+-- Lemmas on the binary search in extents that don't touch.
 use Rattle.std.proofs.Common.{◌≡◌, ℕ, ◌<◌, ◌≤◌, Bool, true, false, Some, None, List, [], ◌∷◌, length, get_or, map, refl, sym, ◌∙◌, ap, arith, inl, inr, nat_lt}
 use Rattle.std.proofs.lemmas.Bool.{cases_lt}
 use Rattle.std.proofs.lemmas.Bool.Decides.{nat_tests}
@@ -11,7 +11,7 @@ use Rattle.phys_store.specs.Extents.{stored, nth, Apart}
 use Rattle.phys_store.proofs.Lookup.{inside-below, inside-above}
 use Rattle.phys_store.proofs.Joining.{before}
 
--- no extent but the first that reaches the address has it
+-- only the first extent that ends at or above an address can have it
 others_out : (ps : List Stored) (a i k : ℕ) → Apart 0 ps → ((j : ℕ) → j < i → past (nth ps j) < a) →
     (i < length ps → a ≤ past (nth ps i)) → (i < length ps → inside (nth ps i) a ≡ false) → k < length ps → inside (nth ps k) a ≡ false
 others_out ps a i k apart below reaches out count =
@@ -24,7 +24,7 @@ others_out ps a i k apart below reaches out count =
       ]
     ]
 
--- where no element passes there is no position
+-- if no element passes the test, there is no position
 no_position : {X : Type 0} (p : X → Bool) (xs : List X) → ((k : ℕ) (d : X) → k < length xs → p (get_or xs k d) ≡ false) →
     position p xs ≡ None
 no_position p [] each = refl
@@ -34,7 +34,7 @@ no_position p (x ∷ xs) each =
     let none : nat_lt (length (x ∷ xs)) (length (x ∷ xs)) ≡ false = grind (arith, nat_tests) in
     rw (all, none) refl
 
--- the k-th extent, as it is read
+-- the extent with index `k`, as it is read
 same_test : (es : List Held) (a k : ℕ) (d : Held) → k < length es → inside (stored (get_or es k d)) a ≡ inside (nth (map stored es) k) a
 same_test es a k d count = ap (λ (q : Stored). inside q a) (sym (get_or-map stored es k d (record { base = 0; bytes = [] }) count))
 

@@ -1,4 +1,4 @@
--- An extent goes further both ways, gets the bytes of others, and stands in their place.
+-- Lemmas on an extent that grows in both directions, gets the bytes of others, and replaces them.
 use Rattle.std.proofs.Common.{◌≡◌, ℕ, zero, suc, ◌+◌, ◌-◌, ◌<◌, ◌≤◌, false, List, [], ◌∷◌, ◌++◌, length, get_or, set, take, drop, map, replicate, refl, sym, ◌∙◌, ap, subst, arith, inl, inr, length-append}
 use Rattle.std.proofs.lemmas.Bool.{cases_Bool, cases_eq, cases_lt, false≢true}
 use Rattle.std.proofs.lemmas.Bool.Decides.{nat_tests}
@@ -14,14 +14,14 @@ use Rattle.phys_store.proofs.ByteLists.{length-bytes_at, get-bytes_at, told_byte
 use Rattle.phys_store.proofs.Lookup.{inside-in, inside-below, inside-above, inside-low, inside-high, ready-below, placed}
 use Rattle.phys_store.proofs.Writes.{length-mid, mid-in, mid-out}
 
--- an extent, told by its two parts
+-- an extent, given by its two parts
 abbrev pub piece : ℕ → List ℕ → Stored
 piece b bs = record { base = b; bytes = bs }
 
 pub same_piece : (b c : ℕ) (xs ys : List ℕ) → b ≡ c → xs ≡ ys → piece b xs ≡ piece c ys
 same_piece b c xs ys base bytes = rw (base, bytes) refl
 
--- what stands in the place of several extents, as contracts see it
+-- the list after one extent has replaced several, as contracts see it
 pub stands : (es new : List Held) (e : Held) (f b from to : ℕ) → new ≡ take f es ++ e ∷ drop b es →
     stored e ≡ covering (take (b - f) (drop f (map stored es))) from to → map stored new ≡ as_one (map stored es) f b from to
 stands es new e f b from to is whole =
@@ -31,7 +31,7 @@ stands es new e f b from to is whole =
     ∙ ap (λ (l : List Stored). l ++ c ∷ map stored (drop b es)) (sym (take-map stored f es))
     ∙ ap (λ (l : List Stored). take f (map stored es) ++ c ∷ l) (sym (drop-map stored b es))
 
--- zeros are the bytes of no extent
+-- zeros are the bytes where no extent is
 pub none_covered : (ps : List Stored) (f from to : ℕ) (bs : List ℕ) → bs ≡ replicate (to - from) 0 →
     bs ≡ bytes_at (byte_of (take (f - f) ps)) from (to - from)
 none_covered ps f from to bs is =
@@ -49,7 +49,7 @@ append_part : (xs : List ℕ) (cut j : ℕ) → cut ≤ length xs → length xs 
     get_or (xs ++ take (length xs - cut) (drop cut xs)) j 0 ≡ get_or xs (cut + (j - length xs)) 0
 append_part xs cut j part from to = grind (arith, places)
 
--- the last bytes are appended, and those before them moved up to them: all lie further up
+-- appending the last bytes, and then moving up those before them, moves up all of them
 pub moved_up : (old more_of new : List ℕ) (from more end : ℕ) → end ≡ length old → from + more ≤ end →
     more_of ≡ old ++ slice_range old (end - more) (length old) → length new ≡ length more_of →
     CopiedTo more_of new from (from + more) (end - more - from) → SameFrom more_of new (from + more + (end - more - from)) →
@@ -73,7 +73,7 @@ moved_up old more_of new from more end at fits is len copied behind =
           ∙ ap (λ j. get_or old j 0) (omega (arith, high, at, fits)) ∙ sym (get_or-drop from old k 0)
     ])
 
--- an extent with room in front and zeros behind goes further both ways
+-- an extent with room before it, and zeros after it, is extended in both directions
 pub widened : (p : Stored) (low high f1 f2 up : ℕ) (xs zs ys : List ℕ) → 0 < length p.bytes → drop f1 xs ≡ p.bytes →
     low ≤ p.base → past p ≤ high → p.base - low ≤ f1 → f2 ≡ f1 - (p.base - low) → up ≡ high - past p → zs ≡ xs ++ replicate up 0 →
     length ys ≡ f1 - f2 → ((j : ℕ) → j < f1 - f2 → get_or ys j 0 ≡ 0) →
@@ -101,7 +101,7 @@ widened p low high f1 f2 up xs zs ys some bytes from to room at over all len tol
           ]
     ])
 
--- the bytes of one more extent in front are in
+-- copying the bytes of one more extent, from the last to the first
 pub absorbed : (ps tail : List Stored) (i from to f k m : ℕ) (bs ys : List ℕ) → i < length ps → length bs ≡ f + (to - from) →
     from ≤ (nth ps i).base → past (nth ps i) ≤ to → k ≡ f + ((nth ps i).base - from) → m ≡ length (nth ps i).bytes →
     ys ≡ (nth ps i).bytes →
@@ -120,7 +120,7 @@ absorbed ps tail i from to f k m bs ys count len low high at long is told x leas
           ∙ sym (get_or-drop f bs (x - from) 0) ∙ told x least below)
     ])
 
--- parts of extents that are apart are apart
+-- parts of a list of extents that don't touch don't touch
 apart_from : (d e : ℕ) (ps : List Stored) → d ≤ e → Apart e ps → Apart d ps
 apart_from d e [] less apart = tt
 apart_from d e (q ∷ ps) less apart = (omega (arith, apart.0), apart.1, apart.2, apart.3)
@@ -139,7 +139,7 @@ apart_drop e (suc n) (q ∷ ps) apart =
 pub apart_part : (f n : ℕ) (ps : List Stored) → Apart 0 ps → Apart 0 (take n (drop f ps))
 apart_part f n ps apart = apart_take 0 n (drop f ps) (apart_drop 0 f ps apart)
 
--- a last extent counts only where no other has the address
+-- the last extent counts only for addresses that no other has
 last_counts : (ps : List Stored) (w : Stored) (x : ℕ) → is_ready ps x ≡ false → byte_of (ps ++ w ∷ []) x ≡ byte_of (w ∷ []) x
 last_counts [] w x none = refl
 last_counts (q ∷ ps) w x none = elim (cases_Bool (inside q x)) [
@@ -151,7 +151,7 @@ last_zero : (ps : List Stored) (w : Stored) (x : ℕ) → byte_of (w ∷ []) x �
 last_zero [] w x none = none
 last_zero (q ∷ ps) w x none = rw (last_zero ps w x none) refl
 
--- one of several extents is taken out and stands behind the others, as one that goes further: each byte is what it was
+-- taking an extent out of the list, and appending it in an extended form, changes no byte
 pub taken_out : (e : ℕ) (ps : List Stored) (i : ℕ) (p w none : Stored) → Apart e ps → i < length ps → get_or ps i p ≡ p →
     length none.bytes ≡ 0 → (x : ℕ) → byte_of (w ∷ []) x ≡ byte_of (p ∷ []) x → byte_of (set ps i none ++ w ∷ []) x ≡ byte_of ps x
 taken_out e [] i p w none apart count there empty x same = absurd (omega arith)
@@ -166,20 +166,21 @@ taken_out e (q ∷ ps) zero p w none apart count there empty x same =
 taken_out e (q ∷ ps) (suc i) p w none apart count there empty x same =
     rw (taken_out (past q + 1) ps i p w none apart.3 (omega arith) there empty x same) refl
 
--- one extent has the bytes that it is made of
+-- one extent has the bytes of the extents that it is made of
 covers_in : (ps : List Stored) (from to x : ℕ) → from ≤ x → x < to → byte_of (covering ps from to ∷ []) x ≡ byte_of ps x
 covers_in ps from to x low high =
     let long = length-bytes_at (byte_of ps) from (to - from) in
     rw (inside-in (covering ps from to) x low (omega (arith, long)))
     (get-bytes_at (byte_of ps) from (to - from) (x - from) (omega arith) ∙ ap (byte_of ps) (omega arith))
 
--- bytes that functions give which agree there
+-- two functions that agree on these addresses give the same bytes
 same_bytes : (g h : ℕ → ℕ) (from n : ℕ) → ((x : ℕ) → from ≤ x → x < from + n → g x ≡ h x) → bytes_at g from n ≡ bytes_at h from n
 same_bytes g h from n same =
     told_bytes h from n (bytes_at g from n) (length-bytes_at g from n)
     (λ k below. get-bytes_at g from n k below ∙ same (from + k) (omega arith) (omega (arith, below)))
 
--- the largest of several extents is widened and gets the bytes of the others: it is what stands in the place of them all
+-- extending the largest of several extents, and copying the others into it, gives the one extent
+-- that replaces them all
 pub united : (es now ds new : List Held) (p w none e : Held) (f b k from to : ℕ) → Apart 0 (map stored es) →
     Joins (map stored es) f b from to → from ≤ to → f ≤ k → k < b → p ≡ get_or es k p → now ≡ set (set es k w) k none → ds ≡ now →
     stored w ≡ covering (stored p ∷ []) from to → length (stored none).bytes ≡ 0 →
@@ -220,7 +221,8 @@ united es now ds new p w none e f b k from to apart joins order least below valu
 pub past_covering : (ps : List Stored) (from to : ℕ) → from ≤ to → past (covering ps from to) ≡ to
 past_covering ps from to order = let long = length-bytes_at (byte_of ps) from (to - from) in omega (arith, long, order)
 
--- the others lie in what they are joined to, and so does the empty extent that stands where the largest stood
+-- the others lie in the extended extent, and so does the empty one that is in the list in its
+-- place
 pub others_in : (es ds : List Held) (none : Held) (f b k from to : ℕ) → Joins (map stored es) f b from to → from ≤ to → k < b →
     ds ≡ set es k none → none.base ≡ from → length (stored none).bytes ≡ 0 →
     (i : ℕ) → i < length (take (b - f) (drop f ds)) →
@@ -245,7 +247,7 @@ others_in es ds none f b k from to joins order below same base empty i count =
       | inr other ↦ old (there other)
     ])
 
--- the extent that is kept: it has bytes, and lies in what it is joined to
+-- the extent that is kept: it has bytes, and lies within the new addresses
 pub record IsKept (es : List Held) (p : Held) (k from to : ℕ) : Type 0 where
   pub count : k < length es
   pub some : 0 < length (stored p).bytes

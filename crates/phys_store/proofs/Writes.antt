@@ -1,4 +1,4 @@
--- A extent gets other bytes: what then is at each address.
+-- Lemmas on writing to an extent: the byte at each address afterwards.
 use Rattle.std.proofs.Common.{◌≡◌, ℕ, zero, suc, ◌+◌, ◌-◌, ◌^◌, ◌<◌, ◌≤◌, false, ◌||◌, List, [], ◌∷◌, length, get_or, set, map, refl, sym, ◌∙◌, ap, subst, arith, rules, length-set, take, drop, replicate, nat_lt, nat_le, IsTrue, inl, inr}
 use Rattle.std.proofs.lemmas.Bool.{cases_lt, cases_Bool}
 use Rattle.std.proofs.lemmas.Bool.Decides.{nat_tests}
@@ -11,7 +11,7 @@ use Rattle.phys_store.specs.declared.extents.Held.{Held}
 use Rattle.phys_store.specs.Extents.{stored, Apart}
 use Rattle.phys_store.proofs.Lookup.{Holds, inside-low, inside-high, read-at}
 
--- another extent of the same place and length
+-- another extent of the same address and length
 module _ (p q : Stored) (base : q.base ≡ p.base) (len : length q.bytes ≡ length p.bytes) where
   same_inside : (x : ℕ) → inside q x ≡ inside p x
   same_inside x = rw (base, len) refl
@@ -44,7 +44,7 @@ module _ (p q : Stored) (base : q.base ≡ p.base) (len : length q.bytes ≡ len
       rw (same_inside x, out, old) refl
   byte-set_other (r ∷ ps) (suc i) x there out = rw (byte-set_other ps i x there out) refl
 
--- the i-th extent gets bytes that are those of `g` in a part, and the old ones elsewhere
+-- the extent with index `i` gets bytes that are those of `g` in one part, and unchanged elsewhere
 pub wrote-set : (ps : List Stored) (i : ℕ) (p q : Stored) (a n : ℕ) (g : ℕ → ℕ) → Apart 0 ps → i < length ps → get_or ps i p ≡ p →
     q.base ≡ p.base → length q.bytes ≡ length p.bytes → p.base ≤ a → a + n ≤ past p →
     ((k : ℕ) → k < n → get_or q.bytes (a - p.base + k) 0 ≡ g k) →
@@ -69,7 +69,7 @@ wrote-set ps i p q a n g apart count there base len low high new old =
       },
     )
 
--- a part of a list is written over: its length, what is in the part, and what is beside it
+-- overwriting a part of a list: its length, the bytes in the part, and those outside it
 pub length-mid : (k m : ℕ) (xs ys : List ℕ) → length ys ≡ m → k + m ≤ length xs → length (put_mid k m xs ys) ≡ length xs
 length-mid k m xs ys len within = search (rules, places)
 
@@ -81,7 +81,7 @@ pub mid-out : (k m : ℕ) (xs ys : List ℕ) (j : ℕ) → length ys ≡ m → k
     get_or (put_mid k m xs ys) j 0 ≡ get_or xs j 0
 mid-out k m xs ys j len within off = grind (arith, places, nat_tests)
 
--- the extent that holds a range gets other bytes there
+-- overwriting the bytes of a range in the extent that has it
 pub wrote-mid : (es : List Held) (a n i : ℕ) (e : Held) (g : ℕ → ℕ) (k m : ℕ) (xs ys : List ℕ) → Apart 0 (map stored es)
     → Holds es a n i e →
     k ≡ e.front + (a - e.base) → m ≡ n → xs ≡ e.bytes.items → length ys ≡ n → ((j : ℕ) → j < n → get_or ys j 0 ≡ g j) →
@@ -106,11 +106,11 @@ wrote-mid es a n i e g k m xs ys apart h at count value len told =
     ∙ mid-out k m xs ys (f + j) (len ∙ sym count) within (grind (arith, nat_tests, at, count, off))
     ∙ ap (λ (zs : List ℕ). get_or zs (f + j) 0) value ∙ sym (get_or-drop f e.bytes.items j 0)))
 
--- nothing is written
+-- a write of no bytes
 pub wrote-none : (ps : List Stored) (a n : ℕ) (g : ℕ → ℕ) → n ≡ 0 → Wrote ps ps a n g
 wrote-none ps a n g none = record { within = λ k below. absurd (omega arith); outside = λ x off. refl; ready = λ x. refl }
 
--- what a part holds once each byte of it is the same
+-- the bytes of a part after filling it with one byte
 pub filled : (k m : ℕ) (xs ys : List ℕ) (b : ℕ) → k + m ≤ length xs → ys ≡ replicate (length (take m (drop k xs))) b →
     (length ys ≡ m) × ((j : ℕ) → j < m → get_or ys j 0 ≡ b)
 filled k m xs ys b within is =
@@ -120,7 +120,7 @@ filled k m xs ys b within is =
       λ j below. ap (λ (zs : List ℕ). get_or zs j 0) is ∙ get_or-replicate n j b 0 (omega (arith, below, long)),
     )
 
--- the extent that holds two ranges gets in the one what stood in the other
+-- copying one range of an extent to another
 pub wrote-copied : (es : List Held) (a n i : ℕ) (e d : Held) (from to count source target m : ℕ) → Apart 0 (map stored es)
     → Holds es a n i e →
     a ≤ from → a ≤ to → from + count ≤ a + n → to + count ≤ a + n → d.base ≡ e.base → d.front ≡ e.front →
@@ -152,7 +152,7 @@ wrote-copied es a n i e d from to count source target m apart h from_low to_low 
       | inr more ↦ behind (f + j) 0 (grind (arith, nat_tests, at_target, at)) ∙ old j
     ]))
 
--- one write behind another is one write
+-- two writes, one right after the other in addresses, are one write
 pub wrote-more : (s t u : List Stored) (a n m : ℕ) (g : ℕ → ℕ) → Wrote s t a n g → Wrote t u (a + n) m (λ k. g (n + k)) →
     Wrote s u a (n + m) g
 wrote-more s t u a n m g first second = record {
@@ -164,7 +164,7 @@ wrote-more s t u a n m g first second = record {
   ready = λ x. second.ready x ∙ first.ready x;
 }
 
--- a write told by another function that gives the same bytes
+-- a write by another function that gives the same bytes
 pub wrote-like : (s t : List Stored) (a n m : ℕ) (f g : ℕ → ℕ) → Wrote s t a n f → n ≡ m → ((k : ℕ) → k < m → f k ≡ g k) → Wrote s t a m g
 wrote-like s t a n m f g w same alike = record {
   within = λ k below. w.within k (omega (arith, same)) ∙ alike k below;
@@ -172,7 +172,7 @@ wrote-like s t a n m f g w same alike = record {
   ready = w.ready;
 }
 
--- the next part of a copy, where what is read lies apart from what is written
+-- the next part of a copy, if the source and the target don't overlap
 pub copied-more : (s t u : List Stored) (from to count n m : ℕ) → IsTrue (nat_le (from + count) to || nat_le (to + count) from) →
     n + m ≤ count →
     Wrote s t to n (λ k. byte_of s (from + k)) → Wrote t u (to + n) m (λ k. byte_of t (from + n + k)) →

@@ -1,41 +1,43 @@
--- Bytes at addresses, as contracts see them: what each address holds, and which ones may be written without wanting memory.
--- Physical memory itself has neither gaps nor want of memory; a program that stands for it has both.
+-- Bytes at addresses, as contracts see them: the byte at each address, and the addresses that can
+-- be written without allocating. Physical memory itself has neither gaps nor a lack of memory; a
+-- program that stands for it has both.
 use Rattle.std.specs.Prelude.{◌≡◌, ℕ, zero, suc, ◌+◌, ◌-◌, ◌<◌, ◌≤◌, Bool, false, ◌||◌, nat_le, nat_lt, if◌then◌else◌, List, [], ◌∷◌, length, slice_index, IsTrue}
 use Rattle.bm_base.specs.Extent.{covers}
 
--- some consecutive bytes: the address of the first, and what they are
+-- consecutive bytes: the address of the first, and the bytes
 pub record Stored : Type 0 where
   pub base : ℕ
   pub bytes : List ℕ
 
--- the address behind the last byte
+-- the address after the last byte
 abbrev pub past : Stored → ℕ
 past p = p.base + length p.bytes
 
--- whether the address lies in the extent
+-- the address is in the extent
 abbrev pub inside : Stored → ℕ → Bool
 inside p x = covers (record { base = p.base; size = length p.bytes }) x
 
--- the byte at an address: that of the first extent that it lies in, and 0 where it lies in none
+-- the byte at an address: that of the first extent that has the address, and 0 if none has it
 abbrev pub byte_of : List Stored → ℕ → ℕ
 byte_of [] x = 0
 byte_of (p ∷ ps) x = if inside p x then slice_index p.bytes (x - p.base) else byte_of ps x
 
--- whether the address is prepared: it lies in some extent
+-- the address is prepared: some extent has it
 abbrev pub is_ready : List Stored → ℕ → Bool
 is_ready [] x = false
 is_ready (p ∷ ps) x = inside p x || is_ready ps x
 
--- each of the n addresses from a on is prepared
+-- each of the n addresses from `a` on is prepared
 abbrev pub AreReady : List Stored → ℕ → ℕ → Type 0
 AreReady ps a n = (x : ℕ) → a ≤ x → x < a + n → IsTrue (is_ready ps x)
 
--- the n bytes from a on that a function gives at each address
+-- the n bytes from address `a` on; the function gives the byte at each address
 unfoldable pub bytes_at : (ℕ → ℕ) → ℕ → ℕ → List ℕ
 bytes_at f a zero = []
 bytes_at f a (suc n) = f a ∷ bytes_at f (a + 1) n
 
--- after a write the k-th of the n bytes from a on is `g k`, every other byte is what it was, and the same addresses are prepared
+-- the effect of a write: byte k of the n bytes from address `a` on is `g k`, every other byte is
+-- unchanged, and the same addresses are prepared
 pub record Wrote (old new : List Stored) (a n : ℕ) (g : ℕ → ℕ) : Type 0 where
   pub within : (k : ℕ) → k < n → byte_of new (a + k) ≡ g k
   pub outside : (x : ℕ) → IsTrue (nat_lt x a || nat_le (a + n) x) → byte_of new x ≡ byte_of old x

@@ -1,23 +1,25 @@
--- How the bytes are kept: in extents that are as long as they can be, so that a range that is prepared address by address
--- lies in one of them.
+-- How the bytes are kept: as extents, each as long as possible, so that a range that is prepared
+-- in parts is in one of them.
 use Rattle.std.specs.Prelude.{ℕ, ◌+◌, ◌-◌, ◌^◌, ◌<◌, ◌≤◌, List, [], ◌∷◌, ◌++◌, take, drop, length, slice_index_or}
 use Rattle.phys_store.specs.declared.extents.Held.{Held}
 use Rattle.phys_store.specs.Bytes.{Stored, past, byte_of, bytes_at}
 
--- an extent, as contracts see it: the room in front of its first byte isn't part of it
+-- an extent, as contracts see it, without the spare room before its first byte
 abbrev pub stored : Held → Stored
 stored e = record { base = e.base; bytes = drop e.front e.bytes.items }
 
--- the extents ascend from e on, none is empty, none touches the next, and none passes 2^64 - 1
+-- the extents ascend from address `e` on, none is empty, none touches the next, and none ends
+-- above 2^64 - 1
 abbrev pub Apart : ℕ → List Stored → Type 0
 Apart e [] = Unit {0}
 Apart e (p ∷ ps) = (e ≤ p.base) × (0 < length p.bytes) × (p.base + length p.bytes < 2 ^ 64) × Apart (past p + 1) ps
 
--- the i-th extent
+-- the extent with index `i`
 abbrev pub nth : List Stored → ℕ → Stored
 nth ps i = slice_index_or ps i (record { base = 0; bytes = [] })
 
--- the extents from the index `first` up to `behind` are those that the addresses from `from` up to `to` meet or touch
+-- the extents with the indices from `first` to below `behind` are those that overlap or touch the
+-- addresses from `from` to below `to`, and they lie within these addresses
 pub record Joins (ps : List Stored) (first behind from to : ℕ) : Type 0 where
   pub order : first ≤ behind
   pub most : behind ≤ length ps
@@ -26,10 +28,12 @@ pub record Joins (ps : List Stored) (first behind from to : ℕ) : Type 0 where
   pub high : (i : ℕ) → first ≤ i → i < behind → past (nth ps i) ≤ to
   pub above : (i : ℕ) → behind ≤ i → i < length ps → to < (nth ps i).base
 
--- one extent of the addresses from `from` up to `to`, with the bytes of others: 0 where these have none
+-- an extent with the addresses from `from` to below `to` and the bytes of others; a byte that
+-- these don't have is 0
 abbrev pub covering : List Stored → ℕ → ℕ → Stored
 covering ps from to = record { base = from; bytes = bytes_at (byte_of ps) from (to - from) }
 
--- the extents from the index `first` up to `behind` are one, which goes from `from` up to `to`
+-- the list with the extents from `first` to below `behind` replaced by one, which has the
+-- addresses from `from` to below `to`
 abbrev pub as_one : List Stored → ℕ → ℕ → ℕ → ℕ → List Stored
 as_one ps first behind from to = take first ps ++ covering (take (behind - first) (drop first ps)) from to ∷ drop behind ps

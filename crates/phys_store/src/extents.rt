@@ -1,31 +1,33 @@
-//! What is read from and written to the extents of a store, none of which takes memory. Each call looks up
-//! the extent of the first address; that it holds the whole of a prepared range follows from the
-//! extents being apart, so no call goes from one extent to the next.
+//! Reads and writes the extents of a store, without allocating. Each call finds the extent that
+//! has the first address. Extents don't touch, so that extent has the whole of a prepared range,
+//! and no call continues in another extent.
 ghost use Rattle.std.specs.Prelude.{◌≡◌, MatchOption, Some, None, get_or, ℕ, ◌+◌, ◌-◌, ◌^◌, ◌<◌, ◌≤◌, ◌↔◌, Bool, true, ◌||◌, nat_le, min, max, map, length, slice_index, position, IsTrue};
 ghost use Rattle.phys_store.specs.Bytes.{past, inside, byte_of, AreReady, Wrote, bytes_at};
 ghost use Rattle.phys_store.specs.Extents.{stored, nth, Apart};
 
 use bm_base::Range;
 
-/// Consecutive bytes that are prepared, with none prepared right before or behind them. In front of them there
-/// may be room for more, so that an extent that grows downward is seldom moved.
+/// An extent: consecutive prepared bytes. The addresses right before and right after it aren't
+/// prepared. There may be spare room before the first byte, so that an extent that grows downward
+/// is seldom moved.
 #[derive(Debug, Drop)]
 pub struct Held {
     /// The address of the first byte.
     pub base: u64,
-    /// How many of `bytes` are room in front of the first byte.
+    /// The number of bytes of spare room at the start of `bytes`, before the first byte of the
+    /// extent.
     pub front: usize,
     pub bytes: Vec<u8>,
 }
 
-/// The number of bytes of the extent.
+/// Returns the number of bytes in the extent, without the spare room.
 pub fn size_of(extent: &Held) -> u64
     ensures { result ≡ length (stored extent.now).bytes }
 {
     extent.bytes.len().saturating_sub(extent.front) as u64
 }
 
-/// The address behind the extent's last byte.
+/// Returns the address after the last byte of the extent.
 pub fn end_of(extent: &Held) -> u64
     requires { past (stored extent.now) < 2 ^ 64 }
     ensures { result ≡ past (stored extent.now) }
@@ -33,14 +35,15 @@ pub fn end_of(extent: &Held) -> u64
     extent.base + size_of(extent)
 }
 
-/// Whether the address lies in the extent.
+/// Tests whether the extent has this address.
 fn has(extent: &Held, address: u64) -> bool
     ensures { result ≡ inside (stored extent.now) address }
 {
     extent.base <= address && address - extent.base < size_of(extent)
 }
 
-/// The index of the first extent that ends at the address or behind it, by halves.
+/// Returns the index of the first extent that ends at or above `address` (the end is the address
+/// after the last byte), or the number of extents if there is none. It is found by binary search.
 pub fn first_reaching(extents: &[Held], address: u64) -> usize
     requires { Apart 0 (map stored extents.now) }
     ensures most { result ≤ length extents.now }
@@ -60,10 +63,10 @@ pub fn first_reaching(extents: &[Held], address: u64) -> usize
     low
 }
 
-/// So many extents are looked through one by one, which is faster for a few of them.
+/// The number of extents up to which a linear search is used, which is faster for a few of them.
 const FEW: usize = 16;
 
-/// The index of the extent in which the address lies.
+/// Returns the index of the extent that has this address, or `None` if no extent has it.
 fn place_of(extents: &[Held], address: u64) -> Option<usize>
     requires { Apart 0 (map stored extents.now) }
     ensures { result ≡ position (λ e. inside (stored e) address) extents.now }
@@ -74,16 +77,16 @@ fn place_of(extents: &[Held], address: u64) -> Option<usize>
     place_among(extents, address)
 }
 
-/// The same, looked for one by one.
+/// Like [`place_of`], by linear search.
 fn place_among(extents: &[Held], address: u64) -> Option<usize>
     ensures { result ≡ position (λ e. inside (stored e) address) extents.now }
 {
     extents.iter().position(|e| has(e, address))
 }
 
-/// The same by halves. No other extent than the first that reaches the address has it: where that ends at the
-/// address, the next begins above it.
-// Apart from the look through a few, so that this is small enough to be compiled into its callers.
+/// Like [`place_of`], by binary search. Only the first extent that ends at or above the address
+/// can have it: if that one ends exactly there, the next begins above.
+// A function of its own, so that the linear search is small enough to be inlined.
 #[inline(never)]
 fn place_by_halves(extents: &[Held], address: u64) -> Option<usize>
     requires { Apart 0 (map stored extents.now) }
@@ -97,7 +100,7 @@ fn place_by_halves(extents: &[Held], address: u64) -> Option<usize>
     }
 }
 
-/// The extent in which the address lies, to be read.
+/// Returns the extent that has this address, or `None` if no extent has it.
 fn extent_at(extents: &[Held], address: u64) -> Option<&Held>
     requires { Apart 0 (map stored extents.now) }
     ensures { MatchOption result (position (λ e. inside (stored e) address) extents.now ≡ None) (λ e. (i : ℕ) ×
@@ -110,7 +113,7 @@ fn extent_at(extents: &[Held], address: u64) -> Option<&Held>
     Some(&extents[i])
 }
 
-/// The same by halves.
+/// Like [`extent_at`], by binary search.
 #[inline(never)]
 fn extent_by_halves(extents: &[Held], address: u64) -> Option<&Held>
     requires { Apart 0 (map stored extents.now) }
@@ -121,7 +124,7 @@ fn extent_by_halves(extents: &[Held], address: u64) -> Option<&Held>
     Some(&extents[i])
 }
 
-/// Whether each address of the range is prepared.
+/// Tests whether each address of the range is prepared.
 pub fn are_ready(extents: &[Held], range: Range) -> bool
     requires { Apart 0 (map stored extents.now) }
     ensures { IsTrue result ↔ AreReady (map stored extents.now) range.base range.size }
@@ -135,7 +138,7 @@ pub fn are_ready(extents: &[Held], range: Range) -> bool
     }
 }
 
-/// The byte at the address; 0 where it isn't prepared.
+/// Returns the byte at this address, or 0 if the address isn't prepared.
 pub fn byte_at(extents: &[Held], address: u64) -> u8
     requires { Apart 0 (map stored extents.now) }
     ensures { result ≡ byte_of (map stored extents.now) address }
@@ -146,7 +149,7 @@ pub fn byte_at(extents: &[Held], address: u64) -> u8
     }
 }
 
-/// The bytes of a prepared range, in place.
+/// Returns the `count` bytes from address `at` on, without copying them. They must be prepared.
 pub fn slice(extents: &[Held], at: u64, count: u64) -> &[u8]
     requires apart { Apart 0 (map stored extents.now) }
     requires prepared { AreReady (map stored extents.now) at count }
@@ -161,7 +164,7 @@ pub fn slice(extents: &[Held], at: u64, count: u64) -> &[u8]
     }
 }
 
-/// The bytes are written at the address.
+/// Writes the bytes from address `at` on. These addresses must be prepared.
 pub fn write(extents: &mut [Held], at: u64, bytes: &[u8])
     requires apart { Apart 0 (map stored extents.old) }
     requires prepared { AreReady (map stored extents.old) at (length bytes.now) }
@@ -175,7 +178,7 @@ pub fn write(extents: &mut [Held], at: u64, bytes: &[u8])
     }
 }
 
-/// Each address of the range gets the byte.
+/// Writes the byte to each address of the range, which must be prepared.
 pub fn fill(extents: &mut [Held], range: Range, byte: u8)
     requires apart { Apart 0 (map stored extents.old) }
     requires prepared { AreReady (map stored extents.old) range.base range.size }
@@ -189,8 +192,8 @@ pub fn fill(extents: &mut [Held], range: Range, byte: u8)
     }
 }
 
-/// The `count` bytes from `from` on are written from `to` on as well; the two ranges may overlap, and
-/// all addresses of both and between them are prepared.
+/// Copies the `count` bytes at address `from` to address `to`. The two ranges may overlap. All
+/// addresses of both ranges, and those between them, must be prepared.
 pub fn shift(extents: &mut [Held], from: u64, to: u64, count: u64)
     requires apart { Apart 0 (map stored extents.old) }
     requires prepared { AreReady (map stored extents.old) (min from to) (max from to - min from to + count) }
@@ -207,11 +210,11 @@ pub fn shift(extents: &mut [Held], from: u64, to: u64, count: u64)
     }
 }
 
-/// The bytes that are copied at a time between two extents.
+/// The number of bytes that are copied at a time between two extents.
 const CHUNK: usize = 256;
 
-/// The `count` bytes from `from` on are written from `to` on as well, where the two ranges have no
-/// address in common. Both are prepared.
+/// Copies the `count` bytes at address `from` to address `to`. The two ranges must not overlap,
+/// and must be prepared.
 #[tactic(auto, using(crate::proofs::ByteLists::byte_counts))]
 pub fn copy(extents: &mut [Held], from: u64, to: u64, count: u64)
     requires apart { Apart 0 (map stored extents.old) }
@@ -232,7 +235,8 @@ pub fn copy(extents: &mut [Held], from: u64, to: u64, count: u64)
     }
 }
 
-/// Reads the bytes from the address on; what isn't prepared is 0.
+/// Reads the bytes from address `at` on into `into`. An address that isn't prepared reads as 0.
+/// `at + into.len()` must be below 2^64.
 #[tactic(auto, using(crate::proofs::ByteLists::byte_counts))]
 pub fn read(extents: &[Held], at: u64, into: &mut [u8])
     requires apart { Apart 0 (map stored extents.now) }

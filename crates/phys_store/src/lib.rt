@@ -1,21 +1,24 @@
-//! The bytes of physical memory, as far as a boot writes them: a byte at each address, 0 at first.
+//! Holds the bytes of physical memory, as far as the boot writes them: one byte at each address, 0
+//! at first.
 //!
-//! memblock keeps its tables in the memory that they describe, so that memory has to have bytes. The
-//! kernel writes through its direct mapping, where every address is there already; a program that
-//! stands for a machine of many terabytes needs memory of its own for each byte that it holds. So a
-//! [`Store`] has prepared addresses. Preparing is the one call that takes memory; writing what is
-//! prepared never wants any, and reading reads any address: what isn't prepared is 0.
+//! memblock keeps its tables in the memory that they describe, so that memory needs bytes. The
+//! kernel writes them through its direct mapping, in which every address exists. This program may
+//! stand for a machine of many terabytes, so it allocates memory only for *prepared* addresses of
+//! a [`Store`]. [`Store::prepare`] is the only call that allocates. Writing needs prepared
+//! addresses and never allocates. Reading accepts any address; an address that isn't prepared
+//! reads as 0.
 //!
-//! The store is kept as extents that are as long as they can be: a range that is prepared
-//! address by address lies in one of them. A table is then one slice, and opening or closing a gap in it
-//! is one bulk move. Where a range joins extents, the largest grows where it lies, downward into room that it
-//! has in front and upward as a `Vec` does, and the others are copied into it: so ranges that are prepared one by
-//! one, in whatever order they lie, move a byte only as often as the extent that it lies in nearly doubles.
+//! The prepared addresses are kept as extents, each as long as possible: addresses that are
+//! prepared next to each other are in one extent. So a table is one slice, and making or closing a
+//! gap in it is one bulk move. If a range joins several extents, the largest grows in place, and
+//! the others are copied into it. It grows downward into spare room before its first byte, and
+//! upward as a `Vec` does. So a byte is moved only when the size of its extent has nearly doubled,
+//! in whatever order the ranges are prepared.
 //!
-//! Contracts see the byte and the readiness of every address (`byte_of` and `is_ready` of
-//! `specs/Bytes.antt`). Each call that writes says one thing, `Wrote`: which bytes it wrote, that every
-//! other byte is as before, and that the same addresses are prepared. The layer above rests on these
-//! words alone, and not on how the extents lie.
+//! Contracts see two things of every address: its byte (`byte_of`) and whether it is prepared
+//! (`is_ready`), both defined in `specs/Bytes.antt`. Each call that writes promises `Wrote`: the
+//! bytes that it wrote, that every other byte is unchanged, and that the same addresses are
+//! prepared. The layer above may rest on these words only, and not on how the extents lie.
 #![tactic(auto)]
 
 mod extents;

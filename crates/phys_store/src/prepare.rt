@@ -1,7 +1,10 @@
-//! Preparing a range: with the extents that it meets or touches it becomes one extent, so that extents stay
-//! apart. The largest of them is kept and widened, and the others are copied into it; where it meets none, a new
-//! extent of its size stands in the list. All memory is taken before a byte or an address changes: what a
-//! failure leaves may have more room in front of an extent, and is else as it was.
+//! Prepares a range. The range and the extents that it overlaps or touches become one extent, so
+//! extents never touch.
+//!
+//! The largest of these extents is kept and grows, and the others are copied into it. If there is
+//! none, a new extent with the size of the range is inserted. All memory is allocated before any
+//! byte or address changes. A failure may leave more spare room before an extent, and changes
+//! nothing else.
 ghost use Rattle.std.specs.Prelude.{◌≡◌, ℕ, ◌+◌, ◌-◌, ◌^◌, ◌<◌, ◌≤◌, ◌||◌, IsTrue, ◌++◌, ◌∷◌, [], take, drop, map, replicate, length, slice_range, OnOk, OnErr};
 ghost use Rattle.bm_base.specs.Extent.{end_of, covers};
 ghost use Rattle.phys_store.specs.Bytes.{past, byte_of, is_ready, AreReady};
@@ -11,8 +14,8 @@ use crate::extents::{Held, are_ready, end_of, first_reaching, size_of};
 use bm_base::{Memory, Range};
 use std::mem;
 
-/// The addresses from `low` up to `high`, and the extents that they meet or touch: those from the index
-/// `first` up to `behind`.
+/// The extents that a range overlaps or touches, those with the indices from `first` to below
+/// `behind`. Together with the range they make up the addresses from `low` to below `high`.
 struct Reach {
     first: usize,
     behind: usize,
@@ -20,7 +23,8 @@ struct Reach {
     high: u64,
 }
 
-/// The range, and each extent that it meets or touches, as one.
+/// Returns the extents that the range overlaps or touches, and the addresses that they and the
+/// range make up.
 fn hull(extents: &[Held], range: Range) -> Reach
     requires { Apart 0 (map stored extents.now) }
     ensures joins { Joins (map stored extents.now) result.first result.behind result.low result.high }
@@ -47,7 +51,11 @@ fn hull(extents: &[Held], range: Range) -> Reach
     }
 }
 
-/// An extent of zeros from `low` up to `high` stands at the index `first`.
+/// Inserts an extent of zeros, from address `low` to below `high`, at index `first`.
+///
+/// # Errors
+///
+/// - `Memory`: the program ran out of memory; the list is unchanged.
 fn begin(extents: &mut Vec<Held>, first: usize, low: u64, high: u64) -> Result<(), Memory>
     requires order { low ≤ high }
     requires most { first ≤ length extents.old.items }
@@ -64,7 +72,8 @@ fn begin(extents: &mut Vec<Held>, first: usize, low: u64, high: u64) -> Result<(
     Ok(())
 }
 
-/// The index of the extent with the most bytes, of those from the index `first` up to `behind`.
+/// Returns the index of the extent with the most bytes, among those with the indices from `first`
+/// to below `behind`. There must be at least one.
 fn largest(extents: &[Held], first: usize, behind: usize) -> usize
     requires some { first < behind }
     requires most { behind ≤ length extents.now }
@@ -81,6 +90,10 @@ fn largest(extents: &[Held], first: usize, behind: usize) -> usize
 }
 
 /// Appends `count` zeros.
+///
+/// # Errors
+///
+/// - `Memory`: the program ran out of memory; the bytes are unchanged.
 fn append_zeros(bytes: &mut Vec<u8>, count: usize) -> Result<(), Memory>
     ensures ok { OnOk result (bytes.new.items ≡ bytes.old.items ++ replicate count 0) }
     ensures err { OnErr result (bytes.new.items ≡ bytes.old.items) }
@@ -92,8 +105,13 @@ fn append_zeros(bytes: &mut Vec<u8>, count: usize) -> Result<(), Memory>
     Ok(())
 }
 
-/// Appends a copy of the bytes from the index `from` on. The `Vec` is taken out of its place meanwhile: so the compiler
-/// sees that none of the bytes lies in the `Vec` itself, and copies them in bulk.
+/// Appends a copy of the bytes from index `from` on. The `Vec` is moved to a local variable
+/// meanwhile. The compiler then knows that its bytes don't overlap the `Vec` itself, and copies
+/// them in bulk.
+///
+/// # Errors
+///
+/// - `Memory`: the program ran out of memory; the bytes are unchanged.
 fn append_from(bytes: &mut Vec<u8>, from: usize) -> Result<(), Memory>
     requires { from ≤ length bytes.old.items }
     ensures ok { OnOk result (bytes.new.items ≡ bytes.old.items ++ slice_range bytes.old.items from (length bytes.old.items)) }
@@ -107,7 +125,12 @@ fn append_from(bytes: &mut Vec<u8>, from: usize) -> Result<(), Memory>
     Ok(())
 }
 
-/// The bytes from the index `from` on lie `more` further up, each byte copied once. What then lies before them is left open.
+/// Moves the bytes from index `from` on up by `more`, copying each byte once. The bytes at the
+/// indices that become free have no defined value.
+///
+/// # Errors
+///
+/// - `Memory`: the program ran out of memory; the bytes are unchanged.
 fn move_up(bytes: &mut Vec<u8>, from: usize, more: usize) -> Result<(), Memory>
     requires { from ≤ length bytes.old.items }
     ensures moved { OnOk result (drop (from + more) bytes.new.items ≡ drop from bytes.old.items) }
@@ -126,8 +149,13 @@ fn move_up(bytes: &mut Vec<u8>, from: usize, more: usize) -> Result<(), Memory>
     Ok(())
 }
 
-/// The extent has room for `down` bytes in front. Where there was too little, there is room for seven eighths of the
-/// bytes that it has, at least: so they are moved for room again only once they are nearly twice as many.
+/// Makes room for `down` bytes before the first byte of the extent. If there is too little, the
+/// new room is at least seven eighths of the number of its bytes. So the bytes are moved again
+/// only when there are nearly twice as many.
+///
+/// # Errors
+///
+/// - `Memory`: the program ran out of memory; the extent is unchanged.
 fn make_room(extent: &mut Held, down: usize) -> Result<(), Memory>
     requires { 0 < length (stored extent.old).bytes }
     ensures same { stored extent.new ≡ stored extent.old }
@@ -142,7 +170,12 @@ fn make_room(extent: &mut Held, down: usize) -> Result<(), Memory>
     Ok(())
 }
 
-/// The extent goes from `low` up to `high`: its bytes stay, and the others are 0.
+/// Extends the extent to the addresses from `low` to below `high`. Its bytes stay, and the new
+/// ones are 0.
+///
+/// # Errors
+///
+/// - `Memory`: the program ran out of memory; the bytes and addresses of the extent are unchanged.
 fn widen(extent: &mut Held, low: u64, high: u64) -> Result<(), Memory>
     requires some { 0 < length (stored extent.old).bytes }
     requires low { low ≤ extent.old.base }
@@ -162,7 +195,7 @@ fn widen(extent: &mut Held, low: u64, high: u64) -> Result<(), Memory>
     Ok(())
 }
 
-/// The bytes of the extent.
+/// Returns the bytes of the extent, without the spare room.
 fn bytes_of(extent: &Held) -> &[u8]
     ensures { result.now ≡ (stored extent.now).bytes }
 {
@@ -170,7 +203,7 @@ fn bytes_of(extent: &Held) -> &[u8]
     &extent.bytes[front..]
 }
 
-/// Each byte of the other extents, which lie in the extent, is written to it.
+/// Copies the bytes of the other extents into this one, which must contain all their addresses.
 fn absorb(extent: &mut Held, others: &[Held])
     requires some { 0 < length (stored extent.old).bytes }
     requires low { (i : ℕ) → i < length others.now → extent.old.base ≤ (nth (map stored others.now) i).base }
@@ -188,7 +221,7 @@ fn absorb(extent: &mut Held, others: &[Held])
     }
 }
 
-/// The extent stands in place of those from the index `first` up to `behind`.
+/// Replaces the extents with the indices from `first` to below `behind` by this one.
 fn replace(extents: &mut Vec<Held>, first: usize, behind: usize, extent: Held)
     requires some { first < behind }
     requires most { behind ≤ length extents.old.items }
@@ -200,8 +233,14 @@ fn replace(extents: &mut Vec<Held>, first: usize, behind: usize, extent: Held)
     }
 }
 
-/// The extents from the index `first` up to `behind` are one, from `low` up to `high`. The largest of them is widened,
-/// and the others are copied into it: so a byte that is copied comes into an extent of twice the size, at least.
+/// Joins the extents with the indices from `first` to below `behind` into one, from address `low`
+/// to below `high`. The largest of them is extended, and the others are copied into it. So each
+/// byte that is copied ends up in an extent of at least twice the size.
+///
+/// # Errors
+///
+/// - `Memory`: the program ran out of memory; the bytes and addresses of all extents are
+///   unchanged.
 fn join(
     extents: &mut Vec<Held>,
     first: usize,
@@ -229,7 +268,12 @@ fn join(
     Ok(())
 }
 
-/// The extents of the reach are one, or a new one where there is none.
+/// Joins the extents of the reach into one, or inserts a new one if there is none.
+///
+/// # Errors
+///
+/// - `Memory`: the program ran out of memory; the bytes and addresses of all extents are
+///   unchanged.
 fn unite(extents: &mut Vec<Held>, reach: Reach) -> Result<(), Memory>
     requires apart { Apart 0 (map stored extents.old.items) }
     requires joins { Joins (map stored extents.old.items) reach.first reach.behind reach.low reach.high }
@@ -252,8 +296,12 @@ fn unite(extents: &mut Vec<Held>, reach: Reach) -> Result<(), Memory>
     }
 }
 
-/// Each address of the range is prepared, and what was so stays. After `Memory` no byte and no prepared address
-/// has changed.
+/// Prepares each address of the range. Prepared addresses stay prepared, and no byte changes.
+///
+/// # Errors
+///
+/// - `Memory`: the program ran out of memory; no byte and no prepared address has changed. The
+///   range wasn't prepared already.
 pub fn prepare(extents: &mut Vec<Held>, range: Range) -> Result<(), Memory>
     requires { Apart 0 (map stored extents.old.items) }
     ensures apart { Apart 0 (map stored extents.new.items) }

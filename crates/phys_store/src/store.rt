@@ -1,6 +1,6 @@
-//! The store as its callers see it: a value with a byte and a readiness at every address. Each method is
-//! one call of `extents` or `prepare`, where the work is done over the list of extents; the fact that
-//! the extents are apart is kept here, as the invariant of the type.
+//! The store as its callers see it: at every address a byte, and whether it is prepared. Each
+//! method makes one call to `extents` or `prepare`. The invariant of the type is that the extents
+//! don't touch.
 ghost use Rattle.std.specs.Prelude.{◌≡◌, ℕ, ◌+◌, ◌-◌, ◌^◌, ◌<◌, ◌≤◌, ◌↔◌, Bool, true, ◌||◌, nat_le, min, max, List, [], length, slice_index, IsTrue, OnOk, OnErr};
 ghost use Rattle.bm_base.specs.Extent.{covers};
 ghost use Rattle.phys_store.specs.Bytes.{byte_of, is_ready, AreReady, Wrote, bytes_at};
@@ -11,8 +11,8 @@ use bm_base::{Memory, Range};
 use std::alloc::Global;
 use std::marker::Model;
 
-/// A byte at each address, 0 at first. Some addresses are prepared, and these can be written without
-/// wanting memory.
+/// A byte at each address, 0 at first. Some addresses are prepared: they can be written without
+/// allocating memory.
 #[derive(Debug, Drop)]
 pub struct Store {
     extents: Vec<Held>,
@@ -32,7 +32,7 @@ impl Model for Store {
 }
 
 impl Store {
-    /// The store in which each byte is 0 and nothing is prepared.
+    /// Returns a store in which each byte is 0 and no address is prepared.
     pub fn new(alloc: Global) -> Store
         ensures { result ≡ [] }
     {
@@ -41,8 +41,13 @@ impl Store {
         }
     }
 
-    /// Prepares each address of the range; what was prepared stays so, and nothing else gets prepared. No
-    /// byte changes. After `Memory` the store is as before.
+    /// Prepares each address of the range. Prepared addresses stay prepared, and no other address
+    /// becomes prepared. No byte changes.
+    ///
+    /// # Errors
+    ///
+    /// - `Memory`: the program ran out of memory; the store is unchanged. The range wasn't
+    ///   prepared already.
     pub fn prepare(&mut self, range: Range) -> Result<(), Memory>
         ensures bytes { (x : ℕ) → byte_of self.new x ≡ byte_of self.old x }
         ensures ready { OnOk result ((x : ℕ) → is_ready self.new x ≡ (covers range x || is_ready self.old x)) }
@@ -53,21 +58,22 @@ impl Store {
         Ok(())
     }
 
-    /// Whether each address of the range is prepared.
+    /// Tests whether each address of the range is prepared.
     pub fn is_prepared(&self, range: Range) -> bool
         ensures { IsTrue result ↔ AreReady self.now range.base range.size }
     {
         extents::are_ready(&self.extents, range)
     }
 
-    /// The byte at the address.
+    /// Returns the byte at this address, or 0 if the address isn't prepared.
     pub fn byte_at(&self, address: u64) -> u8
         ensures { result ≡ byte_of self.now address }
     {
         extents::byte_at(&self.extents, address)
     }
 
-    /// The bytes of a prepared range, in place: no byte is copied.
+    /// Returns the `count` bytes from address `at` on, without copying them. They must be
+    /// prepared.
     pub fn slice(&self, at: u64, count: u64) -> &[u8]
         requires { AreReady self.now at count }
         ensures { result.now ≡ bytes_at (byte_of self.now) at count }
@@ -75,7 +81,7 @@ impl Store {
         extents::slice(&self.extents, at, count)
     }
 
-    /// Writes the bytes from the address on, which are prepared.
+    /// Writes the bytes from address `at` on. These addresses must be prepared.
     pub fn write(&mut self, at: u64, bytes: &[u8])
         requires { AreReady self.old at (length bytes.now) }
         ensures { Wrote self.old self.new at (length bytes.now) (slice_index bytes.now) }
@@ -83,7 +89,7 @@ impl Store {
         extents::write(&mut self.extents, at, bytes);
     }
 
-    /// Writes the byte to each address of the range, which is prepared.
+    /// Writes the byte to each address of the range, which must be prepared.
     pub fn fill(&mut self, range: Range, byte: u8)
         requires { AreReady self.old range.base range.size }
         ensures { Wrote self.old self.new range.base range.size (λ _. byte) }
@@ -91,8 +97,8 @@ impl Store {
         extents::fill(&mut self.extents, range, byte);
     }
 
-    /// Writes the `count` bytes from `from` on to the addresses from `to` on. The ranges may overlap; all
-    /// addresses from the lower one's first to the higher one's last are prepared.
+    /// Copies the `count` bytes at address `from` to address `to`. The two ranges may overlap. All
+    /// addresses of both ranges, and those between them, must be prepared.
     pub fn move_bytes(&mut self, from: u64, to: u64, count: u64)
         requires { AreReady self.old (min from to) (max from to - min from to + count) }
         ensures { Wrote self.old self.new to count (λ k. byte_of self.old (from + k)) }
@@ -100,8 +106,8 @@ impl Store {
         extents::shift(&mut self.extents, from, to, count);
     }
 
-    /// Writes the `count` bytes from `from` on to the addresses from `to` on. Both ranges are prepared,
-    /// and have no address in common.
+    /// Copies the `count` bytes at address `from` to address `to`. The two ranges must not
+    /// overlap, and must be prepared.
     pub fn copy(&mut self, from: u64, to: u64, count: u64)
         requires read { AreReady self.old from count }
         requires written { AreReady self.old to count }
@@ -111,7 +117,8 @@ impl Store {
         extents::copy(&mut self.extents, from, to, count);
     }
 
-    /// Reads the bytes from the address on, whether they are prepared or not.
+    /// Reads the bytes from address `at` on into `into`. An address that isn't prepared reads as
+    /// 0. `at + into.len()` must be below 2^64.
     pub fn read(&self, at: u64, into: &mut [u8])
         requires { at + length into.old < 2 ^ 64 }
         ensures { into.new ≡ bytes_at (byte_of self.now) at (length into.old) }

@@ -8,7 +8,7 @@ use Rattle.phys_store.proofs.Lookup.{Holds, holds_one, whole, read-at, none_read
 use Rattle.phys_store.proofs.extents.are_ready.Goals as goal
 use Rattle.phys_store.proofs.extents.are_ready.Goals.{In-Some}
 
--- the extent that has the range's base
+-- the extent that has the first address of the range
 has_base : (c : In-Some) → Holds c.args.extents.now c.args.range.base 0 c.in-Some.ensures.0 c.in-Some.extent.now
 has_base c =
     let (i, found, is) = c.in-Some.ensures in

@@ -3,7 +3,7 @@ use Rattle.phys_store.specs.Bytes.{byte_of, Wrote}
 use Rattle.phys_store.specs.Extents.{stored, Apart}
 use Rattle.phys_store.proofs.extents.copy.Given as goal
 
--- the bytes that were copied so far
+-- the bytes that have been copied so far
 abbrev pub invariant-loop-done : goal.invariant-loop-done
 invariant-loop-done l = record {
   most : l.done ≤ l.count;

@@ -34,7 +34,7 @@ pub slice_bounds-fill-end : goal.slice_bounds-fill-end
 slice_bounds-fill-end c =
     let h = has_range (goal.at.slice_bounds-fill-end c).After-index-extents-i in omega (arith, h.room, c.deref_mut.ensures.len, h.len)
 
--- it stands in the list again with the bytes filled
+-- the same extent with the bytes filled
 abbrev filled_in : After-fill → Held
 filled_in c =
     let e = get_or c.args.extents.now c.in-Some.i c.index-extents-i.result in

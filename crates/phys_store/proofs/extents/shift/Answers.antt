@@ -44,7 +44,7 @@ pub copy_within-requires-clause-dest_in_bounds : goal.copy_within-requires-claus
 copy_within-requires-clause-dest_in_bounds c =
     let h = has_both (goal.at.copy_within-requires-clause-dest_in_bounds c).After-index-extents-i in omega (arith, h.low, h.room, h.len)
 
--- it stands in the list again with the bytes copied
+-- the same extent with the bytes copied
 abbrev copied_in : After-copy_within → Held
 copied_in c =
     let e = get_or c.args.extents.now c.in-Some.i c.index-extents-i.result in

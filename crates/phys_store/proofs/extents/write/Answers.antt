@@ -33,7 +33,7 @@ slice_bounds-copy_from_slice-end c =
     let h = has_place (goal.at.slice_bounds-copy_from_slice-end c).After-index-extents-i in
     omega (arith, h.room, c.deref_mut.ensures.len, h.len)
 
--- it stands in the list again with the bytes written
+-- the same extent with the bytes written
 abbrev written_in : After-copy_from_slice → Held
 written_in c =
     let e = get_or c.args.extents.now c.in-Some.i c.index-extents-i.result in

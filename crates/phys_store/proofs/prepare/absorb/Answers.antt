@@ -10,7 +10,7 @@ use Rattle.phys_store.proofs.Widening.{absorbed, same_piece}
 use Rattle.phys_store.proofs.prepare.absorb.Goals as goal
 use Rattle.phys_store.proofs.prepare.absorb.Goals.{After-index-others-i}
 
--- the next of the others lies in the extent
+-- the next of the other extents lies in the extent
 record LiesIn (c : After-index-others-i) : Type 0 where
   count : c.loop-i.i - 1 < length c.args.others.now
   is : nth (map stored c.args.others.now) (c.loop-i.i - 1) ≡ stored c.index-others-i.result

@@ -3,7 +3,7 @@ use Rattle.phys_store.specs.Bytes.{past, byte_of}
 use Rattle.phys_store.specs.Extents.{stored}
 use Rattle.phys_store.proofs.prepare.absorb.Given as goal
 
--- the bytes of the extents from the i-th on are in
+-- the bytes of the extents from index `i` on have been copied
 abbrev pub invariant-loop-i : goal.invariant-loop-i
 invariant-loop-i l = record {
   most : l.i ≤ length l.others;

@@ -8,7 +8,7 @@ use Rattle.phys_store.proofs.Joining.{nth_piece, nth-fits, Hull, hull_more, hull
 use Rattle.phys_store.proofs.prepare.hull.Goals as goal
 use Rattle.phys_store.proofs.prepare.hull.Goals.{After-index-extents-behind}
 
--- what the extents so far make
+-- the extents so far, and the addresses that they make up
 so_far : (c : After-index-extents-behind) → Hull (map stored c.args.extents.now) c.args.range c.first_reaching-first.result
     c.loop-behind.behind c.loop-behind.low c.loop-behind.high
 so_far c =

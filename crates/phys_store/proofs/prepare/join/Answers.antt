@@ -14,7 +14,7 @@ kept c =
     kept_piece c.args.extents.now.items c.index_mut.result.now c.args.first c.args.behind c.largest-kept.result c.args.low c.args.high
     c.requires.apart c.requires.joins c.largest-kept.ensures.least c.largest-kept.ensures.below c.index_mut.ensures.value
 
--- what stands in its place while it is out of the list
+-- the empty extent that takes its place in the list meanwhile
 abbrev left : After-replace-whole → Held
 left c = record { base = c.args.low; front = 0; bytes = c.new.result }
 
@@ -51,7 +51,7 @@ out c k =
       end = end;
     }
 
--- so the others lie in it
+-- the other extents lie in the kept one
 lie_in : (c : After-replace-whole) → IsOut c → (ds : List Held) →
     ds ≡ set (set c.args.extents.now.items c.largest-kept.result c.widen.new.extent) c.largest-kept.result c.replace-whole.new.dest →
     let others = take (c.args.behind - c.args.first) (drop c.args.first ds) in (i : ℕ) → i < length others →

@@ -8,7 +8,7 @@ use Rattle.phys_store.proofs.Joining.{Prepared, prepared}
 use Rattle.phys_store.proofs.prepare.prepare.Goals as goal
 use Rattle.phys_store.proofs.prepare.prepare.Goals.{In_ok-unite}
 
--- what the one extent makes of them
+-- the range is prepared once its extents are joined
 done : (c : In_ok-unite) → Prepared (map stored c.args.extents.now.items) (map stored c.unite.new.extents.items) c.args.range
 done c =
     let ps = map stored c.args.extents.now.items in
