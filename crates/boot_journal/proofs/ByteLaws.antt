@@ -1,4 +1,5 @@
--- What a byte carries by the body's way: from trim to trim, with a look at a frame's edges.
+-- Lemmas: following a byte from trim to trim, and comparing the ends inside its frame, gives the
+-- definition's tag.
 use Rattle.std.proofs.Common.{◌≡◌, ℕ, zero, suc, ◌+◌, ◌-◌, ◌%◌, ◌<◌, ◌==◌, Bool, true, false, ◌||◌, nat_lt, Option, Some, None, List, [], ◌∷◌, ◌++◌, length, take, drop, get_or, add-one, refl, sym, ◌∙◌, ap, inl, inr, arith}
 use Rattle.std.proofs.lemmas.Bool.Decides.{nat_tests}
 use Rattle.std.proofs.lemmas.Bool.{cases_Bool, or_cases, or_parts, true≢false}
@@ -16,7 +17,7 @@ use Rattle.memblock_model.proofs.LabelLaws.{IsInFrame, in_own_frame, trimmed-who
 use Rattle.memblock_model.proofs.ItemLaws.{memory_fold-local}
 use Rattle.boot_journal.specs.Bytes.{is_trim, label_after, label_from, label_kept, Agrees, Differs, EdgesAgree, AllAgree}
 
--- an end of the item's range lies at the address
+-- an end of the item's range is at address `e`
 abbrev edge_at : Item → ℕ → Bool
 edge_at (item.Mem range) e = (range.base == e) || (end_of range == e)
 edge_at (item.Node range node) e = (range.base == e) || (end_of range == e)
@@ -30,7 +31,8 @@ edge_in (i ∷ is) e = edge_at i e || edge_in is e
 covers-step : (r : Extent) (y : ℕ) → ((r.base == y + 1) || (end_of r == y + 1)) ≡ false → covers r (y + 1) ≡ covers r y
 covers-step r y h = grind (arith, nat_tests)
 
--- between two ends an item does the same to a byte and to the next
+-- if no end of its range is at the next address, an item has the same effect on that byte as on
+-- this one
 label_after-step : (i : Item) (t : Option Label) (y : ℕ) → edge_at i (y + 1) ≡ false → label_after (y + 1) t i ≡ label_after y t i
 label_after-step (item.Mem range) t y h = rw (covers-step range y h) refl
 label_after-step (item.Node range node) t y h = rw (covers-step range y h) refl
@@ -44,7 +46,7 @@ label_from-step (i ∷ is) t y h =
     let both = or_parts (edge_at i (y + 1)) (edge_in is (y + 1)) h in
     ap (λ (u : Option Label). label_from u is (y + 1)) (label_after-step i t y both.0) ∙ label_from-step is (label_after y t i) y both.1
 
--- where all ends agree, each end does
+-- if both ends of a range agree with the frame's first byte, so does each of them
 range_agrees-at : (whole : Option Label) (items : List Item) (first : ℕ) (r : Extent) (e : ℕ) → Agrees whole items first r.base
     → Agrees whole items first (end_of r)
     → ((r.base == e) || (end_of r == e)) ≡ true → Agrees whole items first e
@@ -70,7 +72,7 @@ all_agree-at whole items first (i ∷ is) e agree h =
       | inr later ↦ all_agree-at whole items first is e agree.1 later
     ]
 
--- then all bytes of the frame carry the same
+-- if all ends agree, all bytes of the frame have the same marks
 frame-agrees : (whole : Option Label) (items : List Item) (first : ℕ) → AllAgree whole items first items → (k y : ℕ) → y ≡ first + k
     → k < 4096
     → label_from whole items y ≡ label_from whole items first
@@ -94,7 +96,7 @@ kept-whole whole items x agree =
     let here = one x (in_own_frame x) in
     trimmed-whole (label_from whole items) x (λ y in_frame. one y in_frame ∙ sym here) ∙ here
 
--- and leaves nothing of one where an end differs
+-- a trim removes a frame with an end that differs
 pub kept-parts : (whole : Option Label) (items : List Item) (x e : ℕ) → Differs whole items (x - x % 4096) e → label_kept whole items x
     ≡ None
 unfolding label_kept
@@ -103,12 +105,12 @@ kept-parts whole items x e differs =
     let at_first : IsInFrame x (x - x % 4096) = record { above = omega arith; below = omega arith } in
     trimmed-unlike (label_from whole items) x e (x - x % 4096) at_edge at_first differs.other
 
--- an item that doesn't trim looks at what the byte carries alone
+-- the effect of an item other than a trim on a byte depends only on that byte's marks
 label_after-is : (f : Labels) (i : Item) (y : ℕ) → is_trim i ≡ false → memory_after f i y ≡ label_after y (f y) i
 label_after-is f item.Trim y plain = absurd (true≢false plain)
 label_after-is f i y plain = refl
 
--- none of the items trims
+-- none of the items is a trim
 abbrev Plain : List Item → Type 0
 Plain items = (k : ℕ) → k < length items → is_trim (get_or items k item.Trim) ≡ false
 
@@ -118,15 +120,16 @@ labels_after f (i ∷ is) y plain =
     labels_after (memory_after f i) is y (λ k lt. plain (suc k) (omega arith))
     ∙ ap (λ (l : Option Label). label_from l is y) (label_after-is f i y (plain 0 (omega arith)))
 
--- memory where all bytes carry the same
+-- memory in which all bytes have the same marks
 abbrev all_with : Option Label → Labels
 all_with carried x = carried
 
--- what the byte carries after the items, from such memory
+-- the marks of the byte after these items, starting from memory in which all bytes have the marks
+-- `whole`
 abbrev pub label_after_all : Option Label → List Item → ℕ → Option Label
 label_after_all whole items x = fold memory_after (all_with whole) items x
 
--- behind a trim all bytes of the frame carry the same, so only that is remembered
+-- after a trim all bytes of the frame have the same marks, so one of them is enough
 trim_step : (whole : Option Label) (items rest : List Item) (x : ℕ) → Plain items
     → label_after_all whole (items ++ item.Trim ∷ rest) x ≡ label_after_all (label_kept whole items x) rest x
 unfolding label_kept
@@ -149,7 +152,7 @@ is_trim-is : (i : Item) → is_trim i ≡ true → i ≡ item.Trim
 is_trim-is item.Trim h = refl
 is_trim-is i h = absurd (true≢false (sym h))
 
--- one turn of the loop
+-- one iteration of the loop
 pub turn : (whole : Option Label) (items : List Item) (i x : ℕ) → position is_trim items ≡ Some i
     → label_after_all whole items x ≡ label_after_all (label_kept whole (take i items) x) (drop (i + 1) items) x
 turn whole items i x found =
@@ -160,7 +163,7 @@ turn whole items i x found =
     rw (get_or-take i items k item.Trim (omega (arith, length-take i items))) (at.2 k (omega (arith, length-take i items))) in
     ap (λ (is : List Item). label_after_all whole is x) apart ∙ rw add-one (trim_step whole (take i items) (drop (suc i) items) x plain)
 
--- and the end
+-- the items after the last trim
 pub last_turn : (whole : Option Label) (items : List Item) (x : ℕ) → position is_trim items ≡ None → label_after_all whole items x
     ≡ label_from whole items x
 last_turn whole items x none = labels_after (all_with whole) items x (position_none items none)

@@ -1,4 +1,4 @@
--- Small journals, computed: what the definitions say that the bodies' contracts cite.
+-- Worked examples of small journals.
 use Rattle.std.proofs.Common.{◌≡◌, ℕ, true, false, Option, Some, None, List, [], ◌∷◌, refl, sym, ap, arith}
 use Rattle.std.proofs.lemmas.Bool.{true≢false}
 use Rattle.std.specs.Option.{option_map_or}
@@ -18,8 +18,7 @@ bytes base size = record { base = base; size = size }
 abbrev of_node : ℕ → Label
 of_node node = with_node (Some node) plain_label
 
--- one item, and one byte
--- memory keeps its node, and what isn't memory gets none
+-- one item and one byte: memory keeps its node, and a byte that isn't memory gets none
 after_examples : (is_trim item.Trim ≡ true) × (is_trim (item.Free (bytes 4 2)) ≡ false)
     × (label_after 5 None (item.Mem (bytes 4 2)) ≡ Some plain_label)
     × (label_after 5 (Some (of_node 1)) (item.Mem (bytes 4 2)) ≡ Some (of_node 1)) × (label_after 6 None (item.Mem (bytes 4 2)) ≡ None)
@@ -38,7 +37,7 @@ from_examples : (label_from None half 4096 ≡ Some (of_node 3)) × (label_from 
     × (label_from None half 0 ≡ None)
 from_examples = (refl, refl, refl)
 
--- a trim leaves nothing of such a frame, and all of one that is memory without a node
+-- a trim removes such a frame, and keeps one that is entirely memory without a node
 kept_examples : (label_kept None half 4096 ≡ None) × (label_kept None (item.Mem (bytes 4096 4096) ∷ []) 5000 ≡ Some plain_label)
 unfolding label_kept trimmed each_in each_from
 kept_examples = (refl, refl)
@@ -46,7 +45,7 @@ kept_examples = (refl, refl)
 plain_is_another : Some plain_label ≡ Some (of_node 3) → ⊥
 plain_is_another same = cc (ap (λ (l : Option Label). option_map_or (λ (m : Label). m.node) l None) same)
 
--- the byte in the middle of the frame differs from its first one, and that is an end of a range
+-- the byte in the middle of the frame is at an end of a range, and has other marks than the first
 middle_differs : Differs None half 4096 6144
 middle_differs = record { behind = omega arith; inside = omega arith; other = plain_is_another }
 
@@ -60,7 +59,7 @@ edges_examples = ((grind arith, grind arith), ((grind arith, grind arith), tt))
 middle_is_an_edge : EdgesAgree None half 4096 (item.Node (bytes 4096 2048) 3) → ⊥
 middle_is_an_edge agree = plain_is_another (agree.1 (omega arith) (omega arith))
 
--- half a frame that becomes mirrored differs from the other half, too
+-- if half of a frame becomes mirrored, it differs from the other half
 mirror_is_another : Some plain_label ≡ Some (with_mirror plain_label) → ⊥
 mirror_is_another same = true≢false (sym (ap (λ (l : Option Label). option_map_or (λ (m : Label). m.mirror) l false) same))
 
@@ -68,11 +67,11 @@ mirror_is_an_edge : EdgesAgree None (item.Mem (bytes 4096 4096) ∷ (item.Mirror
     (item.Mirror (bytes 6144 2048)) → ⊥
 mirror_is_an_edge agree = mirror_is_another (sym (agree.0 (omega arith) (omega arith)))
 
--- one range that becomes mirrored, also where it holds no memory, and none
+-- a range that becomes mirrored, even if it holds no memory; and items without any
 mirrors_examples : (mirrors_in half ≡ false) × (mirrors_in (item.Mirror (bytes 4096 4096) ∷ (item.Trim ∷ [])) ≡ true)
     × (mirrors_after false (item.Mirror (bytes 4096 4096)) ≡ true) × (mirrors_after true item.Trim ≡ true)
 mirrors_examples = (refl, refl, refl, refl)
 
--- what contracts see of a journal: its items beside its spare room
+-- contracts see the items of a journal and the number of spare ones
 contents : Contents
 contents = record { items = half; spare = 2 }

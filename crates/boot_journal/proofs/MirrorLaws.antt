@@ -1,4 +1,4 @@
--- No memory is mirrored where no item says so.
+-- Lemmas: without an item that marks memory as mirrored, no byte is mirrored.
 use Rattle.std.proofs.Common.{◌≡◌, ℕ, true, false, List, [], ◌∷◌, ◌++◌, refl, sym, ◌∙◌, inl, inr, arith}
 use Rattle.std.proofs.lemmas.Bool.{true≢false}
 use Rattle.std.proofs.lemmas.List.Sums.{fold-append}
@@ -22,7 +22,7 @@ trimmed_suits f x plain =
       | inr none ↦ rw none refl
     ]
 
--- once one does, it stays so
+-- after one such item the answer stays true
 marked : (items : List Item) → fold mirrors_after true items ≡ true
 marked [] = refl
 marked (item.Mirror range ∷ is) = marked is

@@ -1,4 +1,4 @@
--- The runs of bytes of one owner that a journal keeps beside its items.
+-- Lemmas on the runs of bytes with one owner that a journal keeps.
 use Rattle.std.proofs.Common.{◌≡◌, ℕ, ◌^◌, List, [], ◌∷◌, ◌++◌, sym, ◌∙◌}
 use Rattle.address_runs.specs.Runs.{RunOf, value_at, IsRunsOf}
 use Rattle.address_runs.specs.Edits.{NothingFrom}
@@ -10,7 +10,7 @@ use Rattle.memblock_model.specs.Items.{owners_after, owner_of, owner_runs_of}
 use Rattle.memblock_model.proofs.SameLaws.{owner_tells}
 use Rattle.memblock_model.proofs.ItemLaws.{owner_of-push}
 
--- what one more item makes of the runs is what it makes of the owners
+-- an item has the same effect on the runs as on the owners of bytes
 pub owners_pushed : (items : List Item) (i : Item) (rs now : List (RunOf Owner)) → IsRunsOf (owner_of items) rs
     → IsRunsOf (owners_after (value_at rs) i) now
     → IsRunsOf (owner_of (items ++ i ∷ [])) now
@@ -18,12 +18,12 @@ owners_pushed items i rs now known new =
     let told : value_at rs ≡ owner_of items = λ k x. known.each x k in
     rw (owner_of-push items i) (rw told at new)
 
--- and they end where the runs do
+-- above the end of the runs no byte has an owner
 pub owners_within : (items : List Item) (rs : List (RunOf Owner)) → IsRunsOf (owner_of items) rs → NothingFrom (2 ^ 64) (value_at rs)
     → NothingFrom (2 ^ 64) (owner_of items)
 owners_within items rs known none x le = sym (known.each x) ∙ none x le
 
--- they are the list of the definitions
+-- the runs are the list that the definition gives
 pub owner_list : (items : List Item) (rs : List (RunOf Owner)) → IsRunsOf (owner_of items) rs → NothingFrom (2 ^ 64) (owner_of items) → rs
     ≡ owner_runs_of items
 unfolding owner_runs_of

@@ -1,22 +1,22 @@
--- Edits of the elements from an index on, as edits of the list that begins there.
+-- Lemmas: an edit of the elements from an index on is an edit of the list that begins there.
 use Rattle.std.proofs.Common.{◌≡◌, ℕ, suc, ◌+◌, ◌-◌, ◌≤◌, List, ◌∷◌, ◌++◌, length, take, drop, set, sym, ◌∙◌, ap, arith}
 use Rattle.std.specs.Prelude.{insert}
 use Rattle.std.specs.List.{copy_within}
 use Rattle.std.proofs.lemmas.List.{append_assoc, drop-append-le, drop-drop, drop-set-add, drop-take, drop_at, length-drop, length-take-le, set-append_right, set_split}
 
 module _ {X : Type 0} where
-  -- behind the first i elements from the index on stands something else
+  -- the first i elements from the index on, followed by others
   pub drop-followed : (a i : ℕ) (ys rest : List X) → a + i ≤ length ys → drop a (take (a + i) ys ++ rest) ≡ take i (drop a ys) ++ rest
   drop-followed a i ys rest within =
       drop-append-le a (take (a + i) ys) rest (omega (arith, length-take-le (a + i) ys within)) ∙ ap (λ l. l ++ rest) (drop-take a i ys)
 
-  -- one more is put there
+  -- an element is inserted there
   pub drop-insert : (a i : ℕ) (x : X) (ys : List X) → a + i ≤ length ys → drop a (insert ys (a + i) x)
       ≡ take i (drop a ys) ++ x ∷ drop i (drop a ys)
   drop-insert a i x ys within =
       drop-followed a i ys (x ∷ drop (a + i) ys) within ∙ ap (λ l. take i (drop a ys) ++ x ∷ l) (sym (drop-drop i a ys))
 
-  -- n are taken out there
+  -- n elements are removed there
   pub drop-closed : (a i n : ℕ) (ys : List X) → a + i ≤ length ys → drop a (take (a + i) ys ++ drop (a + i + n) ys)
       ≡ take i (drop a ys) ++ drop (i + n) (drop a ys)
   drop-closed a i n ys within =
@@ -24,7 +24,7 @@ module _ {X : Type 0} where
       drop-followed a i ys (drop (a + i + n) ys) within
       ∙ ap (λ l. take i (drop a ys) ++ l) (ap (λ k. drop k ys) at ∙ sym (drop-drop (i + n) a ys))
 
-  -- the first i of them move down by one, and one more is put behind them
+  -- the first i elements move down by one, and an element is put after them
   pub drop-moved : (a front i : ℕ) (x : X) (ys : List X) → front ≡ a + 1 → front + i ≤ length ys
       → drop a (set (copy_within ys front (front + i) a) (a + i) x) ≡ take i (drop front ys) ++ x ∷ drop i (drop front ys)
   drop-moved a front i x ys is within =

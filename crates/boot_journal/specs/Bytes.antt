@@ -1,4 +1,4 @@
--- What one byte carries, followed through items that don't trim.
+-- The marks of one byte, followed through items other than trims.
 use Rattle.std.specs.Prelude.{◌≡◌, ◌≢◌, ◌<◌, ◌+◌, ℕ, [], ◌∷◌, Bool, true, false, Option, List, fold}
 use Rattle.bm_base.specs.Extent.{end_of}
 use Rattle.bm_base.specs.declared.frame.TheConstants.{FRAME_SIZE}
@@ -11,37 +11,39 @@ abbrev pub is_trim : Item → Bool
 is_trim item.Trim = true
 is_trim i = false
 
--- what the item makes of what the byte carries; a trim is left out
+-- the marks of the byte at address `x` after the item; a trim changes nothing here
 abbrev pub label_after : ℕ → Option Label → Item → Option Label
 label_after x carried item.Trim = carried
 label_after x carried i = memory_after (λ y. carried) i x
 
--- what the byte carries after the items, from what it carried
+-- the marks of the byte after these items; before them it had the marks `whole`
 abbrev pub label_from : Option Label → List Item → ℕ → Option Label
 label_from whole items x = fold (label_after x) whole items
 
--- what the byte carries after the items and a trim, where all bytes of its frame carried the same
+-- the marks of the byte after these items and a trim; before them all bytes of its frame had the
+-- marks `whole`
 unfoldable pub label_kept : Option Label → List Item → ℕ → Option Label
 label_kept whole items x = trimmed (label_from whole items) x
 
--- an address inside the frame that begins at `first` carries what its first byte carries
+-- if address `e` is inside the frame at `first`, its byte has the same marks as the frame's first
+-- byte
 abbrev pub Agrees : Option Label → List Item → ℕ → ℕ → Type 0
 Agrees whole items first e = first < e → e < first + FRAME_SIZE → label_from whole items e ≡ label_from whole items first
 
--- it carries something else
+-- the address is inside the frame, and its byte has other marks than the frame's first byte
 pub record Differs (whole : Option Label) (items : List Item) (first e : ℕ) : Type 0 where
   pub behind : first < e
   pub inside : e < first + FRAME_SIZE
   pub other : label_from whole items e ≢ label_from whole items first
 
--- so do both ends of the item's range
+-- both ends of the item's range agree with the frame's first byte
 abbrev pub EdgesAgree : Option Label → List Item → ℕ → Item → Type 0
 EdgesAgree whole items first (item.Mem range) = Agrees whole items first range.base × Agrees whole items first (end_of range)
 EdgesAgree whole items first (item.Node range node) = Agrees whole items first range.base × Agrees whole items first (end_of range)
 EdgesAgree whole items first (item.Mirror range) = Agrees whole items first range.base × Agrees whole items first (end_of range)
 EdgesAgree whole items first i = Unit {0}
 
--- and all ends of ranges
+-- all ends of ranges agree with the frame's first byte
 abbrev pub AllAgree : Option Label → List Item → ℕ → List Item → Type 0
 AllAgree whole items first [] = Unit {0}
 AllAgree whole items first (i ∷ is) = EdgesAgree whole items first i × AllAgree whole items first is

@@ -2,7 +2,7 @@
 use Rattle.std.specs.Prelude.{ℕ, List}
 use Rattle.memblock_model.specs.declared.item.Item.{Item}
 
--- its items, oldest first, and how many more it has memory for
+-- its items, oldest first, and the number of further items that it has memory for
 pub record Contents : Type 0 where
   pub items : List Item
   pub spare : ℕ

@@ -1,8 +1,8 @@
-//! The journal itself: its items and, beside them, the runs of who owns what.
+//! The journal: its items, and the runs of bytes with one owner.
 //!
-//! Both are kept here because they change together: an item that claims or frees is noted in the runs before it is
-//! appended, so a look-up never walks the items. Memory for both is taken in one place (`ready`), before anything
-//! changes.
+//! Both change together, so both are here. An item that claims or frees memory first updates the
+//! runs, and then is appended; so looking up an owner never goes through the items. The memory for
+//! both is allocated in one place (`ready`), before anything changes.
 
 ghost use Rattle.std.specs.Prelude.{◌≡◌, ◌++◌, ◌∷◌, ◌+◌, ◌-◌, ◌^◌, ◌<◌, ◌≤◌, ℕ, Some, [], ◌↔◌, IsTrue, max, OnOk, OnErr, IfOk, vec_len, vec_capacity};
 ghost use Rattle.bm_base.specs.Extent.{end_of};
@@ -18,11 +18,11 @@ use run_edits::{holds, value_of};
 use std::alloc::Global;
 use std::marker::Model;
 
-/// What happened to memory, oldest first. Contracts see the items beside `spare`, the number of
-/// items that can be appended without wanting memory.
+/// The items so far, oldest first. Contracts see them and `spare`, the number of items that can be
+/// appended without allocating.
 ///
-/// Beside the items stand the runs of bytes of one owner that they give, ascending, so that who owns a
-/// byte is found by a look-up; and whether any item makes memory mirrored.
+/// The journal also keeps the runs of bytes with one owner, in ascending order, and whether some
+/// item marks memory as mirrored. Both follow from the items.
 #[derive(Debug, Drop)]
 pub struct Journal {
     items: Vec<Item>,
@@ -43,7 +43,7 @@ impl Model for Journal {
 
     ghost view = { λ j. record { items = j.items.items; spare = j.spare } };
 
-    // an item adds two runs at most
+    // an item adds at most two runs
     ghost invariant = { λ j.
         (vec_len j.items + j.spare ≤ vec_capacity j.items) × AreItems j.items.items ×
         (length j.owners.items + 2 * j.spare ≤ j.owners.room) ×
@@ -52,7 +52,7 @@ impl Model for Journal {
 }
 
 impl Journal {
-    /// The journal of a boot in which nothing happened yet.
+    /// Returns the journal of a boot in which nothing has happened.
     pub fn new(alloc: Global) -> Journal
         ensures { result ≡ record { items = []; spare = 0 } }
     {
@@ -64,8 +64,12 @@ impl Journal {
         }
     }
 
-    /// Takes the memory for `n` more items, and for the runs that they may add. `Memory` comes only
-    /// where there was less, and the journal is then as before.
+    /// Allocates the memory for `n` more items, and for the runs that they may add.
+    ///
+    /// # Errors
+    ///
+    /// - `Memory`: the program ran out of memory; the journal is unchanged, and had memory for
+    ///   fewer than `n` items.
     pub fn ready(&mut self, n: u64) -> Result<(), Memory>
         ensures items { self.new.items ≡ self.old.items }
         ensures enough { OnOk result (n ≤ self.new.spare) }
@@ -86,8 +90,11 @@ impl Journal {
         Ok(())
     }
 
-    /// Appends the item, whose range isn't empty; `spare` falls by one, and stays 0. `Memory` comes
-    /// only where it is 0, and the journal is then as before.
+    /// Appends an item, whose range must not be empty. `spare` falls by one, or stays 0.
+    ///
+    /// # Errors
+    ///
+    /// - `Memory`: the program ran out of memory, and `spare` is 0; the journal is unchanged.
     pub fn push(&mut self, item: Item) -> Result<(), Memory>
         requires { IsItem item }
         ensures ok { OnOk result (self.new.items ≡ self.old.items ++ item ∷ []) }
@@ -103,7 +110,8 @@ impl Journal {
         Ok(())
     }
 
-    /// Appends the item, whose range isn't empty, and takes no memory.
+    /// Appends an item, whose range must not be empty, without allocating. `spare` must be above
+    /// 0.
     pub fn push_ready(&mut self, item: Item)
         requires item { IsItem item }
         requires spare { 0 < self.old.spare }
@@ -115,7 +123,7 @@ impl Journal {
         self.spare -= 1;
     }
 
-    /// The items, oldest first.
+    /// Returns the items, oldest first.
     pub fn items(&self) -> &[Item]
         ensures items { result.now ≡ self.now.items }
         ensures ranges { AreItems result.now }
@@ -123,15 +131,16 @@ impl Journal {
         self.items.as_slice()
     }
 
-    /// Who owns the byte at `x`: the newest claim or freeing that covers it decides. A look-up; takes
-    /// no memory.
+    /// Returns the owner of the byte at address `x`, or `None` if nobody owns it. The last claim
+    /// or release that covers the byte decides. Looks it up in the runs, without allocating.
     pub fn owner_at(&self, x: u64) -> Option<Owner>
         ensures { result ≡ owner_of self.now.items x }
     {
         value_of(&self.owners, x)
     }
 
-    /// Whether each byte of the range has this owner. A look-up; takes no memory.
+    /// Tests whether each byte of the range has this owner. Looks it up in the runs, without
+    /// allocating.
     pub fn owns(&self, range: &Range, owner: Owner) -> bool
         ensures { IsTrue result ↔ ((x : ℕ) → range.now.base ≤ x → x < end_of range.now →
             owner_of self.now.items x ≡ Some owner) }
@@ -139,22 +148,24 @@ impl Journal {
         holds(&self.owners, range, owner)
     }
 
-    /// Whether an item makes memory mirrored. Takes no memory, and looks at no item.
+    /// Tests whether some item marks memory as mirrored. The answer is kept, so no item is looked
+    /// at.
     pub fn has_mirrors(&self) -> bool
         ensures { result ≡ mirrors_in self.now.items }
     {
         self.mirrors
     }
 
-    /// Whether the byte at `x` is memory, of which node, and whether it is mirrored. Takes no memory. The time
-    /// is that of a few looks at all items, two more for each end of a range inside the frame of `x`.
+    /// Returns whether the byte at address `x` is memory, on which node, and whether it is
+    /// mirrored. Allocates nothing. Goes through all items a few times, and twice more for each
+    /// end of a range inside the frame of `x`.
     pub fn tag_at(&self, x: u64) -> Tag
         ensures { result ≡ tag_of self.now.items x }
     {
         tags::tag_at(&self.items, x)
     }
 
-    /// The runs of equal owner, ascending, as the journal has them. Takes no memory.
+    /// Returns the runs of bytes with one owner, in ascending order, as the journal keeps them.
     pub fn owners(&self) -> &[OwnerRun]
         ensures runs { IsRunsOf (owner_of self.now.items) result.now }
         ensures list { result.now ≡ owner_runs_of self.now.items }
@@ -162,7 +173,11 @@ impl Journal {
         self.owners.as_slice()
     }
 
-    /// A list of the runs of equal owner, ascending.
+    /// Returns a copy of the runs of bytes with one owner, in ascending order.
+    ///
+    /// # Errors
+    ///
+    /// - `Memory`: the program ran out of memory.
     pub fn owner_runs(&self) -> Result<Vec<OwnerRun>, Memory>
         ensures runs { IfOk result (λ runs. IsRunsOf (owner_of self.now.items) runs.items) }
         ensures list { IfOk result (λ runs. runs.items ≡ owner_runs_of self.now.items) }
@@ -172,7 +187,7 @@ impl Journal {
     }
 }
 
-/// Whether an item makes memory mirrored: this one, or one before it.
+/// Tests whether this item or one before it marks memory as mirrored.
 fn mirrors_after(before: bool, item: &Item) -> bool
     ensures { result ≡ mirrors_after before item.now }
 {

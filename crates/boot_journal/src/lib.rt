@@ -1,19 +1,23 @@
-//! The journal of the boot: what happened to memory, in order.
+//! Keeps the journal of the boot: everything that happened to memory, in order.
 //!
 //! Every call of memblock that changes memory (`memblock_add`, `memblock_reserve`,
-//! `memblock_phys_free`, `memblock_set_node`, `memblock_trim_memory`, ..) leaves one [`Item`]. The
-//! kernel keeps merged records alone, and forgets for whom it reserved; the journal tells for each
-//! byte who owns it, and whether it is memory, of which node, and mirrored.
+//! `memblock_phys_free`, `memblock_set_node`, `memblock_trim_memory` and others) appends one
+//! [`Item`]. The kernel keeps only merged records, and forgets for whom it reserved memory. The
+//! journal can say of each byte who owns it, whether it is memory, on which node, and whether it
+//! is mirrored.
 //!
-//! [`Journal::tag_at`] asks the items what a byte is to memory. Who owns a byte is asked more often, of
-//! many bytes, so the journal keeps the runs of bytes of one owner sorted beside its items, and each
-//! claim and freeing changes them in place: [`Journal::owners`] lends them, and [`Journal::owner_at`]
-//! and [`Journal::owns`] cost a look-up. What is answered is defined in `memblock_model`,
-//! `specs/Items.antt`, of the items alone.
+//! [`Journal::tag_at`] computes from the items what kind of memory a byte is. Who owns a byte is
+//! asked more often. So the journal also keeps the runs of bytes with one owner, sorted, and each
+//! claim and each release updates them. [`Journal::owners`] returns these runs;
+//! [`Journal::owner_at`] and [`Journal::owns`] look up a byte or a range in them. All results are
+//! defined on the items alone, in `specs/Items.antt` of `memblock_model`.
 //!
-//! The layer above may rest on this: an item is appended or, where memory is wanted, the journal is
-//! as before; after [`Journal::ready`] so many items can be appended without wanting any. Contracts
-//! see a journal as its items beside the number `spare`. No item's range is empty.
+//! The layer above may rest on this: a call appends its item, or runs out of memory and leaves the
+//! journal unchanged. After [`Journal::ready`] has succeeded for n items, the next n items are
+//! appended without allocating. Contracts see a journal as its items and the number `spare` of
+//! items that it has memory for. The range of an item is never empty.
+//!
+//! In contracts, a name means the definition in `specs/`, here or in a crate below.
 #![tactic(auto)]
 
 mod journal;

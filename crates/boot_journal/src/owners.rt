@@ -1,8 +1,8 @@
-//! The runs of equal owner, as the items come.
+//! Updates the runs of bytes with one owner, item by item.
 //!
-//! A claim replaces whoever had the bytes and a freeing leaves them to nobody (`memblock_reserve`, `memblock_phys_free`); each
-//! is one edit of a list of runs that stays sorted (`run_edits`). It stands apart from the journal so that the edit
-//! is said over any list that is that of the items.
+//! A claim replaces the previous owner of its bytes, and a release leaves them without one
+//! (`memblock_reserve`, `memblock_phys_free`). Each is one edit of a sorted list of runs
+//! (`run_edits`). The edit has a file of its own so that its contract holds for any such list.
 
 ghost use Rattle.std.specs.Prelude.{◌+◌, ◌^◌, ◌<◌, ◌≤◌, length};
 ghost use Rattle.address_runs.specs.Runs.{AreRuns, IsRunsOf, value_at};
@@ -15,8 +15,8 @@ use bm_base::Range;
 use memblock_model::{Item, Owner};
 use run_edits::{Change, Replace, Uncover, amend};
 
-/// What the item makes of the runs of equal owner: a claim gives the bytes of its range to its owner,
-/// whoever had them, and after a freeing nobody has them.
+/// Updates the runs for an item. A claim makes its owner the owner of all bytes in its range;
+/// after a release nobody owns them. There must be room for two more runs.
 pub fn note(owners: &mut RunList, item: &Item)
     requires item { IsItem item.now }
     requires runs { AreRuns owners.old.items }
@@ -34,7 +34,8 @@ pub fn note(owners: &mut RunList, item: &Item)
     }
 }
 
-/// The same in the words of one change. Takes no memory.
+/// Carries out one change on the runs inside the range, without allocating. There must be room for
+/// two more runs.
 fn change<C: Change<Owner>>(owners: &mut RunList, range: &Range, change: C)
     requires some { 0 < range.now.size }
     requires runs { AreRuns owners.old.items }

@@ -1,8 +1,9 @@
-//! The runs of equal owner in a list that grows cheaply at both ends.
+//! A list of runs that grows cheaply at both ends.
 //!
-//! Allocations from above claim one place below the other, so a new run comes before all but a few others. Claims in ascending order
-//! come after all others. So the list has room before its first run as well as behind its last one, and a place is opened or closed by
-//! moving whichever part of the list is shorter. New memory has room for half as many runs again at each end.
+//! Top-down allocations claim one range below the other, so a new run comes before all but a few
+//! others. Ascending claims come after all others. So the list has room before its first run and
+//! after its last one. Inserting or removing a run moves whichever part of the list is shorter. A
+//! reallocation leaves room at each end for half as many runs as the list has.
 
 ghost use Rattle.std.specs.Prelude.{◌≡◌, ℕ, ◌+◌, ◌-◌, ◌<◌, ◌≤◌, [], ◌∷◌, ◌++◌, IsTrue, false, OnOk, OnErr, drop, length, take, vec_len, vec_capacity};
 
@@ -12,12 +13,12 @@ use run_edits::{Rows, Slots};
 use std::alloc::Global;
 use std::marker::Model;
 
-/// Runs of bytes of one owner.
+/// The runs of bytes with one owner.
 #[derive(Debug, Drop)]
 pub struct RunList {
-    /// The runs, from the index `front` on.
+    /// The runs, from index `front` on.
     records: Vec<OwnerRun>,
-    /// How many of `records` are room before the first run.
+    /// The number of unused `records` before the first run.
     front: usize,
 }
 
@@ -33,7 +34,7 @@ impl Model for RunList {
 }
 
 impl RunList {
-    /// A list without runs.
+    /// Returns a list without runs.
     pub fn new(alloc: Global) -> RunList
         ensures { result.items ≡ [] }
     {
@@ -43,14 +44,18 @@ impl RunList {
         }
     }
 
-    /// The runs, ascending.
+    /// Returns the runs, in ascending order.
     pub fn as_slice(&self) -> &[OwnerRun]
         ensures { result.now ≡ self.now.items }
     {
         &self.records[self.front..]
     }
 
-    /// Takes the memory for `more` runs at either end, unless there is enough. After a failure the list is as before.
+    /// Allocates memory for `more` further runs at either end, unless there is room already.
+    ///
+    /// # Errors
+    ///
+    /// - `Memory`: the program ran out of memory; the list is unchanged.
     pub fn reserve(&mut self, more: u64) -> Result<(), Memory>
         ensures items { self.new.items ≡ self.old.items }
         ensures room { OnOk result (length self.old.items + more ≤ self.new.room) }
@@ -64,7 +69,12 @@ impl RunList {
         self.widen(more)
     }
 
-    /// Moves the runs to new memory, with room at each end for `more` runs and half as many as there are.
+    /// Moves the runs to new memory. At each end it has room for `more` runs and half as many as
+    /// there are.
+    ///
+    /// # Errors
+    ///
+    /// - `Memory`: the program ran out of memory; the list is unchanged.
     fn widen(&mut self, more: usize) -> Result<(), Memory>
         ensures items { self.new.items ≡ self.old.items }
         ensures room { OnOk result (length self.old.items + more ≤ self.new.room) }
@@ -100,7 +110,7 @@ impl Rows<OwnerRun> for RunList {
     }
 }
 
-/// The list has room for what it has memory for, at both ends together.
+/// The room of the list is all the memory that it has, at both ends together.
 impl Slots<OwnerRun> for RunList {
     ghost room = { λ r. r.room };
 
@@ -145,8 +155,9 @@ impl Slots<OwnerRun> for RunList {
     ghost keeps_room = { λ s t kept. kept };
 }
 
-/// Whether a place at the index is opened by moving the runs before it: there are fewer of them than behind it, and room in front, or no
-/// room behind.
+/// Decides whether inserting at index `i` moves the runs before it, and not those after it. That
+/// is so if fewer runs are before it and there is room before the first run, or if there is no
+/// room after the last run.
 fn is_low(i: usize, count: usize, front: usize, behind: usize) -> bool
     requires within { i ≤ count }
     requires room { 0 < front + behind }
@@ -156,7 +167,8 @@ fn is_low(i: usize, count: usize, front: usize, behind: usize) -> bool
     behind == 0 || (front > 0 && i < count - i)
 }
 
-/// Puts the run before the `i`-th from `front` on; those before it move down, into the room in front.
+/// Inserts a run at index `i`, counted from `front`. The runs before it move down by one, into the
+/// room before the first run.
 fn insert_low(records: &mut Vec<OwnerRun>, front: usize, i: usize, run: OwnerRun)
     requires some { 0 < front }
     requires within { front + i ≤ vec_len records.old }
@@ -169,7 +181,7 @@ fn insert_low(records: &mut Vec<OwnerRun>, front: usize, i: usize, run: OwnerRun
     records[front - 1 + i] = run;
 }
 
-/// Takes out the `n` runs from the index on; those behind them move down.
+/// Removes `n` runs from index `i` on. The runs after them move down.
 fn close_high(records: &mut Vec<OwnerRun>, i: usize, n: usize)
     requires { i + n ≤ vec_len records.old }
     ensures items { records.new.items ≡ take i records.old.items ++ drop (i + n) records.old.items }

@@ -1,8 +1,9 @@
-//! What one byte carries as memory, followed through the items.
+//! Computes what kind of memory one byte is, by following it through the items.
 //!
-//! Nothing is kept for this: it is asked for a byte here and there, and the memory table has the records. Between two trims the
-//! items are followed for the byte alone; at a trim its whole frame is looked at, by the ends of ranges that lie in it
-//! (`memblock_trim_memory`).
+//! No result is kept for this, since it is asked only now and then, and the memory table has the
+//! records. Between two trims the items are followed for the byte alone. A trim keeps a frame only
+//! if all its bytes have the same marks (`memblock_trim_memory`). The marks can change only at the
+//! ends of ranges, so only the ends that are inside the frame are compared.
 
 ghost use Rattle.std.specs.Prelude.{◌≡◌, ◌<◌, ℕ, IsTrue, IfSome, None, false, length, position};
 ghost use Rattle.bm_base.specs.Extent.{end_of};
@@ -13,7 +14,8 @@ ghost use Rattle.boot_journal.specs.Bytes.{is_trim, label_after, label_from, lab
 use bm_base::{FRAME_SIZE, Range};
 use memblock_model::{Item, Marks, Tag};
 
-/// What the byte at `x` carries after the item, if that isn't a trim.
+/// Returns the marks of the byte at `x` after an item other than a trim, or `None` if the byte
+/// isn't memory. `carried` are its marks before the item.
 fn after(carried: Option<Marks>, item: &Item, x: u64) -> Option<Marks>
     ensures { result ≡ label_after x carried item.now }
 {
@@ -27,7 +29,7 @@ fn after(carried: Option<Marks>, item: &Item, x: u64) -> Option<Marks>
     }
 }
 
-/// What the byte at `x` carries after the items, of which none trims.
+/// Returns the marks of the byte at `x` after these items, none of which is a trim.
 fn after_all(whole: &Option<Marks>, items: &[Item], x: u64) -> Option<Marks>
     ensures { result ≡ label_from whole.now items.now x }
 {
@@ -43,8 +45,8 @@ fn first_trim(items: &[Item]) -> Option<usize>
     items.iter().position(|item| matches!(item, Item::Trim))
 }
 
-/// Whether the byte at the edge carries what the frame's first byte carries, if the edge lies behind
-/// that and inside the frame.
+/// Tests whether the byte at `edge` has the same marks as the first byte of the frame. True for an
+/// edge outside the frame.
 fn edge_agrees(whole: &Option<Marks>, items: &[Item], first: u64, edge: u64) -> bool
     ensures agrees { IsTrue result → Agrees whole.now items.now first edge }
     ensures differs { result ≡ false → Differs whole.now items.now first edge }
@@ -55,7 +57,7 @@ fn edge_agrees(whole: &Option<Marks>, items: &[Item], first: u64, edge: u64) -> 
     after_all(whole, items, edge) == after_all(whole, items, first)
 }
 
-/// The same of both ends of the item's range.
+/// Tests [`edge_agrees`] for both ends of the item's range.
 fn item_agrees(whole: &Option<Marks>, items: &[Item], first: u64, item: &Item) -> bool
     ensures agrees { IsTrue result → EdgesAgree whole.now items.now first item.now }
     ensures differs { result ≡ false → (e : ℕ) × Differs whole.now items.now first e }
@@ -76,9 +78,9 @@ fn range_agrees(whole: &Option<Marks>, items: &[Item], first: u64, range: &Range
     edge_agrees(whole, items, first, range.base) && edge_agrees(whole, items, first, range.end())
 }
 
-/// Whether all bytes of the frame that begins at `first` carry the same after the items, of which
-/// none trims, if they all did before. Between two ends of ranges that can't change, so the ends that
-/// lie inside the frame are looked at alone.
+/// Tests whether all bytes of the frame at `first` have the same marks after the items, none of
+/// which is a trim, given that all had the marks `whole` before. The marks can change only at the
+/// ends of ranges, so only the ends inside the frame are looked at.
 fn frame_agrees(whole: &Option<Marks>, items: &[Item], first: u64) -> bool
     ensures agrees { IsTrue result → AllAgree whole.now items.now first items.now }
     ensures differs { result ≡ false → (e : ℕ) × Differs whole.now items.now first e }
@@ -91,8 +93,8 @@ fn frame_agrees(whole: &Option<Marks>, items: &[Item], first: u64) -> bool
     true
 }
 
-/// What the byte at `x` carries after the items, of which none trims, and a trim, if all bytes of its
-/// frame carried the same before.
+/// Returns the marks of the byte at `x` after these items, none of which is a trim, followed by a
+/// trim. The result is `None` unless all bytes of its frame have the same marks before the trim.
 fn kept(whole: &Option<Marks>, items: &[Item], x: u64) -> Option<Marks>
     ensures { result ≡ label_kept whole.now items.now x }
 {
@@ -103,7 +105,7 @@ fn kept(whole: &Option<Marks>, items: &[Item], x: u64) -> Option<Marks>
     after_all(whole, items, first)
 }
 
-/// The tag of a byte that carries this.
+/// Returns the tag of a byte with these marks.
 fn tag(carried: Option<Marks>) -> Tag
     ensures { result ≡ tag_for carried }
 {
@@ -113,8 +115,10 @@ fn tag(carried: Option<Marks>) -> Tag
     }
 }
 
-/// The tag of the byte at `x` after the items. A trim leaves a frame of which all bytes carry the
-/// same, so the items between two trims are followed for the byte alone, and at a trim for its frame.
+/// Returns the tag of the byte at address `x` after all items: whether it is memory, on which
+/// node, and whether it is mirrored. After a trim all bytes of a frame have the same marks. So
+/// between two trims the items are followed for the byte alone, and at a trim its frame is
+/// compared.
 pub fn tag_at(items: &[Item], x: u64) -> Tag
     ensures { result ≡ tag_of items.now x }
 {

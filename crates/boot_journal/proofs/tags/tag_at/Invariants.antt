@@ -3,7 +3,8 @@ use Rattle.memblock_model.specs.Items.{memory_of}
 use Rattle.boot_journal.proofs.ByteLaws.{label_after_all}
 use Rattle.boot_journal.proofs.tags.tag_at.Given as goal
 
--- the items that are left make of a frame of which all bytes carry the same what all items make of the byte
+-- from a frame in which all bytes have the marks `whole`, the items that are left give what all
+-- items give for the byte
 abbrev pub invariant-loop-i : goal.invariant-loop-i
 invariant-loop-i l = record { few : length l.rest ≤ length l.items; label : label_after_all l.whole l.rest l.x ≡ memory_of l.items l.x }
 
