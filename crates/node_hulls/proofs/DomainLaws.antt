@@ -1,4 +1,5 @@
--- Naming domains up to one more than there may be nodes gives the front of the list of all of them.
+-- Lemmas: a list that stops at one more domain than there may be nodes is the start of the list of
+-- all domains.
 use Rattle.std.proofs.Common.{◌≡◌, ℕ, ◌<◌, ◌≤◌, ◌==◌, List, [], ◌∷◌, ◌++◌, map, fold, length, take, refl, sym, ◌∙◌, inl, inr, arith}
 use Rattle.std.proofs.lemmas.Bool.{cases_lt, cases_Bool, le-leb}
 use Rattle.std.proofs.lemmas.List.{take_all, take-append-le, length-append, length-take-le}
@@ -9,7 +10,7 @@ use Rattle.srat_reader.specs.declared.table.SratBlock.{SratBlock}
 use Rattle.node_hulls.specs.Domains.{with_name, named_once, domains_named}
 use Rattle.node_hulls.specs.Steps.{with_name_in_room, named_by_block}
 
--- one name more
+-- one more domain
 step_in_room : (full : List ℕ) (d : ℕ) → length full ≤ 1024 → with_name_in_room (take 1025 full) d ≡ take 1025 (with_name full d)
 step_in_room full d few =
     let whole : take 1025 full ≡ full = take_all 1025 full (omega arith) in
@@ -33,7 +34,7 @@ step_name full d = elim (cases_lt 1024 (length full)) as (λ _. with_name_in_roo
   | inr few ↦ step_in_room full d few
 ]
 
--- all names
+-- all domains
 names_in_room : (full names : List ℕ) → fold with_name_in_room (take 1025 full) names ≡ take 1025 (fold with_name full names)
 names_in_room full [] = refl
 names_in_room full (d ∷ ds) = rw (step_name full d) (names_in_room (with_name full d) ds)

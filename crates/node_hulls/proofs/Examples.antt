@@ -1,4 +1,4 @@
--- Small machines, computed: what the definitions say of a few addresses, blocks and domains.
+-- Worked examples of small machines.
 use Rattle.std.proofs.Common.{◌≡◌, ℕ, Bool, true, false, List, [], ◌∷◌, Some, None, refl, ◌∙◌, lit<, lit≤, arith}
 use Rattle.std.specs.Prelude.{◌==◌, nat_lt, ◌||◌, replicate}
 use Rattle.std.specs.List.{range_with_len}
@@ -18,7 +18,7 @@ use Rattle.node_hulls.specs.Kept.{in_any, frame_base, framed, meets_memory, of_n
 abbrev block : ℕ → ℕ → ℕ → NumaBlock
 block n base size = record { base = base; size = size; value = n }
 
--- a stretch meets a block where some address of the block lies in it
+-- a range meets a block if it has an address of the block
 meets_examples : (meets 2 5 (block 0 4 3) ≡ true) × (meets 2 4 (block 0 4 3) ≡ false) × (meets 7 9 (block 0 4 3) ≡ false)
 meets_examples = (refl, refl, refl)
 
@@ -27,11 +27,11 @@ between_examples : (is_between (block 0 1 2) (block 0 5 1) 3 ≡ true) × (is_be
     × (is_between (block 0 1 2) (block 0 5 1) 5 ≡ false)
 between_examples = (refl, refl, refl)
 
--- node 0 at 1 and 2 and at 8 and 9, node 1 at 5: told in another order
+-- node 0 at 1 and 2 and at 8 and 9, node 1 at 5, not in the order of addresses
 abbrev one_between : List NumaBlock
 one_between = block 0 8 2 ∷ block 1 5 1 ∷ block 0 1 2 ∷ []
 
--- node 0 on both sides of a hole, and node 1 behind them
+-- node 0 on both sides of a hole, and node 1 above them
 abbrev hole : List NumaBlock
 hole = block 0 1 2 ∷ block 1 9 2 ∷ block 0 5 2 ∷ []
 
@@ -57,15 +57,15 @@ node_examples = (refl, refl, refl)
 same_examples : (same_node 3 3 ≡ true) × (same_node 3 4 ≡ false)
 same_examples = (refl, refl)
 
--- the runs of nodes over twelve addresses: the hole is filled, and what lies around another node isn't; a block within another
--- one of its node, and two that touch
+-- the runs of nodes over twelve addresses: the hole is filled; a gap with another node in it
+-- isn't; and a block inside another of its node, with one that touches
 filled_examples : (runs_from same_node (node_at hole) 0 12 ≡ block 0 1 6 ∷ block 1 9 2 ∷ [])
     × (runs_from same_node (node_at one_between) 0 12 ≡ block 0 1 2 ∷ block 1 5 1 ∷ block 0 8 2 ∷ [])
     × (runs_from same_node (node_at (block 2 3 1 ∷ block 2 1 5 ∷ block 2 6 1 ∷ [])) 0 12 ≡ block 2 1 6 ∷ [])
 unfolding runs_from node_at
 filled_examples = (refl, refl, refl)
 
--- domains in the order of first naming, each once
+-- domains in the order in which they are first named, each once
 is_named_examples : (is_named (5 ∷ 2 ∷ []) 2 ≡ true) × (is_named (5 ∷ 2 ∷ []) 3 ≡ false)
 is_named_examples = (refl, refl)
 
@@ -79,7 +79,7 @@ named_once_examples = (refl, refl)
 abbrev told : ℕ → ℕ → ℕ → SratBlock
 told domain base size = record { domain = domain; range = record { base = base; size = size } }
 
--- those of processors come first, though memory names others
+-- the domains of processors come first, even if memory names others
 processors_first : (domains_named (12 ∷ 11 ∷ []) (told 3 0 1 ∷ told 12 1 1 ∷ []) ≡ 12 ∷ 11 ∷ 3 ∷ [])
     × (domains_named [] (told 3 0 1 ∷ told 12 1 1 ∷ []) ≡ 3 ∷ 12 ∷ [])
 unfolding named_once
@@ -88,7 +88,7 @@ processors_first = (refl, refl)
 node_of_examples : (node_of (12 ∷ 11 ∷ 3 ∷ []) 12 ≡ 0) × (node_of (12 ∷ 11 ∷ 3 ∷ []) 3 ≡ 2)
 node_of_examples = (refl, refl)
 
--- memory as ranges: 0x1000 to 0x2FFF and one byte at 0x5000
+-- memory as ranges: 0x1000 to 0x2FFF, and one byte at 0x5000
 abbrev memory : ℕ → Bool
 memory = in_any (record { base = 0x1000; size = 0x2000 } ∷ record { base = 0x5000; size = 1 } ∷ [])
 
@@ -101,17 +101,17 @@ frame_base_examples = (refl, refl)
 abbrev range : ℕ → ℕ → Extent
 range base size = record { base = base; size = size }
 
--- both ends are rounded down, so a range within one frame is empty
+-- both ends are rounded down, so a range inside a frame becomes empty
 framed_examples : (framed (range 0x1800 0x1000) ≡ range 0x1000 0x1000) × (framed (range 0x1800 0x7FF) ≡ range 0x1000 0)
 framed_examples = (refl, refl)
 
--- one byte is enough, and no byte isn't
+-- one byte of memory is enough, and no byte isn't
 has_memory_examples : (meets_memory memory (range 0x4FFE 4) ≡ true) × (meets_memory memory (range 0x4FFE 2) ≡ false)
     × (meets_memory memory (range 0x1000 0) ≡ false)
 unfolding each_in each_from
 has_memory_examples = (refl, refl, refl)
 
--- over a test of a few addresses, so that whole frames compute
+-- a test of a few addresses, so that the examples can be computed for whole frames
 abbrev some_frames : ℕ → Bool
 some_frames x = (x == 0x1000) || (x == 0x3000)
 
@@ -124,7 +124,7 @@ kept_one_examples : (kept_one memory 7 (block 3 0x5000 2) ≡ record { number = 
 unfolding each_in each_from
 kept_one_examples = (refl, refl)
 
--- the numbers count the blocks that aren't kept too: here the first one, which is empty in whole frames
+-- blocks that aren't kept are numbered too: here the first one, which is empty after rounding
 kept_examples : (kept_of some_frames (5 ∷ 6 ∷ []) (told 5 0 0xFFF ∷ told 6 0x1000 0x1000 ∷ [])
     ≡ record { number = 1; block = block 1 0x1000 0x1000 } ∷ [])
     × (kept_from some_frames (5 ∷ []) 4 (told 5 0 0x800 ∷ []) ≡ [])
@@ -146,29 +146,31 @@ any_kept_examples : (any_kept some_frames (told 5 0 0xFFF ∷ told 6 0x1000 0x10
 unfolding each_in each_from
 any_kept_examples = (refl, refl)
 
--- by the length that the table states, before it is rounded
+-- the size in the table counts, before rounding
 count_examples : (count_some (told 5 0 1 ∷ told 6 9 0 ∷ told 7 9 2 ∷ []) ≡ 2) × (count_some [] ≡ 0)
 count_examples = (refl, refl)
 
--- blocks of different nodes that share an address; touching isn't sharing, and one node may lie over itself
+-- blocks of different nodes that share an address; blocks that touch don't, and blocks of one node
+-- may overlap
 clash_examples : (clash (kept 0 (block 0 1 2)) (kept 1 (block 1 2 2)) ≡ true)
     × (clash (kept 0 (block 0 1 2)) (kept 1 (block 1 3 2)) ≡ false)
     × (clash (kept 0 (block 0 1 2)) (kept 1 (block 0 2 2)) ≡ false)
 clash_examples = (refl, refl, refl)
 
--- by their numbers, the lower one first
+-- the pair is given by two numbers, the lower one first
 overlap_examples : (overlap_at (kept 3 (block 0 1 2) ∷ kept 7 (block 1 2 2) ∷ []) 3 7 ≡ true)
     × (overlap_at (kept 3 (block 0 1 2) ∷ kept 7 (block 1 2 2) ∷ []) 7 3 ≡ false)
     × (overlap_at (kept 3 (block 0 1 2) ∷ kept 7 (block 1 3 2) ∷ []) 3 7 ≡ false)
 overlap_examples = (refl, refl, refl)
 
--- the least pair by the first number and then by the second; and no pair
+-- the least pair, by its first number and then by its second; and no pair
 pair_examples : (first_clash (kept 1 (block 0 9 1) ∷ kept 2 (block 0 1 4) ∷ kept 5 (block 1 7 1) ∷ kept 6 (block 1 3 1)
     ∷ kept 8 (block 2 2 1) ∷ []) ≡ Some (2, 6))
     × (first_clash (kept 0 (block 0 1 2) ∷ kept 1 (block 1 3 2) ∷ []) ≡ None)
 pair_examples = (refl, refl)
 
--- memory without a node gets the node that is given, what has one and what is no memory gets none
+-- memory without a node gets the given node; an address that has a node, or isn't memory, gets
+-- none
 abbrev below_4 : ℕ → Bool
 below_4 x = nat_lt x 4
 
@@ -181,14 +183,15 @@ lowest_examples : (lower 3 (block 1 0 1) ≡ 1) × (lower 0 (block 1 0 1) ≡ 0)
     × (lowest [] ≡ 0)
 lowest_examples = (refl, refl, refl, refl)
 
--- the node of an address by the kept blocks, and what they leave over, which goes to the lowest node
+-- the node of an address by the kept blocks, and the memory that they don't cover, which gets the
+-- lowest node
 by_kept_examples : (nodes_by (kept 3 (block 2 1 1) ∷ kept 4 (block 2 3 1) ∷ []) 2 ≡ Some 2)
     × (left_by below_4 (kept 3 (block 2 1 1) ∷ kept 4 (block 2 3 1) ∷ []) 0 ≡ Some 2)
     × (left_by below_4 (kept 3 (block 2 1 1) ∷ kept 4 (block 2 3 1) ∷ []) 2 ≡ None)
 unfolding node_at
 by_kept_examples = (refl, refl, refl)
 
--- the reasons: those of the table before those of the kept blocks, and `numa=off` before all
+-- the reasons: `numa=off` before all, and those of the table before those of the kept blocks
 names_examples : (names_of (record { processors = 4 ∷ []; blocks = told 2 0 1 ∷ [] }) ≡ 4 ∷ 2 ∷ [])
     × (names_of (record { processors = []; blocks = [] }) ≡ [])
 unfolding named_once
@@ -207,7 +210,8 @@ off_or_absent : (judged below_4 true (Some (record { processors = []; blocks = [
     × (judged below_4 false None ≡ unused why.Absent)
 off_or_absent = (refl, refl, refl)
 
--- frames that begin in runs: a frame that begins before a run isn't counted, and one that ends behind it is
+-- frames that begin in runs: a frame that begins below a run isn't counted, and one that ends
+-- above it is
 frames_of_runs : frames_given (value_at (block 0 0x800 0x1000 ∷ (block 1 0x3000 0x2001 ∷ []))) ≡ 4
 frames_of_runs =
     let runs : AreRuns (block 0 0x800 0x1000 ∷ (block 1 0x3000 0x2001 ∷ [])) =
@@ -221,14 +225,14 @@ one_mebibyte = frames_step (block 0 0 0x100000) [] (lit< tt, tt, tt) (lit< tt) �
 one_frame_less : frames_given (value_at (block 0 0 0xFF000 ∷ [])) ≡ 255
 one_frame_less = frames_step (block 0 0 0xFF000) [] (lit< tt, tt, tt) (lit< tt) ∙ rw frames_none refl
 
--- 256 frames are too many; 255 and none are few enough
+-- 256 frames without a node are too many; 255 and none aren't
 covering_examples : (if_covering (5 ∷ []) (value_at []) (value_at (block 0 0 0x100000 ∷ [])) ≡ unused (why.NotCovered 256))
     × (if_covering (5 ∷ []) (value_at []) (value_at (block 0 0 0xFF000 ∷ []))
     ≡ used (5 ∷ []) (value_at []) (value_at (block 0 0 0xFF000 ∷ [])))
     × (if_covering (5 ∷ []) (value_at (block 0 0 1 ∷ [])) (value_at []) ≡ used (5 ∷ []) (value_at (block 0 0 1 ∷ [])) (value_at []))
 covering_examples = (rw one_mebibyte refl, rw one_frame_less refl, rw frames_none refl)
 
--- what is given where the table is used, and where it isn't
+-- the result if the table is used, and if it isn't
 used_gives : ((used (5 ∷ []) (value_at []) (value_at (block 0 0 0x100000 ∷ []))).uncovered ≡ 256)
     × ((used (5 ∷ []) (value_at []) (value_at [])).domains ≡ 5 ∷ [])
 used_gives = (one_mebibyte, refl)
@@ -236,15 +240,15 @@ used_gives = (one_mebibyte, refl)
 unused_gives : ((unused why.NoBlocks).domains ≡ []) × ((unused (why.Overlap 1 2)).why ≡ why.Overlap 1 2)
 unused_gives = (refl, refl)
 
--- one block without an address and more with one; and so many domains
+-- a table with one empty block and this many others; and one with this many domains
 abbrev told_often : ℕ → Affinity
 told_often n = record { processors = []; blocks = told 5 0 0 ∷ replicate n (told 5 0x1000 0x1000) }
 
 abbrev told_domains : ℕ → Affinity
 told_domains n = record { processors = range_with_len 0 n; blocks = told 5 0x1000 0x1000 ∷ [] }
 
--- no block is kept; 2,048 blocks with an address aren't too many, whatever is said of the kept ones, as one without an address
--- doesn't count; 2,049 are; 1,024 domains aren't too many, 1,025 are
+-- no block is kept; 2,048 blocks that aren't empty are accepted, since an empty one doesn't count;
+-- 2,049 are too many; 1,024 domains are accepted, and 1,025 are too many
 table_examples : (judged_table some_frames (record { processors = 4 ∷ []; blocks = told 2 0 0xFFF ∷ [] }) ≡ unused why.NoBlocks)
     × (judged_table some_frames (told_often 2048)
     ≡ judged_kept some_frames (5 ∷ []) (kept_of some_frames (5 ∷ []) (told_often 2048).blocks))

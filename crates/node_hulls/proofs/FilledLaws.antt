@@ -1,5 +1,6 @@
--- Runs joined with their neighbours: what they give is what the runs give, and what lies between two places of one node with no
--- other node between these.
+-- Lemmas on joining runs with their neighbours. The joined runs have the values of the runs. They
+-- also have a value between two addresses with the same node if no address between these has
+-- another node.
 use Rattle.std.proofs.Common.{◌≡◌, ◌≢◌, ℕ, ◌-◌, ◌<◌, ◌≤◌, ◌==◌, ◌⊎◌, Option, Some, None, List, [], ◌∷◌, refl, sym, ◌∙◌, ap, subst, inl, inr, le_of_suc-le-suc, lt_of_not-le, arith}
 use Rattle.std.proofs.lemmas.Bool.{cases_lt, cases_Bool}
 use Rattle.std.proofs.lemmas.Bool.Decides.{nat_tests}
@@ -10,7 +11,7 @@ use Rattle.address_runs.proofs.RunsLaws.{none_below, rest_from, inside, behind}
 use Rattle.node_hulls.specs.Hulls.{NumaBlock}
 use Rattle.node_hulls.specs.Steps.{filled, led_by_run}
 
--- a lower and a higher place give the node, and none between them gives another one
+-- a lower and a higher address have node n, and no address between them has another
 pub record IsAround (f : ℕ → Option ℕ) (x n : ℕ) : Type 0 where
   pub low : ℕ
   pub high : ℕ
@@ -23,13 +24,13 @@ pub record IsAround (f : ℕ → Option ℕ) (x n : ℕ) : Type 0 where
 abbrev pub IsFilled : (ℕ → Option ℕ) → ℕ → ℕ → Type 0
 IsFilled f x n = (f x ≡ Some n) ⊎ IsAround f x n
 
--- the second list is canonical and gives what the first gives, and what lies around
+-- the second list is canonical, and has the values of the first, with the gaps filled
 pub record IsFilledBy (rs ts : List NumaBlock) : Type 0 where
   pub runs : AreRuns ts
   pub sound : (x n : ℕ) → value_at ts x ≡ Some n → IsFilled (value_at rs) x n
   pub complete : (x n : ℕ) → IsFilled (value_at rs) x n → value_at ts x ≡ Some n
 
--- where the first run of a canonical list lies against an address
+-- an address is below the first run of a canonical list, inside it, or above it
 data Place (r : NumaBlock) (x : ℕ) : Type 0 where
   Below : x < r.base → Place r x
   Inside : r.base ≤ x → x < run_end r → Place r x
@@ -53,12 +54,12 @@ at_inside r rs x above under = rw (inside r x above under) refl
 at_behind : (r : NumaBlock) (rs : List NumaBlock) (x : ℕ) → run_end r ≤ x → value_at (r ∷ rs) x ≡ value_at rs x
 at_behind r rs x from = rw (behind r x from) refl
 
--- what gives a value in the rest lies behind the first run
+-- an address with a value in the rest is above the first run
 rest_behind : (r : NumaBlock) (rs : List NumaBlock) (x n : ℕ) → AreRuns (r ∷ rs) → value_at rs x ≡ Some n → run_end r ≤ x
 rest_behind r rs x n runs some =
     le_of_suc-le-suc (lt_of_not-le (λ lt. none-some n (sym (none_below (run_end r) x rs runs.2 (rest_from r rs runs) lt) ∙ some)))
 
--- what lies around an address does so by each function that gives the same from the lower place on
+-- two functions that agree from the lower address on fill the same gaps
 moved : (f g : ℕ → Option ℕ) (x n : ℕ) → (around : IsAround f x n) → ((y : ℕ) → around.low ≤ y → g y ≡ f y) → IsAround g x n
 moved f g x n around same = record {
   low = around.low;
@@ -70,25 +71,25 @@ moved f g x n around same = record {
   only = λ y m above below_high some. around.only y m above below_high (sym (same y above) ∙ some);
 }
 
--- what the rest fills the whole list fills
+-- a gap that the rest fills is filled in the whole list
 lifted : (r : NumaBlock) (rs : List NumaBlock) (x n : ℕ) → AreRuns (r ∷ rs) → IsFilled (value_at rs) x n → IsFilled (value_at (r ∷ rs)) x n
 lifted r rs x n runs (inl here) = inl (at_behind r rs x (rest_behind r rs x n runs here) ∙ here)
 lifted r rs x n runs (inr around) =
     let from : run_end r ≤ around.low = rest_behind r rs around.low n runs around.at_low in
     inr (moved (value_at rs) (value_at (r ∷ rs)) x n around (λ y above. at_behind r rs y (omega arith)))
 
--- and what the whole list fills behind the first run, from places behind it, the rest fills
+-- a gap of the whole list between two addresses above the first run is filled by the rest
 lowered : (r : NumaBlock) (rs : List NumaBlock) (x n : ℕ) → (around : IsAround (value_at (r ∷ rs)) x n) → run_end r ≤ around.low
     → IsAround (value_at rs) x n
 lowered r rs x n around from =
     moved (value_at (r ∷ rs)) (value_at rs) x n around (λ y above. sym (at_behind r rs y (omega arith)))
 
--- the higher place lies in the rest
+-- the higher address of such a gap is in the rest
 high_given : (r : NumaBlock) (rs : List NumaBlock) (x n : ℕ) → (around : IsAround (value_at (r ∷ rs)) x n) → run_end r ≤ x
     → value_at rs around.high ≡ Some n
 high_given r rs x n around from = sym (at_behind r rs around.high (omega (arith, around.over))) ∙ around.at_high
 
--- the base of the first joined run is that of a run
+-- the first joined run begins where a run begins
 first_value : (rs : List NumaBlock) (t : NumaBlock) (us : List NumaBlock) → IsFilledBy rs (t ∷ us) → value_at rs t.base ≡ Some t.value
 first_value rs t us known =
     let some : value_at (t ∷ us) t.base ≡ Some t.value = at_inside t us t.base (omega arith) (omega (arith, known.runs.0)) in
@@ -99,14 +100,15 @@ first_value rs t us known =
           absurd (none-some t.value (sym (at_below t us around.low known.runs around.under) ∙ given))
     ]
 
--- a value of the whole list at a place from which on the first run gives its own
+-- an address below the end of the first run can only have the first run's node
 low_value : (r : NumaBlock) (rs : List NumaBlock) (x n : ℕ) → AreRuns (r ∷ rs) → value_at (r ∷ rs) x ≡ Some n → x < run_end r → r.value ≡ n
 low_value r rs x n runs some under = elim (cases_lt x r.base) as (λ _. r.value ≡ n) [
   | inl lt ↦ absurd (none-some n (sym (at_below r rs x runs lt) ∙ some))
   | inr above ↦ same_Some r.value n (sym (at_inside r rs x above under) ∙ some)
 ]
 
--- from a place in the first run to one behind it: the first joined run behind it has the node too
+-- if a gap reaches from the first run to an address above it, the first joined run above has the
+-- same node
 next_value : (r : NumaBlock) (rs : List NumaBlock) (t : NumaBlock) (us : List NumaBlock) (x n : ℕ) → AreRuns (r ∷ rs)
     → IsFilledBy rs (t ∷ us)
     → (around : IsAround (value_at (r ∷ rs)) x n) → around.low < run_end r → run_end r ≤ x → t.value ≡ n
@@ -119,8 +121,8 @@ next_value r rs t us x n runs known around low_in from =
       | inr long ↦ around.only t.base t.value (omega arith) long (at_behind r rs t.base above ∙ first)
     ]
 
--- what the whole list fills at an address: the first run's own node there, what the rest fills, or what lies between a place in
--- the first run and one behind the address
+-- the three ways in which the whole list gives a value: in the first run, in the rest, or in a gap
+-- that reaches from the first run to an address above
 data Reached (r : NumaBlock) (rs : List NumaBlock) (x n : ℕ) : Type 0 where
   InFirst : r.base ≤ x → x < run_end r → r.value ≡ n → Reached r rs x n
   InRest : run_end r ≤ x → IsFilled (value_at rs) x n → Reached r rs x n
@@ -140,7 +142,7 @@ reached_by r rs x n runs (Behind from) (inr around) = elim (cases_lt around.low 
   | inr behind_run ↦ InRest from (inr (lowered r rs x n around behind_run))
 ]
 
--- the first run stands alone where nothing lies across from it
+-- the first run stays alone if no gap reaches from it to an address above
 alone_step : (r : NumaBlock) (rs ts : List NumaBlock) → AreRuns (r ∷ rs) → IsFilledBy rs ts → AreRuns (r ∷ ts)
     → ((x n : ℕ) (around : IsAround (value_at (r ∷ rs)) x n) → around.low < run_end r → run_end r ≤ x → r.value ≡ n → ⊥)
     → IsFilledBy (r ∷ rs) (r ∷ ts)
@@ -158,7 +160,7 @@ alone_step r rs ts runs known canonical none_across = record {
   ];
 }
 
--- so it does where the next joined run has another node
+-- the first run stays alone if the next joined run has another node
 apart_step : (r : NumaBlock) (rs : List NumaBlock) (t : NumaBlock) (us : List NumaBlock) → AreRuns (r ∷ rs) → IsFilledBy rs (t ∷ us)
     → r.value ≢ t.value
     → IsFilledBy (r ∷ rs) (r ∷ (t ∷ us))
@@ -167,7 +169,7 @@ apart_step r rs t us runs known other =
     alone_step r rs (t ∷ us) runs known (runs.0, (above, λ touch. other), known.runs)
     (λ x n around low_in from same. other (same ∙ sym (next_value r rs t us x n runs known around low_in from)))
 
--- where it has the same node, the first run reaches to its end
+-- if the next joined run has the same node, both become one that ends where that one ends
 abbrev spanning : NumaBlock → NumaBlock → NumaBlock
 spanning r t = record { base = r.base; size = run_end t - r.base; value = r.value }
 
@@ -175,7 +177,7 @@ before_same : (r t : NumaBlock) (us : List NumaBlock) → r.base ≤ run_end t �
 before_same r t [] order same before = tt
 before_same r t (u ∷ us) order same before = (omega arith, λ touch equal. before.1 (omega arith) (sym same ∙ equal))
 
--- from the base of the next joined run on it gives what was given before
+-- from the start of the next joined run on, the values are unchanged
 span_same : (r t : NumaBlock) (us : List NumaBlock) (x : ℕ) → r.base ≤ t.base → r.value ≡ t.value → t.base ≤ x
     → value_at (spanning r t ∷ us) x ≡ value_at (t ∷ us) x
 span_same r t us x order same from = elim (cases_lt x (run_end t)) as (λ _. value_at (spanning r t ∷ us) x ≡ value_at (t ∷ us) x) [
@@ -183,7 +185,7 @@ span_same r t us x order same from = elim (cases_lt x (run_end t)) as (λ _. val
   | inr past ↦ at_behind (spanning r t) us x (omega arith) ∙ sym (at_behind t us x past)
 ]
 
--- and between the first run and that base the node of both
+-- between the first run and that start, each address gets the node of both
 gap_around : (r : NumaBlock) (rs : List NumaBlock) (t : NumaBlock) (us : List NumaBlock) (x : ℕ) → AreRuns (r ∷ rs) → IsFilledBy rs (t ∷ us)
     → r.value ≡ t.value → run_end r ≤ x → x < t.base → IsAround (value_at (r ∷ rs)) x r.value
 gap_around r rs t us x runs known same from under =
@@ -210,7 +212,7 @@ gap_around r rs t us x runs known same from under =
       ];
     }
 
--- what lies across, from the base of the next joined run on
+-- a gap that reaches above the start of the next joined run
 across_rest : (r : NumaBlock) (rs : List NumaBlock) (t : NumaBlock) (us : List NumaBlock) (x n : ℕ) → AreRuns (r ∷ rs)
     → IsFilledBy rs (t ∷ us)
     → (around : IsAround (value_at (r ∷ rs)) x n) → around.low < run_end r → run_end r ≤ x → t.base ≤ x → value_at (t ∷ us) x ≡ Some n
@@ -271,7 +273,7 @@ same_step r rs t us runs known same =
       ];
     }
 
--- and where nothing is joined behind it
+-- one more run before the joined ones, also if there are none
 led_step : (r : NumaBlock) (rs ts : List NumaBlock) → AreRuns (r ∷ rs) → IsFilledBy rs ts → IsFilledBy (r ∷ rs) (led_by_run r ts)
 led_step r rs [] runs known =
     alone_step r rs [] runs known (runs.0, tt, tt)
@@ -281,7 +283,7 @@ led_step r rs (t ∷ us) runs known = elim (cases_Bool (r.value == t.value)) as 
   | inr differs ↦ rw differs (apart_step r rs t us runs known (grind (arith, nat_tests)))
 ]
 
--- so the joined runs give what the runs give, and what lies around
+-- the joined runs have the values of the runs, with the gaps filled
 pub filled_by : (rs : List NumaBlock) → AreRuns rs → IsFilledBy rs (filled rs)
 filled_by [] runs = record {
   runs = tt;

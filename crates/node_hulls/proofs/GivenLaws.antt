@@ -1,4 +1,5 @@
--- The runs of a judgement: each has an address and a node below 1,024, they cover memory, and a frame lies in runs of the same nodes.
+-- Lemmas on the runs of a judgement: each has an address and a node below 1,024, they cover
+-- memory, and all addresses of a frame are in runs of the same nodes.
 use Rattle.std.proofs.Common.{◌≡◌, ◌≢◌, ℕ, zero, suc, ◌+◌, ◌^◌, ◌<◌, ◌≤◌, ◌==◌, Bool, true, false, ◌&&◌, ◌||◌, not, nat_le, nat_lt, if◌then◌else◌, Option, Some, None, List, [], ◌∷◌, ◌++◌, length, refl, sym, ◌∙◌, ap, subst, inl, inr, arith}
 use Rattle.std.proofs.lemmas.Bool.{cases_Bool, cond_both, eqb-true, ltb-false, not-false, true≢false}
 use Rattle.std.proofs.lemmas.List.Elements.{All-cons, All-append}
@@ -20,7 +21,8 @@ use Rattle.node_hulls.proofs.InListLaws.{any_member}
 use Rattle.node_hulls.proofs.JudgedLaws.{tells_nodes}
 use Rattle.node_hulls.proofs.MeaningLaws.{is_kept, left_frame, node_of_kept, nodes_frame}
 
--- what holds of each judgement: it holds where the table isn't used, and where it is
+-- what is true of the result in both cases, of a table that isn't used and of one that is, is true
+-- of each judgement
 module _ (P : Judgement → Type 0) where
   covering : (domains : List ℕ) (nodes left : ℕ → Option ℕ) → ((r : Why) → r ≢ why.Used → P (unused r)) → P (used domains nodes left)
       → P (if_covering domains nodes left)
@@ -61,7 +63,7 @@ module _ (P : Judgement → Type 0) where
   by_judgement memory true (Some lists) none some = none why.Off (λ same. cc)
   by_judgement memory false (Some lists) none some = by_table memory lists none (some lists)
 
--- what holds of each value of a function holds of those of its runs
+-- what is true of each value of a function is true of the values of its runs
 module _ {X : Type 0} (Q : X → Type 0) where
   led-values : (same : X → X → Bool) (x : ℕ) (v : Option X) (rs : List (RunOf X)) → ((u : X) → v ≡ Some u → Q u)
       → All (λ (r : RunOf X). Q r.value) rs → All (λ (r : RunOf X). Q r.value) (led_by same x v rs)
@@ -98,7 +100,7 @@ runs-between f = from_runs same_node tells_nodes f (2 ^ 64) 0
 given-at : (f : ℕ → Option ℕ) (x : ℕ) → x < 2 ^ 64 → value_at (runs_of same_node f) x ≡ f x
 given-at f x near = (runs-between f).within x (omega arith) (omega (arith, near))
 
--- a node that is below the number of domains, or 0
+-- a node is below the number of domains, or is 0
 node-small : (domains : List ℕ) (d : ℕ) → length domains ≤ 1024 → node_of domains d < 1024
 node-small domains d few = by (position (λ e. e == d) domains) refl where
   by : (o : Option ℕ) → position (λ e. e == d) domains ≡ o → node_of domains d < 1024
@@ -154,7 +156,7 @@ given-runs memory off table =
     let blocks : List KeptBlock = kept_of memory (names_of lists) lists.blocks in
     ((runs-between (nodes_by blocks)).runs, (runs-between (left_by memory blocks)).runs))
 
--- where the table is used each byte of memory lies in a run
+-- if the table is used, each byte of memory is in a run
 covered_by : (nodes : Option ℕ) (left n : ℕ) → (is_some nodes || is_some (if true && is_none nodes then Some n else None)) ≡ true
 covered_by None left n = refl
 covered_by (Some m) left n = refl
@@ -170,7 +172,7 @@ given-covers memory off table x used_it is near =
     rw (given-at (nodes_by blocks) x near, given-at (left_by memory blocks) x near, is)
     (covered_by (nodes_by blocks x) 0 _)) used_it
 
--- and a frame lies in runs of the same nodes
+-- all addresses of a frame are in runs of the same nodes
 pub given-frames : (memory : ℕ → Bool) (off : Bool) (table : Option Affinity) → ((x : ℕ) → memory x ≡ memory (frame_base x))
     → (x : ℕ) → x < 2 ^ 64
     → (value_at (judged memory off table).joined x ≡ value_at (judged memory off table).joined (frame_base x))

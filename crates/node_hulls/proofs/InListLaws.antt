@@ -1,21 +1,21 @@
--- Members of a list, as tests over it see them.
+-- Lemmas on members of a list, as tests over the list see them.
 use Rattle.std.proofs.Common.{◌≡◌, Bool, true, ◌⊎◌, List, [], ◌∷◌, refl, sym, ◌∙◌, ap, inl, inr}
 use Rattle.std.proofs.lemmas.Bool.{cases_Bool, and_parts, and_from, or_left, or_right, true≢false}
 use Rattle.std.specs.List.{list_any, list_all}
 
 module _ {X : Type 0} where
-  -- the value stands in the list
+  -- the value is in the list
   abbrev pub IsIn : X → List X → Type 0
   IsIn x [] = ⊥
   IsIn x (y ∷ ys) = (x ≡ y) ⊎ IsIn x ys
 
-  -- one that passes, and that it stands in the list
+  -- a value that passes the test, and is in the list
   pub record Passes (p : X → Bool) (xs : List X) : Type 0 where
     pub one : X
     pub member : IsIn one xs
     pub passes : p one ≡ true
 
--- some element passes exactly where one of the list does
+-- `list_any` is true exactly if some member passes
 pub any_member : {X : Type 0} (p : X → Bool) (xs : List X) → list_any p xs ≡ true → Passes p xs
 any_member p [] any = absurd (true≢false (sym any))
 any_member p (x ∷ xs) any = elim (cases_Bool (p x)) as (λ _. Passes p (x ∷ xs)) [
@@ -30,7 +30,7 @@ member_any p [] x member passes = absurd member
 member_any p (y ∷ ys) x (inl here) passes = or_left (p y) _ (ap p (sym here) ∙ passes)
 member_any p (y ∷ ys) x (inr later) passes = or_right (p y) _ (member_any p ys x later passes)
 
--- each element passes exactly where those of the list do
+-- `list_all` is true exactly if each member passes
 pub all_member : {X : Type 0} (p : X → Bool) (xs : List X) (x : X) → list_all p xs ≡ true → IsIn x xs → p x ≡ true
 all_member p [] x all member = absurd member
 all_member p (y ∷ ys) x all (inl here) = ap p here ∙ (and_parts (p y) (list_all p ys) all).0

@@ -1,4 +1,4 @@
--- The reasons in their order, and what the steps of the code find.
+-- Lemmas on the order of the reasons, and on what the steps of the code find.
 use Rattle.std.proofs.Common.{◌≡◌, ℕ, ◌<◌, ◌≤◌, Bool, true, false, Option, Some, None, List, length, take, refl, sym, ◌∙◌, ap, subst, arith}
 use Rattle.std.proofs.lemmas.Bool.{le-leb, lt-leb, lt-ltb, le-ltb}
 use Rattle.std.proofs.lemmas.Bool.Decides.{nat_tests}
@@ -15,7 +15,7 @@ use Rattle.node_hulls.specs.Steps.{EndInSpace}
 use Rattle.node_hulls.proofs.NodesLaws.{node_none}
 use Rattle.node_hulls.proofs.RestLaws.{space_none}
 
--- the front of the list of domains tells whether there are too many
+-- the shortened list of domains shows whether there are too many
 pub many_domains : (domains full : List ℕ) → domains ≡ take 1025 full → 1024 < length domains → 1024 < length full
 many_domains domains full is many = omega (arith, ap (λ (xs : List ℕ). length xs) is, length-take 1025 full)
 
@@ -37,7 +37,7 @@ pub record Found (memory : ℕ → Bool) (kept : List KeptBlock) (joined rest : 
 pub tells_nodes : Tells same_node
 tells_nodes = record { true_is_equal = λ a b same. grind (arith, nat_tests); equal_is_true = λ a b same. grind (arith, nat_tests) }
 
--- the same in the words of the definitions
+-- the same facts in terms of the definitions
 record Spoken (memory : ℕ → Bool) (kept : List KeptBlock) (joined rest : List NumaBlock) (frames : ℕ) : Type 0 where
   hulls : joined ≡ runs_of same_node (nodes_by kept)
   left : rest ≡ runs_of same_node (left_by memory kept)
@@ -73,7 +73,7 @@ pub found_overlap : (memory : ℕ → Bool) (domains : List ℕ) (kept : List Ke
 unfolding judged_kept
 found_overlap memory domains kept i j clash = rw clash refl
 
--- the reasons before these
+-- the reasons that are tested before
 module _ (memory : ℕ → Bool) (lists : Affinity) where
   pub no_blocks : any_kept memory lists.blocks ≡ false → judged_table memory lists ≡ unused why.NoBlocks
   unfolding judged_table

@@ -1,4 +1,4 @@
--- Which blocks are kept, and which overlap: what one look at a block tells.
+-- Lemmas on which blocks are kept and which overlap, one block at a time.
 use Rattle.std.proofs.Common.{◌≡◌, ℕ, ◌+◌, ◌^◌, ◌<◌, Bool, true, not, List, [], ◌∷◌, length, get_or, drop, add-one, ◌++◌, refl, subst, sym, ◌∙◌, ap, inl, inr, lt_of_not-le, arith}
 use Rattle.std.proofs.lemmas.Bool.{cases_Bool, cond_both, not-true, true≢false}
 use Rattle.std.proofs.lemmas.List.{append-nil, map-append}
@@ -13,14 +13,14 @@ use Rattle.node_hulls.specs.Kept.{numa_blocks_of, meets_memory, of_node, kept_on
 use Rattle.node_hulls.specs.Steps.{EndInSpace}
 use Rattle.node_hulls.proofs.RestLaws.{space_push}
 
--- the blocks that are kept, from one place on
+-- the kept blocks from one index on
 pub kept_step : (memory : ℕ → Bool) (domains : List ℕ) (blocks : List SratBlock) (i : ℕ) (b : SratBlock) → i < length blocks
     → b ≡ get_or blocks i b
     → kept_from memory domains i (drop i blocks)
     ≡ kept_one memory i (of_node domains b) ++ kept_from memory domains (i + 1) (drop (i + 1) blocks)
 kept_step memory domains blocks i b lt is = rw (drop-cons blocks i b lt, ← is, add-one) refl
 
--- with one block more, if it is kept, the kept blocks still end in the address space
+-- appending a block that is kept, the ends of all blocks stay below 2^64
 pub kept_space : (memory : ℕ → Bool) (kept : List KeptBlock) (i : ℕ) (b : NumaBlock) → EndInSpace (numa_blocks_of kept) → run_end b < 2 ^ 64
     → EndInSpace (numa_blocks_of (kept ++ kept_one memory i b))
 kept_space memory kept i b space ends =
@@ -29,7 +29,7 @@ kept_space memory kept i b space ends =
     (λ some. rw (map-append (λ (k : KeptBlock). k.block) kept one) (space_push (numa_blocks_of kept) b space ends))
     (λ none. rw (append-nil kept) space)
 
--- a block that is kept has an address: a byte of memory
+-- a kept block isn't empty: it has a byte of memory
 has_address : (memory : ℕ → Bool) (b : NumaBlock) → meets_memory memory (extent_of b) ≡ true → 0 < b.size
 has_address memory b some = lt_of_not-le (λ none.
     let all = each_in-all (extent_of b) (λ y. not (memory y)) (λ y low high. absurd (omega arith)) in
@@ -50,7 +50,7 @@ pub addresses_kept : (memory : ℕ → Bool) (domains : List ℕ) (bs : List Sra
     → HaveAddresses (numa_blocks_of (kept_of memory domains bs))
 addresses_kept memory domains bs = kept_addresses memory domains 0 bs
 
--- what is memory alike keeps the same blocks
+-- two tests for memory that agree keep the same blocks
 module _ (memory other : ℕ → Bool) (alike : (x : ℕ) → other x ≡ memory x) where
   same_memory : other ≡ memory
   same_memory = λ i x. alike x i

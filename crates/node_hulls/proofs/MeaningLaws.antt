@@ -1,4 +1,5 @@
--- What the words mean to each other: one node an address, one node a domain, one node a frame, and memory for each node.
+-- Lemmas behind the laws: one node for an address, for a domain and for a frame, and memory for
+-- each node.
 use Rattle.std.proofs.Common.{◌≡◌, ◌≢◌, ◌↔◌, ℕ, zero, suc, ◌+◌, ◌%◌, ◌<◌, ◌≤◌, ◌==◌, ◌⊎◌, Bool, true, false, ◌&&◌, not, Option, Some, None, List, [], ◌∷◌, fold, length, get_or, refl, sym, ◌∙◌, ap, subst, inl, inr, arith}
 use Rattle.std.proofs.lemmas.Bool.{cases_lt, cases_Bool, eqb-true, eq-eqb, lt-ltb, not-true, true≢false}
 use Rattle.std.proofs.lemmas.Bool.Decides.{nat_tests}
@@ -22,7 +23,7 @@ use Rattle.node_hulls.proofs.InListLaws.{IsIn, any_member, member_any}
 use Rattle.node_hulls.proofs.KeptLaws.{addresses_kept}
 use Rattle.node_hulls.proofs.NodesLaws.{Apart, apart_blocks, has_filled, first_has, first_some, node_block, held_by, kept_member}
 
--- an address isn't around places of two nodes
+-- an address isn't in gaps of two different nodes
 one_around : (f : ℕ → Option ℕ) (x m n : ℕ) → IsAround f x m → IsAround f x n → m ≡ n
 one_around f x m n first second = elim (cases_lt first.low second.low) as (λ _. m ≡ n) [
   | inl lower_first ↦ sym (first.only second.low n (omega arith) (omega (arith, second.under, first.over)) second.at_low)
@@ -35,7 +36,7 @@ one_filled f x m n (inl first) (inr around) = around.only x m (omega (arith, aro
 one_filled f x m n (inr around) (inl second) = sym (around.only x n (omega (arith, around.under)) (omega (arith, around.over)) second)
 one_filled f x m n (inr first) (inr second) = one_around f x m n first second
 
--- so the node of an address is the one that it has
+-- the node of an address is the one that it has
 node_had : (blocks : List NumaBlock) (x n : ℕ) → Apart blocks → HaveAddresses blocks → has blocks n x ≡ true → node_at blocks x ≡ Some n
 unfolding node_at
 node_had blocks x n apart some had = by (first_had blocks x blocks) refl where
@@ -57,7 +58,7 @@ pub one_node : (kept : List KeptBlock) → first_clash kept ≡ None → HaveAdd
 one_node kept apart some x n =
     ((λ had. node_had (numa_blocks_of kept) x n (apart_blocks kept apart) some had), (λ at. node_has (numa_blocks_of kept) x n at))
 
--- a domain that is named has a place
+-- a named domain has an index
 pub record HasPlace (domains : List ℕ) (d : ℕ) : Type 0 where
   pub below : node_of domains d < length domains
   pub there : get_or domains (node_of domains d) 0 ≡ d
@@ -88,7 +89,7 @@ one_domain domains d e named_d named_e same =
 pub node_below : (domains : List ℕ) (d : ℕ) → is_named domains d ≡ true → node_of domains d < length domains
 node_below domains d named = (place_of domains d named).below
 
--- blocks that begin and end at frames
+-- the blocks begin and end at frames
 abbrev pub Framed : List NumaBlock → Type 0
 Framed blocks = (b : NumaBlock) → IsIn b blocks → (b.base % 4096 ≡ 0) × (run_end b % 4096 ≡ 0)
 
@@ -120,7 +121,7 @@ node_frame : (blocks : List NumaBlock) (x : ℕ) → Framed blocks → node_at b
 unfolding node_at
 node_frame blocks x framed = first_frame blocks x blocks framed
 
--- a kept block is one of the table, and has memory
+-- a kept block is one of the table, and has a byte of memory
 pub record IsKept (memory : ℕ → Bool) (domains : List ℕ) (k : KeptBlock) : Type 0 where
   pub told : SratBlock
   pub block : k.block ≡ of_node domains told
@@ -182,7 +183,7 @@ block_in [] k member = absurd member
 block_in (j ∷ js) k (inl here) = inl (ap (λ (i : KeptBlock). i.block) here)
 block_in (j ∷ js) k (inr later) = inr (block_in js k later)
 
--- so the node of each kept block has memory
+-- the node of each kept block has memory
 pub node_memory : (memory : ℕ → Bool) (domains : List ℕ) (blocks : List SratBlock) → first_clash (kept_of memory domains blocks) ≡ None
     → (n : ℕ) → is_node_of (kept_of memory domains blocks) n ≡ true
     → (x : ℕ) × (memory x ≡ true) × (nodes_by (kept_of memory domains blocks) x ≡ Some n)
@@ -200,7 +201,7 @@ node_memory memory domains blocks apart n of_block =
       node_had (numa_blocks_of kept) place.at n (apart_blocks kept apart) (addresses_kept memory domains blocks) (rw held refl),
     )
 
--- and each node that memory gets is that of a kept block
+-- each node that memory gets is that of a kept block
 node_kept : (ks : List KeptBlock) (b : NumaBlock) (n : ℕ) → IsIn b (numa_blocks_of ks) → b.value ≡ n → is_node_of ks n ≡ true
 node_kept ks b n member node =
     let found = kept_member ks b member in

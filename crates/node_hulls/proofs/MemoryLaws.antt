@@ -1,4 +1,5 @@
--- Memory as runs: the first run that ends behind a range's first address tells whether a byte of the range is memory.
+-- Lemmas on memory as runs: the first run that ends above the start of a range decides whether a
+-- byte of the range is memory.
 use Rattle.std.proofs.Common.{◌≡◌, ◌↔◌, ℕ, suc, ◌+◌, ◌<◌, ◌≤◌, Bool, true, false, not, max, if◌then◌else◌, Option, Some, None, List, ◌∷◌, map, length, get_or, drop, drop-cons, refl, sym, ◌∙◌, ap, lt_of_not-le, arith}
 use Rattle.std.proofs.lemmas.Bool.{true≢false}
 use Rattle.std.proofs.lemmas.Bool.Decides.{nat_tests}
@@ -15,7 +16,7 @@ use Rattle.node_hulls.specs.Kept.{in_any, meets_memory}
 use Rattle.node_hulls.specs.Steps.{nodeless, in_runs}
 use Rattle.node_hulls.proofs.RestLaws.{bare_given}
 
--- the runs of memory tell of each address whether it is memory
+-- an address is in the runs of memory exactly if it is memory
 pub told_memory : (memory : List Extent) (rs : List (RunOf Bool)) → IsRunsOf (all_overlaid option_or (map nodeless memory)) rs → (x : ℕ)
     → in_runs rs x ≡ in_any memory x
 told_memory memory rs known x = ap (λ (o : Option Bool). is_some o) (known.each x ∙ bare_given memory x) ∙ by (in_any memory x) where
@@ -23,7 +24,7 @@ told_memory memory rs known x = ap (λ (o : Option Bool). is_some o) (known.each
   by true = refl
   by false = refl
 
--- a range with a byte of memory, and one with none
+-- a range with a byte of memory, and one without
 some_in : (rs : List (RunOf Bool)) (range : Extent) (x : ℕ) (v : Bool) → range.base ≤ x → x < range.base + range.size
     → value_at rs x ≡ Some v → meets_memory (in_runs rs) range ≡ true
 some_in rs range x v low high found =
@@ -40,7 +41,7 @@ pub nothing_left : (rs : List (RunOf Bool)) (i : ℕ) (range : Extent) → IsRes
 nothing_left rs i range rest all =
     none_in rs range (λ y low high. sym (rest.each y low) ∙ at_drop_all (λ (ss : List (RunOf Bool)). value_at ss y) rs i all)
 
--- the first one that is left shares an address with the range, or not
+-- the first run that is left shares an address with the range, or doesn't
 abbrev Left : List (RunOf Bool) → Extent → RunOf Bool → List (RunOf Bool) → Type 0
 Left rs range r ss = IsRestFrom (value_at rs) range.base (r ∷ ss)
 

@@ -1,4 +1,4 @@
--- Nodes count domains in the order in which these are first named.
+-- Lemmas: nodes number the domains in the order in which they are first named.
 use Rattle.std.proofs.Common.{◌≡◌, ◌≢◌, ℕ, ◌+◌, ◌<◌, ◌≤◌, ◌==◌, true, false, ◌||◌, List, [], ◌∷◌, ◌++◌, fold, length, get_or, length-append, append_assoc, refl, sym, ◌∙◌, ap, subst, inl, inr, le_of_suc-le-suc, lt_of_not-le, arith}
 use Rattle.std.proofs.lemmas.Bool.{cases_lt, cases_Bool, eq-eqb, lt-ltb, ne_eqb, or_right, true≢false}
 use Rattle.std.proofs.lemmas.Bool.Decides.{nat_tests}
@@ -9,7 +9,7 @@ use Rattle.std.proofs.Math.Seq.{get_or-append_seam}
 use Rattle.node_hulls.specs.Domains.{is_named, with_name, named_once, node_of}
 use Rattle.node_hulls.proofs.MeaningLaws.{HasPlace, place_of, node_below}
 
--- names that come later stand behind those that stand already
+-- domains that are named later come after those in the list
 abbrev IsExtended : List ℕ → List ℕ → Type 0
 IsExtended domains names = (more : List ℕ) × (fold with_name domains names ≡ domains ++ more)
 
@@ -22,7 +22,7 @@ extended domains (d ∷ ds) = elim (cases_Bool (is_named domains d)) as (λ _. I
       (d ∷ later.0, rw new (later.1 ∙ append_assoc domains (d ∷ []) later.0))
 ]
 
--- each name is there, and no other
+-- each named domain is in the list, and no other
 named_with : (domains : List ℕ) (d e : ℕ) → is_named (with_name domains d) e ≡ (is_named domains e || (d == e))
 named_with domains d e = elim (cases_Bool (is_named domains d)) as
     (λ _. is_named (with_name domains d) e ≡ (is_named domains e || (d == e))) [
@@ -43,7 +43,7 @@ pub named_exactly : (names : List ℕ) (d : ℕ) → is_named (named_once names)
 unfolding named_once
 named_exactly names d = named_all [] names d
 
--- a domain keeps its node where more stand behind, and one that is new stands behind all
+-- a domain keeps its node if more are appended, and a new one comes after all others
 is_named_at : (domains : List ℕ) (i d : ℕ) → i < length domains → get_or domains i 0 ≡ d → is_named domains d ≡ true
 is_named_at domains i d within is = list_any_at (λ e. e == d) domains i 0 within (eq-eqb _ d is)
 
@@ -68,7 +68,7 @@ node_behind domains more d new named = le_of_suc-le-suc (lt_of_not-le (λ before
     true≢false (sym (is_named_at domains node d before
     (sym (get_or_append_left domains more 0 node before) ∙ (place_of (domains ++ more) d named).there)) ∙ new)))
 
--- so each domain's node is its place
+-- the node of each domain is its index
 abbrev ArePlaces : List ℕ → Type 0
 ArePlaces domains = (n : ℕ) → n < length domains → node_of domains (get_or domains n 0) ≡ n
 
@@ -98,7 +98,7 @@ pub node_at_place : (names : List ℕ) → ArePlaces (named_once names)
 unfolding named_once
 node_at_place names = places_all [] names (λ n within. absurd (omega arith))
 
--- and one that is named before another has the lower node
+-- a domain that is named before another has the lower node
 order_behind : (domains names : List ℕ) (d e : ℕ) → is_named domains d ≡ true → is_named domains e ≡ false → is_named names e ≡ true
     → node_of (fold with_name domains names) d < node_of (fold with_name domains names) e
 order_behind domains names d e named new later =

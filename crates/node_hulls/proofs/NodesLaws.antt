@@ -1,4 +1,5 @@
--- Blocks of different nodes that share no address: the joined runs of their nodes are the runs of what each address has.
+-- Lemmas: if blocks of different nodes share no address, the joined runs are the runs of the nodes
+-- that addresses have.
 use Rattle.std.proofs.Common.{◌≡◌, ◌≢◌, ℕ, zero, suc, ◌^◌, ◌<◌, ◌≤◌, ◌==◌, Bool, true, false, ◌&&◌, ◌||◌, not, max, min, Option, Some, None, List, [], ◌∷◌, map, length, get_or, refl, sym, ◌∙◌, ap, subst, inl, inr, arith}
 use Rattle.std.proofs.lemmas.Bool.{cases_lt, cases_Bool, and_parts, and_from, eqb-true, eq-eqb, not-true, false_from_ne_true, true≢false}
 use Rattle.std.proofs.lemmas.Bool.Decides.{nat_tests}
@@ -16,7 +17,7 @@ use Rattle.node_hulls.specs.Steps.{filled, EndInSpace}
 use Rattle.node_hulls.proofs.FilledLaws.{IsAround, IsFilled, IsFilledBy, filled_by}
 use Rattle.node_hulls.proofs.InListLaws.{IsIn, any_member, member_any, all_member, member_all}
 
--- two blocks that share an address are of one node
+-- two blocks that share an address have the same node
 abbrev pub Apart : List NumaBlock → Type 0
 Apart blocks = (a b : NumaBlock) (x : ℕ) → IsIn a blocks → IsIn b blocks → lies_in a x ≡ true → lies_in b x ≡ true → a.value ≡ b.value
 
@@ -26,7 +27,7 @@ some_address [] b some member = absurd member
 some_address (c ∷ cs) b some (inl here) = subst (λ (d : NumaBlock). 0 < d.size) (sym here) some.0
 some_address (c ∷ cs) b some (inr later) = some_address cs b some.1 later
 
--- the blocks laid over one another give the first one's node
+-- overlaying the blocks gives each address the first one's node
 pub first_given : (blocks : List NumaBlock) (x : ℕ) → all_overlaid option_or blocks x ≡ value_at blocks x
 first_given [] x = refl
 first_given (b ∷ bs) x = elim (cases_Bool (lies_in b x)) as (λ _. all_overlaid option_or (b ∷ bs) x ≡ value_at (b ∷ bs) x) [
@@ -37,7 +38,7 @@ first_given (b ∷ bs) x = elim (cases_Bool (lies_in b x)) as (λ _. all_overlai
 pub laid_given : (blocks rs : List NumaBlock) → IsRunsOf (all_overlaid option_or blocks) rs → IsRunsOf (value_at blocks) rs
 laid_given blocks rs known = record { runs = known.runs; each = λ x. known.each x ∙ first_given blocks x }
 
--- which is the node of each of them
+-- that is the node of each block with the address
 pub given : (blocks : List NumaBlock) (b : NumaBlock) (x : ℕ) → Apart blocks → IsIn b blocks → lies_in b x ≡ true
     → value_at blocks x ≡ Some b.value
 given [] b x apart member lies = absurd member
@@ -49,7 +50,7 @@ given (c ∷ cs) b x apart member lies = elim (cases_Bool (lies_in c x)) as (λ 
   ]
 ]
 
--- and the other way round
+-- an address with a node is in a block of that node
 pub record Covers (blocks : List NumaBlock) (x n : ℕ) : Type 0 where
   pub block : NumaBlock
   pub member : IsIn block blocks
@@ -65,11 +66,11 @@ given_by_block (c ∷ cs) x n some = elim (cases_Bool (lies_in c x)) as (λ _. C
       record { block = found.block; member = inr found.member; lies = found.lies; node = found.node }
 ]
 
--- an address in a block, by its ends
+-- an address in a block, by the block's ends
 bounds : (b : NumaBlock) (x : ℕ) → lies_in b x ≡ true → (b.base ≤ x) × (x < run_end b)
 bounds b x lies = (grind (arith, nat_tests), grind (arith, nat_tests))
 
--- a block that a stretch meets has an address in it
+-- a range with an address of a block meets the block
 met_at : (from until : ℕ) (c : NumaBlock) (x : ℕ) → lies_in c x ≡ true → from ≤ x → x < until → meets from until c ≡ true
 met_at from until c x lies above under = grind (arith, nat_tests, (bounds c x lies).0, (bounds c x lies).1)
 
@@ -79,7 +80,8 @@ meeting_place from until c meeting =
     let before : max from c.base < min until (run_end c) = grind (arith, nat_tests) in
     (omega arith, omega arith, inside c (max from c.base) (omega arith) (omega arith))
 
--- each block that meets an own hull is of the node
+-- if the range between two blocks meets no block of another node, each block that it meets has
+-- their node
 own_node : (blocks : List NumaBlock) (n : ℕ) (a b c : NumaBlock) → is_own blocks n a b ≡ true → IsIn c blocks
     → meets a.base (run_end b) c ≡ true
     → c.value ≡ n
@@ -87,7 +89,7 @@ own_node blocks n a b c own member meeting =
     let passes : ((c.value == n) || not (meets a.base (run_end b) c)) ≡ true = all_member _ blocks c own member in
     grind (arith, nat_tests, rw meeting at passes)
 
--- what an address has is given there, or lies around it
+-- a node that an address has is that of a block there, or of a gap around it
 joined_around : (blocks : List NumaBlock) (n x : ℕ) → Apart blocks → HaveAddresses blocks → joins blocks n x ≡ true
     → IsAround (value_at blocks) x n
 joined_around blocks n x apart some joined =
@@ -127,12 +129,12 @@ has_filled blocks n x apart some had = elim (cases_Bool (holds blocks n x)) as (
   | inr not_held ↦ inr (joined_around blocks n x apart some (rw not_held at had))
 ]
 
--- a block that holds the address makes it have the node
+-- an address in a block has the block's node
 pub held_by : (blocks : List NumaBlock) (b : NumaBlock) (n x : ℕ) → IsIn b blocks → b.value ≡ n → lies_in b x ≡ true
     → holds blocks n x ≡ true
 held_by blocks b n x member node lies = member_any _ blocks b member (and_from (b.value == n) (lies_in b x) (grind (arith, nat_tests)) lies)
 
--- a block that the hull of two places meets is of their node
+-- a block that meets the range between two addresses of a gap has the gap's node
 hull_own : (blocks : List NumaBlock) (n x : ℕ) → Apart blocks → (around : IsAround (value_at blocks) x n)
     → (a : Covers blocks around.low n) (b : Covers blocks around.high n) (c : NumaBlock) → IsIn c blocks
     → meets a.block.base (run_end b.block) c ≡ true → c.value ≡ n
@@ -183,7 +185,7 @@ filled_has blocks n x apart (inr around) = elim (cases_Bool (holds blocks n x)) 
   | inr not_held ↦ rw not_held (around_joins blocks n x apart around not_held)
 ]
 
--- the node of an address is one that it has; where it has that of a block it has one
+-- the node of an address is one that it has; an address that has the node of a block has a node
 pub first_has : (blocks : List NumaBlock) (x m : ℕ) (bs : List NumaBlock) → first_had blocks x bs ≡ Some m → has blocks m x ≡ true
 first_has blocks x m [] some = absurd (none-some m some)
 first_has blocks x m (b ∷ bs) some = elim (cases_Bool (has blocks b.value x)) as (λ _. has blocks m x ≡ true) [
@@ -202,7 +204,7 @@ first_some blocks x (c ∷ cs) b member had none = elim (cases_Bool (has blocks 
   ]
 ]
 
--- a node that an address has is that of a block, which ends behind the address
+-- a node that an address has is that of a block, which ends above the address
 pub node_block : (blocks : List NumaBlock) (n x : ℕ) → has blocks n x ≡ true
     → (b : NumaBlock) × IsIn b blocks × (b.value ≡ n) × (x < run_end b)
 node_block blocks n x had =
@@ -220,7 +222,7 @@ node_block blocks n x had =
           (b.one, b.member, grind (arith, nat_tests, parts.0), grind (arith, nat_tests, between))
     ]
 
--- so the joined runs give the node of each address
+-- the joined runs give the node of each address
 node_given : (blocks rs ts : List NumaBlock) (x : ℕ) → Apart blocks → HaveAddresses blocks → IsRunsOf (value_at blocks) rs
     → IsFilledBy rs ts
     → value_at ts x ≡ node_at blocks x
@@ -243,7 +245,7 @@ joined_blocks blocks rs apart some known =
     let joined : IsFilledBy rs (filled rs) = filled_by rs known.runs in
     record { runs = joined.runs; each = λ x. node_given blocks rs (filled rs) x apart some known joined }
 
--- where no two kept blocks clash, blocks of different nodes share no address
+-- if no two kept blocks overlap, blocks of different nodes share no address
 no_clash : (a b : KeptBlock) (x : ℕ) → clash a b ≡ false → lies_in a.block x ≡ true → lies_in b.block x ≡ true → a.block.value
     ≡ b.block.value
 no_clash a b x none lies_a lies_b =
@@ -291,13 +293,14 @@ apart_blocks ks none a b x in_a in_b lies_a lies_b =
     let two = kept_member ks b in_b in
     rw (one.2, two.2) (kept_apart ks none one.0 two.0 x one.1 two.1 (rw one.2 at lies_a) (rw two.2 at lies_b))
 
--- so the joined runs of blocks of which no two clash are the runs of what each address has
+-- if no two kept blocks overlap, the joined runs are the runs of the nodes that addresses have
 pub joined_kept : (ks : List KeptBlock) (laid rs joined : List NumaBlock) → first_clash ks ≡ None → HaveAddresses (numa_blocks_of ks)
     → IsRunsOf (value_at (numa_blocks_of ks)) laid → rs ≡ laid → joined ≡ filled rs → IsRunsOf (node_at (numa_blocks_of ks)) joined
 joined_kept ks laid rs joined none some known same is =
     rw (is, same) (joined_blocks (numa_blocks_of ks) laid (apart_blocks ks none) some known)
 
--- no two clash exactly where each address of each block has its node, by the blocks laid over one another
+-- no two kept blocks overlap exactly if each address of each block has the block's own node in the
+-- overlaid blocks
 abbrev pub HasOwn : (ℕ → Option ℕ) → NumaBlock → Type 0
 HasOwn f b = (x : ℕ) → b.base ≤ x → x < run_end b → f x ≡ Some b.value
 
@@ -332,7 +335,7 @@ apart_own : (ks : List KeptBlock) (i : ℕ) (k : KeptBlock) → first_clash ks �
 apart_own ks i k none lt is x above under =
     given (numa_blocks_of ks) k.block x (apart_blocks ks none) (block_in ks i k lt is) (inside k.block x above under)
 
--- the blocks laid over one another, as contracts of any record see them
+-- the overlaid blocks, as contracts over any type of record see them
 pub laid_own : (ks : List KeptBlock) (laid : List NumaBlock) (i : ℕ) (k : KeptBlock) → IsRunsOf (value_at (numa_blocks_of ks)) laid
     → first_clash ks ≡ None → i < length ks → k ≡ get_or ks i k → HasOwn (value_at (map (λ (r : NumaBlock). r) laid)) k.block
 laid_own ks laid i k known none lt is x above under =
@@ -343,7 +346,7 @@ space_of [] b space member = absurd member
 space_of (c ∷ cs) b space (inl here) = subst (λ (d : NumaBlock). run_end d < 2 ^ 64) (sym here) space.0
 space_of (c ∷ cs) b space (inr later) = space_of cs b space.1 later
 
--- so behind the address space none has a node
+-- above the address space no address has a node
 pub node_none : (blocks : List NumaBlock) (x : ℕ) → EndInSpace blocks → 2 ^ 64 ≤ x → node_at blocks x ≡ None
 unfolding node_at
 node_none blocks x space far = by (first_had blocks x blocks) refl where

@@ -1,4 +1,5 @@
--- Memory without a node, by laying memory and the runs with a node over one another; and the frames that begin in runs.
+-- Lemmas on memory without a node, found by overlaying memory and the runs with a node; and on the
+-- frames that begin in runs.
 use Rattle.std.proofs.Common.{◌≡◌, ℕ, ◌+◌, ◌-◌, ◌*◌, ◌^◌, ◌<◌, ◌≤◌, Bool, true, false, ◌&&◌, ◌||◌, nat_le, nat_lt, if◌then◌else◌, Option, Some, None, List, [], ◌∷◌, ◌++◌, map, suc, add-one, drop, take, length, get_or, append_assoc, refl, sym, ◌∙◌, ap, subst, inl, inr, le_of_suc-le-suc, lt_of_not-le, arith}
 use Rattle.std.proofs.lemmas.Bool.{cases_Bool, cond_both}
 use Rattle.std.proofs.lemmas.Bool.Decides.{nat_tests}
@@ -21,7 +22,7 @@ use Rattle.node_hulls.specs.Judgement.{left_over, frames_given}
 use Rattle.node_hulls.specs.Kept.{in_any, HaveBytes}
 use Rattle.node_hulls.specs.Steps.{nodeless, noded, bare_runs, with_node, begun_before, EndInSpace}
 
--- what memory alone says, and what the runs with a node alone say
+-- what memory alone gives, and what the runs with a node alone give
 pub bare_given : (memory : List Extent) (x : ℕ) → all_overlaid option_or (map nodeless memory) x
     ≡ (if in_any memory x then Some false else None)
 bare_given [] x = refl
@@ -41,7 +42,7 @@ noded_given (r ∷ rs) x =
       | inr elsewhere ↦ rw elsewhere (noded_given rs x)
     ]
 
--- each as a stretch has an address
+-- none of these runs is empty
 pub bare_addresses : (memory : List Extent) → HaveBytes memory → HaveAddresses (map nodeless memory)
 bare_addresses [] some = tt
 bare_addresses (r ∷ rs) some = (some.0, bare_addresses rs some.1)
@@ -55,13 +56,13 @@ pub told_addresses : (memory : List Extent) (joined : List NumaBlock) → HaveBy
     → HaveAddresses (map noded joined ++ map nodeless memory)
 told_addresses memory joined some runs = noded_addresses joined (map nodeless memory) runs (bare_addresses memory some)
 
--- a run without a node gives the node, one with a node gives none
+-- the given node for a run without a node; None for one with a node
 abbrev pub bare_of : ℕ → Option Bool → Option ℕ
 bare_of n None = None
 bare_of n (Some true) = None
 bare_of n (Some false) = Some n
 
--- both over one another: memory without a node
+-- overlaying both gives memory without a node
 told_over : (memory : List Extent) (joined : List NumaBlock) (n x : ℕ)
     → bare_of n (all_overlaid option_or (map noded joined ++ map nodeless memory) x) ≡ left_over (in_any memory) (value_at joined) n x
 told_over memory joined n x =
@@ -92,13 +93,13 @@ bare_value n (c ∷ cs) x runs = by c.value (lies_in c x) refl refl (bare_value 
   by false true value lies rest = rw (value, lies) refl
   by false false value lies rest = rw (value, lies, rest) refl
 
--- what the runs give in the first of them
+-- the value inside the first of these runs
 bare_first : (n : ℕ) (cs : List (RunOf Bool)) (d : NumaBlock) (ds : List NumaBlock) (x : ℕ) → AreRuns cs → bare_runs n cs ≡ d ∷ ds
     → d.base ≤ x → x < run_end d → bare_of n (value_at cs x) ≡ Some d.value
 bare_first n cs d ds x runs is above under =
     sym (bare_value n cs x runs) ∙ ap (λ (es : List NumaBlock). value_at es x) is ∙ rw (inside d x above under) refl
 
--- they are canonical: two that touch would be one run already
+-- these runs are canonical: two that touched would be one run already
 bare_start : (n at : ℕ) (cs : List (RunOf Bool)) (d : NumaBlock) (ds : List NumaBlock) → AreRuns cs → StartFrom at cs
     → AreRuns (bare_runs n cs)
     → bare_runs n cs ≡ d ∷ ds → at ≤ d.base
@@ -141,7 +142,7 @@ left_runs memory joined n cs known = record {
   each = λ x. bare_value n cs x known.runs ∙ ap (bare_of n) (known.each x) ∙ told_over memory joined n x;
 }
 
--- one run more
+-- one more run
 pub bare_step : (n : ℕ) (before : List NumaBlock) (covered : List (RunOf Bool)) (i : ℕ) (c : RunOf Bool) → i < length covered → c
     ≡ get_or covered i c
     → (if c.value then before else before ++ with_node n c ∷ []) ++ bare_runs n (drop (i + 1) covered) ≡ before
@@ -163,13 +164,13 @@ space_given n before c space ends =
     cond_both c.value before (before ++ with_node n c ∷ []) EndInSpace (λ noded. space)
     (λ bare. space_push before (with_node n c) space ends)
 
--- runs that end in the address space give nothing behind it
+-- runs that end below 2^64 give nothing above
 pub space_none : (rs : List NumaBlock) (x : ℕ) → EndInSpace rs → 2 ^ 64 ≤ x → value_at rs x ≡ None
 space_none [] x space far = refl
 space_none (r ∷ rs) x space far =
     rw (behind r x (omega (arith, space.0))) (space_none rs x space.1 far)
 
--- frames that begin in a run, and in those behind it
+-- the frames that begin in a run, and in the runs after it
 begun_in : (r : NumaBlock) (frame : ℕ) → lies_in r (4096 * frame) ≡ (nat_le (begun_before r.base) frame
     && nat_lt frame (begun_before (run_end r)))
 begun_in r frame = grind (arith, nat_tests)
@@ -199,7 +200,7 @@ pub frames_few : (f : ℕ → Option ℕ) → frames_given f ≤ 2 ^ 52
 unfolding frames_given
 frames_few f = count_at_most (λ frame. is_some (f (4096 * frame))) (2 ^ 52)
 
--- the first of the runs that are left, and those behind it
+-- the first of the runs that are left, and those after it
 pub frames_first : (r : NumaBlock) (rs : List NumaBlock) (n : ℕ) → 1 ≤ length rs → n ≡ length rs → r ≡ get_or rs 0 r → AreRuns rs
     → run_end r < 2 ^ 64
     → AreRuns (take (n - 1) (drop 1 rs))
@@ -209,7 +210,7 @@ frames_first r (s ∷ ss) n some count is runs space =
     let all : take (n - 1) ss ≡ ss = take_all (n - 1) ss (omega arith) in
     (rw all runs.2, rw (all, is) (frames_step s ss runs (rw is at space)))
 
--- with no run left no frame is
+-- if no run is left, no frame is
 pub frames_last : (rs : List NumaBlock) → length rs < 1 → frames_given (value_at rs) ≡ 0
 frames_last [] none = frames_none
 frames_last (r ∷ rs) none = absurd (omega arith)

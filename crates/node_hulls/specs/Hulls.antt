@@ -1,29 +1,33 @@
--- Which node an address has, by the blocks of memory that lie in nodes (`numa_cleanup_meminfo`, `numa_register_memblks`).
+-- The node of an address, from the blocks of memory with nodes (`numa_cleanup_meminfo`,
+-- `numa_register_memblks`).
 use Rattle.std.specs.Prelude.{ℕ, ◌==◌, Bool, ◌&&◌, ◌||◌, not, nat_le, nat_lt, max, min, if◌then◌else◌, Option, Some, None, List, [], ◌∷◌}
 use Rattle.std.specs.List.{list_any, list_all}
 use Rattle.address_runs.specs.Runs.{RunOf, run_end, lies_in}
 
--- a block: a range of addresses, and the node that it lies in (`struct numa_memblk`)
+-- a block: a range of addresses and its node (`struct numa_memblk`)
 abbrev pub NumaBlock : Type 0
 NumaBlock = RunOf ℕ
 
--- some address of the block lies from the one address on and below the other
+-- some address of the block is at or above `from` and below `until`
 abbrev pub meets : ℕ → ℕ → NumaBlock → Bool
 meets from until c = nat_lt (max from c.base) (min until (run_end c))
 
--- the address lies between two blocks, of which the first lies lower
+-- the address is at or above the end of the lower block `a`, and below the start of the upper
+-- block `b`
 abbrev pub is_between : NumaBlock → NumaBlock → ℕ → Bool
 is_between a b x = nat_le (run_end a) x && nat_lt x b.base
 
--- the hull of two blocks of node n, of which the first lies lower, meets no block of another node
+-- the range from the start of the lower block `a` to the end of the upper block `b` meets no block
+-- of a node other than n
 abbrev pub is_own : List NumaBlock → ℕ → NumaBlock → NumaBlock → Bool
 is_own blocks n a b = list_all (λ c. (c.value == n) || not (meets a.base (run_end b) c)) blocks
 
--- the address lies in a block of node n
+-- the address is in a block of node n
 abbrev pub holds : List NumaBlock → ℕ → ℕ → Bool
 holds blocks n x = list_any (λ b. (b.value == n) && lies_in b x) blocks
 
--- the address lies between two blocks of node n whose hull meets no block of another node
+-- the address is between two blocks of node n, and the range from the lower to the upper one meets
+-- no block of another node
 abbrev pub joins : List NumaBlock → ℕ → ℕ → Bool
 joins blocks n x =
     list_any (λ a. (a.value == n) && list_any (λ b. (b.value == n) && (is_between a b x && is_own blocks n a b)) blocks) blocks
@@ -32,8 +36,8 @@ joins blocks n x =
 abbrev pub has : List NumaBlock → ℕ → ℕ → Bool
 has blocks n x = holds blocks n x || joins blocks n x
 
--- the node of an address: the first that it has, in the order of the blocks. Where blocks of different nodes share no
--- address it has one at most
+-- the node of an address: the first that it has, in the order of the blocks. If blocks of
+-- different nodes share no address, it has at most one.
 abbrev pub first_had : List NumaBlock → ℕ → List NumaBlock → Option ℕ
 first_had blocks x [] = None
 first_had blocks x (b ∷ bs) = if has blocks b.value x then Some b.value else first_had blocks x bs
@@ -41,6 +45,6 @@ first_had blocks x (b ∷ bs) = if has blocks b.value x then Some b.value else f
 unfoldable pub node_at : List NumaBlock → ℕ → Option ℕ
 node_at blocks x = first_had blocks x blocks
 
--- whether two nodes are the same
+-- the two nodes are the same
 abbrev pub same_node : ℕ → ℕ → Bool
 same_node a b = a == b

@@ -1,5 +1,5 @@
--- Whether the firmware's table of domains is used, the reason where it isn't, and what it gives where it is
--- (`numa_init`, `numa_cleanup_meminfo`, `numa_meminfo_cover_memory`).
+-- Whether the firmware's table of domains is used, the reason if it isn't, and the nodes of memory
+-- if it is (`numa_init`, `numa_cleanup_meminfo`, `numa_meminfo_cover_memory`).
 use Rattle.std.specs.Prelude.{ℕ, ◌*◌, ◌^◌, Bool, ◌&&◌, not, nat_le, nat_lt, min, if◌then◌else◌, Option, Some, None, List, [], ◌∷◌, fold, length, is_some, is_none}
 use Rattle.address_runs.specs.Runs.{runs_of}
 use Rattle.bm_base.specs.declared.frame.TheConstants.{FRAME_SIZE}
@@ -14,15 +14,16 @@ use Rattle.node_hulls.specs.Domains.{domains_named}
 use Rattle.node_hulls.specs.Hulls.{NumaBlock, node_at, same_node}
 use Rattle.node_hulls.specs.Kept.{any_kept, numa_blocks_of, count_some, first_clash, kept_of}
 
--- memory that has no node, with the node that it gets
+-- node n for an address that is memory without a node; None for any other address
 abbrev pub left_over : (ℕ → Bool) → (ℕ → Option ℕ) → ℕ → ℕ → Option ℕ
 left_over memory nodes n x = if memory x && is_none (nodes x) then Some n else None
 
--- how many of the 2^52 frames that addresses of 64 bits have begin at an address with a node
+-- the number of frames that begin at an address with a node; there are 2^52 frames in addresses of
+-- 64 bits
 unfoldable pub frames_given : (ℕ → Option ℕ) → ℕ
 frames_given nodes = count_below (λ frame. is_some (nodes (FRAME_SIZE * frame))) (2 ^ 52)
 
--- the lowest node of the blocks; 0 where there is none
+-- the lowest node of the blocks, or 0 if there are no blocks
 abbrev pub lower : ℕ → NumaBlock → ℕ
 lower n b = min n b.value
 
@@ -30,7 +31,7 @@ abbrev pub lowest : List NumaBlock → ℕ
 lowest [] = 0
 lowest (b ∷ bs) = fold lower b.value bs
 
--- what contracts see of a judgement
+-- what contracts see of the code's `Judged`
 pub record Judgement : Type 0 where
   pub why : Why
   pub domains : List ℕ
@@ -41,12 +42,12 @@ pub record Judgement : Type 0 where
 abbrev pub judgement : Judged → Judgement
 judgement j = record { why = j.why; domains = j.domains.items; joined = j.joined.items; rest = j.rest.items; uncovered = j.uncovered }
 
--- where the table isn't used it gives nothing
+-- the result if the table isn't used: all lists are empty
 abbrev pub unused : Why → Judgement
 unused reason = record { why = reason; domains = []; joined = []; rest = []; uncovered = 0 }
 
--- where it is used: the domain of each node, the runs of addresses of one node, the runs of memory that is left over, and how
--- many frames these have
+-- the result if the table is used: the domain of each node, the runs of addresses with a node, the
+-- runs of memory without one, and the number of their frames
 abbrev pub used : List ℕ → (ℕ → Option ℕ) → (ℕ → Option ℕ) → Judgement
 used domains nodes left = record {
   why = why.Used;
@@ -56,17 +57,18 @@ used domains nodes left = record {
   uncovered = frames_given left;
 }
 
--- the last reason: so many frames of memory are left over
+-- the last reason not to use the table: too many frames of memory have no node
 abbrev pub if_covering : List ℕ → (ℕ → Option ℕ) → (ℕ → Option ℕ) → Judgement
 if_covering domains nodes left =
     if nat_le UNCOVERED_FRAMES (frames_given left) then unused (why.NotCovered (frames_given left)) else used domains nodes left
 
--- the one before: kept blocks of different nodes overlap
+-- the reason before that: kept blocks of different nodes overlap
 abbrev pub if_apart : Option (ℕ × ℕ) → Judgement → Judgement
 if_apart (Some numbers) given = unused (why.Overlap numbers.0 numbers.1)
 if_apart None given = given
 
--- the node of each address by the kept blocks, and the memory that they leave over
+-- the node of each address by the kept blocks; the memory that they don't cover; and the result
+-- that follows
 abbrev pub nodes_by : List KeptBlock → ℕ → Option ℕ
 nodes_by kept = node_at (numa_blocks_of kept)
 
@@ -76,7 +78,8 @@ left_by memory kept = left_over memory (nodes_by kept) (lowest (numa_blocks_of k
 unfoldable pub judged_kept : (ℕ → Bool) → List ℕ → List KeptBlock → Judgement
 judged_kept memory domains kept = if_apart (first_clash kept) (if_covering domains (nodes_by kept) (left_by memory kept))
 
--- the reasons in their order: no block is kept, too many domains, too many blocks, and then those of the kept blocks
+-- the first reasons in their order: no block is kept, there are too many domains, there are too
+-- many blocks; then those that depend on the kept blocks
 abbrev pub names_of : Affinity → List ℕ
 names_of lists = domains_named lists.processors lists.blocks
 
@@ -87,7 +90,7 @@ judged_table memory lists =
     else (if nat_lt MAX_BLOCKS (count_some lists.blocks) then unused why.TooManyBlocks
     else judged_kept memory (names_of lists) (kept_of memory (names_of lists) lists.blocks)))
 
--- `numa=off` goes before the table, and no table before what it says
+-- `numa=off` is tested first, then whether there is a table
 abbrev pub judged : (ℕ → Bool) → Bool → Option Affinity → Judgement
 judged memory off None = if off then unused why.Off else unused why.Absent
 judged memory off (Some lists) = if off then unused why.Off else judged_table memory lists

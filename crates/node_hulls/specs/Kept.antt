@@ -1,4 +1,5 @@
--- Which blocks of the firmware's table count, and which of them overlap (`numa_add_memblk`, `numa_cleanup_meminfo`).
+-- Which blocks of the firmware's table are kept, and which of them overlap (`numa_add_memblk`,
+-- `numa_cleanup_meminfo`).
 use Rattle.std.specs.Prelude.{ℕ, ◌+◌, ◌-◌, ◌<◌, ◌==◌, Bool, ◌&&◌, not, nat_lt, if◌then◌else◌, Option, None, List, [], ◌∷◌, ◌++◌, map, find, count_by}
 use Rattle.std.specs.List.{list_any}
 use Rattle.std.specs.Option.{option_map, option_or}
@@ -11,7 +12,7 @@ use Rattle.node_hulls.specs.declared.kept.KeptBlock.{KeptBlock}
 use Rattle.node_hulls.specs.Domains.{node_of}
 use Rattle.node_hulls.specs.Hulls.{NumaBlock, meets}
 
--- memory as a list of ranges: an address is memory where it lies in one of them. None of them is empty
+-- memory as a list of ranges: an address is memory if one of them has it; none of them is empty
 abbrev pub in_any : List Extent → ℕ → Bool
 in_any ranges x = list_any (λ r. covers r x) ranges
 
@@ -19,7 +20,7 @@ abbrev pub HaveBytes : List Extent → Type 0
 HaveBytes [] = Unit {0}
 HaveBytes (r ∷ rs) = (0 < r.size) × HaveBytes rs
 
--- the first address of the frame in which the address lies
+-- the first address of the frame that has the address
 abbrev pub frame_base : ℕ → ℕ
 frame_base x = (frame_around x).base
 
@@ -31,11 +32,11 @@ framed r = record { base = frame_base r.base; size = frame_base (end_of r) - fra
 abbrev pub meets_memory : (ℕ → Bool) → Extent → Bool
 meets_memory memory r = not (each_in r (λ y. not (memory y)))
 
--- a block of the table in whole frames, in the node of its domain
+-- a block of the table in whole frames, with the node of its domain
 abbrev pub of_node : List ℕ → SratBlock → NumaBlock
 of_node domains b = record { base = (framed b.range).base; size = (framed b.range).size; value = node_of domains b.domain }
 
--- the blocks that are kept: those of which a byte is memory, each with its number in the table
+-- the kept blocks: those with a byte of memory, each with its number in the table
 abbrev pub kept_one : (ℕ → Bool) → ℕ → NumaBlock → List KeptBlock
 kept_one memory i b = if meets_memory memory (extent_of b) then record { number = i; block = b } ∷ [] else []
 
@@ -46,31 +47,33 @@ kept_from memory domains i (b ∷ bs) = kept_one memory i (of_node domains b) ++
 abbrev pub kept_of : (ℕ → Bool) → List ℕ → List SratBlock → List KeptBlock
 kept_of memory domains blocks = kept_from memory domains 0 blocks
 
--- the blocks alone
+-- the blocks without their numbers
 abbrev pub numa_blocks_of : List KeptBlock → List NumaBlock
 numa_blocks_of kept = map (λ (k : KeptBlock). k.block) kept
 
--- whether a kept block is of the node
+-- some kept block has the node
 abbrev pub is_node_of : List KeptBlock → ℕ → Bool
 is_node_of kept n = list_any (λ (k : KeptBlock). k.block.value == n) kept
 
--- whether any is kept
+-- some block is kept
 abbrev pub any_kept : (ℕ → Bool) → List SratBlock → Bool
 any_kept memory blocks = list_any (λ (b : SratBlock). meets_memory memory (framed b.range)) blocks
 
--- the blocks with an address, as the table has them before they are rounded
+-- the number of blocks that aren't empty in the table, before rounding
 abbrev pub count_some : List SratBlock → ℕ
 count_some blocks = count_by (λ (b : SratBlock). nat_lt 0 b.range.size) blocks
 
--- two kept blocks of different nodes share an address
+-- two kept blocks have different nodes and share an address
 abbrev pub clash : KeptBlock → KeptBlock → Bool
 clash a b = not (a.block.value == b.block.value) && meets a.block.base (run_end a.block) b.block
 
--- kept blocks of two numbers, the lower one first, are of different nodes and share an address
+-- the kept blocks with the numbers i and j, where i is below j, have different nodes and share an
+-- address
 abbrev pub overlap_at : List KeptBlock → ℕ → ℕ → Bool
 overlap_at kept i j = nat_lt i j && list_any (λ a. (a.number == i) && list_any (λ b. (b.number == j) && clash a b) kept) kept
 
--- the numbers of the first kept block that clashes with a later one, and of the first that it clashes with
+-- the number of the first kept block that overlaps a later one of another node, and the number of
+-- the first such later one
 abbrev pub first_clash : List KeptBlock → Option (ℕ × ℕ)
 first_clash [] = None
 first_clash (a ∷ rest) = option_or (option_map (λ (b : KeptBlock). (a.number, b.number)) (find (clash a) rest)) (first_clash rest)

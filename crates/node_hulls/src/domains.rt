@@ -1,5 +1,5 @@
-//! Domains become nodes: the kernel numbers nodes from 0 in the order in which it meets their domains
-//! (`acpi_map_pxm_to_node`). The list of domains is that map, since a node is a place in it.
+//! Numbers the nodes: from 0, in the order in which their domains are first named
+//! (`acpi_map_pxm_to_node`). A node is the index of its domain in the list of domains.
 
 ghost use Rattle.std.specs.Prelude.{◌≡◌, ℕ, ◌<◌, ◌≤◌, ◌==◌, OnOk, IfOk, IfSome, fold, length, take};
 ghost use Rattle.std.specs.List.{position};
@@ -11,8 +11,12 @@ use bm_base::Memory;
 use srat_reader::SratBlock;
 use std::alloc::Global;
 
-/// The domains in the order of their nodes, but no more than one above [`MAX_NODES`], since more can't have
-/// nodes whichever they are.
+/// Returns the domains in the order of their nodes: those of processors first, then those of
+/// memory. The list stops at one more than [`MAX_NODES`], since the table isn't used then.
+///
+/// # Errors
+///
+/// - `Memory`: the program ran out of memory.
 pub fn name_domains(
     alloc: Global,
     processors: &[u32],
@@ -26,7 +30,11 @@ pub fn name_domains(
     Ok(domains)
 }
 
-/// Names the domains of processors, in their order.
+/// Appends the domains of processors that aren't in the list yet, in their order.
+///
+/// # Errors
+///
+/// - `Memory`: the program ran out of memory.
 fn name_processors(domains: &mut Vec<u32>, processors: &[u32]) -> Result<(), Memory>
     ensures { OnOk result (domains.new.items ≡ fold with_name_in_room domains.old.items processors.now) }
 {
@@ -36,7 +44,11 @@ fn name_processors(domains: &mut Vec<u32>, processors: &[u32]) -> Result<(), Mem
     Ok(())
 }
 
-/// Names the domains of memory, in their order.
+/// Appends the domains of memory that aren't in the list yet, in their order.
+///
+/// # Errors
+///
+/// - `Memory`: the program ran out of memory.
 fn name_memory(domains: &mut Vec<u32>, blocks: &[SratBlock]) -> Result<(), Memory>
     ensures { OnOk result (domains.new.items ≡ fold named_by_block domains.old.items blocks.now) }
 {
@@ -46,7 +58,12 @@ fn name_memory(domains: &mut Vec<u32>, blocks: &[SratBlock]) -> Result<(), Memor
     Ok(())
 }
 
-/// Names one domain more, unless it is named already or there are too many.
+/// Appends a domain, unless it is in the list already, or the list has more than [`MAX_NODES`]
+/// domains.
+///
+/// # Errors
+///
+/// - `Memory`: the program ran out of memory.
 fn name_domain(domains: &mut Vec<u32>, domain: u32) -> Result<(), Memory>
     ensures { OnOk result (domains.new.items ≡ with_name_in_room domains.old.items domain) }
 {
@@ -56,7 +73,7 @@ fn name_domain(domains: &mut Vec<u32>, domain: u32) -> Result<(), Memory>
     Ok(())
 }
 
-/// The node of a domain that is named.
+/// Returns the node of a domain in the list. A domain that isn't in the list gives 0.
 pub fn node_of(domains: &[u32], domain: u32) -> u32
     requires { length domains.now ≤ 1024 }
     ensures { result ≡ node_of domains.now domain }
@@ -64,7 +81,7 @@ pub fn node_of(domains: &[u32], domain: u32) -> u32
     place_of(domains, domain).unwrap_or(0) as u32
 }
 
-/// The place of a domain among the domains.
+/// Returns the index of a domain in the list, or `None` if it isn't in the list.
 fn place_of(domains: &[u32], domain: u32) -> Option<usize>
     ensures value { result ≡ position (λ e. e == domain) domains.now }
     ensures within { IfSome result (λ place. place < length domains.now) }

@@ -1,6 +1,6 @@
-//! The blocks of each node, joined: over gaps too where nothing of another node lies between them
-//! (`numa_cleanup_meminfo`). Blocks that don't overlap any of another node are runs once they are laid over one another,
-//! and then it is enough to look at neighbours.
+//! Joins the blocks of each node, also across gaps with nothing of another node in them
+//! (`numa_cleanup_meminfo`). If no two blocks of different nodes overlap, overlaying the blocks
+//! gives runs, and it is enough to compare neighbouring runs.
 
 ghost use Rattle.std.specs.Prelude.{◌≡◌, ℕ, ◌+◌, ◌-◌, ◌<◌, ◌≤◌, OnOk, IfOk, length, map, reverse};
 ghost use Rattle.address_runs.specs.Overlay.{HaveAddresses};
@@ -14,7 +14,12 @@ use address_runs::{RunOf, overlay_all};
 use bm_base::{Memory, Range};
 use std::alloc::Global;
 
-/// The blocks laid over one another, as runs, ascending: where several lie over an address the first one's node holds.
+/// Overlays the blocks as runs, in ascending order. If several blocks have an address, the first
+/// one's node counts. No block may be empty.
+///
+/// # Errors
+///
+/// - `Memory`: the program ran out of memory.
 pub fn lay_blocks(alloc: Global, kept: &[KeptBlock]) -> Result<Vec<NodeRange>, Memory>
     requires { HaveAddresses (numa_blocks_of kept.now) }
     ensures { IfOk result (λ laid. IsRunsOf (value_at (numa_blocks_of kept.now)) laid.items) }
@@ -23,7 +28,11 @@ pub fn lay_blocks(alloc: Global, kept: &[KeptBlock]) -> Result<Vec<NodeRange>, M
     overlay_all(alloc, &blocks)
 }
 
-/// The blocks without their numbers.
+/// Returns the blocks without their numbers.
+///
+/// # Errors
+///
+/// - `Memory`: the program ran out of memory.
 fn blocks_alone(alloc: Global, kept: &[KeptBlock]) -> Result<Vec<NodeRange>, Memory>
     ensures { IfOk result (λ blocks. blocks.items ≡ numa_blocks_of kept.now) }
 {
@@ -34,8 +43,13 @@ fn blocks_alone(alloc: Global, kept: &[KeptBlock]) -> Result<Vec<NodeRange>, Mem
     Ok(blocks)
 }
 
-/// The runs, where each is joined with its next neighbour of the same node. Of blocks that don't overlap any of another
-/// node these are the runs of addresses of one node.
+/// Joins each run with the next one if both have the same node, also across a gap. If no two
+/// blocks of different nodes overlap, and `runs` are the overlaid blocks, the result is the runs
+/// of addresses with one node.
+///
+/// # Errors
+///
+/// - `Memory`: the program ran out of memory.
 pub fn fill_gaps(alloc: Global, runs: &[NodeRange]) -> Result<Vec<NodeRange>, Memory>
     requires { AreRuns runs.now }
     ensures { IfOk result (λ joined. joined.items ≡ filled runs.now) }
@@ -50,7 +64,12 @@ pub fn fill_gaps(alloc: Global, runs: &[NodeRange]) -> Result<Vec<NodeRange>, Me
     Ok(joined)
 }
 
-/// Puts a run before the others, which stand in descending order: the last of them is the next behind it.
+/// Puts a run before those that are already joined. `joined` is in descending order, so its last
+/// run is the next one above `run`.
+///
+/// # Errors
+///
+/// - `Memory`: the program ran out of memory.
 fn put_before(joined: &mut Vec<NodeRange>, run: NodeRange) -> Result<(), Memory>
     ensures { OnOk result (joined.new.items ≡ reverse (led_by_run run (reverse joined.old.items))) }
 {
@@ -67,7 +86,7 @@ fn put_before(joined: &mut Vec<NodeRange>, run: NodeRange) -> Result<(), Memory>
     Ok(())
 }
 
-/// The addresses from those of a run up to those of a later one, of the same node.
+/// Returns the run from the start of `run` to the end of `next`, which must have the same node.
 fn spanning(run: &NodeRange, next: &NodeRange) -> NodeRange
     ensures { result ≡ record { base = run.now.base; size = run_end next.now - run.now.base; value = run.now.value } }
 {

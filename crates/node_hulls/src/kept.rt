@@ -1,5 +1,6 @@
-//! Which blocks of the table are kept: those of which a byte is memory, in whole frames (`numa_cleanup_meminfo`
-//! cuts blocks to memory and removes the empty ones). And which of them overlap.
+//! Selects the blocks that are kept: those that contain a byte of memory, in whole frames
+//! (`numa_cleanup_meminfo` cuts blocks to memory and removes empty ones). Also finds blocks that
+//! overlap.
 
 ghost use Rattle.std.specs.Prelude.{◌≡◌, ◌↔◌, ℕ, ◌+◌, ◌++◌, ◌^◌, ◌<◌, ◌≤◌, None, IsTrue, OnOk, IfOk, length, option_map, find, is_some};
 ghost use Rattle.address_runs.specs.Runs.{AreRuns, IsRunsOf, run_end, value_at};
@@ -18,13 +19,13 @@ use std::alloc::Global;
 /// A block that is kept.
 #[derive(Clone, Copy, Debug, PartialEq, Eq)]
 pub struct KeptBlock {
-    /// Its number among the enabled blocks of the table, from 0.
+    /// The number of the block among the enabled blocks of the table, from 0.
     pub number: u32,
-    /// Its addresses, in whole frames, and its node.
+    /// The addresses of the block, in whole frames, and its node.
     pub block: NodeRange,
 }
 
-/// The range with both ends rounded down to frames.
+/// Returns the range with both ends rounded down to frames.
 fn framed(range: &Range) -> Range
     ensures { result ≡ framed range.now }
 {
@@ -36,7 +37,7 @@ fn framed(range: &Range) -> Range
     }
 }
 
-/// Whether any block is kept.
+/// Tests whether any block is kept.
 pub fn is_any_kept(memory: &Vec<RunOf<bool>>, blocks: &[SratBlock]) -> bool
     requires { AreRuns memory.now.items }
     ensures { result ≡ any_kept (in_runs memory.now.items) blocks.now }
@@ -49,14 +50,19 @@ pub fn is_any_kept(memory: &Vec<RunOf<bool>>, blocks: &[SratBlock]) -> bool
     false
 }
 
-/// How many blocks have an address, as the table has them.
+/// Returns the number of blocks that aren't empty in the table, before rounding to frames.
 pub fn count_with_addresses(blocks: &[SratBlock]) -> usize
     ensures { result ≡ count_some blocks.now }
 {
     blocks.iter().filter(|block| block.range.size > 0).count()
 }
 
-/// The blocks that are kept, in the order of the table.
+/// Returns the blocks that are kept, in the order of the table. There must be fewer than 2^32
+/// blocks.
+///
+/// # Errors
+///
+/// - `Memory`: the program ran out of memory.
 pub fn keep_blocks(
     alloc: Global,
     memory: &Vec<RunOf<bool>>,
@@ -77,7 +83,11 @@ pub fn keep_blocks(
     Ok(kept)
 }
 
-/// Keeps the block of that number, if a byte of it is memory.
+/// Appends the block with this number, if it contains a byte of memory.
+///
+/// # Errors
+///
+/// - `Memory`: the program ran out of memory.
 fn keep_one(
     kept: &mut Vec<KeptBlock>,
     memory: &Vec<RunOf<bool>>,
@@ -93,7 +103,7 @@ fn keep_one(
     Ok(())
 }
 
-/// The block in whole frames, in the node of its domain.
+/// Returns the block in whole frames, with the node of its domain.
 fn in_frames(domains: &[u32], block: &SratBlock) -> NodeRange
     requires { length domains.now ≤ 1024 }
     ensures value { result ≡ of_node domains.now block.now }
@@ -105,8 +115,9 @@ fn in_frames(domains: &[u32], block: &SratBlock) -> NodeRange
     }
 }
 
-/// The numbers of the first kept block that shares an address with a later one of another node, and of the
-/// first such block. `laid` has the blocks laid over one another; the pair is looked for only where there is one.
+/// Returns the numbers of two kept blocks of different nodes that share an address, or `None` if
+/// there are none. The first number is the least possible, and then the second. `laid` has the
+/// overlaid blocks; pairs are compared only if there is an overlap.
 pub fn first_overlap(kept: &[KeptBlock], laid: &Vec<NodeRange>) -> Option<(u32, u32)>
     requires { IsRunsOf (value_at (numa_blocks_of kept.now)) laid.now.items }
     ensures { result ≡ first_clash kept.now }
@@ -117,8 +128,8 @@ pub fn first_overlap(kept: &[KeptBlock], laid: &Vec<NodeRange>) -> Option<(u32, 
     first_pair(kept)
 }
 
-/// Whether no two blocks of different nodes share an address: then each address of each block has its node, by
-/// the blocks laid over one another. A look-up for each block.
+/// Tests whether no two blocks of different nodes share an address. That is so if each address of
+/// each block has the block's own node in the overlaid blocks. Takes one look-up for each block.
 fn are_apart(kept: &[KeptBlock], laid: &Vec<NodeRange>) -> bool
     requires { IsRunsOf (value_at (numa_blocks_of kept.now)) laid.now.items }
     ensures { IsTrue result ↔ (first_clash kept.now ≡ None) }
@@ -131,7 +142,7 @@ fn are_apart(kept: &[KeptBlock], laid: &Vec<NodeRange>) -> bool
     true
 }
 
-/// The same by a look at each pair.
+/// Finds the pair of [`first_overlap`] by comparing each pair of blocks.
 fn first_pair(kept: &[KeptBlock]) -> Option<(u32, u32)>
     ensures { result ≡ first_clash kept.now }
 {
@@ -145,7 +156,8 @@ fn first_pair(kept: &[KeptBlock]) -> Option<(u32, u32)>
     None
 }
 
-/// The number of the first of the other blocks that is of another node and shares an address with the block.
+/// Returns the number of the first of the `others` that has another node than the block and shares
+/// an address with it.
 fn overlapping(block: &KeptBlock, others: &[KeptBlock]) -> Option<u32>
     ensures { result ≡ option_map (λ other. other.number) (find (clash block.now) others.now) }
 {
@@ -157,7 +169,7 @@ fn overlapping(block: &KeptBlock, others: &[KeptBlock]) -> Option<u32>
     None
 }
 
-/// Whether two blocks are of different nodes and share an address.
+/// Tests whether two blocks have different nodes and share an address.
 fn is_clash(block: &KeptBlock, other: &KeptBlock) -> bool
     ensures { result ≡ clash block.now other.now }
 {

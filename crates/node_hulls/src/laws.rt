@@ -1,6 +1,5 @@
-//! What holds of the words themselves, as calls that the crates above may cite: an address has one node at most, nodes
-//! are domains by other numbers in the order of first naming, the pair of blocks that is told is the least that overlaps, the
-//! addresses of a frame have one node, and each node of a kept block has memory.
+//! The laws of this crate, for the crates above: which node an address, a domain and a frame has,
+//! which overlap is reported, and which nodes have memory.
 
 ghost use Rattle.std.specs.Prelude.{◌≡◌, ◌≢◌, ◌↔◌, ◌⊎◌, ℕ, ◌^◌, ◌<◌, ◌≤◌, ◌++◌, ◌||◌, Bool, true, false, None, Some, is_some, Option, List, [], ◌∷◌, length, get_or};
 ghost use Rattle.std.specs.List.{All};
@@ -16,22 +15,24 @@ ghost use Rattle.node_hulls.specs.Hulls.{NumaBlock, has};
 ghost use Rattle.node_hulls.specs.Judgement.{judged, left_by, nodes_by};
 ghost use Rattle.node_hulls.specs.Kept.{numa_blocks_of, overlap_at, first_clash, frame_base, is_node_of, kept_of};
 
-/// A law: where no two kept blocks clash, the node of an address is the one node that it has, if any.
+/// Law: if no two kept blocks of different nodes share an address, the node of an address is the
+/// only node that it has, if any.
 pub fn one_node_an_address()
     ensures { (kept : List AnyKept) → first_clash kept ≡ None → HaveAddresses (numa_blocks_of kept) →
         (x n : ℕ) → (has (numa_blocks_of kept) n x ≡ true) ↔ (nodes_by kept x ≡ Some n) }
 {}
 
-/// A law: domains that are named are one where their nodes are, and each has a node below their number. So blocks of
-/// different nodes are blocks of different domains.
+/// Law: two named domains with the same node are the same domain, and a node is below the number
+/// of named domains. So blocks of different nodes have different domains.
 pub fn one_node_a_domain()
     ensures one { (domains : List ℕ) (d e : ℕ) → is_named domains d ≡ true → is_named domains e ≡ true →
         node_of domains d ≡ node_of domains e → d ≡ e }
     ensures below { (domains : List ℕ) (d : ℕ) → is_named domains d ≡ true → node_of domains d < length domains }
 {}
 
-/// A law: nodes count the domains in the order in which they are first named, whatever is named. The domains are those that are
-/// named; the one at place n has node n, so each stands there once; and one that is named where another isn't yet has the lower node.
+/// Law: nodes number the domains in the order in which they are first named. The list has exactly
+/// the domains that are named. The domain at index n has node n, so each domain is in the list
+/// once. If a domain is named when another hasn't been named yet, it has the lower node.
 pub fn nodes_by_first_naming()
     ensures named { (names : List ℕ) (d : ℕ) → is_named (named_once names) d ≡ is_named names d }
     ensures place { (names : List ℕ) (n : ℕ) → n < length (named_once names) →
@@ -40,8 +41,8 @@ pub fn nodes_by_first_naming()
         node_of (named_once (before ++ d ∷ after)) d < node_of (named_once (before ++ d ∷ after)) e }
 {}
 
-/// A law: where kept blocks overlap, the pair that is told is one that does, and the least, by its first number and then by its
-/// second; and none is told only where no two overlap.
+/// Law: the reported pair of kept blocks overlaps. It is the least such pair, by its first number
+/// and then by its second. If no pair is reported, no two kept blocks overlap.
 pub fn least_overlap()
     ensures pair { (memory : ℕ → Bool) (domains : List ℕ) (blocks : List AnyBlock) (i j : ℕ) →
         first_clash (kept_of memory domains blocks) ≡ Some (i, j) → overlap_at (kept_of memory domains blocks) i j ≡ true }
@@ -52,8 +53,9 @@ pub fn least_overlap()
         first_clash (kept_of memory domains blocks) ≡ None → overlap_at (kept_of memory domains blocks) k l ≡ false }
 {}
 
-/// A law: an address has the node of its frame's first one; and where memory is whole frames, it is left over where that
-/// one is. So the frames that begin in memory without a node are the frames of memory without a node.
+/// Law: an address has the same node as the first address of its frame. If memory consists of
+/// whole frames, an address also is memory without a node exactly if the first address of its
+/// frame is. So counting frames by their first address counts the frames of memory without a node.
 pub fn one_node_a_frame()
     ensures node { (memory : ℕ → Bool) (domains : List ℕ) (blocks : List AnyBlock) (x : ℕ) →
         nodes_by (kept_of memory domains blocks) x ≡ nodes_by (kept_of memory domains blocks) (frame_base x) }
@@ -63,8 +65,9 @@ pub fn one_node_a_frame()
         ≡ left_by memory (kept_of memory domains blocks) (frame_base x) }
 {}
 
-/// A law: a node has memory exactly where a kept block is of it: the node of each kept block has a byte of memory, and each
-/// node that an address gets, by the blocks or because it is left over, is that of a kept block.
+/// Law: a node has memory exactly if it is the node of a kept block. The node of each kept block
+/// has a byte of memory. Each node that an address gets, from the blocks or as memory without a
+/// node, is that of a kept block.
 pub fn nodes_with_memory()
     ensures memory { (memory : ℕ → Bool) (domains : List ℕ) (blocks : List AnyBlock) →
         first_clash (kept_of memory domains blocks) ≡ None →
@@ -74,8 +77,9 @@ pub fn nodes_with_memory()
         (x n : ℕ) → (nodes_by kept x ≡ Some n) ⊎ (left_by memory kept x ≡ Some n) → is_node_of kept n ≡ true }
 {}
 
-/// A law: the runs of a judgement are runs, and each has a node below [`crate::MAX_NODES`]; where the table is used each byte of
-/// memory lies in one; and, where memory is whole frames, the addresses of a frame have the same nodes by them.
+/// Law: the lists of a judgement are canonical runs, and each run has a node below
+/// [`crate::MAX_NODES`]. If the table is used, each byte of memory is in one of the runs. If
+/// memory consists of whole frames, all addresses of a frame have the same node in each list.
 pub fn runs_cover_memory()
     ensures runs { (memory : ℕ → Bool) (off : Bool) (table : Option Affinity) →
         AreRuns (judged memory off table).joined × AreRuns (judged memory off table).rest }

@@ -1,27 +1,37 @@
-//! Which memory lies in which node: blocks of the firmware's table of domains, joined, cut and judged.
+//! Decides which memory belongs to which NUMA node, from the ranges of the SRAT.
 //!
-//! The kernel reads the SRAT into blocks of memory with nodes (`numa_add_memblk`), throws away what isn't memory,
-//! joins blocks of one node with nothing of another node between them (`numa_cleanup_meminfo`), and uses the
-//! table only where it covers enough of memory (`numa_meminfo_cover_memory`). This crate does that on lists
-//! alone: [`judge`] takes the ranges of memory and what the table says, and answers a [`Judged`]: why the table
-//! is or isn't used ([`Why`], the first reason of a fixed order, with its numbers), and, where it is used, the
-//! domains in the order of their nodes, the runs of addresses of one node, and the runs of memory that no block
-//! covers, which get the lowest node.
+//! The kernel reads the SRAT into blocks of memory with nodes (`numa_add_memblk`). It drops blocks
+//! that aren't memory, and joins blocks of one node if nothing of another node is between them
+//! (`numa_cleanup_meminfo`). It uses the table only if the blocks cover enough of memory
+//! (`numa_meminfo_cover_memory`). This crate does the same on lists.
 //!
-//! The definitions look at each address alone: it has a node where it lies in a kept block of that node, or
-//! between two of them whose hull meets no block of another node (`specs/Hulls.antt`). The code never goes over
-//! addresses: it lays the blocks over one another as runs (`address_runs`), and where no two blocks of different nodes
-//! overlap, which look-ups of the blocks in these runs tell (`run_edits`), one pass joins each run with its neighbour of
-//! the same node. Memory is laid out as runs too, for a look-up of each block. That this is the same is proved in `proofs/`.
+//! [`judge`] takes the ranges of memory and the content of the table, and returns a [`Judged`]. It
+//! has the reason why the table is or isn't used ([`Why`]). If it is used, it also has the domain
+//! of each node, the runs of addresses with a node, and the runs of memory that no block covers.
+//! These last get the lowest node that has a block.
 //!
-//! The laws say what the words mean to each other: an address has one node at most ([`one_node_an_address`]), nodes are domains by
-//! other numbers ([`one_node_a_domain`]), in the order in which these are first named ([`nodes_by_first_naming`]), the pair of
-//! blocks that is told is the least that overlaps ([`least_overlap`]), whole frames have one node ([`one_node_a_frame`]), a node
-//! has memory exactly where a kept block is of it ([`nodes_with_memory`]), and the runs of a table that is used cover memory
-//! ([`runs_cover_memory`]).
+//! The definitions look at each address by itself (`specs/Hulls.antt`). An address has a node if
+//! it lies in a kept block of that node. It also has the node if it lies between two of them, and
+//! the range from the start of the lower to the end of the upper meets no block of another node.
+//! The code never iterates over addresses. It overlays the blocks as runs (`address_runs`), and
+//! looks up each block in them (`run_edits`) to find out whether blocks of different nodes
+//! overlap. If none do, one pass joins each run with the next if both have the same node. Memory
+//! is kept as runs too, so that each block can be looked up in it.
 //!
-//! The layer above hands in memory as a list of ranges, in any order, and carries out what is answered: it
-//! records the nodes of memory, and finds places for the nodes' own data.
+//! A law is an empty function whose contract is a proven fact. In contracts, a name means the
+//! definition in `specs/`. The laws say:
+//!
+//! - [`one_node_an_address`]: an address has at most one node.
+//! - [`one_node_a_domain`]: different domains have different nodes.
+//! - [`nodes_by_first_naming`]: nodes are numbered in the order in which their domains are first
+//!   named.
+//! - [`least_overlap`]: the pair of overlapping blocks in [`Why::Overlap`] is the least one.
+//! - [`one_node_a_frame`]: all addresses of a frame have the same node.
+//! - [`nodes_with_memory`]: a node has memory exactly if it has a kept block.
+//! - [`runs_cover_memory`]: the runs of a table that is used cover all memory.
+//!
+//! The layer above passes memory as a list of ranges, in any order. It records the nodes of
+//! memory, and allocates the nodes' own data.
 #![tactic(auto)]
 
 mod domains;

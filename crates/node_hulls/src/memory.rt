@@ -1,5 +1,5 @@
-//! Memory as runs. Its ranges come in any order; they are laid over one another once, and then a look-up tells whether a byte of
-//! a range is memory.
+//! Memory as runs. Its ranges come in any order. They are overlaid once; after that, one look-up
+//! tells whether a range contains a byte of memory.
 
 ghost use Rattle.std.specs.Prelude.{◌≡◌, ℕ, ◌++◌, OnOk, IfOk, map};
 ghost use Rattle.address_runs.specs.Overlay.{HaveAddresses};
@@ -12,7 +12,12 @@ use bm_base::{Memory, Range};
 use run_edits::seek;
 use std::alloc::Global;
 
-/// The runs of memory, ascending. The value says that they have no node so far.
+/// Returns the runs of memory, in ascending order. Their value is `false`: no node so far. No
+/// range may be empty.
+///
+/// # Errors
+///
+/// - `Memory`: the program ran out of memory.
 pub fn memory_runs(alloc: Global, memory: &[Range]) -> Result<Vec<RunOf<bool>>, Memory>
     requires { HaveBytes memory.now }
     ensures runs { IfOk result (λ runs. AreRuns runs.items) }
@@ -23,7 +28,11 @@ pub fn memory_runs(alloc: Global, memory: &[Range]) -> Result<Vec<RunOf<bool>>, 
     overlay_all(alloc, &told)
 }
 
-/// Memory as it covers its addresses.
+/// Appends each range of memory, as a run without a node.
+///
+/// # Errors
+///
+/// - `Memory`: the program ran out of memory.
 pub fn tell_memory(told: &mut Vec<RunOf<bool>>, memory: &[Range]) -> Result<(), Memory>
     ensures { OnOk result (told.new.items ≡ told.old.items ++ map nodeless memory.now) }
 {
@@ -40,7 +49,8 @@ pub fn tell_memory(told: &mut Vec<RunOf<bool>>, memory: &[Range]) -> Result<(), 
     Ok(())
 }
 
-/// Whether some byte of the range is memory. A look-up: the first run that ends behind the range's first address tells.
+/// Tests whether some byte of the range is memory. Looks at one run: the first that ends above the
+/// start of the range.
 pub fn meets_memory(memory: &Vec<RunOf<bool>>, range: &Range) -> bool
     requires { AreRuns memory.now.items }
     ensures { result ≡ meets_memory (in_runs memory.now.items) range.now }

@@ -1,6 +1,6 @@
-//! A range of addresses and its node, as blocks of the table and runs of memory are kept (`struct numa_memblk`).
-//! Where several lie over one another the first one's node holds; where blocks of different nodes never overlap,
-//! that is the node of each.
+//! A range of addresses with its node, as both blocks and runs are kept (`struct numa_memblk`). If
+//! several have an address, the first one's node counts. If blocks of different nodes never
+//! overlap, that is the node of each of them.
 
 ghost use Rattle.std.specs.Prelude.{◌≡◌};
 ghost use Rattle.address_runs.specs.Runs.{run_end};
@@ -8,10 +8,10 @@ ghost use Rattle.node_hulls.specs.Hulls.{meets};
 
 use address_runs::RunOf;
 
-/// A range of addresses and the node that it lies in, as the boot numbers it.
+/// A range of addresses and its node, as the boot numbers nodes.
 pub type NodeRange = RunOf<u32>;
 
-/// Whether some address lies in both.
+/// Tests whether the two ranges share an address.
 pub fn overlap(first: &NodeRange, second: &NodeRange) -> bool
     ensures { result ≡ meets first.now.base (run_end first.now) second.now }
 {

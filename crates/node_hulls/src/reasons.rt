@@ -1,4 +1,5 @@
-//! Whether the table is used: the reasons why it isn't, in the order in which the boot meets them.
+//! Decides whether the table is used. The reasons against it are tested in the order in which the
+//! boot meets them.
 
 ghost use Rattle.std.specs.Prelude.{◌≡◌, ℕ, ◌^◌, ◌<◌, ◌≤◌, IfOk, IsFalse, IsSome, OnErr, length};
 ghost use Rattle.std.specs.Option.{ForSome, option_map, option_copied};
@@ -18,55 +19,62 @@ use bm_base::{Memory, Range};
 use srat_reader::{Srat, SratBlock};
 use std::alloc::Global;
 
-/// The most nodes that there may be (`MAX_NUMNODES`).
+/// The largest number of nodes (`MAX_NUMNODES`).
 pub const MAX_NODES: usize = 1024;
 
-/// The most blocks that have an address (`NR_NODE_MEMBLKS`).
+/// The largest number of blocks that aren't empty (`NR_NODE_MEMBLKS`).
 pub const MAX_BLOCKS: usize = 2048;
 
-/// So many frames of memory without a node are too many: 1 MiB (`numa_meminfo_cover_memory`).
+/// The number of frames of memory without a node from which on the table isn't used: 1 MiB
+/// (`numa_meminfo_cover_memory`).
 pub const UNCOVERED_FRAMES: u64 = 256;
 
-/// Why the table of domains is or isn't used. The first that holds, in the order of this list from `Off` on, is
+/// The reason why the table is or isn't used. From `Off` on, the first in this order that holds is
 /// the reason.
 #[derive(Clone, Copy, Debug, PartialEq, Eq)]
 pub enum Why {
-    /// None of the reasons below holds: it is used.
+    /// The table is used: none of the reasons below holds.
     Used,
     /// `numa=off` was given.
     Off,
     /// There is no table.
     Absent,
-    /// No byte of memory lies in an enabled block, in whole frames.
+    /// No enabled block contains a byte of memory, after rounding its ends to frames.
     NoBlocks,
     /// The enabled entries name more than [`MAX_NODES`] domains.
     TooManyDomains,
-    /// More than [`MAX_BLOCKS`] enabled blocks have an address, as the table has them.
+    /// More than [`MAX_BLOCKS`] enabled blocks aren't empty in the table, before rounding.
     TooManyBlocks,
-    /// Kept blocks of different domains share an address: their numbers among the enabled blocks, from 0. `i` is the
-    /// least, and then `j`.
+    /// Kept blocks of different domains share an address. `i` and `j` are their numbers among the
+    /// enabled blocks, from 0. `i` is the least possible, and then `j`.
     Overlap { i: u32, j: u32 },
-    /// So many frames of memory have no node, [`UNCOVERED_FRAMES`] or more.
+    /// This number of frames of memory has no node; it is [`UNCOVERED_FRAMES`] or more.
     NotCovered { frames: u64 },
 }
 
-/// What is made of the table. Where it isn't used the lists are empty, and no frame is uncovered.
+/// The result for the table. If the table isn't used, the lists are empty and `uncovered` is 0.
 #[derive(Debug, Drop)]
 pub struct Judged {
-    /// Whether the table is used, and why not.
+    /// The reason why the table is or isn't used.
     pub why: Why,
-    /// The domain of each node.
+    /// The domain of each node; the index is the node.
     pub domains: Vec<u32>,
-    /// The runs of addresses of one node, ascending.
+    /// The runs of addresses with a node from the blocks, in ascending order.
     pub joined: Vec<NodeRange>,
-    /// The runs of memory that no block gives a node, ascending, with the lowest node that has a block.
+    /// The runs of memory that no block covers, in ascending order, with the lowest node that has
+    /// a block.
     pub rest: Vec<NodeRange>,
-    /// How many frames these have.
+    /// The number of frames in `rest`.
     pub uncovered: u64,
 }
 
-/// Judges the table. `memory` has the ranges of memory, in any order, none of them empty; `off` says that
-/// `numa=off` was given. Want of memory comes only where there is a table and it isn't off.
+/// Decides whether the table is used, and computes the nodes of memory. `memory` has the ranges of
+/// memory, in any order, none of them empty. `off` is true if `numa=off` was given. The table must
+/// have fewer than 2^32 blocks.
+///
+/// # Errors
+///
+/// - `Memory`: the program ran out of memory; there is a table, and `off` is false.
 pub fn judge(
     alloc: Global,
     memory: &[Range],
@@ -88,7 +96,12 @@ pub fn judge(
     }
 }
 
-/// Judges a table that is there, as far as its blocks aren't cut to memory.
+/// Decides about a table that is present: first by the reasons that don't depend on the kept
+/// blocks.
+///
+/// # Errors
+///
+/// - `Memory`: the program ran out of memory.
 fn judge_table(
     alloc: Global,
     memory: &[Range],
@@ -115,7 +128,11 @@ fn judge_table(
     judge_kept(alloc, memory, domains, &kept)
 }
 
-/// Judges the table by the blocks that are kept.
+/// Decides about the table by the kept blocks, none of which may be empty.
+///
+/// # Errors
+///
+/// - `Memory`: the program ran out of memory.
 fn judge_kept(
     alloc: Global,
     memory: &[Range],
@@ -146,7 +163,7 @@ fn judge_kept(
     })
 }
 
-/// The judgement for a reason why the table isn't used.
+/// Returns the result for a table that isn't used.
 fn unused(alloc: Global, why: Why) -> Judged
     ensures { judgement result ≡ unused why }
 {
@@ -159,7 +176,7 @@ fn unused(alloc: Global, why: Why) -> Judged
     }
 }
 
-/// The lowest node of the blocks; 0 where there is none.
+/// Returns the lowest node of the blocks, or 0 if there are no blocks.
 fn lowest_node(kept: &[KeptBlock]) -> u32
     ensures { result ≡ lowest (numa_blocks_of kept.now) }
 {

@@ -1,5 +1,5 @@
-//! The memory that no block covers, and how many frames of it there are: the kernel counts them by what is left of its
-//! map (`numa_meminfo_cover_memory`).
+//! Finds the memory that no block covers, and counts its frames. The kernel counts them as what is
+//! left of its map (`numa_meminfo_cover_memory`).
 
 ghost use Rattle.std.specs.Prelude.{◌≡◌, ℕ, ◌+◌, ◌-◌, ◌^◌, ◌<◌, ◌≤◌, ◌++◌, [], ◌∷◌, if◌then◌else◌, OnOk, IfOk, map};
 ghost use Rattle.address_runs.specs.Overlay.{HaveAddresses};
@@ -14,7 +14,12 @@ use address_runs::{RunOf, overlay_all};
 use bm_base::{FRAME_SIZE, Memory, Range};
 use std::alloc::Global;
 
-/// The runs of memory that have no node, ascending, each with the node.
+/// Returns the runs of memory without a node, in ascending order, each with the node that it gets.
+/// No range of memory may be empty.
+///
+/// # Errors
+///
+/// - `Memory`: the program ran out of memory.
 pub fn left_over_runs(
     alloc: Global,
     memory: &[Range],
@@ -31,8 +36,12 @@ pub fn left_over_runs(
     without_node(alloc, &covered, node)
 }
 
-/// The runs with a node and then memory, each as it covers its addresses and whether it has a node: where both
-/// lie over an address, the first one says so.
+/// Returns the runs with a node, followed by the ranges of memory. Each says whether it has a
+/// node; when they are overlaid, the first one with an address decides.
+///
+/// # Errors
+///
+/// - `Memory`: the program ran out of memory.
 fn tell(alloc: Global, memory: &[Range], joined: &[NodeRange]) -> Result<Vec<RunOf<bool>>, Memory>
     ensures { IfOk result (λ told. told.items ≡ map noded joined.now ++ map nodeless memory.now) }
 {
@@ -42,7 +51,11 @@ fn tell(alloc: Global, memory: &[Range], joined: &[NodeRange]) -> Result<Vec<Run
     Ok(told)
 }
 
-/// The runs with a node as they cover their addresses.
+/// Appends the runs with a node, each with the value `true`.
+///
+/// # Errors
+///
+/// - `Memory`: the program ran out of memory.
 fn tell_nodes(told: &mut Vec<RunOf<bool>>, joined: &[NodeRange]) -> Result<(), Memory>
     ensures { OnOk result (told.new.items ≡ told.old.items ++ map noded joined.now) }
 {
@@ -55,7 +68,11 @@ fn tell_nodes(told: &mut Vec<RunOf<bool>>, joined: &[NodeRange]) -> Result<(), M
     Ok(())
 }
 
-/// The runs that have no node, each with the node that it gets.
+/// Returns those of the runs that have no node, each with the node that it gets.
+///
+/// # Errors
+///
+/// - `Memory`: the program ran out of memory.
 fn without_node(alloc: Global, covered: &[RunOf<bool>], node: u32) -> Result<Vec<NodeRange>, Memory>
     ensures value { IfOk result (λ rest. rest.items ≡ bare_runs node covered.now) }
     ensures space { IfOk result (λ rest. EndInSpace rest.items) }
@@ -67,7 +84,11 @@ fn without_node(alloc: Global, covered: &[RunOf<bool>], node: u32) -> Result<Vec
     Ok(rest)
 }
 
-/// Gives the run the node, if it has none.
+/// Appends the run with this node, if it has no node.
+///
+/// # Errors
+///
+/// - `Memory`: the program ran out of memory.
 fn give_node(rest: &mut Vec<NodeRange>, run: &RunOf<bool>, node: u32) -> Result<(), Memory>
     ensures value { OnOk result (rest.new.items ≡
         (if run.now.value then rest.old.items else rest.old.items ++ with_node node run.now ∷ [])) }
@@ -82,7 +103,7 @@ fn give_node(rest: &mut Vec<NodeRange>, run: &RunOf<bool>, node: u32) -> Result<
     Ok(())
 }
 
-/// How many frames begin in the runs.
+/// Returns the number of frames that begin in the runs.
 pub fn count_frames(runs: &[NodeRange]) -> u64
     requires { AreRuns runs.now }
     ensures { result ≡ frames_given (value_at runs.now) }
@@ -96,7 +117,7 @@ pub fn count_frames(runs: &[NodeRange]) -> u64
     frames
 }
 
-/// How many frames begin in the run.
+/// Returns the number of frames that begin in the run.
 fn frames_begun(run: &NodeRange) -> u64
     ensures value { result ≡ begun_before (run_end run.now) - begun_before run.now.base }
     ensures space { run_end run.now < 2 ^ 64 }
