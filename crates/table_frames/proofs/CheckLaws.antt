@@ -1,4 +1,4 @@
--- Reading a list of records in order, what it is so far.
+-- Lemmas on checking a list of records one by one.
 use Rattle.std.proofs.Common.{◌≡◌, ◌↔◌, ℕ, ◌+◌, ◌*◌, ◌%◌, ◌<◌, ◌≤◌, List, ◌∷◌, length, drop, arith, drop-cons, add-one, refl}
 use Rattle.std.proofs.lemmas.List.{drop_all}
 use Rattle.phys_store.specs.Bytes.{Stored, byte_of, bytes_at}
@@ -13,7 +13,7 @@ use Rattle.memblock_ranges.proofs.LentLaws.{count_is}
 use Rattle.table_frames.specs.Tables.{AscendBelow, AreWholeFrames}
 use Rattle.table_frames.proofs.RecordLaws.{record_by_bytes}
 
--- what is left from a record on begins with what was read
+-- the list from an index on begins with the record that was read there
 pub left_from : (s : List Stored) (h : Head) (i : ℕ) (g : Region) → i < h.count
     → g ≡ region_in (bytes_at (byte_of s) (h.place + 24 * i) 24)
     → (r : RunOf Label) × (drop i (list_in s h) ≡ r ∷ drop (i + 1) (list_in s h)) × (r.base ≡ g.base) × (r.size ≡ g.size)
@@ -25,7 +25,7 @@ left_from s h i g few is =
 abbrev pub Ascends : ℕ → ℕ → List (RunOf Label) → Type 0
 Ascends from b rs = StartFrom from rs × AscendBelow b rs
 
--- a record in its place: the rest decides
+-- if a record is in its place, the list ascends exactly if the rest does
 pub one_in_place : (b from i next : ℕ) (rs ss : List (RunOf Label)) (r : RunOf Label) → Ascends from b (drop i rs) ↔ AscendBelow b rs
     → drop i rs ≡ r ∷ ss → from ≤ r.base → 0 < r.size → run_end r ≤ b → next ≡ run_end r → Ascends next b ss ↔ AscendBelow b rs
 one_in_place b from i next rs ss r known left above some low is = (
@@ -33,18 +33,18 @@ one_in_place b from i next rs ss r known left above some low is = (
   λ ascend. let whole = rw left at (known.1 ascend) in (rw is whole.1.2, whole.1.3),
 )
 
--- one that isn't: the list doesn't ascend
+-- if a record isn't in its place, the list doesn't ascend
 pub out_of_place : (b from i : ℕ) (rs ss : List (RunOf Label)) (r : RunOf Label) → Ascends from b (drop i rs) ↔ AscendBelow b rs
     → drop i rs ≡ r ∷ ss → (from ≤ r.base → 0 < r.size → run_end r ≤ b → ⊥) → AscendBelow b rs → ⊥
 out_of_place b from i rs ss r known left fails ascend =
     let whole = rw left at (known.1 ascend) in fails whole.0 whole.1.0 whole.1.1
 
--- nothing is left
+-- if no record is left, the list ascends
 pub all_in_place : (b from i : ℕ) (rs : List (RunOf Label)) → Ascends from b (drop i rs) ↔ AscendBelow b rs → length rs ≤ i
     → AscendBelow b rs
 all_in_place b from i rs known all = known.0 (rw (drop_all i rs all) (tt, tt))
 
--- the same of whole frames
+-- the same steps for records of whole frames
 pub one_whole : (i : ℕ) (rs ss : List (RunOf Label)) (r : RunOf Label) → AreWholeFrames (drop i rs) ↔ AreWholeFrames rs → drop i rs ≡ r ∷ ss
     → r.base % 4096 ≡ 0 → r.size % 4096 ≡ 0 → AreWholeFrames ss ↔ AreWholeFrames rs
 one_whole i rs ss r known left base size = (

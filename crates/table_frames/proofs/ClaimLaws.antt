@@ -1,4 +1,4 @@
--- Frames that a table has a byte of, and frames that it hasn't.
+-- Lemmas on frames of which a table has a byte, and frames of which it has none.
 use Rattle.std.proofs.Common.{◌≡◌, ℕ, ◌+◌, ◌-◌, ◌*◌, ◌/◌, ◌<◌, ◌≤◌, max, true, false, Option, Some, None, List, length, get_or, drop, refl, sym, ◌∙◌, ap, add-one, arith, drop-cons}
 use Rattle.std.specs.Option.{is_none}
 use Rattle.std.proofs.lemmas.List.{at_drop_all}
@@ -13,28 +13,28 @@ use Rattle.table_frames.specs.Frames.{frames_of, is_unclaimed, IsPassed}
 use Rattle.table_frames.specs.Tables.{AscendBelow}
 use Rattle.table_frames.proofs.RecordLaws.{ascend_at, ascend_drop, ascend_none}
 
--- where the table gives nothing the frame is unclaimed
+-- if the table has no value for any byte of a frame, it has no byte of the frame
 pub unclaimed_bare : (f : Labels) (frame : ℕ) → ((y : ℕ) → 4096 * frame ≤ y → y < 4096 * frame + 4096 → f y ≡ None)
     → is_unclaimed f frame ≡ true
 unfolding is_unclaimed
 unclaimed_bare f frame bare =
     each_in-all (bytes_of_frame frame) (λ y. is_none (f y)) (λ y above below. ap (λ (o : Option Label). is_none o) (bare y above below))
 
--- and it isn't where the table gives something at one of its bytes
+-- if the table has a value for some byte of a frame, it has a byte of the frame
 pub claimed_byte : (f : Labels) (frame y : ℕ) (v : Label) → 4096 * frame ≤ y → y < 4096 * frame + 4096 → f y ≡ Some v
     → is_unclaimed f frame ≡ false
 unfolding is_unclaimed
 claimed_byte f frame y v above below is =
     each_in-fails (bytes_of_frame frame) (λ z. is_none (f z)) y above below (ap (λ (o : Option Label). is_none o) is)
 
--- what is passed stays passed
+-- records that have nothing from a frame on have nothing from a later frame on
 pub passed_later : (rs : List (RunOf Label)) (i at later : ℕ) → at ≤ later → IsPassed rs i at → IsPassed rs i later
 passed_later rs i at later order passed x above = passed x (omega arith)
 
 pub passed_none : (rs : List (RunOf Label)) (at : ℕ) → IsPassed rs 0 at
 passed_none rs at x above = refl
 
--- a record that ends by the frame is passed
+-- a record that ends below the frame can be skipped
 pub passed_more : (b : ℕ) (rs : List (RunOf Label)) (i at : ℕ) (d : RunOf Label) (fs : RecordFrames) → AscendBelow b rs → i < length rs
     → fs ≡ frames_of (get_or rs i d) → fs.end ≤ at → IsPassed rs i at → IsPassed rs (i + 1) at
 passed_more b rs i at d fs ascend few is ends passed x above =
@@ -43,13 +43,13 @@ passed_more b rs i at d fs ascend few is ends passed x above =
     let end : fs.end ≡ (r.base + (r.size - 1)) / 4096 + 1 = ap (λ (g : RecordFrames). g.end) is in
     rw (← passed x above, add-one, drop-cons rs i d few, behind r x (omega arith)) refl
 
--- nothing is left
+-- after the last record the table has no byte
 pub unclaimed_end : (rs : List (RunOf Label)) (i at x : ℕ) → length rs ≤ i → IsPassed rs i at → at ≤ x → is_unclaimed (value_at rs) x ≡ true
 unclaimed_end rs i at x all passed above =
     unclaimed_bare (value_at rs) x
     (λ y low high. sym (passed y (omega arith)) ∙ at_drop_all (λ (ss : List (RunOf Label)). value_at ss y) rs i all)
 
--- below the next record nothing is claimed
+-- between the records so far and the next, the table has no byte of a frame
 pub unclaimed_gap : (b : ℕ) (rs : List (RunOf Label)) (i at x : ℕ) (d : RunOf Label) (fs : RecordFrames) → AscendBelow b rs
     → i < length rs → fs ≡ frames_of (get_or rs i d) → IsPassed rs i at → at ≤ x → x < fs.first → is_unclaimed (value_at rs) x ≡ true
 unclaimed_gap b rs i at x d fs ascend few is passed above before =
@@ -59,7 +59,7 @@ unclaimed_gap b rs i at x d fs ascend few is passed above before =
     unclaimed_bare (value_at rs) x (λ y from until.
     sym (passed y (omega arith)) ∙ ascend_none b r.base y (drop i rs) (ascend_drop b rs i ascend) starts (omega arith))
 
--- and its frames are
+-- the table has a byte of each frame of the next record
 pub claimed_by : (b : ℕ) (rs : List (RunOf Label)) (i at x : ℕ) (d : RunOf Label) (fs : RecordFrames) → AscendBelow b rs → i < length rs
     → fs ≡ frames_of (get_or rs i d) → IsPassed rs i at → at ≤ x → fs.first ≤ x → x < fs.end → is_unclaimed (value_at rs) x ≡ false
 claimed_by b rs i at x d fs ascend few is passed above from until =

@@ -1,4 +1,4 @@
--- Small tables by frames.
+-- Worked examples of small tables.
 use Rattle.std.proofs.Common.{◌≡◌, ℕ, true, false, Some, None, [], ◌∷◌, refl, arith}
 use Rattle.address_runs.specs.Runs.{RunOf, value_at}
 use Rattle.memblock_model.specs.Labels.{Label, Labels, plain_label, with_node}
@@ -26,7 +26,7 @@ frames_examples : (frames_of forty ≡ record { first = 4; end = 5; node = None 
     × (node_of_frame (value_at (two ∷ [])) 2 ≡ Some 3) × (node_of_frame (value_at (two ∷ [])) 3 ≡ None)
 frames_examples = (refl, refl, refl, refl)
 
--- one byte of the frame is enough
+-- one byte of a frame is enough
 claimed_example : is_unclaimed (value_at (forty ∷ [])) 4 ≡ false
 claimed_example = claimed_byte (value_at (forty ∷ [])) 4 0x4FC0 plain_label (omega arith) (omega arith) refl
 
@@ -36,7 +36,7 @@ nobody x = None
 unclaimed_example : is_unclaimed nobody 4 ≡ true
 unclaimed_example = unclaimed_bare nobody 4 (λ y above below. refl)
 
--- frame 2 is free where nothing is reserved
+-- frame 2 is free if nothing is reserved
 free_example : free_node_in (value_at (two ∷ [])) nobody 2 ≡ Some 3
 free_example =
     rw (← free_by_first (two ∷ []) nobody 2 (refl, refl, tt), unclaimed_bare nobody 2 (λ y above below. refl)) refl

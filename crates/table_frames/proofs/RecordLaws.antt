@@ -1,4 +1,5 @@
--- The records of an ascending list: each by its index, and what the list gives below and behind.
+-- Lemmas on the records of an ascending list: each by its index, and the values below and above
+-- them.
 use Rattle.std.proofs.Common.{◌≡◌, ℕ, zero, suc, ◌+◌, ◌-◌, ◌*◌, ◌/◌, ◌^◌, ◌<◌, ◌≤◌, ◌==◌, nat_lt, Option, Some, None, List, [], ◌∷◌, length, get_or, take, drop, if◌then◌else◌, refl, ap, inl, inr, arith}
 use Rattle.std.proofs.lemmas.Bool.{cases_Bool, eqb-true}
 use Rattle.phys_store.specs.Bytes.{Stored, byte_of, bytes_at}
@@ -16,19 +17,19 @@ use Rattle.table_frames.specs.declared.frames.RecordFrames.{RecordFrames}
 use Rattle.table_frames.specs.Frames.{node_below, frames_of}
 use Rattle.table_frames.specs.Tables.{AscendBelow, HasRecords}
 
--- the records of a head by their bytes
+-- a record of a head, by its bytes
 pub record_by_bytes : (s : List Stored) (h : Head) (i : ℕ) (d : RunOf Label) → i < h.count
     → get_or (list_in s h) i d ≡ run_in (bytes_at (byte_of s) (h.place + 24 * i) 24)
 record_by_bytes s h i d few = get-records_at (byte_of s) h.place h.count i d few
 
--- the node of a field, where it is below 1,024
+-- the node in a field, if it is below 1,024
 pub field_below : (n : ℕ) → node_below (node_of_field n) ≡ (if nat_lt n 1024 then Some n else None)
 field_below n = elim (cases_Bool (n == 1024)) as (λ _. node_below (node_of_field n) ≡ (if nat_lt n 1024 then Some n else None)) [
   | inl none ↦ rw (none, eqb-true n 1024 none) refl
   | inr some ↦ rw some refl
 ]
 
--- a record isn't empty and ends by the bound
+-- a record isn't empty, and ends at or below the bound
 pub ascend_at : (b : ℕ) (rs : List (RunOf Label)) (i : ℕ) (d : RunOf Label) → AscendBelow b rs → i < length rs
     → (0 < (get_or rs i d).size) × (run_end (get_or rs i d) ≤ b)
 ascend_at b [] i d ascend few = absurd (omega arith)
@@ -40,13 +41,13 @@ ascend_drop b rs zero ascend = ascend
 ascend_drop b [] (suc i) ascend = tt
 ascend_drop b (r ∷ rs) (suc i) ascend = ascend_drop b rs i ascend.3
 
--- nothing lies below the first record
+-- below the first record the list has no value
 pub ascend_none : (b at x : ℕ) (rs : List (RunOf Label)) → AscendBelow b rs → StartFrom at rs → x < at → value_at rs x ≡ None
 ascend_none b at x [] ascend start lt = refl
 ascend_none b at x (r ∷ rs) ascend start lt =
     rw (below r x (omega arith)) (ascend_none b (run_end r) x rs ascend.3 ascend.2 (omega arith))
 
--- a later record begins behind an earlier one's end
+-- a later record begins at or above the end of an earlier one
 pub start_at : (b at : ℕ) (rs : List (RunOf Label)) (i : ℕ) (d : RunOf Label) → AscendBelow b rs → StartFrom at rs → i < length rs
     → at ≤ (get_or rs i d).base
 start_at b at [] i d ascend start few = absurd (omega arith)
@@ -59,7 +60,7 @@ in_order b (r ∷ rs) zero (suc k) d ascend order few = start_at b (run_end r) r
 in_order b (r ∷ rs) (suc i) (suc k) d ascend order few = in_order b rs i k d ascend.3 (omega arith) (omega arith)
 in_order b rs i k d ascend order few = absurd (omega arith)
 
--- the records before one give nothing from its first byte on
+-- from the first byte of a record on, the records before it have no value
 pub taken_none : (b : ℕ) (rs : List (RunOf Label)) (i x : ℕ) (d : RunOf Label) → AscendBelow b rs → i < length rs → (get_or rs i d).base ≤ x
     → value_at (take i rs) x ≡ None
 taken_none b [] i x d ascend few above = absurd (omega arith)
@@ -68,7 +69,7 @@ taken_none b (r ∷ rs) (suc i) x d ascend few above =
     let far = start_at b (run_end r) rs i d ascend.3 ascend.2 (omega arith) in
     rw (behind r x (omega (arith, far, above))) (taken_none b rs i x d ascend.3 (omega arith) above)
 
--- the record that is read is the one of the list
+-- the record that is read is that of the list
 pub region_fits : (s : List Stored) (h : Head) (i : ℕ) (g : Region) → HasRecords s h (2 ^ 64) → i < h.count
     → g ≡ region_in (bytes_at (byte_of s) (h.place + 24 * i) 24) → (0 < g.size) × (g.base + g.size ≤ 2 ^ 64)
 region_fits s h i g known few is =
@@ -89,7 +90,7 @@ pub records_higher : (s : List Stored) (h : Head) (b c : ℕ) → b ≤ c → Ha
 records_higher s h b c order known =
     record { few = known.few; fits = known.fits; ascend = ascend_higher b c (list_in s h) order known.ascend }
 
--- a record has a first frame, and ends behind it
+-- a record has at least one frame
 pub frames_order : (r : RunOf Label) (fs : RecordFrames) → fs ≡ frames_of r → fs.first < fs.end
 frames_order r fs is =
     let first : fs.first ≡ r.base / 4096 = ap (λ (g : RecordFrames). g.first) is in

@@ -1,4 +1,4 @@
--- The bytes of a table that stands in them say what the table says.
+-- Lemmas: the bytes in which a table is stored have the values of the table.
 use Rattle.std.proofs.Common.{◌≡◌, ℕ, suc, ◌+◌, ◌-◌, ◌*◌, ◌/◌, ◌^◌, ◌<◌, ◌≤◌, ◌&&◌, Option, Some, None, List, [], ◌∷◌, length, get_or, refl, ◌∙◌, ap, inl, inr, arith, add-zero}
 use Rattle.std.specs.Option.{is_some, is_none, unwrap_or}
 use Rattle.std.proofs.lemmas.Bool.{cases_lt, cases_Bool}
@@ -44,7 +44,7 @@ alike_from f a (r ∷ rs) regions =
           (λ i d few. ap (λ x. region_in (bytes_at f x 24)) (omega arith) ∙ regions (suc i) d (omega arith)),
     )
 
--- they begin, end and give alike
+-- such lists begin, end and have values alike
 alike_starts : (at : ℕ) (rs ss : List (RunOf Label)) → Alike rs ss → StartFrom at ss → StartFrom at rs
 alike_starts at [] [] alike start = tt
 alike_starts at (r ∷ rs) (s ∷ ss) alike start = omega arith
@@ -60,7 +60,7 @@ alike_ascends b (r ∷ rs) (s ∷ ss) alike ascend = (
 )
 alike_ascends b rs ss alike ascend = absurd alike
 
--- what a byte tells: whether it is there, and its node
+-- two values of a byte are alike: both are present or both aren't, and they give the same node
 pub record TellsAlike (u v : Option Label) : Type 0 where
   pub there : is_some u ≡ is_some v
   pub bare : is_none u ≡ is_none v
@@ -108,7 +108,7 @@ alike_whole [] [] alike whole = tt
 alike_whole (r ∷ rs) (s ∷ ss) alike whole = (omega arith, omega arith, alike_whole rs ss alike.3 whole.2)
 alike_whole rs ss alike whole = absurd alike
 
--- where all addresses of a frame say the same, the records that are read are whole frames
+-- if all addresses of a frame have the same value, the records that are read are whole frames
 pub stands_whole : (t : Table) (s : List Stored) → StandsIn t s
     → ((x : ℕ) → value_at t.records x ≡ value_at t.records (4096 * (x / 4096))) → AreWholeFrames (list_in s (head_of t))
 stands_whole t s stands same =

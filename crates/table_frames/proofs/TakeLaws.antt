@@ -1,4 +1,4 @@
--- What the first records of a list say of a frame, and what one record more adds.
+-- Lemmas on what the first records of a list say of a frame, and what one more record adds.
 use Rattle.std.proofs.Common.{◌≡◌, ℕ, ◌+◌, ◌-◌, ◌*◌, ◌/◌, ◌<◌, ◌≤◌, nat_le, nat_lt, true, false, ◌&&◌, List, [], ◌∷◌, length, get_or, take, if◌then◌else◌, refl, sym, ◌∙◌, ap, inl, inr, arith, add-one}
 use Rattle.std.proofs.lemmas.Bool.Decides.{nat_tests}
 use Rattle.std.proofs.lemmas.Bool.{cases_Bool, false_from_ne_true}
@@ -22,7 +22,7 @@ both_tests first x end low high = grind (arith, nat_tests)
 pub tests_both : (first x end : ℕ) → (nat_le first x && nat_lt x end) ≡ true → (first ≤ x) × (x < end)
 tests_both first x end holds = grind (arith, nat_tests)
 
--- what the records up to one give, and that one's frames
+-- the values of the records up to one, with the frames of that one
 pub node_more : (b : ℕ) (ms : List (RunOf Label)) (i x : ℕ) (d : RunOf Label) → AscendBelow b ms → AreWholeFrames ms → i < length ms
     → node_of_frame (value_at (take (i + 1) ms)) x
     ≡ (if nat_le (frames_of (get_or ms i d)).first x && nat_lt x (frames_of (get_or ms i d)).end then (frames_of (get_or ms i d)).node
@@ -48,7 +48,7 @@ node_more b ms i x d ascend whole few =
           rw (value_append_left (take i ms) (r ∷ []) (4096 * x) (rw away refl), test) refl
     ])
 
--- the frames of a record: below the bound, in the order of the records, and some
+-- the frames of a record: at least one, below the bound, in the order of the records
 pub frames_below : (b m : ℕ) (ms : List (RunOf Label)) (i : ℕ) (d : RunOf Label) (fs : RecordFrames) → AscendBelow b ms → i < length ms
     → fs ≡ frames_of (get_or ms i d) → b ≤ 4096 * m → fs.end ≤ m
 frames_below b m ms i d fs ascend few is bound =

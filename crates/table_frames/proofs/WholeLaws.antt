@@ -1,4 +1,4 @@
--- Records of whole frames.
+-- Lemmas on records of whole frames.
 use Rattle.std.proofs.Common.{◌≡◌, ℕ, zero, suc, ◌+◌, ◌-◌, ◌*◌, ◌/◌, ◌%◌, ◌<◌, ◌≤◌, Bool, ◌&&◌, Option, Some, None, List, [], ◌∷◌, length, get_or, if◌then◌else◌, refl, sym, ◌∙◌, ap, inl, inr, arith}
 use Rattle.std.specs.Option.{is_some, is_none}
 use Rattle.std.proofs.lemmas.Bool.Decides.{nat_tests}
@@ -16,7 +16,7 @@ use Rattle.table_frames.specs.Tables.{AreWholeFrames}
 lies_whole : (r : RunOf Label) (y : ℕ) → r.base % 4096 ≡ 0 → r.size % 4096 ≡ 0 → lies_in r y ≡ lies_in r (4096 * (y / 4096))
 lies_whole r y base size = grind (arith, nat_tests)
 
--- all bytes of a frame say the same
+-- all bytes of a frame have the same value
 pub whole_value : (rs : List (RunOf Label)) (y : ℕ) → AreWholeFrames rs → value_at rs y ≡ value_at rs (4096 * (y / 4096))
 whole_value [] y whole = refl
 whole_value (r ∷ rs) y whole =
@@ -28,7 +28,7 @@ whole_at [] i d whole few = absurd (omega arith)
 whole_at (r ∷ rs) zero d whole few = (whole.0, whole.1)
 whole_at (r ∷ rs) (suc i) d whole few = whole_at rs i d whole.2 (omega arith)
 
--- the frames of such a record are those whose first byte lies in it
+-- the first byte of each frame of such a record is in the record
 pub first_byte : (r : RunOf Label) (x : ℕ) → 0 < r.size → r.base % 4096 ≡ 0 → r.size % 4096 ≡ 0
     → (frames_of r).first ≤ x → x < (frames_of r).end → (r.base ≤ 4096 * x) × (4096 * x < run_end r)
 first_byte r x some base size from until = (omega arith, omega arith)
@@ -37,7 +37,8 @@ pub other_byte : (r : RunOf Label) (x : ℕ) → 0 < r.size → r.base % 4096 �
     → r.base ≤ 4096 * x → 4096 * x < run_end r → ((frames_of r).first ≤ x) × (x < (frames_of r).end)
 other_byte r x some base size from until = (omega arith, omega arith)
 
--- in memory of whole frames a frame is free where its first byte is memory and no byte is reserved
+-- in memory of whole frames, a frame is free if its first byte is memory and none of its bytes is
+-- reserved
 pub free_by_first : (ms : List (RunOf Label)) (reserved : Labels) (x : ℕ) → AreWholeFrames ms
     → (if is_unclaimed reserved x then node_of_frame (value_at ms) x else None) ≡ free_node_in (value_at ms) reserved x
 unfolding free_node_in is_unclaimed
@@ -55,7 +56,7 @@ free_by_first ms reserved x whole =
           rw (each_in-same (bytes_of_frame x) bare both (λ y above below. rw (same y above below, is) refl)) refl
     ] in at first refl
 
--- a canonical list whose addresses say the same frame by frame has records of whole frames
+-- a canonical list with the same value for all addresses of a frame has records of whole frames
 pub whole_by_value : (rs : List (RunOf Label)) → AreRuns rs → ((x : ℕ) → value_at rs x ≡ value_at rs (4096 * (x / 4096)))
     → AreWholeFrames rs
 whole_by_value [] runs same = tt

@@ -8,12 +8,12 @@ use Rattle.memblock_model.specs.Labels.{Label, Labels}
 use Rattle.table_frames.specs.declared.frames.RecordFrames.{RecordFrames}
 use Rattle.table_frames.specs.declared.frames.TheConstants.{MAX_NODES}
 
--- a node's number is below 1,024; another one stands for no node
+-- the node, if its number is below 1,024; any other number means no node
 abbrev pub node_below : Option ℕ → Option ℕ
 node_below None = None
 node_below (Some n) = if nat_lt n MAX_NODES then Some n else None
 
--- the node of a byte of which the memory table says this
+-- the node of a byte with this value in the memory table
 abbrev pub node_told : Option Label → Option ℕ
 node_told None = None
 node_told (Some label) = node_below label.node
@@ -22,19 +22,20 @@ node_told (Some label) = node_below label.node
 abbrev pub frames_of : RunOf Label → RecordFrames
 frames_of r = record { first = r.base / FRAME_SIZE; end = (r.base + (r.size - 1)) / FRAME_SIZE + 1; node = node_below r.value.node }
 
--- the node of a frame: that of its first byte
+-- the node of a frame is that of its first byte
 abbrev pub node_of_frame : Labels → ℕ → Option ℕ
 node_of_frame memory frame = node_told (memory (FRAME_SIZE * frame))
 
--- whether the table has no byte of the frame
+-- the table has no byte of the frame
 unfoldable pub is_unclaimed : Labels → ℕ → Bool
 is_unclaimed reserved frame = each_in (bytes_of_frame frame) (λ x. is_none (reserved x))
 
--- the node of a frame that is free by both tables: all of it is memory, and no byte of it is reserved
+-- the node of a frame that is free by both tables: all of it is memory, and no byte of it is
+-- reserved
 unfoldable pub free_node_in : Labels → Labels → ℕ → Option ℕ
 free_node_in memory reserved frame =
     if each_in (bytes_of_frame frame) (λ x. is_some (memory x) && is_none (reserved x)) then node_of_frame memory frame else None
 
--- the records before the index have no byte of the frame, and none behind it
+-- the records before the index have no byte of the frame or of any above it
 abbrev pub IsPassed : List (RunOf Label) → ℕ → ℕ → Type 0
 IsPassed rs i frame = (x : ℕ) → FRAME_SIZE * frame ≤ x → value_at (drop i rs) x ≡ value_at rs x

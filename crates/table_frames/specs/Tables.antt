@@ -8,18 +8,19 @@ use Rattle.memblock_model.specs.Labels.{Label}
 use Rattle.memblock_ranges.specs.declared.region.Head.{Head}
 use Rattle.memblock_ranges.specs.Tables.{list_in}
 
--- none of the records is empty, each ends by the bound, and each begins where the one before it ends or behind
+-- no record is empty, each ends at or below the bound, and each begins at or above the end of the
+-- one before it
 abbrev pub AscendBelow : ℕ → List (RunOf Label) → Type 0
 AscendBelow bound [] = Unit {0}
 AscendBelow bound (r ∷ rs) = (0 < r.size) × (run_end r ≤ bound) × StartFrom (run_end r) rs × AscendBelow bound rs
 
--- the head's bytes are such a list
+-- the bytes at the head are such a list, and its room is below 2^64
 pub record HasRecords (store : List Stored) (head : Head) (bound : ℕ) : Type 0 where
   pub few : head.count ≤ head.room
   pub fits : head.place + 24 * head.room < 2 ^ 64
   pub ascend : AscendBelow bound (list_in store head)
 
--- the records begin and end where frames do
+-- the records begin and end at borders of frames
 abbrev pub AreWholeFrames : List (RunOf Label) → Type 0
 AreWholeFrames [] = Unit {0}
 AreWholeFrames (r ∷ rs) = (r.base % FRAME_SIZE ≡ 0) × (r.size % FRAME_SIZE ≡ 0) × AreWholeFrames rs

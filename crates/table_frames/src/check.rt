@@ -1,5 +1,5 @@
-//! Whether the bytes at a head are what the other calls ask for: for those that have the bytes alone and no
-//! table whose contract says it.
+//! Checks that the bytes at a head fulfil what the other calls require. This is for callers that
+//! have only the bytes, and no table whose contract ensures it.
 
 ghost use Rattle.std.specs.Prelude.{◌≡◌, ◌+◌, ◌*◌, ◌%◌, ◌^◌, ◌<◌, ◌≤◌, ◌↔◌, IsTrue};
 ghost use Rattle.memblock_ranges.specs.Tables.{list_in};
@@ -9,10 +9,10 @@ use bm_base::FRAME_SIZE;
 use memblock_ranges::{Head, Region, region_at};
 use phys_store::Store;
 
-/// The bytes of a record.
+/// The size of a record, in bytes.
 const RECORD_SIZE: u64 = 24;
 
-/// Whether the head has room for its records, in the space of addresses.
+/// Tests whether the head has room for its records, and all of that room is below 2^64.
 fn has_room(head: &Head) -> bool
     ensures { IsTrue result ↔ (head.now.count ≤ head.now.room) × (head.now.place + 24 * head.now.room < 2 ^ 64) }
 {
@@ -22,7 +22,7 @@ fn has_room(head: &Head) -> bool
     head.count <= head.room && head.place.checked_add(size).is_some()
 }
 
-/// Whether the record isn't empty, begins at `from` or behind it, and ends by the bound.
+/// Tests whether the record isn't empty, begins at or above `from`, and ends at or below `bound`.
 fn is_in_place(region: &Region, from: u64, bound: u64) -> bool
     ensures { IsTrue result ↔ (from ≤ region.now.base) × (0 < region.now.size) × (region.now.base + region.now.size ≤ bound) }
 {
@@ -32,14 +32,15 @@ fn is_in_place(region: &Region, from: u64, bound: u64) -> bool
     }
 }
 
-/// Whether the record begins and ends where a frame does.
+/// Tests whether the record begins and ends at the border of a frame.
 fn is_whole(region: &Region) -> bool
     ensures { IsTrue result ↔ (region.now.base % FRAME_SIZE ≡ 0) × (region.now.size % FRAME_SIZE ≡ 0) }
 {
     region.base % FRAME_SIZE == 0 && region.size % FRAME_SIZE == 0
 }
 
-/// Whether the head's bytes are an ascending list of records, none empty, each of which ends by the bound.
+/// Tests whether the bytes at the head are an ascending list of records. No record may be empty,
+/// and each must end at or below `bound`.
 pub fn has_records(store: &Store, head: &Head, bound: u64) -> bool
     ensures list { IsTrue result ↔ HasRecords store.now head.now bound }
     ensures space { IsTrue result → HasRecords store.now head.now (2 ^ 64) }
@@ -58,7 +59,8 @@ pub fn has_records(store: &Store, head: &Head, bound: u64) -> bool
     true
 }
 
-/// Whether each record begins and ends where a frame does.
+/// Tests whether each record begins and ends at the border of a frame. The bytes at the head must
+/// be a list of records.
 pub fn has_whole_frames(store: &Store, head: &Head) -> bool
     requires { HasRecords store.now head.now (2 ^ 64) }
     ensures { IsTrue result ↔ AreWholeFrames (list_in store.now head.now) }

@@ -1,5 +1,5 @@
-//! The next frames that a table has a byte of, from a frame on. A caller that goes upwards passes on where it
-//! has come to, so a walk over frames and records is one pass over both.
+//! Finds the next frames of which a table has a byte, from a frame on. A caller that goes upward
+//! passes the index that it got before. So a walk over all frames goes through the records once.
 
 ghost use Rattle.std.specs.Prelude.{◌≡◌, ◌^◌, ◌<◌, ◌≤◌, ℕ, true, false};
 ghost use Rattle.address_runs.specs.Runs.{value_at};
@@ -11,19 +11,19 @@ use crate::frames::frames_at;
 use memblock_ranges::Head;
 use phys_store::Store;
 
-/// The next frames that a table has a byte of.
+/// The next frames of which a table has a byte.
 #[derive(Clone, Copy, Debug, PartialEq, Eq)]
 pub struct Claim {
-    /// Up to this record nothing is left to be looked at.
+    /// The index of the record from which the next search can start.
     pub index: u64,
-    /// The first of the frames; 2^64 - 1 where there is none.
+    /// The first of the frames, or 2^64 - 1 if there are none.
     pub first: u64,
-    /// One more than the number of the last of them.
+    /// One more than the last of the frames.
     pub end: u64,
 }
 
-/// The next frames, from `at` on, of which a record from the index on has a byte. The records before it have
-/// none from there on. The search never goes back to a lower index.
+/// Finds the next frames, from frame `at` on, of which a record has a byte. The records before
+/// `index` must have no byte of these frames. The search only goes to higher indices.
 pub fn next_claim(store: &Store, head: &Head, index: u64, at: u64) -> Claim
     requires table { HasRecords store.now head.now (2 ^ 64) }
     requires index { index ≤ head.now.count }

@@ -1,5 +1,6 @@
-//! The frames of one record. A reserved record may begin and end inside a frame, which then counts as whole;
-//! records of memory are whole frames: so one count serves both tables.
+//! Returns the frames of one record. A reserved record may begin and end inside a frame, and then
+//! has the whole frame. A record of memory consists of whole frames. So one function serves both
+//! tables.
 
 ghost use Rattle.std.specs.Prelude.{◌≡◌, ◌^◌, ◌<◌, get_or};
 ghost use Rattle.address_runs.specs.Runs.{RunOf};
@@ -12,21 +13,21 @@ use bm_base::FRAME_SIZE;
 use memblock_ranges::{Head, region_at};
 use phys_store::Store;
 
-/// A node's number is below this (`MAX_NUMNODES` of x86-64 at its greatest).
+/// Nodes have numbers below this (the largest `MAX_NUMNODES` of x86-64).
 pub const MAX_NODES: u32 = 1024;
 
 /// The frames of which a record has a byte, and their node.
 #[derive(Clone, Copy, Debug, PartialEq, Eq)]
 pub struct RecordFrames {
-    /// The number of the frame of the record's first byte.
+    /// The frame of the record's first byte.
     pub first: u64,
-    /// One more than the number of the frame of its last byte.
+    /// One more than the frame of the record's last byte.
     pub end: u64,
-    /// The node, where the record's field is below [`MAX_NODES`].
+    /// The node, if the node field of the record is below [`MAX_NODES`].
     pub node: Option<u32>,
 }
 
-/// The frames of the record of that index, from 0, of the table that the head tells of.
+/// Returns the frames of the record with index `i`, counted from 0, in the table at this head.
 pub fn frames_at(store: &Store, head: &Head, i: u64) -> RecordFrames
     requires table { HasRecords store.now head.now (2 ^ 64) }
     requires within { i < head.now.count }

@@ -1,5 +1,6 @@
-//! What the bytes say is what the tables say that stand in them. The calls of this crate know bytes and heads
-//! alone; by this law a boot, which has the tables of its items, may make these calls and rest on the answers.
+//! The law that connects bytes with tables. The calls of this crate know only bytes and heads. A
+//! boot knows the tables that its items give; by this law it can make these calls and rely on the
+//! results.
 
 ghost use Rattle.std.specs.Prelude.{◌≡◌, ℕ, ◌*◌, ◌/◌, ◌^◌, List};
 ghost use Rattle.bm_base.specs.declared.frame.TheConstants.{FRAME_SIZE};
@@ -10,9 +11,10 @@ ghost use Rattle.memblock_ranges.specs.Tables.{Table, StandsIn, head_of, list_in
 ghost use Rattle.table_frames.specs.Frames.{free_node_in, node_of_frame};
 ghost use Rattle.table_frames.specs.Tables.{HasRecords, AreWholeFrames};
 
-/// A law: where two tables stand in the bytes, their heads' bytes are lists of records, which say of each
-/// frame what the tables say; they end by a bound from which on the table says nothing, and are whole frames
-/// where it says the same of all bytes of a frame.
+/// Law: if two tables are stored in the bytes, the bytes at their heads are lists of records that
+/// give each frame the same node as the tables, and the same frames are free. The records end at
+/// or below a bound if the table has nothing from there on. They are whole frames if the table has
+/// the same value for all bytes of a frame.
 pub fn standing_tables_are_told()
     ensures records { (t : Table) (store : List Stored) → StandsIn t store → HasRecords store (head_of t) (2 ^ 64) }
     ensures below { (t : Table) (store : List Stored) (bound : ℕ) → StandsIn t store → NothingFrom bound (value_at t.records) →

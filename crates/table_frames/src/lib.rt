@@ -1,14 +1,18 @@
-//! What memblock's two tables say of frames, read from the bytes in which the tables lie.
+//! Reads memblock's two tables by page frames, from the bytes in which the tables lie.
 //!
-//! At the end of the early boot whoever has the bytes of memory and the two heads has the tables: no other
-//! copy is needed, and none is made. The page allocator and the zones ask them record by record, by frames
-//! (`for_each_free_mem_range`, `for_each_mem_pfn_range`): [`frames_at`] gives the frames of a record, and [`next_claim`] the
-//! next frames of which a record has a byte.
+//! At the end of the early boot, the bytes of memory and the two table heads contain both tables;
+//! no other copy is needed or made. The page allocator and the zones read the tables record by
+//! record, as frames (`for_each_free_mem_range`, `for_each_mem_pfn_range`). [`frames_at`] returns
+//! the frames of a record, and [`next_claim`] the next frames of which some record has a byte.
 //!
-//! `specs/Tables.antt` says when a head's bytes are an ascending list of records (`HasRecords`), which is
-//! less than what memblock keeps: records may touch and say the same. `specs/Frames.antt` says what two tables
-//! say of a frame: its node, and whether it is free. [`standing_tables_are_told`] ties both to the tables of
-//! `memblock_ranges`.
+//! `specs/Tables.antt` defines when the bytes at a head are an ascending list of records
+//! (`HasRecords`). That is weaker than what memblock ensures, since records may touch and have the
+//! same value. `specs/Frames.antt` defines what two tables say of a frame: its node, and whether
+//! it is free.
+//!
+//! A law is an empty function whose contract is a proven fact. [`standing_tables_are_told`]
+//! connects both definitions with the tables of `memblock_ranges`. In contracts, a name means the
+//! definition in `specs/`.
 #![tactic(auto)]
 
 mod check;
