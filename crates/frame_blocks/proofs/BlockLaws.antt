@@ -1,4 +1,4 @@
--- The functions that list blocks give the sets of frames that are blocks.
+-- Lemmas: the functions that list blocks give the sets of frames that are blocks.
 use Rattle.std.proofs.Common.{◌≡◌, ◌⊎◌, ℕ, zero, suc, ◌+◌, ◌-◌, ◌*◌, ◌/◌, ◌%◌, ◌^◌, ◌<◌, ◌≤◌, ◌==◌, Option, Some, None, List, [], ◌∷◌, refl, sym, ◌∙◌, ap, subst, inl, inr, ⊎_elim, lt_of_not-le, arith}
 use Rattle.std.proofs.lemmas.Bool.{cases_lt, cond_both, eqb-true, eq-eqb}
 use Rattle.std.proofs.lemmas.Nat.{pow_pos}
@@ -42,7 +42,7 @@ block_from_for f x (Some n) b is made =
 pub block_found : (f : Frames) (x : ℕ) (b : Block) → block_of f x ≡ Some b → IsBlock f b × IsInBlock b x
 block_found f x b made = block_from_for f x (f x) b refl made
 
--- and each block is found at each of its frames
+-- each block is found at each of its frames
 pub found_block : (f : Frames) (x : ℕ) (b : Block) → IsBlock f b → IsInBlock b x → block_of f x ≡ Some b
 found_block f x b block same =
     let o : ℕ = b.order in
@@ -74,7 +74,7 @@ none_for f x (Some n) made = cc
 pub none_found : (f : Frames) (x : ℕ) → block_of f x ≡ None → f x ≡ None
 none_found f x made = none_for f x (f x) made
 
--- what stands in the list
+-- the members of the list
 led_lists : (x : ℕ) (o : Option Block) (bs : List Block) (b : Block) → Lists (led_by_block x o bs) b → (o ≡ Some b) ⊎ Lists bs b
 led_lists x None bs b has = inr has
 led_lists x (Some c) bs b has =

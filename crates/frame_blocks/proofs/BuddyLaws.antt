@@ -1,4 +1,5 @@
--- The blocks of frames from which a set has left one block: that block's buddies take its place, and the others stay.
+-- Lemmas on the blocks after a set of frames was removed from one block: that block's buddies
+-- replace it, and the other blocks stay.
 use Rattle.std.proofs.Common.{◌≡◌, ◌≢◌, ◌⊎◌, ◌↔◌, ℕ, zero, suc, ◌+◌, ◌-◌, ◌/◌, ◌^◌, ◌<◌, ◌≤◌, true, false, Option, Some, None, refl, sym, ◌∙◌, ap, subst, inl, inr, ⊎_elim, arith}
 use Rattle.std.proofs.lemmas.Bool.Decides.{nat_tests}
 use Rattle.std.proofs.lemmas.Bool.{cases_eq, false_from_ne_true}
@@ -24,7 +25,7 @@ covers_set o x y other = false_from_ne_true (covers (set_around o x) y) (λ on.
 pub in_set_or_not : (o x y : ℕ) → IsInSet o x y ⊎ (IsInSet o x y → ⊥)
 in_set_or_not o x y = cases_eq (y / 2 ^ o) (x / 2 ^ o)
 
--- a set that has left, and one that has come back
+-- a set that was removed, and one that was added back
 pub without_is : (order x : ℕ) (f : Frames) → IsWithout f (without_set order x f) order x
 without_is order x f = record {
   gone = λ y same. rw (set_covers order x y same) refl;
@@ -37,7 +38,7 @@ with_is order x node g held = record {
   kept = λ y other. sym (rw (covers_set order x y other) refl);
 }
 
--- what is left was there
+-- a frame that is still free was free before
 pub was_there : (f g : Frames) (order x y n : ℕ) → IsWithout f g order x → g y ≡ Some n → f y ≡ Some n
 was_there f g order x y n without is =
     elim (in_set_or_not order x y) as (λ _. f y ≡ Some n) [
@@ -72,7 +73,7 @@ block_or_none f x = elim (found_or_none (block_of f x)) as (λ _. (f x ≡ None)
   | inr some ↦ let it = block_found f x some.0 some.1 in inr (some.0, it.0, it.1)
 ]
 
--- the blocks that begin elsewhere were there
+-- the blocks that begin outside the block were blocks before
 pub others_were : (f g : Frames) (low x : ℕ) (b c : Block) → IsWithout f g low x → IsBlock f b → IsInBlock b x → low ≤ b.order
     → IsBlock g c → (IsInBlock b c.first → ⊥) → IsBlock f c
 others_were f g low x b c without block inner order is outside =
@@ -86,7 +87,7 @@ others_were f g low x b c without block inner order is outside =
           rw same at some.1
     ]
 
--- the two halves of a pair
+-- the two numbers of a pair
 half_of_other : (q : ℕ) → other_half q / 2 ≡ q / 2
 half_of_other q = grind (arith, nat_tests)
 
@@ -96,13 +97,13 @@ other_differs q same = grind (arith, nat_tests)
 other_is : (p q : ℕ) → p / 2 ≡ q / 2 → p ≢ q → p ≡ other_half q
 other_is p q same other = grind (arith, nat_tests)
 
--- a set of the next order has two of this one
+-- a set of the next order consists of two of this order
 pub next_set : (o y : ℕ) → y / 2 ^ (o + 1) ≡ y / 2 ^ o / 2
 next_set o y =
     let next : o + 1 ≡ suc o = omega arith in
     ap (λ p. y / 2 ^ p) next ∙ ap (λ s. y / s) (pow-suc 2 o) ∙ sym (div-div-eq-div-mul y (2 ^ o) 2)
 
--- where the buddy lies: beside the set of x, in its next greater one
+-- the buddy is next to the set of x, in the set of the next order
 pub buddy_is : (o x : ℕ) → buddy_first o x / 2 ^ o ≡ other_half (x / 2 ^ o)
 buddy_is o x = mul-div_left (other_half (x / 2 ^ o)) (pow_pos o)
 
@@ -117,11 +118,11 @@ pub beside_buddy : (o x y : ℕ) → IsInSet (o + 1) x y → (IsInSet o x y → 
 beside_buddy o x y wide other =
     other_is (y / 2 ^ o) (x / 2 ^ o) (sym (next_set o y) ∙ wide ∙ next_set o x) other ∙ sym (buddy_is o x)
 
--- each buddy between the set and the block lies in the block
+-- each buddy of an order below the block's lies in the block
 pub buddy_in_block : (b : Block) (o x y : ℕ) → o < b.order → IsInBlock b x → IsInSet o (buddy_first o x) y → IsInBlock b y
 buddy_in_block b o x y below inner same = wider (o + 1) b.order y x (omega (arith, below)) (buddy_beside o x y same).0 ∙ inner
 
--- and is a block of what is left
+-- each of these buddies is a block of what is left
 pub left_is_block : (f g : Frames) (low o x : ℕ) (b : Block) → IsWithout f g low x → IsBlock f b → IsInBlock b x → low ≤ o → o < b.order
     → IsBlock g (buddy_in b o x)
 left_is_block f g low o x b without block inner from below = record {
@@ -136,7 +137,7 @@ left_is_block f g low o x b without block inner from below = record {
       cc (sym (good x wide).0 ∙ without.gone x refl);
 }
 
--- where the sets around x and y part
+-- the order at which the sets around x and y become different
 record Parts (low until x y : ℕ) : Type 0 where
   pub order : ℕ
   pub from : low ≤ order
@@ -161,7 +162,7 @@ parting (suc d) low x y same other =
           }
     ]
 
--- and there are no others in the block
+-- the block has no other blocks left
 pub rest_is_left : (f g : Frames) (low x : ℕ) (b c : Block) → IsWithout f g low x → IsBlock f b → IsInBlock b x → low ≤ b.order
     → IsBlock g c → IsInBlock b c.first → IsBuddy b low b.order x c
 rest_is_left f g low x b c without block inner order is within =
@@ -177,18 +178,18 @@ rest_is_left f g low x b c without block inner order is within =
     let both : c ≡ buddy_in b o x = same_Some c (buddy_in b o x) (sym (found_block g c.first c is refl) ∙ one) in
     record { order = o; from = parts.from; below = below; is = both }
 
--- a buddy begins in the block, and isn't the block
+-- a buddy begins inside the block, and isn't the block
 pub buddy_inside : (b : Block) (low until x : ℕ) (c : Block) → until ≤ b.order → IsInBlock b x → IsBuddy b low until x c
     → IsInBlock b c.first
 buddy_inside b low until x c most inner it =
     rw it.is (buddy_in_block b it.order x (buddy_first it.order x) (omega (arith, it.below, most)) inner refl)
 
--- two blocks that begin at one frame are one
+-- two blocks that begin at the same frame are the same
 pub one_at : (f : Frames) (b c : Block) → IsBlock f b → IsBlock f c → b.first ≡ c.first → b ≡ c
 one_at f b c one two same =
     same_Some b c (sym (found_block f b.first b one refl) ∙ found_block f b.first c two (ap (λ x. x / 2 ^ c.order) same))
 
--- the blocks of what is left, both ways
+-- the blocks after the removal, in both directions
 pub blocks_left : (f g : Frames) (low x : ℕ) (b c : Block) → IsWithout f g low x → IsBlock f b → IsInBlock b x → low ≤ b.order
     → IsBlock g c ↔ ((IsBlock f c × (IsInBlock b c.first → ⊥)) ⊎ IsBuddy b low b.order x c)
 blocks_left f g low x b c without block inner order = (

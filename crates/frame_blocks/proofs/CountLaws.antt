@@ -1,4 +1,4 @@
--- How many blocks of a node, a zone and an order there are.
+-- Lemmas on the number of blocks of a node, a zone and an order.
 use Rattle.std.proofs.Common.{◌≡◌, ◌≢◌, ◌⊎◌, ◌↔◌, ℕ, zero, suc, ◌+◌, ◌-◌, ◌*◌, ◌%◌, ◌^◌, ◌<◌, ◌≤◌, ◌==◌, Bool, true, false, ◌&&◌, cond, Some, List, [], ◌∷◌, length, get_or, drop, refl, sym, ◌∙◌, ap, subst, inl, inr, arith}
 use Rattle.std.specs.Bool.{IsTrue}
 use Rattle.std.specs.List.{count_by}
@@ -22,7 +22,7 @@ use Rattle.frame_blocks.proofs.RunLaws.{start_next, start_at_ten}
 use Rattle.frame_blocks.proofs.RowLaws.{row_more}
 use Rattle.frame_blocks.proofs.LookLaws.{listed, listed_all, listed_more_at, listed_none}
 
--- the test of a zone tells
+-- the test of a zone is true of the same zone
 pub zone_self : (a : Zone) → same_zone a a ≡ true
 zone_self zone.Dma = refl
 zone_self zone.Dma32 = refl
@@ -39,7 +39,7 @@ zone_is zone.Normal zone.Dma h = cc
 zone_is zone.Normal zone.Dma32 h = cc
 zone_is zone.Normal zone.Normal h = refl
 
--- the count of blocks of one order that follow one another
+-- 1 if order and zone are those that are counted, else 0: counting consecutive blocks of one order
 abbrev pub if_alike : ℕ → Zone → ℕ → Zone → ℕ
 if_alike o z order zone = cond ((o == order) && same_zone z zone) 1 0
 
@@ -74,7 +74,7 @@ alike_more f first end n o s at k order wanted run above some room small size wh
     ∙ sum_by-append (λ (c : Block). cond (p c) 1 0) (blocks_from f first (at - first)) (row_from o at n (zone_of at) k)
     ∙ ap (λ a. count_by p (blocks_from f first (at - first)) + a) (row_count k n o at order (zone_of at) wanted)
 
--- frames of another node have none
+-- frames of another node add nothing to the count
 led_other : (f : Frames) (x n node order : ℕ) (wanted : Zone) (bs : List Block) → f x ≡ Some n → (n == node) ≡ false
     → count_by (is_of node wanted order) (led_by_block x (block_of f x) bs) ≡ count_by (is_of node wanted order) bs
 led_other f x n node order wanted bs is other =
@@ -95,7 +95,7 @@ other_node f n node order wanted x (suc m) other free =
     led_other f x n node order wanted (blocks_from f (x + 1) m) (free x (omega arith) (omega arith)) other
     ∙ other_node f n node order wanted (x + 1) m other (λ y above below. free y (omega arith) (omega arith))
 
--- the count over all runs, and how great it can be
+-- the count over all runs, and its largest value
 pub count_all : (rs : List (RunOf ℕ)) (node order : ℕ) (wanted : Zone) → AreRuns rs → NothingFrom MAX_FRAMES (value_at rs)
     → (count_by (is_of node wanted order) (listed (value_at rs) rs) ≡ count_of (value_at rs) node wanted order)
     × (count_of (value_at rs) node wanted order ≤ MAX_FRAMES)
@@ -113,7 +113,7 @@ count_more_at f rs i d r p is few =
     ap (λ (bs : List Block). count_by p bs) (sym (listed_more_at f rs i d r [] is few))
     ∙ sum_by-append (λ (c : Block). cond (p c) 1 0) (blocks_from f r.base (run_end r - r.base)) (listed f (drop (i + 1) rs))
 
--- what the code tests of an order and a zone is what counts
+-- the code's test of order and zone decides what is counted
 pub alike_is : (o order : ℕ) (z wanted : Zone) → o ≡ order → z ≡ wanted → if_alike o z order wanted ≡ 1
 alike_is o order z wanted same zones =
     rw (eq-eqb o order same, ap (λ y. same_zone y wanted) zones ∙ zone_self wanted) refl
@@ -133,7 +133,7 @@ alike_told false o order z wanted tells =
       | inl same ↦ alike_not o order z wanted (inr (λ zones. true≢false (sym (tells.1 (eqb-true o order same, zones)))))
     ]
 
--- the count so far and that of the rest are the count of all, one run later too
+-- the count so far plus that of the rest stays the count of all when one more run is counted
 pub next_count : (f : Frames) (rs : List (RunOf ℕ)) (i : ℕ) (d r : RunOf ℕ) (p : Block → Bool) (t u all : ℕ) → r ≡ get_or rs i d
     → i < length rs
     → t + count_by p (listed f (drop i rs)) ≡ all → u ≡ t + count_by p (blocks_from f r.base (run_end r - r.base))
@@ -143,7 +143,7 @@ next_count f rs i d r p t u all is few sum more = omega (arith, count_more_at f 
 pub no_count : (f : Frames) (rs : List (RunOf ℕ)) (i : ℕ) (p : Block → Bool) → length rs ≤ i → count_by p (listed f (drop i rs)) ≡ 0
 no_count f rs i p all = ap (λ (bs : List Block). count_by p bs) (listed_none f rs i all)
 
--- a run of another node counts nothing
+-- a run of another node adds nothing
 pub other_run : (f : Frames) (r : RunOf ℕ) (node order : ℕ) (wanted : Zone) → IsRun f r.base (run_end r) r.value → r.value ≢ node
     → count_by (is_of node wanted order) (blocks_from f r.base (run_end r - r.base)) ≡ 0
 other_run f r node order wanted run other =
@@ -161,7 +161,7 @@ at_most_one o order z wanted = cond_both ((o == order) && same_zone z wanted) 1 
 pub mul_one_most : (k v : ℕ) → v ≤ 1 → k * v ≤ k
 mul_one_most k v one = let h = mul-le-mul_left k one in omega (arith, h)
 
--- behind blocks that follow one another the next one begins
+-- the next block begins where consecutive blocks end
 pub next_start : (first end at o s k : ℕ) → at % s ≡ 0 → o ≤ 10 → s ≡ 2 ^ o → IsGreatest first end at o → ((o ≡ 10) ⊎ (k ≡ 1))
     → IsStart first end (at + k * s)
 next_start first end at o s k whole small size greatest (inr one) =

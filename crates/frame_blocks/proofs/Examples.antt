@@ -1,4 +1,4 @@
--- Small sets of free frames, computed.
+-- Worked examples of small sets of free frames.
 use Rattle.std.proofs.Common.{◌≡◌, ℕ, ◌+◌, ◌*◌, ◌^◌, ◌/◌, nat_le, nat_lt, true, false, ◌&&◌, Some, None, [], ◌∷◌, if◌then◌else◌, refl, sym, ◌∙◌, ap, subst, inl, inr, arith}
 use Rattle.std.proofs.lemmas.Bool.Decides.{nat_tests}
 use Rattle.std.proofs.Math.Nat.{div-one}
@@ -23,11 +23,12 @@ use Rattle.frame_blocks.proofs.BuddyLaws.{one_at, without_is}
 use Rattle.frame_blocks.proofs.PickLaws.{picked_is, picked_none}
 use Rattle.frame_blocks.proofs.RunLaws.{start_first}
 
--- frames of addresses below 2^52, and the greatest order of the page allocator's lists (`MAX_ORDER` of 6.1 is the number of orders, 11)
+-- frames of addresses below 2^52; and the largest order of the page allocator's lists (`MAX_ORDER`
+-- of 6.1 is the number of orders, 11)
 numbers : (MAX_FRAMES * 4096 ≡ 2 ^ 52) × (MAX_ORDER + 1 ≡ 11)
 numbers = (refl, refl)
 
--- frames 4 and 5 are free, of node 7; or frame 5 alone
+-- frames 4 and 5 are free, on node 7; or frame 5 alone
 abbrev pair : Frames
 pair x = if nat_le 4 x && nat_lt x 6 then Some 7 else None
 
@@ -47,7 +48,7 @@ free_examples : (are_free pair 1 5 7 ≡ true) × (are_free pair 2 5 7 ≡ false
 unfolding are_free each_in each_from
 free_examples = (refl, refl, refl)
 
--- the pair is one set of order 1, the lone frame one of order 0
+-- the pair is one set of order 1, and the lone frame one of order 0
 order_examples : (order_up_to pair 5 7 2 ≡ 1) × (order_up_to lone 5 7 2 ≡ 0)
 unfolding order_up_to are_free each_in each_from
 order_examples = (refl, refl)
@@ -59,7 +60,7 @@ around_as_block = (refl, refl)
 held_examples : (block_of pair 3 ≡ None) × (block_for pair 6 None ≡ None)
 held_examples = (refl, refl)
 
--- frame 5 alone is a block: its buddy isn't free
+-- frame 5 alone is a block, since its buddy isn't free
 lone_is : (x : ℕ) → x / 1 ≡ 5 → x ≡ 5
 lone_is x same = sym (div-one x) ∙ same
 
@@ -79,7 +80,7 @@ in_block_examples : IsInBlock one_block 5 × (IsInBlock one_block 4 → ⊥)
 unfolding one_block
 in_block_examples = (refl, λ same. absurd (omega arith))
 
--- the larger set that holds it isn't good, and a set of a held frame isn't free
+-- the larger set around it isn't good, and a set with a frame that isn't free isn't free
 not_good : IsGood lone 1 5 7 zone.Dma → ⊥
 not_good good = let none : None ≡ Some 7 = (good 4 refl).0 in cc none
 
@@ -108,7 +109,8 @@ list_examples = (inr (inl refl), λ has. has)
 ascend_examples : AscendFrom 0 (block_around 0 5 7 ∷ (block_around 1 9 7 ∷ [])) × (AscendFrom 6 (block_around 0 5 7 ∷ []) → ⊥)
 ascend_examples = ((omega arith, (omega arith, tt)), λ ascend. absurd (omega (arith, ascend.0)))
 
--- the pair is a run, and has room for the set of order 1 alone, which begins at its first frame
+-- the pair is a run, and only the set of order 1 is the largest that fits; it begins at the first
+-- frame
 pair_is_run : IsRun pair 4 6 7
 pair_is_run = record {
   inside = λ x above below. let on : (nat_le 4 x && nat_lt x 6) ≡ true = grind (arith, nat_tests) in rw on refl;
@@ -124,7 +126,8 @@ fit_examples = (record { above = omega arith; below = omega arith }, λ fits. le
 start_example : IsStart 4 6 4
 start_example = start_first 4 6
 
--- two great blocks; a row that goes on with them, and one of another node in its place
+-- two blocks of the largest order; a row that could be joined with theirs, and one of another node
+-- instead
 abbrev great_row : ℕ → ℕ → ℕ → BlockRow
 great_row first count node = record { order = 10; first = first; count = count; node = node; zone = zone.Dma }
 
@@ -156,7 +159,7 @@ last_examples : OfLast (EndsFree pair) (great_row 0 1 0 ∷ (record { order = 1;
     × (OfLast (EndsFree pair) (great_row 0 1 0 ∷ []) → ⊥)
 last_examples = ((omega arith, refl), λ ends. let none : None ≡ Some 0 = ends.1 in cc none)
 
--- the lone frame is what is picked for one frame; for two frames, or in another zone, there is none
+-- the lone frame is picked for one frame; for two frames, or in another zone, nothing is picked
 lone_at : (x n : ℕ) → lone x ≡ Some n → x ≡ 5
 lone_at x n is = let on = cond_some (nat_le 5 x && nat_lt x 6) 7 n is in grind (arith, nat_tests, on.0)
 
@@ -195,7 +198,7 @@ up_examples : (picked_up pair 7 zone.Dma 3 0 ≡ None)
     × (picked_up lone 7 zone.Dma 3 1 ≡ option_or (find (is_of 7 zone.Dma 3) (blocks_of lone)) None)
 up_examples = (refl, refl)
 
--- frame 4 leaves the pair: frame 5 is left, and is the buddy; it comes back
+-- frame 4 is removed from the pair: frame 5 is left, and is its buddy; then frame 4 is added back
 leave_examples : (without_set 0 4 pair 4 ≡ None) × (without_set 0 4 pair 5 ≡ Some 7) × (without_set 1 4 pair 5 ≡ None)
 leave_examples = (refl, refl, refl)
 

@@ -1,4 +1,4 @@
--- Free sets around a frame, and the greatest of them.
+-- Lemmas on the free sets around a frame, and the largest of them.
 use Rattle.std.proofs.Common.{◌≡◌, ℕ, zero, suc, ◌^◌, ◌<◌, ◌≤◌, true, Option, Some, None, refl, sym, ◌∙◌, ap, inl, inr, arith}
 use Rattle.std.proofs.lemmas.Bool.{cases_lt, cond_both, eqb-true, eq-eqb}
 use Rattle.std.proofs.lemmas.Nat.{pow_pos}
@@ -8,7 +8,7 @@ use Rattle.frame_blocks.specs.Frames.{Frames, IsInSet, AreFree}
 use Rattle.frame_blocks.specs.Listed.{is_node, set_around, are_free, order_up_to}
 use Rattle.frame_blocks.proofs.SetLaws.{in_set, set_from, set_until, wider}
 
--- a node tells by its test
+-- the test of a node is true only of that node
 node_is : (o : Option ℕ) (n : ℕ) → is_node o n ≡ true → o ≡ Some n
 node_is None n h = cc
 node_is (Some m) n h = ap (λ k. Some k) (eqb-true m n h)
@@ -16,14 +16,14 @@ node_is (Some m) n h = ap (λ k. Some k) (eqb-true m n h)
 is_the_node : (o : Option ℕ) (n : ℕ) → o ≡ Some n → is_node o n ≡ true
 is_the_node o n is = ap (λ v. is_node v n) is ∙ eq-eqb n n refl
 
--- a free set is free around each of its frames, and each smaller set in it is
+-- a free set is free around each of its frames, and so is each smaller set in it
 pub free-narrow : (f : Frames) (o p x n : ℕ) → o ≤ p → AreFree f p x n → AreFree f o x n
 free-narrow f o p x n order free y same = free y (wider o p y x order same)
 
 pub free-around : (f : Frames) (o x y n : ℕ) → IsInSet o x y → AreFree f o x n → AreFree f o y n
 free-around f o x y n same free z other = free z (other ∙ same)
 
--- the test of a set tells
+-- the test of a set is true only if it is free
 pub test_free : (f : Frames) (o x n : ℕ) → are_free f o x n ≡ true → AreFree f o x n
 unfolding are_free
 test_free f o x n holds y same =
@@ -51,7 +51,7 @@ up_free f x n (suc m) is =
     cond_both (are_free f (suc m) x n) (suc m) (order_up_to f x n m) (λ o. AreFree f o x n)
     (λ holds. test_free f (suc m) x n holds) (λ fails. up_free f x n m is)
 
--- and no greater one is
+-- no larger set is free
 pub up_most : (f : Frames) (x n m o : ℕ) → o ≤ m → AreFree f o x n → o ≤ order_up_to f x n m
 unfolding order_up_to
 up_most f x n zero o few free = few
@@ -64,7 +64,7 @@ up_most f x n (suc m) o few free =
       | inr ge ↦ up_most f x n m o ge free
     ])
 
--- so a free set, of which the next greater one isn't free, is found
+-- a free set is found if the set of the next order isn't free
 pub up_is : (f : Frames) (x n m o : ℕ) → f x ≡ Some n → o ≤ m → AreFree f o x n → (o < m → AreFree f (suc o) x n → ⊥)
     → order_up_to f x n m ≡ o
 up_is f x n m o is few free whole =

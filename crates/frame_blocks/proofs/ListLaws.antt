@@ -1,4 +1,4 @@
--- The list of the blocks that begin in a stretch of frames.
+-- Lemmas on the list of the blocks that begin in a range of frames.
 use Rattle.std.proofs.Common.{◌≡◌, ℕ, zero, suc, ◌+◌, ◌-◌, ◌%◌, ◌^◌, ◌<◌, ◌≤◌, ◌==◌, false, Option, Some, None, List, [], ◌∷◌, ◌++◌, length, refl, ◌∙◌, ap, subst, inl, inr, arith}
 use Rattle.std.proofs.lemmas.Bool.{cases_Bool, cond_both, eq-eqb, ne_eqb}
 use Rattle.std.proofs.lemmas.Nat.{pow_pos}
@@ -17,7 +17,7 @@ led_append x (Some b) bs cs =
       | inr other ↦ rw other refl
     ]
 
--- of two stretches, one behind the other
+-- the list for two ranges, one after the other
 pub from-append : (f : Frames) (x m n : ℕ) → blocks_from f x (m + n) ≡ blocks_from f x m ++ blocks_from f (x + m) n
 unfolding blocks_from
 from-append f x zero n =
@@ -43,11 +43,11 @@ from-none f x (suc n) none =
     none x (omega arith) (omega arith) (blocks_from f (x + 1) n)
     ∙ from-none f (x + 1) n (λ y above below. none y (omega arith) (omega arith))
 
--- one at a frame that isn't free
+-- no block begins at a frame that isn't free
 pub not_first-bare : (f : Frames) (x : ℕ) → f x ≡ None → IsNotFirst f x
 not_first-bare f x bare bs = ap (λ o. led_by_block x (block_for f x o) bs) bare
 
--- nor at another frame of a block than its first
+-- no block begins at a frame of a block other than its first
 pub not_first-inner : (f : Frames) (o x y n : ℕ) → o ≤ 10 → x % 2 ^ o ≡ 0 → AreFree f o x n → x < y → y < x + 2 ^ o → IsNotFirst f y
 not_first-inner f o x y n small whole free above below bs =
     let same : IsInSet o x y = in_set (2 ^ o) x y (omega (arith, whole)) (omega (arith, whole)) in
@@ -59,7 +59,7 @@ not_first-inner f o x y n small whole free above below bs =
     omega (arith, apart (2 ^ o) x y whole (rw here at base) above)) in
     ap (λ v. led_by_block y (block_for f y v) bs) is ∙ rw other refl
 
--- the frames of a block list it
+-- the frames of a block list that block
 pub from-block : (f : Frames) (o x n : ℕ) → o ≤ 10 → f x ≡ Some n → order_up_to f x n 10 ≡ o → x % 2 ^ o ≡ 0
     → blocks_from f x (2 ^ o) ≡ record { order = o; first = x; node = n; zone = zone_of x } ∷ []
 unfolding blocks_from

@@ -1,4 +1,4 @@
--- Rows are as long as they can be.
+-- Lemmas: rows are as long as possible.
 use Rattle.std.proofs.Common.{◌≡◌, ◌≢◌, ◌⊎◌, ℕ, suc, ◌+◌, ◌-◌, ◌*◌, ◌%◌, ◌^◌, ◌<◌, ◌≤◌, Some, List, [], ◌∷◌, ◌++◌, sym, ◌∙◌, ap, inl, inr, arith}
 use Rattle.std.proofs.lemmas.Nat.{pow_pos}
 use Rattle.std.proofs.Math.Nat.{mul-pos}
@@ -8,11 +8,12 @@ use Rattle.frame_blocks.specs.Frames.{Frames}
 use Rattle.frame_blocks.specs.Rows.{row_end, CouldBeOne, AreRows}
 use Rattle.frame_blocks.specs.Sets.{IsRun, SetFits, OfLast, EndsFree}
 
--- no row of the node that begins at the frame, in frames up to the end, goes on with the row
+-- no row of the node that begins at this frame, in frames up to the end, could be joined with this
+-- row
 abbrev pub EndsAt : ℕ → ℕ → ℕ → BlockRow → Type 0
 EndsAt at end n r = r.order ≡ 10 → r.node ≡ n → row_end r ≡ at → (end < at + 1024) ⊎ (zone_of at ≢ r.zone)
 
--- what holds of the last row
+-- what is true of the last row
 last_put : (P : BlockRow → Type 0) (rs : List BlockRow) (r : BlockRow) → P r → OfLast P (rs ++ r ∷ [])
 last_put P [] r holds = holds
 last_put P (q ∷ []) r holds = holds
@@ -23,14 +24,14 @@ last_so P Q [] so holds = tt
 last_so P Q (r ∷ []) so holds = so r holds
 last_so P Q (r ∷ (q ∷ rs)) so holds = last_so P Q (q ∷ rs) so holds
 
--- one row more, which doesn't go on with the last one
+-- appending a row that can't be joined with the last one keeps the list canonical
 rows_put : (rs : List BlockRow) (r : BlockRow) → 0 < r.count → ((r.order ≡ 10) ⊎ (r.count ≡ 1))
     → OfLast (λ q. CouldBeOne q r → ⊥) rs → AreRows rs → AreRows (rs ++ r ∷ [])
 rows_put [] r some single ends are = (some, single, tt, tt)
 rows_put (q ∷ []) r some single ends are = (are.0, are.1, ends, (some, single, tt, tt))
 rows_put (q ∷ (p ∷ rs)) r some single ends are = (are.0, are.1, are.2, rows_put (p ∷ rs) r some single ends are.3)
 
--- a run begins behind a frame that isn't free or of another node
+-- a run begins after a frame that isn't free, or is of another node
 pub ends_at_first : (f : Frames) (first end n : ℕ) (rs : List BlockRow) → IsRun f first end n → OfLast (EndsFree f) rs
     → OfLast (EndsAt first end n) rs
 ends_at_first f first end n rs run free =
@@ -40,7 +41,7 @@ ends_at_first f first end n rs run free =
     absurd (run.before (row_end r - 1) next (last.1 ∙ ap (λ m. Some m) node)))
     free
 
--- the blocks that follow one another from here on are one row more
+-- the consecutive blocks from here on are one more row
 pub long_more : (f : Frames) (first end n o s at k : ℕ) (rs new : List BlockRow)
     → new ≡ rs ++ record { order = o; first = at; count = k; node = n; zone = zone_of at } ∷ []
     → IsRun f first end n → first ≤ at → 0 < k → at + k * s ≤ end → s ≡ 2 ^ o → at % s ≡ 0 → SetFits first end at s

@@ -1,5 +1,5 @@
--- The runs of a canonical list: each is a run of what the list gives, a look-up finds the one with a frame, and the blocks of all of them
--- are the blocks of what the list gives.
+-- Lemmas on the runs of a canonical list. Each is a whole run, a look-up finds the run that has a
+-- frame, and the blocks of all runs are the blocks of all free frames.
 use Rattle.std.proofs.Common.{◌≡◌, ℕ, zero, suc, ◌+◌, ◌-◌, ◌%◌, ◌^◌, ◌<◌, ◌≤◌, Some, None, List, [], ◌∷◌, ◌++◌, length, get_or, drop, refl, sym, ◌∙◌, ap, subst, inl, inr, le_of_suc-le-suc, lt_of_not-le, arith, append_assoc, drop-cons}
 use Rattle.std.proofs.lemmas.Bool.{cases_lt}
 use Rattle.std.proofs.lemmas.List.{at_drop_all, at_drop_more}
@@ -33,7 +33,7 @@ all_start at (r ∷ rs) zero d runs start few = start
 all_start at (r ∷ rs) (suc i) d runs start few =
     omega (arith, all_start (run_end r) rs i d runs.2 (rest_from r rs runs) (omega arith), start)
 
--- each run of the list is one of what the list gives
+-- each run of the list is a whole run of the list's values
 pub run_of_list : (rs : List (RunOf ℕ)) (i : ℕ) (d : RunOf ℕ) → AreRuns rs → i < length rs
     → IsRun (value_at rs) (get_or rs i d).base (run_end (get_or rs i d)) (get_or rs i d).value
 run_of_list [] i d runs few = absurd (omega arith)
@@ -60,7 +60,8 @@ run_of_list (q ∷ rs) (suc i) d runs few =
       behind = λ same. rest.behind (sym (value_behind q rs (run_end r) (omega arith)) ∙ same);
     }
 
--- the run that a look-up finds has the frame, if it begins by then; else nothing has it
+-- the run that a look-up finds has the frame if it begins at or below it; else no run has the
+-- frame
 pub looked_up : (rs : List (RunOf ℕ)) (i x : ℕ) (d : RunOf ℕ) → i < length rs → IsRestFrom (value_at rs) x (drop i rs)
     → x < run_end (get_or rs i d)
 looked_up rs i x d few rest = subst (λ (ss : List (RunOf ℕ)). EndsBehind x ss) (drop-cons rs i d few) rest.ends
@@ -132,7 +133,7 @@ listed_all rs runs none =
     sym (ap (λ n. blocks_from (value_at rs) 0 n) (sym all)
     ∙ listed_from (value_at rs) MAX_FRAMES 0 rs runs (start_zero rs) none (omega arith) (λ x above. refl))
 
--- one run more of the list
+-- one more run of the list
 pub listed_more : (f : Frames) (rs : List (RunOf ℕ)) (i : ℕ) (d : RunOf ℕ) → i < length rs
     → listed f (drop i rs) ≡ blocks_from f (get_or rs i d).base (get_or rs i d).size ++ listed f (drop (i + 1) rs)
 unfolding listed
@@ -142,7 +143,7 @@ pub listed_none : (f : Frames) (rs : List (RunOf ℕ)) (i : ℕ) → length rs �
 unfolding listed
 listed_none f rs i all = at_drop_all (listed f) rs i all
 
--- the same of the run as code holds it
+-- the block of a frame is found in the run that the code has looked up
 pub found_at : (rs : List (RunOf ℕ)) (i x o s : ℕ) (d r : RunOf ℕ) → r ≡ get_or rs i d → AreRuns rs → i < length rs → r.base ≤ x
     → IsRestFrom (value_at rs) x (drop i rs) → o ≤ 10 → s ≡ 2 ^ o → SetFits r.base (run_end r) x s → IsGreatest r.base (run_end r) x o
     → Some (record { order = o; first = x - x % s; node = r.value; zone = zone_of (x - x % s) }) ≡ block_of (value_at rs) x

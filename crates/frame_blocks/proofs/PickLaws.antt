@@ -1,4 +1,5 @@
--- The function that picks a block gives the block that is picked by the sentence, and none where none serves.
+-- Lemmas: the function that picks a block gives the block of the definition in words, and None if
+-- no block serves.
 use Rattle.std.proofs.Common.{◌≡◌, ◌⊎◌, ℕ, zero, suc, ◌+◌, ◌-◌, ◌<◌, ◌≤◌, ◌==◌, Bool, true, ◌&&◌, Some, None, List, [], ◌∷◌, refl, sym, ◌∙◌, ap, inl, inr, ⊎_elim, arith}
 use Rattle.std.proofs.lemmas.Bool.{and_parts, cases_lt, cases_Bool, eqb-true, eq-eqb}
 use Rattle.std.proofs.lemmas.Option.{same_Some}
@@ -14,7 +15,7 @@ use Rattle.frame_blocks.proofs.BlockLaws.{listed_sound, listed_complete, listed_
 use Rattle.frame_blocks.proofs.BuddyLaws.{found_or_none, one_at}
 use Rattle.frame_blocks.proofs.CountLaws.{zone_is, zone_self}
 
--- the test of a block tells
+-- the test of a block is true only of blocks with this node, order and zone
 pub is_of_tells : (n : ℕ) (z : Zone) (order : ℕ) (b : Block) → is_of n z order b ≡ true → (b.node ≡ n) × (b.order ≡ order) × (b.zone ≡ z)
 is_of_tells n z order b h =
     let one = and_parts (b.node == n) ((b.order == order) && same_zone b.zone z) h in
@@ -26,7 +27,7 @@ is_of_told n z order b node_is order_is zone_is =
     let zones : same_zone b.zone z ≡ true = ap (λ a. same_zone a z) zone_is ∙ zone_self z in
     rw (eq-eqb b.node n node_is, eq-eqb b.order order order_is, zones) refl
 
--- what a search finds in a list that ascends
+-- what a search finds in an ascending list
 record IsFound (p : Block → Bool) (bs : List Block) (b : Block) : Type 0 where
   pub has : Lists bs b
   pub passes : p b ≡ true
@@ -75,7 +76,7 @@ none_in p (b ∷ bs) c is has passes =
           has
     ]
 
--- of several orders none has a block that serves
+-- if nothing is found, none of these orders has a block that serves
 none_up : (f : Frames) (n : ℕ) (z : Zone) (order k : ℕ) (c : Block) → picked_up f n z order k ≡ None → Lists (blocks_of f) c
     → c.node ≡ n → c.zone ≡ z → order ≤ c.order → c.order < order + k → ⊥
 none_up f n z order zero c is has node_is zone_is from until = absurd (omega arith)
@@ -91,7 +92,7 @@ none_up f n z order (suc k) c is has node_is zone_is from until =
           ]
     ]
 
--- what is found by going up: a block of the least of the orders that has one
+-- what is found by going up: a block of the least order that has one
 record IsFoundUp (f : Frames) (n : ℕ) (z : Zone) (order k : ℕ) (b : Block) : Type 0 where
   pub has : Lists (blocks_of f) b
   pub serves : Serves n z order b
@@ -135,7 +136,7 @@ found_up f n z order (suc k) b is =
           }
     ]
 
--- the function tells by the sentence
+-- what the function gives is the block of the definition
 pub picked_tells : (f : Frames) (n : ℕ) (z : Zone) (order : ℕ) (b : Block) → NothingFrom MAX_FRAMES f → picked f n z order ≡ Some b
     → IsPicked f n z order b
 unfolding picked
@@ -154,11 +155,11 @@ none_tells f n z order low is b block serves =
     none_up f n z order (11 - order) b is (listed_complete f b low block) serves.node serves.zone serves.enough
     (omega (arith, block.small, serves.enough))
 
--- of two that are least by order and first frame neither begins before the other
+-- two blocks that both are least, by order and first frame, begin at the same frame
 both_least : (o p x y : ℕ) → (o < p) ⊎ ((o ≡ p) × (x ≤ y)) → (p < o) ⊎ ((p ≡ o) × (y ≤ x)) → x ≡ y
 both_least o p x y one other = grind arith
 
--- and the other way round: there is one such block at most
+-- the block of the definition is what the function gives: there is at most one
 pub picked_is : (f : Frames) (n : ℕ) (z : Zone) (order : ℕ) (b : Block) → NothingFrom MAX_FRAMES f → IsPicked f n z order b
     → picked f n z order ≡ Some b
 picked_is f n z order b low is =

@@ -1,4 +1,4 @@
--- Blocks of one kind that follow one another.
+-- Lemmas on equal consecutive blocks.
 use Rattle.std.proofs.Common.{◌≡◌, ◌⊎◌, ℕ, zero, suc, ◌+◌, ◌-◌, ◌*◌, ◌%◌, ◌^◌, ◌<◌, ◌≤◌, Some, List, [], ◌∷◌, ◌++◌, refl, sym, ◌∙◌, ap, subst, inl, inr, arith, append_assoc}
 use Rattle.std.proofs.lemmas.List.{append-nil}
 use Rattle.std.proofs.lemmas.Nat.{pow_pos}
@@ -15,7 +15,7 @@ use Rattle.frame_blocks.proofs.GoodLaws.{up_is}
 use Rattle.frame_blocks.proofs.ListLaws.{from-append, from-block}
 use Rattle.frame_blocks.proofs.RunLaws.{found, free_inside}
 
--- the blocks of frames among which one of the order begins at each multiple
+-- if a block of this order begins at each of these multiples, the blocks are a row
 pub row_is : (k : ℕ) (f : Frames) (n o s at : ℕ) (z : Zone) → o ≤ 10 → s ≡ 2 ^ o → at % 2 ^ o ≡ 0
     → ((i : ℕ) → i < k → f (at + i * s) ≡ Some n) → ((i : ℕ) → i < k → order_up_to f (at + i * s) n 10 ≡ o)
     → ((i : ℕ) → i < k → zone_of (at + i * s) ≡ z)
@@ -45,7 +45,8 @@ row_is (suc k) f n o s at z small size whole free found zones =
     ∙ ap (λ y. let b : Block = record { order = o; first = at; node = n; zone = y } in b ∷ blocks_from f (at + 2 ^ o) (k * s)) zone_is
     ∙ ap (λ (bs : List Block). let b : Block = record { order = o; first = at; node = n; zone = z } in b ∷ bs) rest
 
--- the blocks of a stretch that lies in a run: the first by the greatest set, those behind it by the greatest order
+-- the blocks of a row lie in the run: the first by the largest set that fits, the others since
+-- they are of the largest order
 in_a_row : (f : Frames) (first end n o s at k : ℕ) → IsRun f first end n → first ≤ at → 0 < k → at + k * s ≤ end → o ≤ 10 → s ≡ 2 ^ o
     → at % s ≡ 0 → SetFits first end at s → IsGreatest first end at o → ((o ≡ 10) ⊎ (k ≡ 1)) → (i : ℕ) → i < k
     → (f (at + i * s) ≡ Some n) × (order_up_to f (at + i * s) n 10 ≡ o)
@@ -85,7 +86,7 @@ row_more f first end n o s at k run above some room small size whole fits greate
     ∙ ap (λ (bs : List Block). blocks_from f first (at - first) ++ bs)
     (row_is k f n o s at (zone_of at) small size start (λ i lt. (row i lt).0) (λ i lt. (row i lt).1) zones)
 
--- a row more at the end of the list
+-- one more row at the end of the list
 pub rows_more : (rs : List BlockRow) (r : BlockRow) → blocks_of_rows (rs ++ r ∷ []) ≡ blocks_of_rows rs ++ blocks_of_row r
 rows_more [] r = append-nil (blocks_of_row r)
 rows_more (q ∷ rs) r =

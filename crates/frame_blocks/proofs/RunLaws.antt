@@ -1,4 +1,4 @@
--- Cutting the frames of a run into blocks.
+-- Lemmas on cutting the frames of a run into blocks.
 use Rattle.std.proofs.Common.{◌≡◌, ℕ, zero, suc, ◌+◌, ◌-◌, ◌*◌, ◌/◌, ◌%◌, ◌^◌, ◌<◌, ◌≤◌, List, [], ◌∷◌, ◌++◌, sym, ◌∙◌, ap, subst, inl, inr, le_of_suc-le-suc, lt_of_not-le, arith}
 use Rattle.std.proofs.lemmas.Bool.{cases_lt}
 use Rattle.std.proofs.lemmas.Nat.{pow_pos}
@@ -19,7 +19,7 @@ free_inside f first end n o x run fits y same =
     run.inside y (omega (arith, set_from (2 ^ o) x y same, fits.above))
     (omega (arith, set_until (2 ^ o) x y (pow_pos o) same, fits.below))
 
--- and a set around a frame of the run that is free lies in it
+-- a free set around a frame of the run lies in the run
 pub inside_free : (f : Frames) (first end n o x : ℕ) → IsRun f first end n → first ≤ x → x < end → AreFree f o x n
     → SetFits first end x (2 ^ o)
 inside_free f first end n o x run above below free =
@@ -31,7 +31,7 @@ inside_free f first end n o x run above below free =
       below = le_of_suc-le-suc (lt_of_not-le (λ lt. run.behind (free end (in_set (2 ^ o) x end (omega arith) lt))));
     }
 
--- so the greatest set that fits is the one that is found
+-- the largest set that fits is the block that is found
 pub found : (f : Frames) (first end n o x : ℕ) → IsRun f first end n → first ≤ x → x < end → o ≤ 10 → SetFits first end x (2 ^ o)
     → IsGreatest first end x o → order_up_to f x n 10 ≡ o
 found f first end n o x run above below small fits greatest =
@@ -53,16 +53,16 @@ one_more f first end n o at s run above below small size fits greatest whole =
     ∙ ap (λ (y : ℕ). blocks_from f first (at - first) ++ blocks_from f y (2 ^ o)) there
     ∙ ap (λ (bs : List Block). blocks_from f first (at - first) ++ bs) (from-block f o at n small (run.inside at above below) is start)
 
--- no set begins before the first frame of a run
+-- no set that fits begins before the first frame of a run
 pub start_first : (first end : ℕ) → IsStart first end first
 start_first first end o small fits = omega (arith, fits.above)
 
--- a block's greatest set begins at the block's first frame
+-- the largest set that fits begins at the frame if the block does
 pub start_whole : (first end at o s : ℕ) → IsStart first end at → o ≤ 10 → s ≡ 2 ^ o → SetFits first end at s → at % s ≡ 0
 start_whole first end at o s start small size fits =
     subst (λ (t : ℕ). at % t ≡ 0) (sym size) (start o small (subst (λ (t : ℕ). SetFits first end at t) size fits))
 
--- and behind it the next one begins
+-- the next block begins after it
 pub start_next : (first end at o s : ℕ) → at % s ≡ 0 → o ≤ 10 → s ≡ 2 ^ o → IsGreatest first end at o → IsStart first end (at + s)
 start_next first end at o s whole few size greatest p small fits =
     let there : (at + s) % 2 ^ o ≡ 0 =
@@ -85,7 +85,7 @@ start_next first end at o s whole few size greatest p small fits =
           ]
     ]
 
--- a set that doesn't fit isn't the one of a single frame, and none of its size or greater fits
+-- a set that doesn't fit has more than one frame, and no set of its size or larger fits
 pub step_down : (first end x o s : ℕ) → s ≡ 2 ^ o → first ≤ x → x < end → (SetFits first end x s → ⊥) → IsGreatest first end x o
     → (0 < o) × (s / 2 ≡ 2 ^ (o - 1)) × IsGreatest first end x (o - 1)
 step_down first end x zero s size above below fails greatest =
@@ -105,11 +105,11 @@ step_down first end x (suc o) s size above below fails greatest =
       ],
     )
 
--- at a multiple of the greatest size each set begins
+-- at a multiple of the largest size each set begins
 pub start_at_ten : (first end at : ℕ) → at % 2 ^ 10 ≡ 0 → IsStart first end at
 start_at_ten first end at whole o small fits = multiple o 10 at small whole
 
--- no frame, no block
+-- no frames, no blocks
 pub nothing_more : (f : Frames) (first : ℕ) (bs : List Block) → bs ≡ bs ++ blocks_from f first (first - first)
 nothing_more f first bs =
     let empty = from-none f first (first - first) (λ y above below. absurd (omega arith)) in

@@ -1,4 +1,5 @@
--- Aligned sets of frames: which frames are in one, how the sets of two orders around a frame lie to one another, and zones.
+-- Lemmas on aligned sets of frames: the frames in a set, the sets of two orders around a frame,
+-- and zones.
 use Rattle.std.proofs.Common.{◌≡◌, ℕ, ◌+◌, ◌-◌, ◌*◌, ◌/◌, ◌%◌, ◌^◌, ◌<◌, ◌≤◌, sym, ◌∙◌, ap, subst, arith}
 use Rattle.std.proofs.lemmas.Bool.Decides.{nat_tests}
 use Rattle.std.proofs.lemmas.Nat.{pow-add, div-mul-add}
@@ -22,7 +23,7 @@ set_from s a x same = omega (arith, base_is s a, mod-add-div' x s, ap (λ q. q *
 pub set_until : (s a x : ℕ) → 0 < s → x / s ≡ a / s → x < a - a % s + s
 set_until s a x some same = omega (arith, base_is s a, mod-add-div' x s, mod-lt x some, ap (λ q. q * s) same)
 
--- frames of one set are in one set of each greater order
+-- frames in one set are in one set of each larger order
 wider_by : (o d x y : ℕ) → x / 2 ^ o ≡ y / 2 ^ o → x / 2 ^ (o + d) ≡ y / 2 ^ (o + d)
 wider_by o d x y same =
     let size : 2 ^ (o + d) ≡ 2 ^ o * 2 ^ d = pow-add 2 o d in
@@ -34,24 +35,24 @@ wider o p x y order same =
     let more : o + (p - o) ≡ p = omega arith in
     subst (λ (q : ℕ). x / 2 ^ q ≡ y / 2 ^ q) more (wider_by o (p - o) x y same)
 
--- a multiple of a size is one of each smaller size
+-- a multiple of a size is a multiple of each smaller size
 pub multiple : (o p x : ℕ) → o ≤ p → x % 2 ^ p ≡ 0 → x % 2 ^ o ≡ 0
 multiple o p x order whole =
     let more : p ≡ (p - o) + o = omega arith in
     let there : x % 2 ^ ((p - o) + o) ≡ 0 = subst (λ (q : ℕ). x % 2 ^ q ≡ 0) more whole in
     sym (mod-mod-pow x (p - o) o) ∙ ap (λ r. r % 2 ^ o) there ∙ zero-mod (2 ^ o)
 
--- between two multiples of s there are s numbers
+-- two different multiples of s are at least s apart
 pub apart : (s x y : ℕ) → x % s ≡ 0 → y % s ≡ 0 → x < y → x + s ≤ y
 apart s x y first second order =
     let more : (x / s) * s < (y / s) * s = omega (arith, mod-add-div' x s, mod-add-div' y s, first, second) in
     grind (arith, mod-add-div' x s, mod-add-div' y s)
 
--- the base of a set is a multiple of its size
+-- the first frame of a set is a multiple of its size
 pub base_whole : (s x : ℕ) → (x - x % s) % s ≡ 0
 base_whole s x = ap (λ y. y % s) (base_is s x) ∙ mul-mod_left (x / s) s
 
--- the frames of a set lie in one zone
+-- the frames of a set are in one zone
 pub one_zone : (o x y : ℕ) → o ≤ 10 → y / 2 ^ o ≡ x / 2 ^ o → zone_of y ≡ zone_of x
 one_zone o x y small same =
     let at_ten : y / 2 ^ 10 ≡ x / 2 ^ 10 = wider o 10 y x small same in

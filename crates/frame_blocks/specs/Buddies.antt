@@ -1,37 +1,38 @@
--- A set of frames that leaves a block, and what is left of the block: one buddy of each order between the set's and the block's
--- (`expand`); where the set comes back, they are joined again (`__free_one_page`).
+-- A set of frames that is removed from a block, and what is left of the block: one buddy of each
+-- order from the set's to below the block's (`expand`). If the set is added back, they are merged
+-- again (`__free_one_page`).
 use Rattle.std.specs.Prelude.{◌≡◌, ℕ, ◌+◌, ◌-◌, ◌*◌, ◌/◌, ◌%◌, ◌^◌, ◌<◌, ◌≤◌, ◌==◌, if◌then◌else◌, None}
 use Rattle.address_runs.specs.Edits.{uncovered, replaced}
 use Rattle.frame_blocks.specs.declared.block.Block.{Block}
 use Rattle.frame_blocks.specs.Frames.{Frames, IsInSet}
 use Rattle.frame_blocks.specs.Listed.{set_around}
 
--- the frames of the aligned set of that order in which x is are free no more
+-- the frames of the aligned set of this order that has x are no longer free
 abbrev pub without_set : ℕ → ℕ → Frames → Frames
 without_set order x f = uncovered (set_around order x) f
 
--- they are free, of the node
+-- the frames of that set are free, on the node
 abbrev pub with_set : ℕ → ℕ → ℕ → Frames → Frames
 with_set order x node f = replaced (set_around order x) node f
 
--- g has what f has, but for the frames of the set, of which g has none
+-- g has the same free frames as f, except those of the set, which aren't free in g
 pub record IsWithout (f g : Frames) (order x : ℕ) : Type 0 where
   pub gone : (y : ℕ) → IsInSet order x y → g y ≡ None
   pub kept : (y : ℕ) → (IsInSet order x y → ⊥) → g y ≡ f y
 
--- the number of the other half of a pair: 2 and 3, 4 and 5
+-- the other number of a pair: 2 and 3, 4 and 5
 abbrev pub other_half : ℕ → ℕ
 other_half q = if q % 2 == 0 then q + 1 else q - 1
 
--- the first frame of the buddy of the set of that order in which x is (`__find_buddy_pfn`)
+-- the first frame of the buddy of the set of this order that has x (`__find_buddy_pfn`)
 abbrev pub buddy_first : ℕ → ℕ → ℕ
 buddy_first order x = other_half (x / 2 ^ order) * 2 ^ order
 
--- that buddy as a block of the node and the zone of b
+-- that buddy as a block, with the node and the zone of b
 abbrev pub buddy_in : Block → ℕ → ℕ → Block
 buddy_in b order x = record b { order = order; first = buddy_first order x }
 
--- c is the buddy of x in b, of an order from `low` up to below `until`
+-- c is a buddy of x in b, of an order from `low` to below `until`
 pub record IsBuddy (b : Block) (low until x : ℕ) (c : Block) : Type 0 where
   pub order : ℕ
   pub from : low ≤ order

@@ -1,4 +1,4 @@
--- The blocks of free frames as functions: the block of a frame, and all blocks, ascending.
+-- The blocks of free frames as functions: the block of a frame, and the list of all blocks.
 use Rattle.std.specs.Prelude.{◌≡◌, ◌⊎◌, ℕ, zero, suc, ◌+◌, ◌-◌, ◌%◌, ◌^◌, ◌≤◌, ◌==◌, Bool, true, false, ◌&&◌, if◌then◌else◌, Option, Some, None, List, [], ◌∷◌, count_by}
 use Rattle.bm_base.specs.Extent.{Extent}
 use Rattle.bm_base.specs.Each.{each_in}
@@ -9,25 +9,25 @@ use Rattle.frame_blocks.specs.declared.block.Block.{Block}
 use Rattle.frame_blocks.specs.declared.run.TheConstants.{MAX_FRAMES}
 use Rattle.frame_blocks.specs.Frames.{Frames}
 
--- whether this is the node
+-- the node is n
 abbrev pub is_node : Option ℕ → ℕ → Bool
 is_node None n = false
 is_node (Some m) n = m == n
 
--- the frames of the aligned set of that order in which the frame is
+-- the frames of the aligned set of this order that has frame x
 abbrev pub set_around : ℕ → ℕ → Extent
 set_around order x = record { base = x - x % 2 ^ order; size = 2 ^ order }
 
--- whether all of them are free, of the node
+-- all frames of that set are free, on the node
 unfoldable pub are_free : Frames → ℕ → ℕ → ℕ → Bool
 are_free f order x n = each_in (set_around order x) (λ y. is_node (f y) n)
 
--- the greatest of the orders up to m whose set around the frame is free, of the node
+-- the largest order up to m whose set around the frame is free, on the node
 unfoldable pub order_up_to : Frames → ℕ → ℕ → ℕ → ℕ
 order_up_to f x n zero = 0
 order_up_to f x n (suc m) = if are_free f (suc m) x n then suc m else order_up_to f x n m
 
--- the set of that order in which the frame is, as a block
+-- the set of this order around the frame, as a block
 abbrev pub block_around : ℕ → ℕ → ℕ → Block
 block_around order x n = record { order = order; first = x - x % 2 ^ order; node = n; zone = zone_of (x - x % 2 ^ order) }
 
@@ -35,11 +35,11 @@ abbrev pub block_for : Frames → ℕ → Option ℕ → Option Block
 block_for f x None = None
 block_for f x (Some n) = Some (block_around (order_up_to f x n 10) x n)
 
--- the block in which the frame is; none where it isn't free
+-- the block that has the frame; None if the frame isn't free
 abbrev pub block_of : Frames → ℕ → Option Block
 block_of f x = block_for f x (f x)
 
--- the block in front of the list, if the frame is its first one
+-- the list with the block before it, if the frame is the block's first
 abbrev pub led_by_block : ℕ → Option Block → List Block → List Block
 led_by_block x None bs = bs
 led_by_block x (Some b) bs = if b.first == x then b ∷ bs else bs
@@ -59,11 +59,11 @@ same_zone zone.Dma32 zone.Dma32 = true
 same_zone zone.Normal zone.Normal = true
 same_zone a b = false
 
--- whether the block is of the node, in the zone, of the order
+-- the block is on the node, in the zone and of the order
 abbrev pub is_of : ℕ → Zone → ℕ → Block → Bool
 is_of n z order b = (b.node == n) && ((b.order == order) && same_zone b.zone z)
 
--- how many blocks there are of the node, the zone and the order
+-- the number of blocks on the node, in the zone and of the order
 unfoldable pub count_of : Frames → ℕ → Zone → ℕ → ℕ
 count_of f n z order = count_by (is_of n z order) (blocks_of f)
 
@@ -72,7 +72,8 @@ abbrev pub Lists : List Block → Block → Type 0
 Lists [] b = ⊥
 Lists (c ∷ cs) b = (c ≡ b) ⊎ Lists cs b
 
--- each block of the list begins behind the one before it, and the first at `from` or behind it
+-- each block in the list begins above the start of the one before it, and the first at `from` or
+-- above
 abbrev pub AscendFrom : ℕ → List Block → Type 0
 AscendFrom from [] = Unit {0}
 AscendFrom from (b ∷ bs) = (from ≤ b.first) × AscendFrom (b.first + 1) bs

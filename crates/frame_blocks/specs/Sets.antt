@@ -1,34 +1,36 @@
--- Aligned sets within the frames of a run: what the functions that cut a run into blocks say to one another.
+-- Aligned sets within the frames of a run, for the contracts of the functions that cut a run into
+-- blocks.
 use Rattle.std.specs.Prelude.{◌≡◌, ◌≢◌, ℕ, suc, ◌+◌, ◌-◌, ◌%◌, ◌^◌, ◌<◌, ◌≤◌, Some, List, [], ◌∷◌}
 use Rattle.frame_blocks.specs.declared.block.BlockRow.{BlockRow}
 use Rattle.frame_blocks.specs.Frames.{Frames}
 use Rattle.frame_blocks.specs.Rows.{row_end}
 
--- the frames from `first` up to `end` are all free frames of a run of the node: neither neighbour belongs to it
+-- the frames from `first` to below `end` are a whole run of the node: all are free on it, and
+-- neither neighbour is
 pub record IsRun (f : Frames) (first end n : ℕ) : Type 0 where
   pub inside : (x : ℕ) → first ≤ x → x < end → f x ≡ Some n
   pub before : (x : ℕ) → suc x ≡ first → f x ≢ Some n
   pub behind : f end ≢ Some n
 
--- the aligned set of s frames around the frame lies between both ends
+-- the aligned set of s frames around the frame lies between `first` and `end`
 pub record SetFits (first end frame s : ℕ) : Type 0 where
   pub above : first ≤ frame - frame % s
   pub below : frame - frame % s + s ≤ end
 
--- no greater set does
+-- no set of a larger order fits
 abbrev pub IsGreatest : ℕ → ℕ → ℕ → ℕ → Type 0
 IsGreatest first end frame order = (o : ℕ) → order < o → o ≤ 10 → SetFits first end frame (2 ^ o) → ⊥
 
--- each set around the frame that lies between both ends begins at the frame
+-- each aligned set around the frame that fits begins at the frame
 abbrev pub IsStart : ℕ → ℕ → ℕ → Type 0
 IsStart first end at = (o : ℕ) → o ≤ 10 → SetFits first end at (2 ^ o) → at % 2 ^ o ≡ 0
 
--- this holds of the last row of the list, if there is one
+-- the last row of the list, if there is one, fulfils P
 abbrev pub OfLast : (BlockRow → Type 0) → List BlockRow → Type 0
 OfLast P [] = Unit {0}
 OfLast P (r ∷ []) = P r
 OfLast P (r ∷ (q ∷ qs)) = OfLast P (q ∷ qs)
 
--- the last frame of the row is free, of its node
+-- the last frame of the row is free, on the row's node
 abbrev pub EndsFree : Frames → BlockRow → Type 0
 EndsFree f r = (0 < row_end r) × (f (row_end r - 1) ≡ Some r.node)

@@ -1,5 +1,5 @@
-//! How many blocks there are of a node, a zone and an order, without a list of them: a long run is as good as
-//! all blocks of the greatest order, and those are taken at once.
+//! Counts the blocks of a node, a zone and an order, without listing them. Nearly all blocks of a
+//! long run are of the largest order, and those are counted at once.
 
 ghost use Rattle.std.specs.Prelude.{◌≡◌, ◌≢◌, ◌⊎◌, ◌↔◌, ℕ, IsTrue, ◌+◌, ◌-◌, ◌*◌, ◌%◌, ◌<◌, ◌≤◌, count_by};
 ghost use Rattle.bm_base.specs.Zones.{zone_of};
@@ -15,8 +15,9 @@ use crate::set::{MAX_SIZE, Set, set_within};
 use crate::zones::zone_until;
 use bm_base::{Zone, zone_of};
 
-/// How many blocks of the free frames are of the node, in the zone and of the order. Takes no memory, and some
-/// twenty steps for each run of the node.
+/// Returns the number of blocks on this node, in this zone and of this order. Allocates nothing.
+/// Takes about twenty steps for each run of the node. The runs must be canonical, and all frames
+/// below [`MAX_FRAMES`].
 pub fn count_blocks(runs: &[FrameRun], node: u32, zone: Zone, order: u32) -> u64
     requires runs { AreRuns runs.now }
     requires low { NothingFrom MAX_FRAMES (value_at runs.now) }
@@ -31,7 +32,8 @@ pub fn count_blocks(runs: &[FrameRun], node: u32, zone: Zone, order: u32) -> u64
     total
 }
 
-/// How many blocks of the run are in the zone and of the order.
+/// Returns the number of blocks in this zone and of this order, of the run from frame `first` to
+/// below `end`.
 fn count_in_run(first: u64, end: u64, zone: Zone, order: u32) -> u64
     requires { first ≤ end }
     ensures few { result ≤ end - first }
@@ -51,15 +53,17 @@ fn count_in_run(first: u64, end: u64, zone: Zone, order: u32) -> u64
     total
 }
 
-/// Whether the set, as a block that begins at the frame, is in the zone and of the order.
+/// Tests whether a block of this set's order that begins at frame `at` has this order and is in
+/// this zone.
 fn is_alike(set: Set, at: u64, zone: Zone, order: u32) -> bool
     ensures { IsTrue result ↔ (set.order ≡ order) × (zone_of at ≡ zone) }
 {
     set.order == order && zone_of(at) == zone
 }
 
-/// How many blocks of the set's size follow one another from the frame on, all in its zone: of the greatest
-/// order as many as there is room for, so that behind them there is none or another zone; of another order this one.
+/// Returns how many blocks of the set's order follow each other from frame `at` on, all in its
+/// zone and below `end`. For the largest order that is as many as fit, so after them either the
+/// zone or the room ends. For any other order it is 1.
 pub fn blocks_alike(at: u64, end: u64, set: Set) -> u64
     requires small { set.order ≤ 10 }
     requires size { set.order ≡ 10 → set.size ≡ 1024 }

@@ -1,4 +1,5 @@
-//! What holds of the words themselves: the functions that list blocks give the sets of frames that are blocks.
+//! The laws of this crate: the functions that list blocks return exactly the sets of frames that
+//! are blocks.
 
 ghost use Rattle.std.specs.Prelude.{◌≡◌, ◌⊎◌, ◌↔◌, ℕ, ◌/◌, ◌^◌, ◌<◌, ◌≤◌, Option, Some, None, List};
 ghost use Rattle.bm_base.specs.declared.zone.Zone.{Zone as AnyZone};
@@ -12,14 +13,14 @@ ghost use Rattle.address_runs.specs.Edits.{NothingFrom};
 
 use crate::run::MAX_FRAMES;
 
-/// A law: the frames of an aligned set of an order up to 10 lie in one zone, since each zone ends at a
-/// multiple of 1,024 frames.
+/// Law: the frames of an aligned set of an order up to 10 are in one zone, since each zone ends at
+/// a multiple of 1,024 frames.
 pub fn sets_lie_in_one_zone()
     ensures { (order x y : ℕ) → order ≤ 10 → IsInSet order x y → zone_of y ≡ zone_of x }
 {}
 
-/// A law: the block of a frame is a block that has the frame, and no other block has it; where the frame
-/// isn't free, none does. The list of blocks has each block once, ascending, and nothing else.
+/// Law: the block of a frame is the only block that has the frame; a frame without a block isn't
+/// free. The list of blocks has each block once, in ascending order, and nothing else.
 pub fn listed_blocks_are_blocks()
     ensures block { (f : Frames) (x : ℕ) (b : AnyBlock) → block_of f x ≡ Some b → IsBlock f b × IsInBlock b x }
     ensures one { (f : Frames) (x : ℕ) (b : AnyBlock) → IsBlock f b → IsInBlock b x → block_of f x ≡ Some b }
@@ -29,8 +30,9 @@ pub fn listed_blocks_are_blocks()
     ensures ascending { (f : Frames) → AscendFrom 0 (blocks_of f) }
 {}
 
-/// A law: the block that is picked for a node, a zone and an order is of the least order from that one up of which there is a
-/// block there, and of those blocks the one of the lowest first frame; none is picked exactly where there is no such block.
+/// Law: the block that is picked for a node, a zone and an order has the least order, from that
+/// one up, of which a block exists there. It is the lowest block of its order. No block is picked
+/// exactly if there is no such block.
 pub fn picked_block_is_least()
     ensures picked { (f : Frames) (n : ℕ) (z : AnyZone) (order : ℕ) (b : AnyBlock) → NothingFrom MAX_FRAMES f →
         (picked f n z order ≡ Some b) ↔ IsPicked f n z order b }
@@ -38,8 +40,9 @@ pub fn picked_block_is_least()
         (picked f n z order ≡ None) ↔ NoneServes f n z order }
 {}
 
-/// A law: where a set leaves a block, what is left of that block is one buddy of each order between the set's and the
-/// block's, and the other blocks stay. A set that comes back makes the frames it left.
+/// Law: if a set of frames of a block is no longer free, the rest of the block becomes one buddy
+/// of each order from the set's to below the block's, and the other blocks stay. Removing a set of
+/// frames, or adding it back, changes only the frames of that set.
 pub fn left_blocks_are_buddies()
     ensures left { (f : Frames) (order x : ℕ) → IsWithout f (without_set order x f) order x }
     ensures back { (f : Frames) (order x n : ℕ) → ((y : ℕ) → IsInSet order x y → f y ≡ None) →

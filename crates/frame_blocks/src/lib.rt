@@ -1,22 +1,29 @@
-//! Blocks of free frames: what the page allocator's lists hold of a set of free frames.
+//! Computes the blocks of free frames: the content of the page allocator's free lists for a set of
+//! free frames.
 //!
-//! The page allocator hands memory out by blocks of 2^order frames, at frame numbers that are multiples of
-//! that, of orders 0 to [`MAX_ORDER`] (`struct free_area` of a zone). The kernel makes them by cutting each
-//! free range greedily (`__free_pages_memory`) and by joining a block with its buddy as long as that is free
-//! too (`__free_one_page`). What comes out doesn't depend on the order of the steps, and that is how it is
-//! defined here (`specs/Frames.antt`): a set of frames that agree in all but the last bits of their numbers is
-//! good where all of them are free, in one node and one zone; and the blocks are the good sets that lie in no
-//! larger one.
+//! The page allocator hands out blocks of 2^order frames, from order 0 to [`MAX_ORDER`] (`struct
+//! free_area` of a zone). The number of a block's first frame is a multiple of 2^order. The kernel
+//! cuts each free range greedily into blocks (`__free_pages_memory`), and merges a block with its
+//! buddy as long as that is free too (`__free_one_page`). The result doesn't depend on the order
+//! of the steps, so it is defined without them (`specs/Frames.antt`). An aligned set of 2^order
+//! frames is *good* if all of them are free, on one node and in one zone. The blocks are the good
+//! sets that are in no larger good set.
 //!
-//! The free frames are kept as runs ([`FrameRun`], `address_runs`): consecutive frames of one node, as many as
-//! there are. The blocks are worked out when they are asked for, so that 16 TiB are one record and not four
-//! million: [`blocks`] lists them, [`rows`] lists them row by row, [`block_of`] finds the one that has a frame, [`count_blocks`] counts those of a
-//! node, a zone and an order in a few steps a run. `specs/Listed.antt` says what each gives, frame by frame;
-//! [`listed_blocks_are_blocks`] and [`sets_lie_in_one_zone`] are the laws that tie that to sets of frames.
+//! The free frames are kept as runs ([`FrameRun`], `address_runs`): as many consecutive frames of
+//! one node as there are. Blocks are computed on request, so that 16 TiB are one record and not
+//! four million.
 //!
-//! What the page allocator does with blocks is said here too, for the crates above: which one serves a request
-//! (`specs/Picked.antt`, [`picked_block_is_least`]), and what becomes of the blocks where frames leave and come back
-//! (`specs/Buddies.antt`, [`left_blocks_are_buddies`]).
+//! - [`blocks`] lists them, and [`rows`] lists them with equal consecutive blocks in one row.
+//! - [`block_of`] finds the block that has a frame.
+//! - [`count_blocks`] counts those of a node, a zone and an order in a few steps for each run.
+//!
+//! `specs/Listed.antt` defines the results, frame by frame. A law is an empty function whose
+//! contract is a proven fact. [`listed_blocks_are_blocks`] and [`sets_lie_in_one_zone`] connect
+//! these results with sets of frames. In contracts, a name means the definition in `specs/`.
+//!
+//! The crates above also find here what the page allocator does with blocks: which block serves a
+//! request (`specs/Picked.antt`, [`picked_block_is_least`]), and how the blocks change when frames
+//! are allocated and freed (`specs/Buddies.antt`, [`left_blocks_are_buddies`]).
 #![tactic(auto)]
 
 mod block;

@@ -1,5 +1,5 @@
-//! The blocks of runs of free frames: all of them, ascending, one by one or row by row, and the one in which a
-//! frame is.
+//! Lists the blocks of runs of free frames, in ascending order, one by one or row by row, and
+//! finds the block that has a frame.
 
 ghost use Rattle.std.specs.Prelude.{◌≡◌, ◌-◌, ◌≤◌, ◌++◌, OnOk, IfOk};
 ghost use Rattle.address_runs.specs.Runs.{AreRuns, value_at};
@@ -17,7 +17,12 @@ use bm_base::{Memory, zone_of};
 use run_edits::seek;
 use std::alloc::Global;
 
-/// All blocks of the free frames, ascending.
+/// Returns all blocks of the free frames, in ascending order. The runs must be canonical, and all
+/// frames below [`MAX_FRAMES`].
+///
+/// # Errors
+///
+/// - `Memory`: the program ran out of memory.
 pub fn blocks(alloc: Global, runs: &[FrameRun]) -> Result<Vec<Block>, Memory>
     requires runs { AreRuns runs.now }
     requires low { NothingFrom MAX_FRAMES (value_at runs.now) }
@@ -30,8 +35,12 @@ pub fn blocks(alloc: Global, runs: &[FrameRun]) -> Result<Vec<Block>, Memory>
     Ok(blocks)
 }
 
-/// The blocks of one run: from its first frame on always the greatest set that begins there and that it has
-/// room for (`__free_pages_memory`).
+/// Appends the blocks of one run, from frame `first` to below `end`. At each step it takes the
+/// largest aligned set that begins there and fits (`__free_pages_memory`).
+///
+/// # Errors
+///
+/// - `Memory`: the program ran out of memory.
 fn push_blocks(blocks: &mut Vec<Block>, first: u64, end: u64, node: u32) -> Result<(), Memory>
     requires { first ≤ end }
     ensures { OnOk result ((f : Frames) → IsRun f first end node →
@@ -51,9 +60,14 @@ fn push_blocks(blocks: &mut Vec<Block>, first: u64, end: u64, node: u32) -> Resu
     Ok(())
 }
 
-/// All blocks of the free frames, ascending, row by row: a run of frames is a row for each zone in which it has
-/// blocks of the greatest order, and one for each other block, of which there are some twenty. No row is empty, and
-/// no two rows of the greatest order could be one.
+/// Returns all blocks of the free frames, in ascending order, row by row. A run has one row of
+/// blocks of the largest order for each zone, and one row for each other block, of which there are
+/// about twenty. No row is empty, and no two rows of the largest order could be joined. The runs
+/// must be canonical, and all frames below [`MAX_FRAMES`].
+///
+/// # Errors
+///
+/// - `Memory`: the program ran out of memory.
 pub fn rows(alloc: Global, runs: &[FrameRun]) -> Result<Vec<BlockRow>, Memory>
     requires runs { AreRuns runs.now }
     requires low { NothingFrom MAX_FRAMES (value_at runs.now) }
@@ -67,8 +81,12 @@ pub fn rows(alloc: Global, runs: &[FrameRun]) -> Result<Vec<BlockRow>, Memory>
     Ok(rows)
 }
 
-/// The blocks of one run, row by row. Where the rows that stand there are canonical (`AreRows`) and the last of them ends in a
-/// free frame of its node, the same holds with the new ones behind them.
+/// Appends the blocks of one run, row by row. The list stays canonical (`AreRows`) if it was so,
+/// and if the last frame of its last row is free.
+///
+/// # Errors
+///
+/// - `Memory`: the program ran out of memory.
 fn push_rows(rows: &mut Vec<BlockRow>, first: u64, end: u64, node: u32) -> Result<(), Memory>
     requires { first ≤ end }
     ensures blocks { OnOk result ((f : Frames) → IsRun f first end node →
@@ -93,8 +111,8 @@ fn push_rows(rows: &mut Vec<BlockRow>, first: u64, end: u64, node: u32) -> Resul
     Ok(())
 }
 
-/// The block in which the frame is; `None` where it isn't free. Takes no memory: a look-up, and a look at
-/// each order.
+/// Returns the block that has this frame, or `None` if the frame isn't free. Allocates nothing.
+/// Takes one look-up of the run, and a test of each order.
 pub fn block_of(runs: &Vec<FrameRun>, frame: u64) -> Option<Block>
     requires { AreRuns runs.now.items }
     ensures { result ≡ block_of (value_at runs.now.items) frame }

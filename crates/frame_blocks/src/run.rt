@@ -1,18 +1,18 @@
-//! The record in which free frames are kept: frames that follow one another, and their node.
+//! The record in which free frames are kept: consecutive frames and their node.
 
 use address_runs::Stretch;
 use bm_base::Range;
 use std::marker::Model;
 
-/// Frames have numbers below this: addresses have at most 52 bits.
+/// Frames have numbers below this, since addresses have at most 52 bits.
 pub const MAX_FRAMES: u64 = 1 << 40;
 
-/// Free frames that follow one another, all of one node. In a list of runs it is as long as it can be.
+/// Consecutive free frames of one node. In a canonical list each run is as long as possible.
 #[derive(Clone, Copy, Debug, PartialEq, Eq)]
 pub struct FrameRun {
     /// The number of the first frame.
     pub first: u64,
-    /// How many frames there are.
+    /// The number of frames.
     pub count: u64,
     pub node: u32,
 }
@@ -30,7 +30,7 @@ impl Model for FrameRun {
     ghost inverse = { λ r. record { first = r.base; count = r.size; node = r.value } };
 }
 
-/// Frame numbers stand where other runs have addresses.
+/// Frame numbers take the place of addresses in other runs.
 impl Stretch for FrameRun {
     type Value = u32;
 

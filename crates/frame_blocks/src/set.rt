@@ -1,23 +1,24 @@
-//! Aligned sets of frames: the greatest one around a frame that a run has room for. That is the block in which
-//! the frame is, since a set is good exactly where it lies in one run.
+//! Finds the largest aligned set of frames that has a given frame and fits into a run. That is the
+//! block of the frame, since an aligned set is good exactly if it lies in one run.
 
 ghost use Rattle.std.specs.Prelude.{◌≡◌, ◌^◌, ◌<◌, ◌≤◌, ◌↔◌, IsTrue};
 ghost use Rattle.frame_blocks.specs.Sets.{SetFits, IsGreatest};
 
 use crate::block::MAX_ORDER;
 
-/// How many frames a block of the greatest order has.
+/// The number of frames in a block of the largest order.
 pub const MAX_SIZE: u64 = 1 << MAX_ORDER;
 
 /// An aligned set of frames.
 #[derive(Clone, Copy)]
 pub struct Set {
     pub order: u32,
-    /// How many frames it has: `2^order`.
+    /// The number of frames: `2^order`.
     pub size: u64,
 }
 
-/// Whether the aligned set of so many frames around the frame lies in the frames from `first` up to `end`.
+/// Tests whether the aligned set of `size` frames that has this frame lies between `first` and
+/// `end`; `end` is excluded.
 fn fits(first: u64, end: u64, frame: u64, size: u64) -> bool
     requires some { 0 < size }
     requires below { frame < end }
@@ -27,8 +28,8 @@ fn fits(first: u64, end: u64, frame: u64, size: u64) -> bool
     first <= base && size <= end - base
 }
 
-/// The greatest aligned set around the frame, of an order up to [`MAX_ORDER`], that lies in the frames from
-/// `first` up to `end`. A set of one frame always does.
+/// Returns the largest aligned set that has this frame and lies between `first` and `end`; `end`
+/// is excluded. Its order is at most [`MAX_ORDER`]. A set of one frame always fits.
 pub fn set_within(first: u64, end: u64, frame: u64) -> Set
     requires above { first ≤ frame }
     requires below { frame < end }

@@ -1,12 +1,12 @@
-//! Where a zone ends, for those that go over frames zone by zone.
+//! Finds where a zone ends, for callers that go through frames zone by zone.
 
 ghost use Rattle.std.specs.Prelude.{◌≡◌, ◌≢◌, ◌⊎◌, ℕ, ◌+◌, ◌%◌, ◌<◌, ◌≤◌};
 ghost use Rattle.bm_base.specs.Zones.{zone_of};
 
 use bm_base::{MAX_DMA_FRAME, MAX_DMA32_FRAME};
 
-/// The frame behind the last one of the zone of `frame`, or `end` if that comes before, and no nearer one. Zones
-/// end at multiples of 1,024 frames, the size of the greatest block.
+/// Returns the first frame after the zone of `frame`, or `end` if that is lower. `frame` must be
+/// below `end`. Zones end at multiples of 1,024 frames, the size of the largest block.
 pub fn zone_until(frame: u64, end: u64) -> u64
     requires { frame < end }
     ensures some { frame < result }
