@@ -1,4 +1,5 @@
--- An index of blocks where a set leaves a block, where it comes back, and where it is made from rows.
+-- Lemmas on the index of blocks when a set is taken from a block, when one is freed, and when the
+-- index is made from rows.
 use Rattle.std.proofs.Common.{◌≡◌, ◌≢◌, ◌⊎◌, ◌↔◌, ℕ, zero, suc, ◌+◌, ◌-◌, ◌/◌, ◌^◌, ◌<◌, ◌≤◌, Option, Some, List, [], ◌∷◌, ◌++◌, length, get_or, drop, drop-cons, refl, sym, ◌∙◌, ap, subst, inl, inr, ⊎_elim, arith}
 use Rattle.std.proofs.lemmas.Bool.{cases_eq}
 use Rattle.std.proofs.lemmas.List.{at_drop_all}
@@ -30,15 +31,15 @@ has_none b low x bs c = (
 pub lacks_none : (b : Block) (low x : ℕ) (bs : List Block) → LacksBuddies b low low x bs bs
 lacks_none b low x bs c = (λ has. (λ it. no_buddy b c low x it, has), λ both. both.1)
 
--- the block itself isn't outside of itself
+-- a block that begins outside b isn't b
 away : (b c : Block) → (IsInBlock b c.first → ⊥) → c ≢ b
 away b c outside same = outside (subst (λ (d : Block). IsInBlock b d.first) (sym same) refl)
 
--- the block in front of one that follows
+-- the block of the largest order right before this one
 abbrev front : Block → Block
 front c = record c { first = c.first - 1024 }
 
--- the frame behind a block of the greatest order isn't in it
+-- the frame after a block of the largest order isn't in that block
 behind_differs : (f : Frames) (b c : Block) → IsBlock f b → IsLike b c → IsInBlock c (b.first + 2 ^ b.order) → c ≡ b → ⊥
 behind_differs f b c block like inner same =
     let there : (b.first + 2 ^ b.order) / 2 ^ b.order ≡ b.first / 2 ^ b.order =
@@ -47,7 +48,7 @@ behind_differs f b c block like inner same =
     let aligned = block.aligned in
     absurd (omega (arith, high, aligned))
 
--- a set leaves the block b
+-- a set is taken from the block b
 pub split_areas : (f g : Frames) (low x : ℕ) (b : Block) (behind : Option Block) (bs ms cs : List Block) → AreAreas f bs
     → IsWithout f g low x → IsBlock f b → IsInBlock b x → low ≤ b.order → behind ≡ block_of f (b.first + 2 ^ b.order)
     → ((c : Block) → Lists ms c → ((c ≢ b) × Lists bs c) ⊎ ((behind ≡ Some c) × IsLike b c))
@@ -98,7 +99,7 @@ split_areas f g low x b behind bs ms cs areas without block inner order next sou
   ];
 }
 
--- a set comes back, and b is the block in which it is then
+-- a set is freed, and b is the block that has it then
 pub join_areas : (f g : Frames) (low x : ℕ) (b : Block) (bs ms cs : List Block) → AreAreas g bs
     → IsWithout f g low x → IsBlock f b → IsInBlock b x → low ≤ b.order → LacksBuddies b low b.order x bs ms
     → ((c : Block) → Lists cs c ↔ ((c ≡ b) ⊎ Lists ms c)) → AreAreas f cs
@@ -140,7 +141,7 @@ join_areas f g low x b bs ms cs areas without block inner order lacks put = reco
   ];
 }
 
--- from each block one goes back to a block of its order, node and zone that the list has
+-- going back from each block leads to a block of its order, node and zone that the list has
 pub record IsLed (bs : List Block) (c : Block) : Type 0 where
   pub leader : Block
   pub has : Lists bs leader
@@ -177,7 +178,7 @@ led_by (suc k) f bs c areas is low = ⊎_elim
 pub led : (f : Frames) (bs : List Block) (c : Block) → AreAreas f bs → IsBlock f c → IsLed bs c
 led f bs c areas is = led_by c.first f bs c areas is (omega arith)
 
--- the leads of rows
+-- the first blocks of rows
 pub leads : List BlockRow → List Block
 leads [] = []
 leads (r ∷ rs) = lead r ∷ leads rs
@@ -198,7 +199,7 @@ lists_right : (bs cs : List Block) (b : Block) → Lists cs b → Lists (bs ++ c
 lists_right [] cs b has = has
 lists_right (d ∷ bs) cs b has = inr (lists_right bs cs b has)
 
--- a block of a row is its first one, or lies right behind another one
+-- a block of a row is its first, or begins where another one ends
 in_row : (k o x n : ℕ) (z : Zone) (b : Block) → Lists (row_from o x n z k) b
     → ((record { order = o; first = x; node = n; zone = z } ≡ b) ⊎ ((2 ^ o ≤ b.first) × (b.order ≡ o)
     × Lists (row_from o x n z k) (record b { first = b.first - 2 ^ o })))
@@ -243,7 +244,7 @@ only_lead r b rs only =
     (λ (none : Lists (row_from r.order (r.first + 2 ^ r.order) r.node r.zone 0) b). absurd
     (let no_more : ⊥ = unfold row_from in none in no_more)) one
 
--- a block of rows is the lead of one, or lies right behind another one of the greatest order
+-- a block of rows is the first of one, or begins where another of the largest order ends
 in_rows : (rs : List BlockRow) (b : Block) → AreRows rs → Lists (blocks_of_rows rs) b
     → Lists (leads rs) b ⊎ ((b.order ≡ 10) × (1024 ≤ b.first) × Lists (blocks_of_rows rs) (record b { first = b.first - 1024 }))
 unfolding leads
@@ -272,7 +273,7 @@ in_rows (r ∷ rs) b rows has = ⊎_elim
     (in_rows rs b rows.3 two))
     (lists_append (blocks_of_row r) (blocks_of_rows rs) b has)
 
--- so the leads of the rows of all blocks are an index
+-- the first blocks of all rows are an index
 pub leads_done : (f : Frames) (rs : List BlockRow) (bs : List Block) → NothingFrom MAX_FRAMES f → AreRows rs
     → blocks_of_rows rs ≡ blocks_of f
     → ((b : Block) → Lists bs b → Lists (leads rs) b) → ((b : Block) → Lists (leads rs) b → Lists bs b) → AreAreas f bs
@@ -309,7 +310,7 @@ lead_none rs i b all has =
     let none : drop i rs ≡ [] = at_drop_all (λ (qs : List BlockRow). qs) rs i all in
     subst (λ (qs : List BlockRow). Lists (leads qs) b) none has
 
--- the rows so far have their leads in the list
+-- the first blocks of the rows so far are in the list
 pub record HasLeads (rs : List BlockRow) (i : ℕ) (bs : List Block) : Type 0 where
   pub sound : (b : Block) → Lists bs b → Lists (leads rs) b
   pub complete : (b : Block) → Lists (leads rs) b → Lists bs b ⊎ Lists (leads (drop i rs)) b

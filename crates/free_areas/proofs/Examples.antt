@@ -1,4 +1,4 @@
--- A lone frame and its index, computed.
+-- Worked examples: the index of a single free frame.
 use Rattle.std.proofs.Common.{◌≡◌, ℕ, ◌/◌, nat_le, nat_lt, ◌&&◌, Some, None, [], ◌∷◌, if◌then◌else◌, refl, sym, ◌∙◌, ap, subst, inl, inr, ⊎_elim, arith}
 use Rattle.std.proofs.lemmas.Bool.Decides.{nat_tests}
 use Rattle.std.proofs.lemmas.Bool.{cases_Bool}
@@ -11,7 +11,7 @@ use Rattle.frame_blocks.proofs.BuddyLaws.{one_at}
 use Rattle.free_areas.specs.Areas.{IsRightBehind, AreAreas, lead, IsLike, HasBuddies, LacksBuddies}
 use Rattle.free_areas.proofs.AreaLaws.{has_none, lacks_none}
 
--- frame 5 alone is free, of node 7
+-- frame 5 alone is free, on node 7
 abbrev lone : Frames
 lone x = if nat_le 5 x && nat_lt x 6 then Some 7 else None
 
@@ -43,7 +43,7 @@ lone_alone c block =
     let here : c.first ≡ 5 = lone_at c.first c.node (block.good c.first refl).0 in
     one_at lone lone_block c lone_is_block block (sym here)
 
--- its block is its index; without it there is none
+-- its block is the index; a list without it isn't
 area_examples : AreAreas lone (lone_block ∷ []) × (AreAreas lone [] → ⊥)
 area_examples = (
   record {
@@ -55,7 +55,7 @@ area_examples = (
       (areas.complete lone_block lone_is_block),
 )
 
--- a block of the lowest frames follows none, and no lone frame does
+-- a block at frame 0 comes after no other, and neither does a single frame
 follow_examples : (IsRightBehind lone (great 0) → ⊥)
     × (IsRightBehind lone (record { order = 0; first = 1029; node = 7; zone = zone.Dma }) → ⊥)
 follow_examples = (
@@ -75,7 +75,7 @@ like_examples = (
   λ like. let order = like.order in absurd (omega (arith, order)),
 )
 
--- of no order there is no buddy
+-- for an empty range of orders there are no buddies
 buddies_examples : HasBuddies (great 0) 3 3 5 (lone_block ∷ []) (lone_block ∷ []) × LacksBuddies (great 0) 3 3 5 [] []
     × (HasBuddies (great 0) 3 3 5 (lone_block ∷ []) [] → ⊥) × (LacksBuddies (great 0) 3 3 5 [] (lone_block ∷ []) → ⊥)
 buddies_examples = (

@@ -1,4 +1,4 @@
--- The first key of the range from an order on is the block that is picked.
+-- Lemmas: the first key of the range from an order on is the block that is picked.
 use Rattle.std.proofs.Common.{◌≡◌, ℕ, ◌<◌, ◌≤◌, Option, Some, None, MatchOption, List, [], ◌∷◌, refl, sym, ◌∙◌, subst, inl, inr, ⊎_elim, arith}
 use Rattle.std.specs.declared.ops.Bound.TheVariants.{Included, Excluded}
 use Rattle.std.specs.BTreeSet.{BTreeSet, IsKeyRangeOf}
@@ -10,7 +10,7 @@ use Rattle.free_areas.specs.Areas.{AreAreas}
 use Rattle.free_areas.proofs.AreaLaws.{led}
 use Rattle.free_areas.proofs.OrderLaws.{block_cmp, has_key, key_has, between, from_first, before_last, least_of}
 
--- the keys of a node and a zone from an order on lie between these two
+-- the keys of a node and a zone from an order on are between these two
 abbrev pub low_key : ℕ → Zone → ℕ → Block
 low_key n z o = record { node = n; zone = z; order = o; first = 0 }
 
@@ -57,7 +57,7 @@ none_first f s n z o r areas range is b block serves =
     let below = before_last d (low_key n z 11) node_is zone_is (omega (arith, order_is, small)) in
     cc (sym (has_key d s it.has) ∙ range.5 is d (above, below))
 
--- the answer of the look-up, either way
+-- the result of the look-up, whether it finds a block or not
 pub least_is : (f : Frames) (s : BTreeSet Block) (n : ℕ) (z : Zone) (o : ℕ) (r : List Block) (first : Option Block) → AreAreas f s.keys
     → IsKeyRangeOf block_cmp (Included (low_key n z o)) (Excluded (low_key n z 11)) s r
     → MatchOption first (r ≡ []) (λ b. (rest : List Block) × (r ≡ b ∷ rest))

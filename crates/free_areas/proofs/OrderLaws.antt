@@ -1,4 +1,5 @@
--- The order of blocks, and an ordered set of them: what a change of one key does to it, and what a range of it begins with.
+-- Lemmas on the order of blocks, and on an ordered set of them: adding and removing a key, and the
+-- first key of a range.
 use Rattle.std.proofs.Common.{◌≡◌, ◌≢◌, ◌⊎◌, ◌↔◌, ℕ, ◌<◌, ◌≤◌, true, false, List, [], ◌∷◌, refl, sym, ◌∙◌, ap, inl, inr, ⊎_elim, arith}
 use Rattle.std.proofs.lemmas.Bool.Decides.{nat_tests}
 use Rattle.std.proofs.lemmas.Bool.{cases_lt, cases_Bool}
@@ -49,7 +50,7 @@ zone_equal zone.Dma32 zone.Dma32 h = refl
 zone_equal zone.Normal zone.Normal h = refl
 zone_equal a b h = cc
 
--- each before the other can't be
+-- two zones can't each come before the other
 zone_apart : (a b : Zone) → zone_cmp a b ≡ Less → zone_cmp b a ≡ Less → ⊥
 zone_apart zone.Dma zone.Dma h g = cc
 zone_apart zone.Dma32 zone.Dma32 h g = cc
@@ -100,7 +101,7 @@ cmp_equal b c h =
     ∙ ap (λ o. let d : Block = record { node = c.node; zone = c.zone; order = o; first = b.first } in d) order_is
     ∙ ap (λ x. let d : Block = record { node = c.node; zone = c.zone; order = c.order; first = x } in d) first_is
 
--- in one node and zone the order and the first frame decide
+-- within one node and zone, the order and the first frame decide
 pub cmp_area : (b c : Block) → b.node ≡ c.node → b.zone ≡ c.zone
     → block_cmp b c ≡ ordering_then (nat_cmp b.order c.order) (nat_cmp b.first c.first)
 cmp_area b c node_is zone_is =
@@ -108,7 +109,7 @@ cmp_area b c node_is zone_is =
     let two : zone_cmp b.zone c.zone ≡ Equal = ap (λ z. zone_cmp z c.zone) zone_is ∙ zone_self c.zone in
     cmp_is b c ∙ rw (one, two) refl
 
--- what a set has
+-- the members of a set
 equal_told : (o : Ordering) → is_eq o ≡ true → o ≡ Equal
 equal_told Less h = cc
 equal_told Equal h = refl
@@ -145,7 +146,7 @@ has_key b s has = in_list b s.keys has
 pub key_has : (b : Block) (s : BTreeSet Block) → contains block_cmp s b ≡ true → Lists s.keys b
 key_has b s is = list_in b s.keys is
 
--- one key more, and one less
+-- adding a key, and removing one
 pub inserted : (old new : BTreeSet Block) (k b : Block) → Updates block_cmp old new k true → Lists new.keys b ↔ ((b ≡ k) ⊎ Lists old.keys b)
 inserted old new k b updates = elim (cases_Bool (is_at (block_cmp k) b)) as (λ _. Lists new.keys b ↔ ((b ≡ k) ⊎ Lists old.keys b)) [
   | inl on ↦ (λ has. inl (sym (at_is k b on)), λ either. key_has b new (updates.0 b ∙ rw on refl))
@@ -175,7 +176,7 @@ removed old new k b updates = elim (cases_Bool (is_at (block_cmp k) b)) as (λ _
       )
 ]
 
--- between the first key of an order and the first one behind all orders, in a node and a zone
+-- a key between the first of an order and the first after all orders, in one node and zone
 pub between : (b lo hi : Block) → lo.node ≡ hi.node → lo.zone ≡ hi.zone → is_gt (block_cmp lo b) ≡ false → block_cmp b hi ≡ Less
     → (b.node ≡ lo.node) × (b.zone ≡ lo.zone) × (lo.order ≤ b.order)
 between b lo hi node_is zone_is above below =

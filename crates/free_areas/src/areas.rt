@@ -1,4 +1,4 @@
-//! The index as its users see it.
+//! The index, as its users see it.
 
 ghost use Rattle.std.specs.Prelude.{◌≡◌, ℕ, ◌+◌, ◌^◌, ◌<◌, ◌≤◌, OnOk, IfOk, MatchOption};
 ghost use Rattle.address_runs.specs.Runs.{AreRuns, value_at};
@@ -16,7 +16,8 @@ use std::alloc::Global;
 use std::collections::BTreeSet;
 use std::marker::Model;
 
-/// The blocks of free frames, in the order of the page allocator's lists. Contracts see them as a list.
+/// The blocks of free frames, in the order of the page allocator's lists. Contracts see them as a
+/// list.
 #[derive(Debug, Drop)]
 pub struct Areas {
     blocks: BTreeSet<Block>,
@@ -32,7 +33,12 @@ impl Model for Areas {
 }
 
 impl Areas {
-    /// The index of the free frames. It has some twenty keys for each run of them.
+    /// Returns the index of the free frames. It has about twenty keys for each run. The runs must
+    /// be canonical, and all frames below `MAX_FRAMES`.
+    ///
+    /// # Errors
+    ///
+    /// - `Memory`: the program ran out of memory.
     pub fn of(alloc: Global, runs: &[FrameRun]) -> Result<Areas, Memory>
         requires runs { AreRuns runs.now }
         requires low { NothingFrom MAX_FRAMES (value_at runs.now) }
@@ -46,8 +52,9 @@ impl Areas {
         Ok(Areas { blocks })
     }
 
-    /// The block that serves a request for `2^order` frames of the node and the zone, if any does: of the least order that is
-    /// enough, and of those blocks the lowest one (`__rmqueue_smallest`). One look-up.
+    /// Returns the block that serves a request for `2^order` frames of the node and the zone, or
+    /// `None` if no block does. It has the least order that is large enough, and is the lowest
+    /// block of that order (`__rmqueue_smallest`). Takes one look-up. `order` is at most 10.
     pub fn least(&self, node: u32, zone: Zone, order: u32) -> Option<Block>
         requires { order ≤ 10 }
         ensures { (f : Frames) → AreAreas f self.now →
@@ -68,8 +75,13 @@ impl Areas {
         self.blocks.range(from..until).next().copied()
     }
 
-    /// The `2^order` frames around the frame leave the block (`expand`): a buddy of each order up to the block's takes its
-    /// place. `behind` is the block behind it, if there is one. After `Memory` it is no index any more.
+    /// Updates the index after the `2^order` frames around `frame` were taken from `block`
+    /// (`expand`): a buddy of each order from `order` to below the block's replaces it. `behind`
+    /// is the block that begins where this one ends, if there is one.
+    ///
+    /// # Errors
+    ///
+    /// - `Memory`: the program ran out of memory. The index is invalid then.
     pub fn split(
         &mut self,
         block: &Block,
@@ -87,8 +99,12 @@ impl Areas {
         put_buddies(&mut self.blocks, block, order, frame)
     }
 
-    /// The `2^order` frames around the frame have come back, and the block is the one in which they are now
-    /// (`__free_one_page`): it takes the place of the buddies from which it is joined. After `Memory` it is no index any more.
+    /// Updates the index after the `2^order` frames around `frame` were freed (`__free_one_page`).
+    /// `block` is the block that has them now. It replaces the buddies from which it was merged.
+    ///
+    /// # Errors
+    ///
+    /// - `Memory`: the program ran out of memory. The index is invalid then.
     pub fn join(&mut self, block: &Block, order: u32, frame: u64) -> Result<(), Memory>
         requires small { block.now.order ≤ 10 }
         requires low { frame < MAX_FRAMES }

@@ -1,4 +1,4 @@
-//! The keys of the index, and its changes one key at a time.
+//! The keys of the index, and changes to them, one key at a time.
 
 ghost use Rattle.std.specs.Prelude.{◌≡◌, ◌≢◌, ◌⊎◌, ◌↔◌, ℕ, ◌+◌, ◌*◌, ◌/◌, ◌^◌, ◌<◌, ◌≤◌, Some, None, OnOk, IfSome, IfNone};
 ghost use Rattle.frame_blocks.specs.declared.block.Block.{Block as AnyBlock};
@@ -10,7 +10,7 @@ use bm_base::Memory;
 use frame_blocks::{Block, BlockRow, MAX_FRAMES, MAX_ORDER};
 use std::collections::BTreeSet;
 
-/// The first block of a row.
+/// Returns the first block of a row.
 pub fn lead(row: &BlockRow) -> Block
     ensures { result ≡ lead row.now }
 {
@@ -22,7 +22,11 @@ pub fn lead(row: &BlockRow) -> Block
     }
 }
 
-/// The key stands in the set.
+/// Adds a key to the set.
+///
+/// # Errors
+///
+/// - `Memory`: the program ran out of memory.
 pub fn put(blocks: &mut BTreeSet<Block>, block: Block) -> Result<(), Memory>
     ensures { OnOk result ((b : AnyBlock) → Lists blocks.new.keys b ↔ ((b ≡ block) ⊎ Lists blocks.old.keys b)) }
 {
@@ -30,14 +34,19 @@ pub fn put(blocks: &mut BTreeSet<Block>, block: Block) -> Result<(), Memory>
     Ok(())
 }
 
-/// The key doesn't.
+/// Removes a key from the set.
 fn put_out(blocks: &mut BTreeSet<Block>, block: &Block)
     ensures { (b : AnyBlock) → Lists blocks.new.keys b ↔ ((b ≢ block.now) × Lists blocks.old.keys b) }
 {
     let _ = blocks.remove(block);
 }
 
-/// The block leaves the set, and the one behind it stands there, where it goes on with the block.
+/// Removes a block from the set. Adds the next block, if that could be missing: both are of the
+/// largest order, on one node and in one zone.
+///
+/// # Errors
+///
+/// - `Memory`: the program ran out of memory.
 pub fn uncover(
     blocks: &mut BTreeSet<Block>,
     block: &Block,
@@ -55,7 +64,11 @@ pub fn uncover(
     }
 }
 
-/// The buddies of the frame's sets of the orders from `order` up to below the block's stand in the set.
+/// Adds the buddies of the frame's sets, of the orders from `order` to below the block's.
+///
+/// # Errors
+///
+/// - `Memory`: the program ran out of memory.
 pub fn put_buddies(
     blocks: &mut BTreeSet<Block>,
     block: &Block,
@@ -72,7 +85,7 @@ pub fn put_buddies(
     Ok(())
 }
 
-/// And they don't.
+/// Removes the buddies of the frame's sets, of the orders from `order` to below the block's.
 pub fn put_out_buddies(blocks: &mut BTreeSet<Block>, block: &Block, order: u32, frame: u64)
     requires small { block.now.order ≤ 10 }
     requires low { frame < MAX_FRAMES }
@@ -83,8 +96,8 @@ pub fn put_out_buddies(blocks: &mut BTreeSet<Block>, block: &Block, order: u32, 
     }
 }
 
-/// The block behind one of the greatest order, where it goes on with it: of that order too, and of its node and zone. The
-/// index may lack it as long as the first one stands there.
+/// Returns the next block if it and `block` are of the largest order, on one node and in one zone.
+/// The index may lack that next block as long as it has the first of them.
 fn like(block: &Block, behind: Option<Block>) -> Option<Block>
     ensures some { IfSome result (λ next. (behind ≡ Some next) × IsLike block.now next) }
     ensures none { IfNone result ((next : AnyBlock) → behind ≡ Some next → IsLike block.now next → ⊥) }
@@ -97,7 +110,8 @@ fn like(block: &Block, behind: Option<Block>) -> Option<Block>
     })
 }
 
-/// The buddy of the frame's set of that order, as a block of the greater block's node and zone (`__find_buddy_pfn`).
+/// Returns the buddy of the frame's set of this order (`__find_buddy_pfn`), with the node and the
+/// zone of `block`.
 fn buddy_of(block: &Block, order: u32, frame: u64) -> Block
     requires small { order < 10 }
     requires low { frame < MAX_FRAMES }
@@ -113,7 +127,7 @@ fn buddy_of(block: &Block, order: u32, frame: u64) -> Block
     }
 }
 
-/// How many frames a block of the order has.
+/// Returns the number of frames in a block of this order, which is at most 10.
 fn size_of(order: u32) -> u64
     requires { order ≤ 10 }
     ensures value { result ≡ 2 ^ order }

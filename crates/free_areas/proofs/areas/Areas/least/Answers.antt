@@ -6,7 +6,7 @@ use Rattle.free_areas.specs.Areas.{AreAreas}
 use Rattle.free_areas.proofs.LeastLaws.{least_is}
 use Rattle.free_areas.proofs.areas.Areas.least.Goals as goal
 
--- the first key of the range, copied
+-- a copy of the first key of the range
 IsFront : List Block → Option Block → Type 0
 IsFront r first = MatchOption first (r ≡ []) (λ b. (rest : List Block) × (r ≡ b ∷ rest))
 
