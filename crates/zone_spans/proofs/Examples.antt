@@ -1,4 +1,4 @@
--- Spans of few frames, computed.
+-- Worked examples with a few frames.
 use Rattle.std.proofs.Common.{◌≡◌, nat_le, nat_lt, ◌&&◌, true, false, Some, None, [], ◌∷◌, if◌then◌else◌, refl}
 use Rattle.bm_base.specs.declared.zone.Zone.TheVariants as zone
 use Rattle.frame_blocks.specs.Frames.{Frames}
@@ -13,7 +13,7 @@ holed x = if (nat_le 1 x && nat_lt x 2) then Some 7 else (if (nat_le 3 x && nat_
 abbrev both : Span
 both = record { node = 7; zone = zone.Dma; start = 1; end = 4; present = 2 }
 
--- the hole counts for the ends and not for the number
+-- the hole is inside the span, but isn't counted
 span_examples : (is_in holed 7 zone.Dma 3 ≡ true) × (is_in holed 7 zone.Dma 2 ≡ false) × (is_in holed 7 zone.Dma32 3 ≡ false)
     × (is_in holed 6 zone.Dma 3 ≡ false)
     × (with_frames 7 zone.Dma 1 1 None ≡ record { node = 7; zone = zone.Dma; start = 1; end = 2; present = 1 })

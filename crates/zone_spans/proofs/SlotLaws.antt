@@ -1,4 +1,5 @@
--- The places of spans: what one stretch of frames of a node and a zone changes, and the list of what they hold.
+-- Lemmas on the slots of spans: what frames of one node and zone change, and the list of their
+-- content.
 use Rattle.std.proofs.Common.{◌≡◌, ◌^◌, ℕ, zero, suc, ◌+◌, ◌-◌, ◌*◌, ◌<◌, ◌≤◌, Option, Some, None, List, [], ◌∷◌, ◌++◌, length, get_or, drop, refl, sym, ◌∙◌, ap, arith, append_assoc, add-one, add-zero}
 use Rattle.std.specs.Option.{option_to_list}
 use Rattle.std.proofs.lemmas.List.{drop_all}
@@ -15,14 +16,14 @@ use Rattle.zone_spans.specs.Spans.{with_frames, span_below, span_of, spans_from,
 use Rattle.zone_spans.specs.Slots.{place_of, AreSpans, AreBounded, with_run, slot_with, somes}
 use Rattle.zone_spans.proofs.SpanLaws.{same_below, skip, grow}
 
--- zones tell by their places
+-- each zone has its own index
 low_place : (a : Zone) → place_of a < 3
 low_place a = grind arith
 
 zone_by_place : (a b : Zone) → place_of a ≡ place_of b → a ≡ b
 zone_by_place a b h = grind arith
 
--- a stretch of frames of the node and the zone, where nothing is told from there on
+-- frames of the node and the zone are added, above all others
 span_grown : (f : Frames) (n at until m : ℕ) (w : Zone) → NothingFrom at f → at < until → until ≤ m
     → ((x : ℕ) → at ≤ x → x < until → zone_of x ≡ w)
     → span_below (with_run at until n f) n w m ≡ Some (with_frames n w at (until - at) (span_below f n w m))
@@ -35,13 +36,13 @@ span_grown f n at until m w nothing some low zones =
     let bare = skip f n w at (m - at) (λ x above below. rw (nothing x above) refl) in
     grind (arith, behind, grown, same, bare)
 
--- and of another node or zone
+-- frames of another node or zone change nothing
 span_other : (f : Frames) (n k at until m : ℕ) (z w : Zone) → NothingFrom at f → ((x : ℕ) → at ≤ x → x < until → zone_of x ≡ w)
     → ((k ≡ n) → (w ≡ z) → ⊥) → span_below (with_run at until k f) n z m ≡ span_below f n z m
 span_other f n k at until m z w nothing zones other =
     same_below (with_run at until k f) f n z m (λ x low. grind (arith, nat_tests, nothing x, zones x, other, zone_is (zone_of x) z))
 
--- so the places tell it when one of them is changed
+-- the slots have the spans after one of them is changed
 pub told_more : (f : Frames) (k at until : ℕ) (w : Zone) (old new : List (Option Span)) → NothingFrom at f → at < until → until ≤ 2 ^ 52
     → ((x : ℕ) → at ≤ x → x < until → zone_of x ≡ w) → AreSpans f old
     → ((i : ℕ) → get_or new i None ≡ slot_with k w at until (get_or old i None) i) → AreSpans (with_run at until k f) new
@@ -61,7 +62,7 @@ run_parts first at until n f order order_too =
 pub nothing_behind : (first at n : ℕ) (f : Frames) → first ≤ at → NothingFrom first f → NothingFrom at (with_run first at n f)
 nothing_behind first at n f order nothing x above = grind (arith, nat_tests, nothing x)
 
--- the bound goes up with the frames
+-- the bound rises with the frames
 pub bounded_more : (k at until : ℕ) (w : Zone) (old new : List (Option Span)) → at ≤ until → AreBounded at old
     → ((i : ℕ) → get_or new i None ≡ slot_with k w at until (get_or old i None) i) → AreBounded until new
 bounded_more k at until w old new order bound put i s is = grind (arith, nat_tests, put i, bound i)
@@ -69,14 +70,14 @@ bounded_more k at until w old new order bound put i s is = grind (arith, nat_tes
 pub bounded_higher : (at higher : ℕ) (slots : List (Option Span)) → at ≤ higher → AreBounded at slots → AreBounded higher slots
 bounded_higher at higher slots order bound i s is = omega (arith, bound i s is)
 
--- nothing is told yet
+-- without any frames there is no span
 pub told_none : (f : Frames) → ((x : ℕ) → f x ≡ None) → AreSpans f []
 unfolding span_of span_below
 told_none f bare n z =
     let all : 2 ^ 52 ≡ 0 + 2 ^ 52 = omega arith in
     sym (ap (span_below f n z) all ∙ skip f n z 0 (2 ^ 52) (λ x above below. rw (bare x) refl))
 
--- the list of what the places hold
+-- the list of the content of the slots
 pub somes_drop : (xs : List (Option Span)) (i : ℕ) → somes (drop i xs) ≡ option_to_list (get_or xs i None) ++ somes (drop (suc i) xs)
 somes_drop [] zero = refl
 somes_drop [] (suc i) = refl

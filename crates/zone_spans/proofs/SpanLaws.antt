@@ -1,4 +1,4 @@
--- The span of the frames below one, step by step and as a whole.
+-- Lemmas on the span of the frames below one, step by step and as a whole.
 use Rattle.std.proofs.Common.{◌≡◌, ◌^◌, ℕ, zero, suc, ◌+◌, ◌<◌, ◌≤◌, Bool, true, false, if◌then◌else◌, Option, Some, None, refl, ap, add-one, add-suc, add-zero, arith}
 use Rattle.std.specs.Option.{MatchOption}
 use Rattle.bm_base.specs.declared.zone.Zone.{Zone}
@@ -6,14 +6,14 @@ use Rattle.frame_blocks.specs.Frames.{Frames}
 use Rattle.zone_spans.specs.declared.span.Span.{Span}
 use Rattle.zone_spans.specs.Spans.{is_in, with_frames, span_below, span_of, number_below, IsSpan}
 
--- frames that are alike span alike
+-- two functions with the same frames of the node and the zone have the same span
 pub same_below : (f g : Frames) (n : ℕ) (z : Zone) (m : ℕ) → ((x : ℕ) → x < m → is_in f n z x ≡ is_in g n z x)
     → span_below f n z m ≡ span_below g n z m
 unfolding span_below
 same_below f g n z zero same = refl
 same_below f g n z (suc m) same = rw (same m (omega arith), same_below f g n z m (λ x lt. same x (omega arith))) refl
 
--- frames that aren't of it change nothing
+-- frames of another node or zone change nothing
 pub skip : (f : Frames) (n : ℕ) (z : Zone) (m k : ℕ) → ((x : ℕ) → m ≤ x → x < m + k → is_in f n z x ≡ false)
     → span_below f n z (m + k) ≡ span_below f n z m
 unfolding span_below
@@ -21,12 +21,12 @@ skip f n z m zero none = rw add-zero refl
 skip f n z m (suc k) none =
     rw (add-suc, none (m + k) (omega arith) (omega arith)) (skip f n z m k (λ x above below. none x above (omega arith)))
 
--- one frame more behind some
+-- one more frame after some
 one_more : (n : ℕ) (z : Zone) (m k : ℕ) (o : Option Span)
     → with_frames n z (m + k) 1 (Some (with_frames n z m k o)) ≡ with_frames n z m (suc k) o
 one_more n z m k o = grind arith
 
--- frames of it that follow one another
+-- consecutive frames of the node and the zone
 pub grow : (f : Frames) (n : ℕ) (z : Zone) (m k : ℕ) → ((x : ℕ) → m ≤ x → x < m + suc k → is_in f n z x ≡ true)
     → span_below f n z (m + suc k) ≡ Some (with_frames n z m (suc k) (span_below f n z m))
 unfolding span_below
@@ -36,7 +36,7 @@ grow f n z m (suc k) all =
     let rest = grow f n z m k (λ x above below. all x above (omega arith)) in
     rw (add-suc m (suc k), here, rest) (ap (λ (s : Span). Some s) (one_more n z m (suc k) (span_below f n z m)))
 
--- what the span says of all frames below
+-- what the span states of all frames below m; without a span there are none
 abbrev IsToldBelow : Frames → ℕ → Zone → ℕ → Option Span → Type 0
 IsToldBelow f n z m o =
     MatchOption o (((x : ℕ) → x < m → is_in f n z x ≡ false) × (number_below f n z m ≡ 0)) (λ s. IsSpan f n z m s)

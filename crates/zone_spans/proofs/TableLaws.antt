@@ -1,4 +1,4 @@
--- The nodes of frames by the first records of a table, and by one more.
+-- Lemmas on the nodes of frames by the first records of a table, and by one more.
 use Rattle.std.proofs.Common.{◌≡◌, ℕ, ◌+◌, ◌*◌, ◌<◌, Option, Some, None, List, length, get_or, take, refl, ap, arith}
 use Rattle.std.proofs.lemmas.Bool.Decides.{nat_tests}
 use Rattle.std.proofs.Math.Seq.{take-length}
@@ -12,18 +12,18 @@ use Rattle.table_frames.proofs.WholeLaws.{whole_at}
 use Rattle.table_frames.proofs.TakeLaws.{node_more}
 use Rattle.zone_spans.specs.Slots.{with_run}
 
--- a record's node is below 1,024
+-- the node of a record is below 1,024
 pub low_node : (o : Option ℕ) (n : ℕ) → node_below o ≡ Some n → n < 1024
 low_node o n is = grind (arith, nat_tests)
 
--- the records before one have no frame from its first on
+-- the records before one have no frame at or above its first
 pub nothing_taken : (b : ℕ) (ms : List (RunOf Label)) (i : ℕ) (d : RunOf Label) → AscendBelow b ms → AreWholeFrames ms → i < length ms
     → NothingFrom (frames_of (get_or ms i d)).first (node_of_frame (value_at (take i ms)))
 nothing_taken b ms i d ascend whole few x above =
     let base = (whole_at ms i d whole few).0 in
     ap node_told (taken_none b ms i (4096 * x) d ascend few (omega (arith, above, base)))
 
--- one record more with a node is a run more, and one without changes nothing
+-- a record with a node adds a run; one without changes nothing
 pub taken_run : (b : ℕ) (ms : List (RunOf Label)) (i n : ℕ) (d : RunOf Label) → AscendBelow b ms → AreWholeFrames ms → i < length ms
     → (frames_of (get_or ms i d)).node ≡ Some n
     → with_run (frames_of (get_or ms i d)).first (frames_of (get_or ms i d)).end n (node_of_frame (value_at (take i ms)))

@@ -1,11 +1,15 @@
-//! Zones of nodes: from where to where the memory of a node lies in a zone, and how much of it there is.
+//! Computes the zones of each node: the range of frames that a zone spans, and how many of them
+//! are memory.
 //!
-//! The page allocator keeps its lists for each zone of each node. What a zone of a node spans, and how many
-//! frames of that are there, comes from the memory table (`calculate_node_totalpages`, `zone_spanned_pages_in_node`,
-//! `zone_absent_pages_in_node`): [`spans`] reads the table's records from the bytes in which they lie, in one pass.
+//! The page allocator keeps its lists for each zone of each node. The range and the number of
+//! frames of a zone come from the memory table (`calculate_node_totalpages`,
+//! `zone_spanned_pages_in_node`, `zone_absent_pages_in_node`). [`spans`] reads the records of the
+//! table from the bytes in which it lies, in one pass, and returns a list of [`Span`].
 //!
-//! `specs/Spans.antt` says what a span is, frame by frame. [`spans_are_of_frames`] is the law that says it of all
-//! frames at once: the first, the last, how many, and that nothing is left out.
+//! `specs/Spans.antt` defines a span frame by frame. A law is an empty function whose contract is
+//! a proven fact. [`spans_are_of_frames`] states what a span is for all frames at once: its first
+//! frame, its last, their number, and that no frame is left out. In contracts, a name means the
+//! definition in `specs/`.
 #![tactic(auto)]
 
 mod laws;

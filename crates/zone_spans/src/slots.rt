@@ -1,5 +1,5 @@
-//! A place for the span of each node and zone, up to the highest node that has come: three for a node.
-//! A record of memory finds its place by its node and zone, so one pass over the records is enough.
+//! Slots for the spans of each node and zone, up to the highest node so far: three for a node. A
+//! record of memory finds its slot by its node and zone, so one pass over the records is enough.
 
 ghost use Rattle.std.specs.Prelude.{◌≡◌, ◌^◌, ℕ, ◌+◌, ◌*◌, ◌<◌, ◌≤◌, None, get_or, max, OnOk, IfOk, vec_len};
 ghost use Rattle.bm_base.specs.Zones.{zone_of};
@@ -13,7 +13,7 @@ use bm_base::{Memory, Zone, zone_of};
 use frame_blocks::zone_until;
 use std::alloc::Global;
 
-/// The place of a zone among the three of a node.
+/// Returns the index of a zone among the three slots of a node.
 fn place_of(zone: Zone) -> u64
     ensures { result ≡ place_of zone }
 {
@@ -24,7 +24,12 @@ fn place_of(zone: Zone) -> u64
     }
 }
 
-/// The frames from `first` up to `end` are memory of the node.
+/// Adds the frames from `first` to below `end`, which are memory of this node. They must be above
+/// all frames that were added before.
+///
+/// # Errors
+///
+/// - `Memory`: the program ran out of memory.
 pub fn note(slots: &mut Vec<Option<Span>>, node: u32, first: u64, end: u64) -> Result<(), Memory>
     requires node { node < 1024 }
     requires order { first ≤ end }
@@ -45,7 +50,12 @@ pub fn note(slots: &mut Vec<Option<Span>>, node: u32, first: u64, end: u64) -> R
     Ok(())
 }
 
-/// The frames from `start` up to `end`, all in the zone, are memory of the node.
+/// Adds the frames from `start` to below `end`, which are memory of this node and all in this
+/// zone.
+///
+/// # Errors
+///
+/// - `Memory`: the program ran out of memory.
 fn add(
     slots: &mut Vec<Option<Span>>,
     node: u32,
@@ -84,7 +94,11 @@ fn add(
     Ok(())
 }
 
-/// Adds empty places until there are so many.
+/// Appends empty slots until there are `count`.
+///
+/// # Errors
+///
+/// - `Memory`: the program ran out of memory.
 fn grow_to(slots: &mut Vec<Option<Span>>, count: usize) -> Result<(), Memory>
     ensures same { OnOk result ((i : ℕ) → get_or slots.new.items i None ≡ get_or slots.old.items i None) }
     ensures enough { OnOk result (count ≤ vec_len slots.new) }
@@ -96,7 +110,11 @@ fn grow_to(slots: &mut Vec<Option<Span>>, count: usize) -> Result<(), Memory>
     Ok(())
 }
 
-/// The spans in their places.
+/// Returns the spans in the slots, in the order of the slots.
+///
+/// # Errors
+///
+/// - `Memory`: the program ran out of memory.
 pub fn all_of(alloc: Global, slots: &[Option<Span>]) -> Result<Vec<Span>, Memory>
     ensures { IfOk result (λ spans. spans.items ≡ somes slots.now) }
 {

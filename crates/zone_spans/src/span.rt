@@ -1,5 +1,6 @@
-//! The spans by the memory table. Its records are read by frames as the handover reads them (`frames_at`), so a
-//! frame is in the span of the node under which it becomes free.
+//! Computes the spans from the memory table. Its records are read as frames by the same function
+//! as in the handover (`frames_at`). So each frame is in the span of the node for which it is
+//! freed.
 
 ghost use Rattle.std.specs.Prelude.{◌≡◌, ◌^◌, ◌*◌, IfOk};
 ghost use Rattle.address_runs.specs.Runs.{value_at};
@@ -15,21 +16,26 @@ use phys_store::Store;
 use std::alloc::Global;
 use table_frames::frames_at;
 
-/// What the memory of a node spans in a zone. Numbers are of frames.
+/// The frames that the memory of a node spans in a zone. All numbers are of frames.
 #[derive(Clone, Copy, Debug, PartialEq, Eq)]
 pub struct Span {
     pub node: u32,
     pub zone: Zone,
-    /// The first frame of it.
+    /// The first frame.
     pub start: u64,
-    /// One more than the last frame of it.
+    /// One more than the last frame.
     pub end: u64,
-    /// How many frames of it there are; between the first and the last others may lie.
+    /// The number of frames of this node and zone. Between the first and the last there may be
+    /// others.
     pub present: u64,
 }
 
-/// One span for each node and zone with memory, by node, then by zone. The memory records are whole
-/// frames.
+/// Returns one span for each node and zone with memory, by node and then by zone. The records of
+/// the memory table must be whole frames.
+///
+/// # Errors
+///
+/// - `Memory`: the program ran out of memory.
 pub fn spans(alloc: Global, store: &Store, heads: &Heads) -> Result<Vec<Span>, Memory>
     requires memory { HasRecords store.now heads.now.memory (2 ^ 64) }
     requires whole { AreWholeFrames (list_in store.now heads.now.memory) }
