@@ -1,4 +1,4 @@
--- What contracts see of the page allocator, as a state.
+-- Lemmas on what contracts see of the page allocator, as a state.
 use Rattle.std.proofs.Common.{◌≡◌, ℕ, ◌*◌, ◌==◌, Bool, true, false, cond, is_some, Option, Some, None, IsSome, List, [], ◌∷◌, refl, sym, ◌∙◌, ap, subst, arith}
 use Rattle.std.proofs.lemmas.Bool.{eqb-true}
 use Rattle.std.proofs.lemmas.Bool.Decides.{nat_tests}
@@ -24,12 +24,12 @@ use Rattle.page_alloc.specs.Pages.{State, with_held, served, unless_taken, step,
 use Rattle.page_alloc.proofs.KeptLaws.{step_kept}
 use Rattle.free_areas.proofs.OrderLaws.{number_equal}
 
--- two states are one where they say the same of each frame and each ID
+-- two states are the same if they agree on each frame and each ID
 pub state_is : (f g : Frames) (h k : ℕ → Option Held) → ((x : ℕ) → f x ≡ g x) → ((i : ℕ) → h i ≡ k i)
     → (let s : State = record { frames = f; held = h } in s) ≡ (let t : State = record { frames = g; held = k } in t)
 state_is f g h k one two = λ i. record { frames = λ x. one x i; held = λ q. two q i }
 
--- the key of a map is the ID
+-- the key of the map is the ID
 pub key_is : (id q : ℕ) → is_at (nat_cmp id) q ≡ (id == q)
 key_is id q = grind (arith, nat_tests)
 
@@ -76,7 +76,7 @@ put_in id q what (e ∷ es) = by (nat_cmp id e.0) refl (put_in id q what es)
 tests_alike : (id q : ℕ) → is_at (nat_cmp q) id ≡ is_at (nat_cmp id) q
 tests_alike id q = grind (arith, nat_tests)
 
--- what comes of a request that is served
+-- the state after a request that is served
 pub took : (b new : Book) (id order node : ℕ) (zone : Zone) (first : ℕ) → held_in b.ids id ≡ None
     → first_picked (free b.buddy) node zone order ≡ Some first → IsRunsOf (without_set order first (free b.buddy)) new.buddy.runs
     → new.ids ≡ insert_entry nat_cmp b.ids id (record { first = first; order = order; node = node })
@@ -96,7 +96,7 @@ took b new id order node zone first none picked runs ids =
     ap (λ (s : State). let p : PageOutcome × State = (outcomes.At (FRAME_SIZE * first), s) in p) same
     ∙ sym (ap (unless_taken (state_of b) id order node zone) none ∙ ap (served (state_of b) id order node) picked)
 
--- and of one that isn't
+-- the state after a request that isn't served
 pub took_none : (b new : Book) (id order node : ℕ) (zone : Zone) → held_in b.ids id ≡ None
     → first_picked (free b.buddy) node zone order ≡ None → new ≡ b
     → (let p : PageOutcome × State = (outcomes.NoBlock, state_of new) in p) ≡ step (state_of b) (acts.Pages id order node zone)
@@ -104,7 +104,7 @@ took_none b new id order node zone none picked is =
     ap (λ (d : Book). let p : PageOutcome × State = (outcomes.NoBlock, state_of d) in p) is
     ∙ sym (ap (unless_taken (state_of b) id order node zone) none ∙ ap (served (state_of b) id order node) picked)
 
--- memory is taken for a request that is served
+-- a request that is served needs memory
 takes_by : (s : State) (id order node : ℕ) (o : Option ℕ) → IsSome o → TakesMemory (served s id order node o).0
 takes_by s id order node None some = cc some
 takes_by s id order node (Some first) some = tt
@@ -119,7 +119,7 @@ pub nothing_is : (o : Option ℕ) → is_some o ≡ false → o ≡ None
 nothing_is None is = refl
 nothing_is (Some first) is = cc is
 
--- what a line leaves is kept
+-- each line keeps what is always true of the state
 pub kept_by : (b new : Book) (o : PageOutcome) (act : PageAct) → HasOrder act → AreHeldApart (state_of b)
     → (let p : PageOutcome × State = (o, state_of new) in p) ≡ step (state_of b) act → AreHeldApart (state_of new)
 kept_by b new o act small keeps is =

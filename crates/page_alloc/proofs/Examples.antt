@@ -1,4 +1,4 @@
--- A frame that is asked for and given back, and small page scripts: what the definitions say of them.
+-- Worked examples: a frame that is allocated and freed, and small page scripts.
 use Rattle.std.proofs.Common.{◌≡◌, ℕ, ◌/◌, ◌^◌, nat_le, nat_lt, false, ◌&&◌, Some, None, List, [], ◌∷◌, Ok, Err, codes, if◌then◌else◌, refl, sym, ◌∙◌, ap, subst, inl, inr, lit≤, arith}
 use Rattle.std.proofs.lemmas.Bool.Decides.{nat_tests}
 use Rattle.std.proofs.Math.Nat.{div-one}
@@ -32,7 +32,7 @@ use Rattle.page_alloc.specs.Pages.{State, begun, with_held, served, unless_taken
 use Rattle.page_alloc.specs.Reading.{fault_at, line_at, lines_from, pages_of}
 use Rattle.page_alloc.proofs.KeptLaws.{Goes, in_one, in_none, begun_goes, begun_kept, step_goes, step_kept}
 
--- frame 5 alone is free, of node 7
+-- frame 5 alone is free, on node 7
 abbrev lone : Frames
 lone x = if nat_le 5 x && nat_lt x 6 then Some 7 else None
 
@@ -46,7 +46,7 @@ lone_at x n is =
 lone_low : NothingFrom MAX_FRAMES lone
 lone_low x high = let off : (nat_le 5 x && nat_lt x 6) ≡ false = grind (arith, nat_tests) in rw off refl
 
--- so it is the block that is picked for one frame
+-- it is the block that is picked for one frame
 lone_is : (x : ℕ) → x / 1 ≡ 5 → x ≡ 5
 lone_is x same = sym (div-one x) ∙ same
 
@@ -74,7 +74,7 @@ picked_block = record {
 picked_first : first_picked lone 7 zones.Dma 0 ≡ Some 5
 picked_first = ap (option_map (λ (b : Block). b.first)) (picked_is lone 7 zones.Dma 0 block lone_low picked_block)
 
--- once it is taken no frame is free
+-- after it is allocated no frame is free
 nothing_left : (x : ℕ) → without_set 0 5 lone x ≡ None
 nothing_left x = elim (in_set_or_not 0 5 x) as (λ _. without_set 0 5 lone x ≡ None) [
   | inl inside ↦ (without_is 0 5 lone).gone x inside
@@ -120,12 +120,13 @@ asked_examples : (asked_of (begun lone) 1 0 7 zones.Dma None ≡ at_five)
     × (asked_of taken 1 0 7 zones.Dma (Some five) ≡ (let p : PageOutcome × State = (outcomes.Taken, taken) in p))
 asked_examples = (ap (served (begun lone) 1 0 7) picked_first, refl)
 
--- the frame is back with its node, and the ID is free
+-- the frame is free again on its node, and the ID holds nothing
 back_examples : ((given_back taken 1 (Some five)).0 ≡ outcomes.Done) × ((given_back taken 1 (Some five)).1.frames 5 ≡ Some 7)
     × ((given_back taken 1 (Some five)).1.held 1 ≡ None) × ((given_back taken 2 None).0 ≡ outcomes.Unknown)
 back_examples = (refl, refl, refl, refl)
 
--- taken, no block left for another ID, the ID holds something already, given back, and nothing is left to give
+-- the frame is allocated; another ID gets no block; the ID already holds frames; the frame is
+-- freed; and then there is nothing to free
 abbrev line : ℕ → PageLine
 line n = record { number = n; act = acts.Pages n 0 7 zones.Dma }
 
@@ -155,7 +156,7 @@ memory_examples = (
   λ takes. takes,
 )
 
--- frame 5 is in a block at first, and then held by ID 1; frame 4 is in none
+-- frame 5 is in a block at first, and then held by ID 1; frame 4 is neither
 holds_examples : HoldsFrame taken 1 5 × (HoldsFrame taken 2 5 → ⊥)
 holds_examples = (record { what = five; is = refl; inside = refl }, λ holds. let is = holds.is in cc is)
 
@@ -179,7 +180,7 @@ kept_examples = (
   λ kept. let none : Some 7 ≡ None = (kept.well 1 five refl).taken 5 refl in cc none,
 )
 
--- words of a line, and of the rest of one
+-- the words of a line, or of the rest of one
 abbrev in_words : List ℕ → Words
 in_words text = words_in separators.Script text
 
@@ -190,7 +191,8 @@ zone_examples = (refl, refl, refl, refl)
 bound_examples : (bounded greatest_order (codes "0xa") ≡ Ok 10) × (bounded greatest_order (codes "11") ≡ Err wrong.Number)
 bound_examples = (refl, refl)
 
--- a request, and one with a fault of each kind: the form goes before a number, and the zone's name is of the form
+-- a request, and one with each fault: the form is checked before the numbers, and the name of the
+-- zone belongs to the form
 request_example : pages_line (codes "1" ∷ codes "10" ∷ codes "1023" ∷ codes "Normal" ∷ []) ≡ Ok (acts.Pages 1 10 1023 zones.Normal)
 request_example = refl
 
@@ -234,7 +236,8 @@ kept_line_examples : (line_at 4 None ≡ None) × (line_at 4 (Some (acts.Give 1)
     × (lines_from 5 (codes "" ∷ codes "give 1" ∷ []) ≡ Ok (give 6 ∷ []))
 kept_line_examples = (refl, refl, refl)
 
--- whole scripts: the last line may lack its newline; the lowest line's fault is told, whatever comes behind it
+-- whole scripts: the last line may lack its newline; the fault of the lowest line is reported,
+-- whatever lines follow
 two_lines : pages_of (codes "give 1\n\n#\ngive 2") ≡ Ok (give 1 ∷ record { number = 4; act = acts.Give 2 } ∷ [])
 two_lines = refl
 
@@ -251,7 +254,7 @@ lowest_fault : (pages_of (codes "give 1\ngive x\ngive\n") ≡ Err (faults.BadNum
     × (pages_of (codes "near 1\ngive x\n") ≡ Err (faults.BadLine 1))
 lowest_fault = (refl, refl)
 
--- a form takes any word for a number, and a zone by its name alone
+-- a form takes any word for a number, but a zone only by its name
 spelled_forms : HasForm (codes "give" ∷ codes "x" ∷ []) × HasForm (codes "pages" ∷ codes "1" ∷ codes "0" ∷ codes "7" ∷ codes "DMA" ∷ [])
     × (zone_word zones.Normal ≡ codes "Normal") × (HasNumbers (give_form (codes "x")) → ⊥)
     × (words_of (give_form (codes "1")) ≡ codes "give" ∷ codes "1" ∷ [])

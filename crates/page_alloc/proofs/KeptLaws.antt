@@ -1,4 +1,4 @@
--- Lines keep what is free apart from what is held, and lose no frame.
+-- Lemmas: lines keep free frames apart from held ones, and lose no frame.
 use Rattle.std.proofs.Common.{◌≡◌, ◌≢◌, ◌⊎◌, ℕ, ◌+◌, ◌-◌, ◌/◌, ◌%◌, ◌^◌, ◌≤◌, ◌==◌, false, Option, Some, None, refl, sym, ◌∙◌, ap, subst, inl, inr, ⊎_elim, arith}
 use Rattle.std.proofs.lemmas.Bool.{cases_lt, cases_Bool, eqb-true, eq-eqb}
 use Rattle.std.proofs.lemmas.Nat.{pow_pos}
@@ -20,7 +20,8 @@ use Rattle.page_alloc.specs.declared.outcome.Held.{Held}
 use Rattle.page_alloc.specs.Pages.{State, begun, with_held, served, unless_taken, given_back, step, HasOrder}
 use Rattle.page_alloc.specs.Kept.{HoldsFrame, IsInOne, IsInNone, IsWell, AreHeldApart}
 
--- what the state has was in f, with its node, and what f has the state has
+-- the free and held frames of the state were free in f, on the same nodes; and each free frame of
+-- f is free or held in the state
 pub record Shares (f : Frames) (s : State) : Type 0 where
   pub free : (x n : ℕ) → s.frames x ≡ Some n → f x ≡ Some n
   pub held : (id : ℕ) (what : Held) → s.held id ≡ Some what → (x : ℕ) → IsInSet what.order what.first x → f x ≡ Some what.node
@@ -30,7 +31,7 @@ pub record Goes (f : Frames) (s : State) : Type 0 where
   pub kept : AreHeldApart s
   pub shares : Shares f s
 
--- so each frame of f is in one block or held by one ID, and no other frame is
+-- each free frame of f is in one block or held by one ID, and no other frame is
 pub in_one : (f : Frames) (s : State) (x n : ℕ) → Goes f s → f x ≡ Some n → IsInOne s x
 in_one f s x n goes is = ⊎_elim
     (λ (free : s.frames x ≡ Some n). elim (block_or_none s.frames x) as (λ _. IsInOne s x) [
@@ -65,14 +66,14 @@ in_none f s x goes none = (
   λ id holds. cc (sym (goes.shares.held id holds.what holds.is x holds.inside) ∙ none),
 )
 
--- at the beginning
+-- the first state
 pub begun_goes : (f : Frames) → NothingFrom MAX_FRAMES f → Goes f (begun f)
 begun_goes f low = record {
   kept = record { low = low; well = λ id what is. cc; apart = λ i j g h is other x one two. cc };
   shares = record { free = λ x n is. is; held = λ id what is x inside. cc; all = λ x n is. inl is };
 }
 
--- what an ID holds after another one's change
+-- what an ID holds after a change for another ID
 with_or_not : (id i : ℕ) → (id ≡ i) ⊎ ((id == i) ≡ false)
 with_or_not id i = elim (cases_Bool (id == i)) as (λ _. (id ≡ i) ⊎ ((id == i) ≡ false)) [
   | inl on ↦ inl (eqb-true id i on)
@@ -85,7 +86,7 @@ with_here id what held = rw (eq-eqb id id refl) refl
 with_there : (id i : ℕ) (what : Option Held) (held : ℕ → Option Held) → (id == i) ≡ false → with_held id what held i ≡ held i
 with_there id i what held off = rw off refl
 
--- the ID has the new one, or another ID has what it had
+-- an ID holds what the change gives it, or what it held before
 record Had (id i : ℕ) (what : Option Held) (held : ℕ → Option Held) (h : Held) : Type 0 where
   pub either : ((id ≡ i) × (what ≡ Some h)) ⊎ (((id == i) ≡ false) × (held i ≡ Some h))
 
@@ -103,7 +104,7 @@ had id i what held h is = elim (with_or_not id i) as (λ _. Had id i what held h
 differ : (id i : ℕ) → (id == i) ≡ false → id ≢ i
 differ id i off same = cc (sym (eq-eqb id i same) ∙ off)
 
--- a set that is picked: aligned, free, of the node, and not too high
+-- the frames that are picked: aligned, free, on the node, and below the limit
 pub record IsFreeSet (f : Frames) (order first node : ℕ) : Type 0 where
   pub aligned : first % 2 ^ order ≡ 0
   pub low : first + 2 ^ order ≤ MAX_FRAMES
@@ -140,7 +141,7 @@ picked_set f order first node zone low is = elim (found_or_none (picked f node z
       }
 ]
 
--- a set leaves, and an ID that holds nothing gets it
+-- a set of frames is allocated to an ID that holds nothing
 module _ (s : State) (id order first node : ℕ) where
   abbrev made : Held
   made = record { first = first; order = order; node = node }
@@ -234,7 +235,7 @@ module _ (s : State) (id order first node : ℕ) where
         };
       }
 
--- what an ID holds comes back
+-- the frames that an ID holds are freed
 module _ (s : State) (id : ℕ) (what : Held) where
   abbrev given : State
   given = record { frames = with_set what.order what.first what.node s.frames; held = with_held id None s.held }

@@ -1,4 +1,4 @@
--- Lines read one after another come to what the definition says of all of them.
+-- Lemmas: reading the lines one after another gives what the definition gives for all of them.
 use Rattle.std.proofs.Common.{◌≡◌, ℕ, ◌+◌, List, [], ◌∷◌, ◌++◌, Option, Some, None, option_to_list, Ok}
 use Rattle.std.specs.Prelude.{IfSome}
 use Rattle.script_reader.proofs.ScriptLaws.{behind, with_others}
@@ -8,14 +8,14 @@ use Rattle.page_alloc.specs.Pages.{HasOrder, HaveOrders}
 use Rattle.page_alloc.specs.Forms.{asked}
 use Rattle.page_alloc.specs.Reading.{line_at, lines_from}
 
--- a line that was read, and those behind it
+-- the first line that is left becomes the last one that was read
 pub line_read : (number : ℕ) (front : List PageLine) (text : List ℕ) (texts : List (List ℕ)) (act : Option PageAct)
     → asked text ≡ Ok act
     → behind front (lines_from number (text ∷ texts)) ≡ behind (front ++ option_to_list (line_at number act))
     (lines_from (number + 1) texts)
 line_read number front text texts act is = rw is (with_others front (line_at number act) (lines_from (number + 1) texts))
 
--- the orders of the lines so far and of one more
+-- the orders of the lines so far, and of one more
 pub orders_on : (number : ℕ) (act : Option PageAct) → IfSome act HasOrder → (ls : List PageLine) → HaveOrders ls
     → HaveOrders (ls ++ option_to_list (line_at number act))
 orders_on number None order [] orders = tt

@@ -1,4 +1,5 @@
--- A line of a page script is read as what it spells, and has the fault of the first condition that it doesn't meet.
+-- Lemmas: a line of a page script is read as what it spells, and has the fault of the first
+-- condition that it doesn't meet.
 use Rattle.std.proofs.Common.{◌≡◌, ℕ, false, List, [], ◌∷◌, codes, Some, None, Ok, Err, refl, ◌⊎◌, ◌↔◌, inl, inr}
 use Rattle.bm_base.specs.declared.zone.Zone.{Zone}
 use Rattle.bm_base.specs.declared.zone.Zone.TheVariants as zones
@@ -13,7 +14,7 @@ use Rattle.page_alloc.specs.declared.act.PageAct.{PageAct}
 use Rattle.page_alloc.specs.Forms.{greatest_order, zone_named, pages_line, near_line, give_line, by_name}
 use Rattle.page_alloc.specs.Spelling.{Form, pages, near, give, zone_word, words_of, HasNumbers, act_of, HasForm, SpellsAct, HasFault}
 
--- a zone by its word
+-- a zone, by its word
 zone_or : (word : List ℕ) → ((zone : Zone) × (word ≡ zone_word zone)) ⊎ (zone_named word ≡ Err wrong.Form)
 zone_or word =
     elim (is_key word (codes "DMA")) [
@@ -32,7 +33,7 @@ zone_read zones.Dma = refl
 zone_read zones.Dma32 = refl
 zone_read zones.Normal = refl
 
--- words have a form, or are a bad form
+-- words have a form, or have the fault `Form`
 pages_form : (words : Words) → HasForm (codes "pages" ∷ words) ⊎ (pages_line words ≡ Err wrong.Form)
 pages_form [] = inr refl
 pages_form (i ∷ []) = inr refl
@@ -71,7 +72,7 @@ named name words =
       ]
     ]
 
--- a form asks for its act, or has a bad number
+-- a form spells its act, or has the fault `Number`
 form_or : (form : Form)
     → (HasNumbers form × (asked_by by_name (words_of form) ≡ Ok (Some (act_of form))))
     ⊎ ((¬ (HasNumbers form)) × (asked_by by_name (words_of form) ≡ Err wrong.Number))
@@ -100,7 +101,7 @@ form_or (near i o n) =
 form_or (give i) =
     elim (within_or greatest_id i) [ inl id ↦ inl (id.0, rw id.1 refl) | inr bad ↦ inr (bad.0, rw bad.1 refl) ]
 
--- what is said of a line that has those words, as its reader says it
+-- every list of words has one of three meanings: no command, an act, or a fault
 pub data Verdict (words : Words) : Type 0 where
   passed_over : IsPassedOver words → asked_by by_name words ≡ Ok None → Verdict words
   asks : (act : PageAct) → SpellsAct words act → asked_by by_name words ≡ Ok (Some act) → Verdict words

@@ -7,15 +7,15 @@ use Rattle.buddy_handover.specs.Contents.{Contents, free}
 use Rattle.page_alloc.specs.declared.outcome.Held.{Held}
 use Rattle.page_alloc.specs.Pages.{State}
 
--- the free frames, and the IDs that hold something, ascending, each with that
+-- the free frames, and the IDs that hold frames, in ascending order, each with what it holds
 pub record Book : Type 0 where
   pub buddy : Contents
   pub ids : List (ℕ × Held)
 
--- what an ID holds
+-- the frames that an ID holds
 abbrev pub held_in : List (ℕ × Held) → ℕ → Option Held
 held_in ids id = lookup (is_at (nat_cmp id)) ids
 
--- as a state
+-- the same facts as a state
 abbrev pub state_of : Book → State
 state_of b = record { frames = free b.buddy; held = held_in b.ids }

@@ -1,4 +1,5 @@
--- The forms of a line of a page script: the words behind its first, and what they ask for. The form goes before all numbers.
+-- The forms of a line of a page script: the words after the first, and the act that they spell.
+-- The form is checked before all numbers.
 use Rattle.std.specs.Prelude.{ℕ, if◌then◌else◌, List, codes, Option, Result, Ok, Err}
 use Rattle.std.specs.Str.{bytes_eq}
 use Rattle.bm_base.specs.declared.zone.Zone.{Zone}
@@ -13,11 +14,11 @@ use Rattle.script_reader.specs.Forms.{greatest_id, greatest_node, asked_by}
 use Rattle.page_alloc.specs.declared.act.PageAct.{PageAct}
 use Rattle.page_alloc.specs.declared.act.PageAct.TheVariants as acts
 
--- the bound of an order
+-- the largest order
 abbrev pub greatest_order : ℕ
 greatest_order = 10
 
--- a zone, by the name that the kernel gives it
+-- a zone, by the kernel's name for it
 abbrev pub zone_named : List ℕ → Result Zone Wrong
 zone_named word =
     if bytes_eq word (codes "DMA") then Ok zones.Dma else
@@ -55,13 +56,13 @@ give_line words = do
   id ← bounded greatest_id said
   Ok (acts.Give id)
 
--- by the first word of the line
+-- the act of a line, by its first word
 abbrev pub by_name : List ℕ → Words → Result PageAct Wrong
 by_name name words =
     if bytes_eq name (codes "pages") then pages_line words else
     (if bytes_eq name (codes "near") then near_line words else
     (if bytes_eq name (codes "give") then give_line words else Err wrong.Form))
 
--- what the text of one line asks for
+-- the act of the line with this text, if it has a command
 abbrev pub asked : List ℕ → Result (Option PageAct) Wrong
 asked text = asked_by by_name (words_in separators.Script text)

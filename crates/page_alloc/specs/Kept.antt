@@ -1,4 +1,5 @@
--- Where a frame is: in a block of the free frames, or in what an ID holds; and what keeps both apart.
+-- Where a frame is: in a block of the free frames, or in what an ID holds; and that no frame is in
+-- both.
 use Rattle.std.specs.Prelude.{◌≡◌, ◌⊎◌, ℕ, ◌+◌, ◌%◌, ◌^◌, ◌≤◌, Some, None}
 use Rattle.address_runs.specs.Edits.{NothingFrom}
 use Rattle.frame_blocks.specs.declared.block.Block.{Block}
@@ -13,7 +14,7 @@ pub record HoldsFrame (s : State) (id x : ℕ) : Type 0 where
   pub is : s.held id ≡ Some what
   pub inside : IsInSet what.order what.first x
 
--- the frame is in a block of the free frames, and in no other one
+-- the frame is in exactly one block of the free frames; or in none
 pub record IsInOneBlock (s : State) (x : ℕ) : Type 0 where
   pub block : Block
   pub is : IsBlock s.frames block
@@ -23,7 +24,7 @@ pub record IsInOneBlock (s : State) (x : ℕ) : Type 0 where
 abbrev pub IsInNoBlock : State → ℕ → Type 0
 IsInNoBlock s x = (b : Block) → IsBlock s.frames b → IsInBlock b x → ⊥
 
--- an ID holds the frame, and no other ID does
+-- exactly one ID holds the frame; or none does
 pub record IsHeldByOne (s : State) (x : ℕ) : Type 0 where
   pub id : ℕ
   pub holds : HoldsFrame s id x
@@ -32,22 +33,23 @@ pub record IsHeldByOne (s : State) (x : ℕ) : Type 0 where
 abbrev pub IsHeldByNone : State → ℕ → Type 0
 IsHeldByNone s x = (id : ℕ) → HoldsFrame s id x → ⊥
 
--- the frame is in exactly one block, or held by exactly one ID
+-- the frame is in exactly one block and held by no ID, or in no block and held by exactly one ID
 abbrev pub IsInOne : State → ℕ → Type 0
 IsInOne s x = (IsInOneBlock s x × IsHeldByNone s x) ⊎ (IsHeldByOne s x × IsInNoBlock s x)
 
--- the frame is in none
+-- the frame is in no block, and held by no ID
 abbrev pub IsInNone : State → ℕ → Type 0
 IsInNone s x = IsInNoBlock s x × IsHeldByNone s x
 
--- what is held is a set of frames of which none is free
+-- held frames are an aligned set of frames that aren't free
 pub record IsWell (s : State) (what : Held) : Type 0 where
   pub small : what.order ≤ 10
   pub aligned : what.first % 2 ^ what.order ≡ 0
   pub low : what.first + 2 ^ what.order ≤ MAX_FRAMES
   pub taken : (x : ℕ) → IsInSet what.order what.first x → s.frames x ≡ None
 
--- so are all that are held, no two of them have a frame in common, and no frame lies too high
+-- all frames that IDs hold are such sets, no two IDs hold the same frame, and all free frames are
+-- below the limit
 pub record AreHeldApart (s : State) : Type 0 where
   pub low : NothingFrom MAX_FRAMES s.frames
   pub well : (id : ℕ) (what : Held) → s.held id ≡ Some what → IsWell s what

@@ -1,4 +1,5 @@
--- The page allocator after the handover as a state of free frames and held ranges, and what each line of a page script does to it.
+-- The page allocator after the handover, as a state of free frames and of what IDs hold, and what
+-- each line of a page script does to it.
 use Rattle.std.specs.Prelude.{ℕ, ◌*◌, ◌≤◌, ◌==◌, if◌then◌else◌, Option, Some, None, List, [], ◌∷◌}
 use Rattle.bm_base.specs.declared.frame.TheConstants.{FRAME_SIZE}
 use Rattle.bm_base.specs.declared.zone.Zone.{Zone}
@@ -12,21 +13,21 @@ use Rattle.page_alloc.specs.declared.outcome.Held.{Held}
 use Rattle.page_alloc.specs.declared.outcome.PageOutcome.{PageOutcome}
 use Rattle.page_alloc.specs.declared.outcome.PageOutcome.TheVariants as outcomes
 
--- which frames are free, each of which node, and what each ID holds
+-- the node of each free frame, and what each ID holds
 pub record State : Type 0 where
   pub frames : Frames
   pub held : ℕ → Option Held
 
--- nothing is held
+-- the first state: no ID holds anything
 abbrev pub begun : Frames → State
 begun f = record { frames = f; held = λ id. None }
 
--- the ID holds this, or nothing; the others hold what they held
+-- one ID holds this, or nothing; the others hold what they held before
 abbrev pub with_held : ℕ → Option Held → (ℕ → Option Held) → ℕ → Option Held
 with_held id what held i = if id == i then what else held i
 
--- a request for 2^order frames of a node, where `first` is the first frame of the block that is picked: the first 2^order frames of
--- that block leave, and the ID holds them
+-- a request for 2^order frames, if `first` is the first frame of the block that is picked: the
+-- first 2^order frames of that block are allocated, and the ID holds them
 abbrev pub served : State → ℕ → ℕ → ℕ → Option ℕ → PageOutcome × State
 served s id order node None = (outcomes.NoBlock, s)
 served s id order node (Some first) = (
@@ -37,12 +38,12 @@ served s id order node (Some first) = (
   },
 )
 
--- by what the ID holds already
+-- a request is refused if the ID already holds frames
 abbrev pub unless_taken : State → ℕ → ℕ → ℕ → Zone → Option Held → PageOutcome × State
 unless_taken s id order node zone (Some what) = (outcomes.Taken, s)
 unless_taken s id order node zone None = served s id order node (first_picked s.frames node zone order)
 
--- what an ID holds comes back, with its node, and the ID holds nothing any more
+-- the frames that an ID holds become free on their node, and the ID holds nothing
 abbrev pub given_back : State → ℕ → Option Held → PageOutcome × State
 given_back s id None = (outcomes.Unknown, s)
 given_back s id (Some what) = (
@@ -53,14 +54,14 @@ given_back s id (Some what) = (
   },
 )
 
--- the outcome of a line that names its zone or gives back, and the state then. A line for the zones near a node is served by the
--- layer above, which knows them, and by no block here
+-- the outcome of a `pages` or `give` line, and the state after it. A `near` line is carried out by
+-- the layer above; here it gets no block.
 abbrev pub step : State → PageAct → PageOutcome × State
 step s (acts.Pages id order node zone) = unless_taken s id order node zone (s.held id)
 step s (acts.Near id order node) = (outcomes.NoBlock, s)
 step s (acts.Give id) = given_back s id (s.held id)
 
--- an order in the line is an order of blocks
+-- an order in the line is at most 10
 abbrev pub HasOrder : PageAct → Type 0
 HasOrder (acts.Pages id order node zone) = order ≤ 10
 HasOrder (acts.Near id order node) = order ≤ 10
@@ -70,13 +71,13 @@ abbrev pub HaveOrders : List PageLine → Type 0
 HaveOrders [] = Unit {0}
 HaveOrders (l ∷ ls) = HasOrder l.act × HaveOrders ls
 
--- the line names its zone or gives back
+-- the line is a `pages` or `give` line
 abbrev pub NamesNoNode : PageAct → Type 0
 NamesNoNode (acts.Pages id order node zone) = Unit {0}
 NamesNoNode (acts.Near id order node) = ⊥
 NamesNoNode (acts.Give id) = Unit {0}
 
--- memory is taken for a line whose outcome it is that frames leave or come back, and for none that is refused
+-- only a line that allocates or frees frames needs memory; one that is refused doesn't
 abbrev pub TakesMemory : PageOutcome → Type 0
 TakesMemory (outcomes.At address) = Unit {0}
 TakesMemory outcomes.Done = Unit {0}

@@ -1,4 +1,4 @@
--- A page script as a whole: its lines, or the fault of the lowest line that has one.
+-- A whole page script: its lines, or the fault of the lowest line that has one.
 use Rattle.std.specs.Prelude.{ℕ, ◌+◌, List, [], ◌∷◌, Option, Result, Ok}
 use Rattle.std.specs.Option.{option_map}
 use Rattle.std.specs.List.{cons_option}
@@ -13,16 +13,16 @@ use Rattle.page_alloc.specs.declared.fault.PageFault.{PageFault}
 use Rattle.page_alloc.specs.declared.fault.PageFault.TheVariants as faults
 use Rattle.page_alloc.specs.Forms.{asked}
 
--- what is wrong with the line of that number: its form, else a number, since nothing else can be wrong with the words of a line
+-- the fault of a script for what is wrong with the line of this number: its form, or else a number
 abbrev pub fault_at : ℕ → Wrong → PageFault
 fault_at line wrong.Form = faults.BadLine line
 fault_at line other = faults.BadNumber line
 
--- the line of that number, where it asks for something
+-- the line with this number, if it has a command
 abbrev pub line_at : ℕ → Option PageAct → Option PageLine
 line_at number act = option_map (λ act. record { number = number; act = act }) act
 
--- the texts of lines, of which the first has that number
+-- the lines with these texts; the first of them has this number
 abbrev pub lines_from : ℕ → List (List ℕ) → Result (List PageLine) PageFault
 lines_from number [] = Ok []
 lines_from number (text ∷ texts) = do
@@ -30,7 +30,7 @@ lines_from number (text ∷ texts) = do
   lines ← lines_from (number + 1) texts
   Ok (cons_option (line_at number act) lines)
 
--- the lines of a page script end with newlines, the last one maybe without: what stands behind the last newline is then a line
--- without words
+-- the lines of a page script end with newlines; if the script ends with one, the empty text after
+-- it is a line without words
 abbrev pub pages_of : List ℕ → Result (List PageLine) PageFault
 pages_of bytes = lines_from 1 (parts_in (separators.Byte 10) bytes)

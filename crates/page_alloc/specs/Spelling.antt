@@ -1,5 +1,5 @@
--- How a line of a page script is spelled: the form of its words, and the bounds of its numbers. Its fault is a bad form, or else a bad
--- number.
+-- The spelling of a line of a page script: the form of its words, and the limits of its numbers.
+-- Its fault is a wrong form, or else a wrong number.
 use Rattle.std.specs.Prelude.{◌≡◌, ℕ, List, [], ◌∷◌, codes}
 use Rattle.bm_base.specs.declared.zone.Zone.{Zone}
 use Rattle.bm_base.specs.declared.zone.Zone.TheVariants as zones
@@ -30,13 +30,13 @@ words_of (pages id order node zone) = codes "pages" ∷ id ∷ order ∷ node �
 words_of (near id order node) = codes "near" ∷ id ∷ order ∷ node ∷ []
 words_of (give id) = codes "give" ∷ id ∷ []
 
--- each number of the form is a size within its bound
+-- each number of the form is a size within its limit
 abbrev pub HasNumbers : Form → Type 0
 HasNumbers (pages id order node zone) = IsWithin greatest_id id × IsWithin greatest_order order × IsWithin greatest_node node
 HasNumbers (near id order node) = IsWithin greatest_id id × IsWithin greatest_order order × IsWithin greatest_node node
 HasNumbers (give id) = IsWithin greatest_id id
 
--- what a form asks for, if its numbers are sizes
+-- the act of a form whose numbers are sizes
 abbrev pub act_of : Form → PageAct
 act_of (pages id order node zone) = acts.Pages (value id) (value order) (value node) zone
 act_of (near id order node) = acts.Near (value id) (value order) (value node)
@@ -46,14 +46,15 @@ act_of (give id) = acts.Give (value id)
 abbrev pub HasForm : Words → Type 0
 HasForm words = (form : Form) × (words ≡ words_of form)
 
--- the words spell the act: they have a form, its numbers are sizes within their bounds, and the act has these numbers
+-- the words spell the act: they have a form, its numbers are sizes within their limits, and the
+-- act has these numbers
 pub record SpellsAct (words : Words) (act : PageAct) : Type 0 where
   pub form : Form
   pub spelled : words ≡ words_of form
   pub numbers : HasNumbers form
   pub asks : act ≡ act_of form
 
--- the first condition that those words don't meet
+-- the first condition that these words don't meet
 abbrev pub HasFault : Words → Wrong → Type 0
 HasFault words wrong.Form = (¬ (IsPassedOver words)) × (¬ (HasForm words))
 HasFault words wrong.Number = (form : Form) × (words ≡ words_of form) × (¬ (HasNumbers form))

@@ -1,4 +1,5 @@
-//! What one line asks for: its form by its first word, and the steps of each form in the order of the faults.
+//! Reads one line. Its first word selects the form; the steps of each form are in the order of the
+//! faults.
 
 ghost use Rattle.std.specs.Prelude.{◌≡◌, ◌<◌, length, IfOk, IfErr, IfSome};
 ghost use Rattle.script_reader.specs.Numbers.{IsOfWords};
@@ -12,10 +13,15 @@ use bm_base::Zone;
 use script_reader::{GREATEST_ID, GREATEST_NODE, Wrong, bounded, first_word, is_comment, one_word};
 use text_words::{Separators, next_word};
 
-/// The greatest order of a block.
+/// The largest order of a block.
 const GREATEST_ORDER: u64 = 10;
 
-/// What the line asks for, if anything.
+/// Returns the command of a line, or `None` if it has no words or is a comment.
+///
+/// # Errors
+///
+/// - `Form`: the words have no form.
+/// - `Number`: the words have a form, but a number is malformed or above its limit.
 pub fn read_line(text: &[u8]) -> Result<Option<PageAct>, Wrong>
     ensures value { result ≡ asked text.now }
     ensures order { IfOk result (λ act. IfSome act HasOrder) }
@@ -32,7 +38,11 @@ pub fn read_line(text: &[u8]) -> Result<Option<PageAct>, Wrong>
     Ok(Some(by_name(name, rest)?))
 }
 
-/// By the first word of the line.
+/// Reads the words after the first one, which is the name of the command.
+///
+/// # Errors
+///
+/// - Those of [`read_line`].
 fn by_name(name: &[u8], rest: &[u8]) -> Result<PageAct, Wrong>
     ensures value { result ≡ named_line name.now (words_in separators.Script rest.now) }
     ensures order { IfOk result HasOrder }
@@ -50,7 +60,11 @@ fn by_name(name: &[u8], rest: &[u8]) -> Result<PageAct, Wrong>
     Err(Wrong::Form)
 }
 
-/// The zone of that name.
+/// Returns the zone with this name.
+///
+/// # Errors
+///
+/// - `Form`: there is no zone of this name.
 fn zone_named(word: &[u8]) -> Result<Zone, Wrong>
     ensures value { result ≡ zone_of_name word.now }
     ensures of_words { IfErr result IsOfWords }
@@ -67,7 +81,7 @@ fn zone_named(word: &[u8]) -> Result<Zone, Wrong>
     Err(Wrong::Form)
 }
 
-/// `ID ORDER NODE ZONE`.
+/// Reads `ID ORDER NODE ZONE`, the words of a `pages` line after the first.
 fn pages_line(text: &[u8]) -> Result<PageAct, Wrong>
     ensures value { result ≡ pages_of (words_in separators.Script text.now) }
     ensures order { IfOk result HasOrder }
@@ -88,7 +102,7 @@ fn pages_line(text: &[u8]) -> Result<PageAct, Wrong>
     })
 }
 
-/// `ID ORDER NODE`.
+/// Reads `ID ORDER NODE`, the words of a `near` line after the first.
 fn near_line(text: &[u8]) -> Result<PageAct, Wrong>
     ensures value { result ≡ near_of (words_in separators.Script text.now) }
     ensures order { IfOk result HasOrder }
@@ -103,7 +117,7 @@ fn near_line(text: &[u8]) -> Result<PageAct, Wrong>
     Ok(PageAct::Near { id, order, node })
 }
 
-/// `ID`.
+/// Reads `ID`, the only word of a `give` line after the first.
 fn give_line(text: &[u8]) -> Result<PageAct, Wrong>
     ensures value { result ≡ give_of (words_in separators.Script text.now) }
     ensures order { IfOk result HasOrder }

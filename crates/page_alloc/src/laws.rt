@@ -1,4 +1,4 @@
-//! The law of lines: what the words of a line spell is what it is read as, and nothing else is read.
+//! The law of lines: they are read as what their words spell, and nothing else is accepted.
 
 ghost use Rattle.std.specs.Prelude.{◌≡◌, ◌↔◌, ℕ, List, Some, None, Ok, Err};
 ghost use Rattle.script_reader.specs.declared.fault.Wrong.{Wrong as AnyWrong};
@@ -8,8 +8,8 @@ ghost use Rattle.page_alloc.specs.declared.act.PageAct.{PageAct as AnyAct};
 ghost use Rattle.page_alloc.specs.Forms.{asked};
 ghost use Rattle.page_alloc.specs.Spelling.{SpellsAct, HasFault};
 
-/// Law: a line of a page script is read as an act exactly if its words spell that act. It asks for
-/// nothing exactly if it has no words or is a comment. It has a fault exactly if that is the first
+/// Law: a line of a page script is read as an act exactly if its words spell that act. It has no
+/// command exactly if it has no words or is a comment. It has a fault exactly if that is the first
 /// condition that its words don't meet.
 pub fn page_lines_of_spelling()
     ensures act { (text : List ℕ) (words : Words) (act : AnyAct) → HasWords text words →

@@ -1,16 +1,28 @@
-//! The page allocator after the handover: blocks of frames are asked for by name, and given back.
+//! Allocates and frees pages after the handover: blocks of frames, each under an ID.
 //!
-//! [`Pages`] is the buddy lists (`buddy_handover`) and what was taken of them: which ID holds which frames. A request takes the first
-//! frames of the block that the lists pick (`alloc_pages_node`, `__rmqueue_smallest`), and what an ID gives back is joined with
-//! what is free beside it (`__free_pages`, `__free_one_page`). [`read_pages`] reads a page script, or names the first fault of its
-//! lowest line that has one; [`Pages::run_line`] carries one line out. A line for the zones near a node (`near`) is read here, and
-//! carried out in the layer above, which knows the distances of nodes; so are all lines of a script, one after the other.
+//! [`Pages`] has the buddy lists (`buddy_handover`) and what was allocated from them: which ID
+//! holds which frames. A request gets the first frames of the block that the lists pick
+//! (`alloc_pages_node`, `__rmqueue_smallest`). Frames that an ID frees are merged with free
+//! buddies (`__free_pages`, `__free_one_page`).
 //!
-//! `specs/Forms.antt` has the forms of a line, in the words and numbers of the early script (`script_reader`); by
-//! [`page_lines_of_spelling`] a line is read exactly as what its words spell (`specs/Spelling.antt`). `specs/Reading.antt`
-//! goes over the lines, and `specs/Pages.antt` says what each line does to a state of free frames and held ranges. `specs/Kept.antt`
-//! has what stays true of it: the layer above proves that, whatever the lines are, each frame that was free at the beginning is in
-//! exactly one block or held by exactly one ID, and no other is in any.
+//! [`read_pages`] reads a page script, or returns the first fault, a [`PageFault`]: that of the
+//! lowest line that has one. [`Pages::run_line`] carries out one line. The layer above runs whole
+//! scripts. It also carries out `near` lines, which this crate only reads, since it knows the
+//! distances between nodes.
+//!
+//! In contracts, a name means the definition in `specs/`:
+//!
+//! - `Forms.antt`: the forms of a line, in the words and numbers of the early script
+//!   (`script_reader`)
+//! - `Reading.antt`: the lines of a script
+//! - `Spelling.antt`: the same forms as a user writes them
+//! - `Pages.antt`: what each line does to the free frames and to what the IDs hold
+//! - `Kept.antt`: what stays true of that state
+//!
+//! A law is an empty function whose contract is a proven fact. By [`page_lines_of_spelling`] a
+//! line is read exactly as what its words spell. The layer above proves, with `Kept.antt`, that no
+//! line loses a frame. Each frame that was free at first is in exactly one block, or held by
+//! exactly one ID, and no other frame is.
 #![tactic(auto)]
 
 mod act;

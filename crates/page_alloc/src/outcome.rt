@@ -1,32 +1,33 @@
-//! What comes of a line, and what an ID holds.
+//! The outcome of a line, and the frames that an ID holds.
 
-/// Frames that an ID holds: `2^order` of them, from `first` on, which is a multiple of their number.
+/// Frames that an ID holds: `2^order` of them, from `first` on, which is a multiple of their
+/// number.
 #[derive(Clone, Copy, Debug, PartialEq, Eq)]
 pub struct Held {
     /// The number of the first frame.
     pub first: u64,
-    /// From 0 to 10.
+    /// The order, from 0 to 10.
     pub order: u32,
-    /// The frames are of this node.
+    /// The node of the frames.
     pub node: u32,
 }
 
-/// What comes of a line.
+/// The outcome of a line.
 #[derive(Clone, Copy, Debug, PartialEq, Eq)]
 pub enum PageOutcome {
-    /// The ID holds the frames from this address on, in bytes.
+    /// The ID now holds the frames at this address, in bytes.
     At(u64),
-    /// What the ID held is free again.
+    /// The frames that the ID held are free again.
     Done,
     /// No block of the node and the zone is large enough.
     NoBlock,
-    /// The ID holds something already.
+    /// The ID already holds frames.
     Taken,
-    /// The ID holds nothing.
+    /// The ID holds no frames.
     Unknown,
 }
 
-/// What came of the line of that number.
+/// The outcome of the line with this number.
 #[derive(Clone, Copy, Debug, PartialEq, Eq)]
 pub struct PageAnswer {
     pub line: u32,

@@ -1,4 +1,4 @@
-//! The buddy lists, and which ID holds which frames of them.
+//! The buddy lists, and which ID holds which frames from them.
 
 ghost use Rattle.std.specs.Prelude.{◌≡◌, ◌⊎◌, ◌+◌, ◌*◌, ◌^◌, ◌<◌, ◌≤◌, IfOk, OnErr};
 ghost use Rattle.buddy_handover.specs.Contents.{free};
@@ -15,7 +15,8 @@ use std::collections::BTreeMap;
 use std::collections::btree_map::Entry;
 use std::marker::Model;
 
-/// The free frames, and the frames that IDs hold. No frame is free and held, and no two IDs hold one frame.
+/// The free frames, and the frames that IDs hold. A frame that is held isn't free, and no two IDs
+/// hold the same frame.
 #[derive(Debug, Drop)]
 pub struct Pages {
     buddy: Buddy,
@@ -34,7 +35,7 @@ impl Model for Pages {
 }
 
 impl Pages {
-    /// The frames of the lists are free, and nothing is held.
+    /// Returns the state in which the frames of the lists are free, and no ID holds anything.
     pub fn new(alloc: Global, buddy: Buddy) -> Pages
         ensures { state_of result ≡ begun (free buddy) }
     {
@@ -45,23 +46,29 @@ impl Pages {
         }
     }
 
-    /// The buddy lists as they are now.
+    /// Returns the buddy lists as they are now.
     pub fn buddy(&self) -> &Buddy
         ensures { result.now ≡ self.now.buddy }
     {
         &self.buddy
     }
 
-    /// What the ID holds; `None` exactly where it holds nothing.
+    /// Returns the frames that the ID holds, or `None` if it holds none.
     pub fn held(&self, id: u32) -> Option<Held>
         ensures { result ≡ (state_of self.now).held id }
     {
         self.ids.get(&id).copied()
     }
 
-    /// `2^order` frames of the node and in the zone for the ID: `Taken` exactly where it holds something already, else `NoBlock` exactly
-    /// where no block there is of the order or a greater one, else `At` with the address of the first frame. Nothing has changed
-    /// after an answer other than `At`, nor after `Memory`, which comes only in place of `At`.
+    /// Allocates `2^order` frames of the node and the zone for the ID. `order` is at most 10.
+    /// Returns `At` with the address of the first frame. Returns `Taken` if the ID already holds
+    /// frames; else `NoBlock` if no block there is of this order or a larger one. In both cases
+    /// nothing changes.
+    ///
+    /// # Errors
+    ///
+    /// - `Memory`: the program ran out of memory. Nothing has changed, and with enough memory the
+    ///   outcome would be `At`.
     pub fn take(
         &mut self,
         id: u32,
@@ -95,8 +102,11 @@ impl Pages {
         }
     }
 
-    /// What the ID holds comes back: `Unknown` exactly where it holds nothing, else `Done`. Nothing has changed after `Memory`, which
-    /// comes only where it holds something.
+    /// Frees the frames that the ID holds, and returns `Done`. Returns `Unknown` if it holds none.
+    ///
+    /// # Errors
+    ///
+    /// - `Memory`: the program ran out of memory. Nothing has changed, and the ID holds frames.
     fn give(&mut self, id: u32) -> Result<PageOutcome, Memory>
         ensures ok { IfOk result (λ outcome. (outcome, state_of self.new) ≡ step (state_of self.old) (act.Give id)) }
         ensures memory { OnErr result (TakesMemory (step (state_of self.old) (act.Give id)).0) }
@@ -110,8 +120,13 @@ impl Pages {
         Ok(PageOutcome::Done)
     }
 
-    /// Carries one line out that names its zone or gives back. Nothing has changed after `Memory`, which comes of no line that is refused. A
-    /// line for the zones near a node is carried out by the layer above, which knows them.
+    /// Carries out a `pages` or `give` line. A `near` line must not be passed: the layer above
+    /// carries it out, since it knows the zone lists.
+    ///
+    /// # Errors
+    ///
+    /// - `Memory`: the program ran out of memory. Nothing has changed, and with enough memory the
+    ///   outcome would be `At` or `Done`.
     pub fn run_line(&mut self, line: &PageLine) -> Result<PageOutcome, Memory>
         requires order { HasOrder line.now.act }
         requires plain { NamesNoNode line.now.act }

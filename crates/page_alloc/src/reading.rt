@@ -1,7 +1,7 @@
-//! A page script as a whole: its lines one after the other, up to the first that has a fault.
+//! Reads a whole page script: its lines one after another, up to the first that has a fault.
 //!
-//! Memory is taken here alone, for the lines. Where it runs out the script is still read on without
-//! them, so that a fault is told wherever it stands.
+//! Only the list of lines allocates. If memory runs out, the rest of the script is still read, so
+//! that a fault in any line is found.
 
 ghost use Rattle.std.specs.Prelude.{◌≡◌, ◌<◌, ◌^◌, length, Err, IfOk, IfSome, IsOkAnd};
 ghost use Rattle.bm_base.specs.Answers.{Answers};
@@ -16,12 +16,17 @@ use script_reader::{Wrong, keep};
 use std::alloc::Global;
 use text_words::{Separators, next_part};
 
-/// The lines of a page script that ask for something, in order, or the first fault: that of the lowest line
-/// that has one, and of its faults the first in the order of [`PageFault`].
+/// Reads a page script, and returns the lines that have a command, in their order.
 ///
-/// Lines end with a newline; the last one may lack it. The bytes 0x20, 0x09 and 0x0D separate words. A
-/// line without words, and one whose first word begins with `#`, asks for nothing. The bytes are fewer
-/// than 2^32. `Memory` comes only where no line has a fault and some line asks for something.
+/// Lines end with a newline, which the last one may lack. The bytes 0x20, 0x09 and 0x0D separate
+/// words. A line has no command if it has no words, or its first word begins with `#`. There must
+/// be fewer than 2^32 bytes.
+///
+/// # Errors
+///
+/// - The fault of the lowest line that has one. If that line has both faults, the first in the
+///   order of [`PageFault`].
+/// - `Memory`: no line has a fault and some line has a command, but the program ran out of memory.
 pub fn read_pages(alloc: Global, bytes: &[u8]) -> Result<Vec<PageLine>, PageFault>
     requires { length bytes.now < 2 ^ 32 }
     ensures answers { Answers PageFault.Memory (λ lines. lines.items) result (pages_of bytes.now) }
@@ -44,7 +49,7 @@ pub fn read_pages(alloc: Global, bytes: &[u8]) -> Result<Vec<PageLine>, PageFaul
     Ok(lines?)
 }
 
-/// The line of that number, where it asks for something.
+/// Returns the line with this number, if it has a command.
 fn line_at(number: u64, act: Option<PageAct>) -> Option<PageLine>
     requires { IfSome act (λ _. number < 2 ^ 32) }
     ensures { result ≡ line_of number act }
@@ -58,7 +63,8 @@ fn line_at(number: u64, act: Option<PageAct>) -> Option<PageLine>
     }
 }
 
-/// What is wrong with the line of that number.
+/// Returns the fault of a script for what is wrong with the line of this number. Only `Form` and
+/// `Number` can be wrong.
 fn fault_at(line: u32, wrong: Wrong) -> PageFault
     requires { IsOfWords wrong }
     ensures { result ≡ line_fault line wrong }

@@ -1,4 +1,4 @@
--- A text with such words is read as these are.
+-- A text is read as its words are.
 use Rattle.script_reader.proofs.StepLaws.{has_words}
 use Rattle.page_alloc.proofs.SpellingLaws.{act_read, nothing_read, fault_read}
 use Rattle.page_alloc.proofs.laws.page_lines_of_spelling.Goals as goal

@@ -1,4 +1,4 @@
--- One more line.
+-- one more line
 use Rattle.std.proofs.Common.{◌++◌, option_to_list, sym, ◌∙◌, arith}
 use Rattle.std.specs.Option.{option_map}
 use Rattle.text_words.specs.Parts.{parts_behind}

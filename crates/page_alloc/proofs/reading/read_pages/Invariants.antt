@@ -1,4 +1,4 @@
--- The lines so far stand before those of the rest, and there are fewer of them than bytes.
+-- The lines so far come before those of the rest, and there are fewer lines than bytes.
 use Rattle.std.proofs.Common.{◌≡◌, ◌+◌, ◌<◌, ◌≤◌, List, length, IfOk, IfErr}
 use Rattle.std.specs.Option.{option_map}
 use Rattle.text_words.specs.Parts.{parts_behind}

@@ -1,4 +1,4 @@
--- What comes of the block that was picked, or of none.
+-- The result for the block that was picked, or for none.
 use Rattle.std.proofs.Common.{◌≡◌, ◌⊎◌, ◌*◌, None, Result, inl, inr, sym, ◌∙◌, subst, arith, rules}
 use Rattle.std.specs.Prelude.{IfOk}
 use Rattle.std.specs.Ordering.{nat_cmp}
@@ -89,7 +89,7 @@ returns-after-take-clause-ok c =
     ≡ step (state_of d) (acts.Pages c.args.id c.args.order c.args.node c.args.zone)))
     c.self.view_is (came c).0.0
 
--- memory for the ID is wanting, and no block serves anyway
+-- the program ran out of memory for the ID, but no block would serve the request anyway
 pub returns-in_default-clause-ok : goal.returns-in_default-clause-ok
 returns-in_default-clause-ok c =
     let id = c.args.id in
