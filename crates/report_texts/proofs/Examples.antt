@@ -1,4 +1,4 @@
--- Small texts and their parts, by computing.
+-- Worked examples of reports and their parts.
 use Rattle.std.proofs.Common.{◌≡◌, ℕ, true, false, List, [], ◌∷◌, ◌++◌, codes, None, Some, decimal, refl, ap, arith}
 use Rattle.std.specs.Fmt.{digits}
 use Rattle.bm_base.specs.Extent.{Extent}
@@ -20,7 +20,8 @@ use Rattle.report_texts.specs.OwnersText.{owner_line, owner_text, owners_text, w
 use Rattle.report_texts.specs.RecordsText.{extent_line, record_line, records_text, region_line}
 use Rattle.report_texts.specs.TablesText.{table_line, tables_text}
 
--- elements are numbered one by one; a range of one byte, and of none at all; an index has four places, and as many as it takes
+-- elements are numbered one by one; a range of one byte, and an empty one; an index has at least
+-- four columns
 line_examples : (lines_from (λ n x. decimal n ++ x) 8 (codes "a" ∷ codes "b" ∷ codes "c" ∷ []) ≡ codes "8a9b10c")
     × (range_text (record { base = 0x1000; size = 1 }) ≡ codes "0x0000000000001000..0x0000000000001000")
     × (range_text (record { base = 0; size = 0 }) ≡ codes "0x0000000000000000..0x0000000000000000")
@@ -126,7 +127,7 @@ item_examples : (item_text (item.Mem first_MiB) ≡ codes "mem 0x000000000000000
 unfolding first_MiB digits
 item_examples = (refl, refl, refl, refl, refl, refl, refl, refl, refl, refl, refl, refl, refl, refl, refl, refl)
 
--- records, of which the node isn't told; a record ends where addresses end
+-- records, without their nodes; a record that ends at 2^64
 of_node_1 : RunOf Label
 of_node_1 = record { base = 0x1000; size = 0x9E000; value = with_node (Some 1) plain_label }
 

@@ -1,4 +1,5 @@
--- The lines of the records that a head's bytes are; and of those of a table that stands in the bytes.
+-- Lemmas on the lines of the records at a head, and of the records of a table that is stored in
+-- the bytes.
 use Rattle.std.proofs.Common.{◌≡◌, ℕ, suc, ◌+◌, ◌*◌, ◌<◌, List, [], ◌∷◌, ◌++◌, length, drop, get_or, refl, sym, ◌∙◌, ap, add-zero, arith}
 use Rattle.phys_store.specs.Bytes.{Stored, byte_of, bytes_at}
 use Rattle.address_runs.specs.Runs.{RunOf}
@@ -13,7 +14,7 @@ use Rattle.report_texts.specs.Lines.{lines_from}
 use Rattle.report_texts.specs.RecordsText.{record_line, records_text, region_line}
 use Rattle.report_texts.proofs.LineLaws.{lines_at}
 
--- the line of one more record is the next one
+-- the line of the next record is the next line
 pub next_line : (store : List Stored) (head : Head) (i : ℕ) (region : Region) → i < head.count
     → region ≡ region_in (bytes_at (byte_of store) (head.place + 24 * i) 24)
     → lines_from record_line i (drop i (list_in store head))
@@ -23,7 +24,7 @@ next_line store head i region within is =
     rw is (lines_at record_line (list_in store head) i r r (sym (record_by_bytes store head i r within))
     (omega (arith, count_is store head)))
 
--- a table's records have the lines of the records that are read from its bytes
+-- the records of a table have the same lines as the records that are read from its bytes
 lines_alike : (f : ℕ → ℕ) (a n : ℕ) (rs : List (RunOf Label))
     → ((i : ℕ) (r : RunOf Label) → i < length rs → region_in (bytes_at f (a + 24 * i) 24) ≡ region_of (get_or rs i r))
     → lines_from record_line n (records_at f a (length rs)) ≡ lines_from record_line n rs

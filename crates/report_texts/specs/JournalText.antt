@@ -1,5 +1,5 @@
--- What happened to memory, as lines: each item by the word of its call of memblock. The forms are this project's own, since
--- the kernel prints each call as it comes (`memblock=debug`).
+-- The journal as lines: each item by the name of its memblock call. The formats are this project's
+-- own; the kernel prints each call when it happens (`memblock=debug`).
 use Rattle.std.specs.Prelude.{ℕ, ◌+◌, Bool, if◌then◌else◌, List, ◌++◌, codes, decimal}
 use Rattle.bm_base.specs.Text.{hex_text}
 use Rattle.memblock_model.specs.declared.item.Item.{Item}
@@ -7,11 +7,11 @@ use Rattle.memblock_model.specs.declared.item.Item.TheVariants as item
 use Rattle.report_texts.specs.Lines.{lines_from, range_text}
 use Rattle.report_texts.specs.OwnersText.{owner_text, which_name}
 
--- whether something is on
+-- `on` or `off`
 abbrev pub switch_text : Bool → List ℕ
 switch_text on = if on then codes "on" else codes "off"
 
--- what an item is, and its parts
+-- an item: its name and its values
 abbrev pub item_text : Item → List ℕ
 item_text (item.Mem range) = codes "mem " ++ range_text range
 item_text item.Trim = codes "trim"
@@ -24,7 +24,7 @@ item_text (item.Upward on) = codes "upward " ++ switch_text on
 item_text (item.Grown which place room) =
     codes "grown " ++ which_name which ++ codes " " ++ hex_text place ++ codes " room " ++ decimal room
 
--- the line of an item: its number, from 1, and what it is
+-- the line of an item: its number, from 1 on, and the item
 abbrev pub item_line : ℕ → Item → List ℕ
 item_line n i = decimal (n + 1) ++ codes ": " ++ item_text i ++ codes "\n"
 

@@ -1,18 +1,18 @@
--- What reports are made of: lines, and what stands in them.
+-- The parts of reports: lines, and what they consist of.
 use Rattle.std.specs.Prelude.{ℕ, ◌+◌, ◌-◌, List, [], ◌∷◌, ◌++◌, codes}
 use Rattle.bm_base.specs.Extent.{Extent, end_of}
 use Rattle.bm_base.specs.Text.{hex_text, padded_decimal}
 
--- the line of each element by its index, of which the first is n
+-- the line of each element with its index; the first has the index n
 abbrev pub lines_from : {X : Type 0} → (ℕ → X → List ℕ) → ℕ → List X → List ℕ
 lines_from line n [] = []
 lines_from line n (x ∷ xs) = line n x ++ lines_from line (n + 1) xs
 
--- a range: its first and its last byte. That of a range without an address is `0x0..0x0` where it begins at 0, and
--- else ends before it begins
+-- a range: its first and its last byte. An empty range is `0x0..0x0` if it begins at 0; else its
+-- last byte is below its first.
 abbrev pub range_text : Extent → List ℕ
 range_text r = hex_text r.base ++ codes ".." ++ hex_text (end_of r - 1)
 
--- the index at the front of a line, from 0: right-aligned in four places
+-- the index at the start of a line, from 0 on, right-aligned in four columns
 abbrev pub index_text : ℕ → List ℕ
 index_text n = padded_decimal 4 n ++ codes ": "

@@ -1,5 +1,5 @@
--- The line of a run of the map, where the kernel's `e820__print_table` has one for each entry. The form of the line
--- is this project's own.
+-- The line of a run of the map. The kernel's `e820__print_table` prints one for each entry; the
+-- format of the line is this project's own.
 use Rattle.std.specs.Prelude.{ℕ, ◌==◌, if◌then◌else◌, List, ◌++◌, codes, decimal}
 use Rattle.address_runs.specs.Runs.{RunOf, extent_of}
 use Rattle.e820_model.specs.declared.types.TheConstants.{E820_TYPE_RAM, E820_TYPE_RESERVED, E820_TYPE_ACPI, E820_TYPE_NVS, E820_TYPE_UNUSABLE, E820_TYPE_PMEM, E820_TYPE_PRAM, E820_TYPE_RESERVED_KERN, E820_TYPE_SOFT_RESERVED}
@@ -19,7 +19,8 @@ kind_name k =
     else (if k == E820_TYPE_SOFT_RESERVED then codes "soft reserved"
     else codes "other"))))))))
 
--- the line of a run: its range, the number of its type and the type's name; the index isn't in it
+-- the line of a run: its range, the number of its type and the type's name; it doesn't have the
+-- index
 abbrev pub map_line : ℕ → RunOf ℕ → List ℕ
 map_line n r = range_text (extent_of r) ++ codes " " ++ decimal r.value ++ codes " " ++ kind_name r.value ++ codes "\n"
 

@@ -1,5 +1,5 @@
--- Who has which bytes, as lines, where the kernel's `memblock_dbg` names the caller of a reservation. The names are this
--- project's own.
+-- Who owns which bytes, as lines. The kernel's `memblock_dbg` prints the caller of a reservation;
+-- the names here are this project's own.
 use Rattle.std.specs.Prelude.{ℕ, List, ◌++◌, codes, decimal}
 use Rattle.address_runs.specs.Runs.{RunOf, extent_of}
 use Rattle.memblock_model.specs.declared.owner.Owner.{Owner}
@@ -12,7 +12,7 @@ abbrev pub which_name : Which → List ℕ
 which_name which.Memory = codes "memory"
 which_name which.Reserved = codes "reserved"
 
--- the name of an owner, and its number where it has one: of the node, the root, the section or the ID
+-- the name of an owner, and its number if it has one: of the node, the root, the section or the ID
 abbrev pub owner_text : Owner → List ℕ
 owner_text owner.Kernel = codes "kernel"
 owner_text owner.Low64K = codes "low-64k"
@@ -29,7 +29,7 @@ owner_text (owner.Usage n) = codes "usage " ++ decimal n
 owner_text (owner.Map n) = codes "map " ++ decimal n
 owner_text (owner.Script n) = codes "script " ++ decimal n
 
--- the line of a run of one owner: its index, its range and the owner
+-- the line of a run of bytes with one owner: its index, its range and the owner
 abbrev pub owner_line : ℕ → RunOf Owner → List ℕ
 owner_line n r = index_text n ++ range_text (extent_of r) ++ codes " " ++ owner_text r.value ++ codes "\n"
 

@@ -1,4 +1,5 @@
--- The records of a table, as lines: the form is that of `/sys/kernel/debug/memblock` (`memblock_debug_show`).
+-- The records of a table, as lines in the format of `/sys/kernel/debug/memblock`
+-- (`memblock_debug_show`).
 use Rattle.std.specs.Prelude.{ℕ, List, ◌++◌, codes}
 use Rattle.bm_base.specs.Extent.{Extent}
 use Rattle.address_runs.specs.Runs.{RunOf, extent_of}
@@ -10,7 +11,8 @@ use Rattle.report_texts.specs.Lines.{index_text, lines_from, range_text}
 abbrev pub extent_line : ℕ → Extent → List ℕ
 extent_line n r = index_text n ++ range_text r ++ codes "\n"
 
--- the line of a record: its index and its range, whatever its flags and its node are; and of a record as its bytes have it
+-- the line of a record: its index and its range, without its flags and its node; and that of a
+-- record as it is read from bytes
 abbrev pub record_line : ℕ → RunOf Label → List ℕ
 record_line n r = extent_line n (extent_of r)
 

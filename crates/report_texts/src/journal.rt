@@ -1,5 +1,5 @@
-//! The text of the journal: what happened to memory, item by item. What an item is stands apart from its number
-//! (`put_item`), since the report of nodes has the same words of some items without it.
+//! Writes the journal: what happened to memory, item by item. [`put_item`] writes an item without
+//! its number, since the report of nodes has some items in the same words.
 
 ghost use Rattle.std.specs.Prelude.{◌+◌, ◌^◌, ◌<◌};
 ghost use Rattle.bm_base.specs.PutsText.{PutsText};
@@ -12,6 +12,10 @@ use bm_base::{Memory, Range, put_dec, put_hex, put_text};
 use boot_journal::{Item, Journal, Owner, Which};
 
 /// Appends the text of the journal: a line for each item, oldest first.
+///
+/// # Errors
+///
+/// - `Memory`: the program ran out of memory; the text is incomplete.
 pub fn put_journal(text: &mut Vec<u8>, journal: &Journal) -> Result<(), Memory>
     ensures { PutsText text.old text.new result (journal_text journal.now.items) }
 {
@@ -29,7 +33,11 @@ fn put_item_line(text: &mut Vec<u8>, index: u64, item: &Item) -> Result<(), Memo
     put_text(text, b"\n")
 }
 
-/// Appends what an item is, with its parts.
+/// Appends an item: the name of its call, and its values.
+///
+/// # Errors
+///
+/// - `Memory`: the program ran out of memory; the text is incomplete.
 pub fn put_item(text: &mut Vec<u8>, item: &Item) -> Result<(), Memory>
     ensures { PutsText text.old text.new result (item_text item.now) }
 {
@@ -54,7 +62,7 @@ pub fn put_item(text: &mut Vec<u8>, item: &Item) -> Result<(), Memory>
     }
 }
 
-/// Appends a claim: whose it is, and of which bytes.
+/// Appends a claim: its owner and its range.
 fn put_claim(text: &mut Vec<u8>, range: &Range, owner: Owner) -> Result<(), Memory>
     ensures { PutsText text.old text.new result (item_text (Item.Claim range.now owner)) }
 {
@@ -76,7 +84,8 @@ fn put_upward(text: &mut Vec<u8>, on: bool) -> Result<(), Memory>
     }
 }
 
-/// Appends a growth: which table, where to, and its room there.
+/// Appends the growth of a table: which table, its new place, and the number of records that it
+/// has room for there.
 fn put_grown(text: &mut Vec<u8>, which: Which, place: u64, room: u64) -> Result<(), Memory>
     ensures { PutsText text.old text.new result (item_text (Item.Grown which place room)) }
 {

@@ -1,18 +1,25 @@
-//! The lines of reports: what each part of a boot is as text, in the manner of the files below
-//! `/sys/kernel/debug`.
+//! Writes the reports on the map, the options, the journal and memblock's tables as text, in the
+//! style of the files in `/sys/kernel/debug`.
 //!
-//! Each text is three things: the definition of a line, which a reader compares with the page of the
-//! formats (`specs/`, a file for each), the function that puts that line, and one call of [`put_lines`],
-//! which takes the function and is proved once for all lists. A `put_` call appends the text of one part:
-//! [`put_map`] of the runs of the map, [`put_options`] of what the command line asks, [`put_journal`] and
-//! [`put_owners`] of the journal, [`put_records`] of one table by its bytes, [`put_tables`] of both heads.
+//! Each report consists of three things: the definition of a line in `specs/`, which can be
+//! compared with the documentation of the formats; the function that writes this line; and one
+//! call of [`put_lines`]. That function takes the one for a line, and is proved once for all
+//! lists. Each `put_` function appends the text of one report:
 //!
-//! What several texts have alike stands once: a range is its first and its last byte, an index is
-//! right-aligned in four places, an owner and a table have one name each. Numbers are put by `bm_base`.
+//! - [`put_map`]: the runs of the map
+//! - [`put_options`]: the options of the command line
+//! - [`put_journal`], [`put_owners`]: the journal, and who owns which bytes
+//! - [`put_records`], [`put_tables`]: the records of one table, read from its bytes, and the heads
+//!   of both
 //!
-//! Nothing but the text grows, and nothing but want of memory comes in its place, and that only where
-//! the text's room is too small (`PutsText` of `bm_base`); the text is then of no use, and whoever
-//! asked for it drops it.
+//! Parts that several reports share are here once. A range is written as its first and its last
+//! byte. An index is right-aligned in four columns. Each owner and each table has one name.
+//! `bm_base` writes numbers.
+//!
+//! The layer above may rest on this: a `put_` call appends exactly the text of its definition and
+//! changes nothing else. It fails only with `Memory`, and only if the text has too little room
+//! (`PutsText` of `bm_base`). The text is incomplete then, and the caller discards it. In
+//! contracts, a name means the definition in `specs/`.
 #![tactic(auto)]
 
 mod journal;

@@ -1,5 +1,5 @@
-//! Lines, one for each element of a list. The call takes the function that puts one line, so the loop over a list
-//! is proved here, once for all reports.
+//! Writes lines, one for each element of a list. The loop over a list is proved here, once for all
+//! reports.
 
 ghost use Rattle.std.specs.Prelude.{◌≡◌, ℕ, ◌<◌, ◌++◌, List, OnOk, length};
 ghost use Rattle.bm_base.specs.PutsText.{PutsText};
@@ -7,8 +7,13 @@ ghost use Rattle.report_texts.specs.Lines.{lines_from};
 
 use bm_base::Memory;
 
-/// Appends the line of each element, in their order. `put` appends the line of one, which it is handed
-/// with its index, from 0. `lines` is for a `put` that takes memory beside the text's, `puts` for one that takes none.
+/// Appends the line of each element, in their order. `put` appends one line; it gets the element
+/// and its index, from 0 on. The clause `lines` is for a `put` that also allocates other memory,
+/// the clause `puts` for one that doesn't.
+///
+/// # Errors
+///
+/// - `Memory`: the program ran out of memory; the text is incomplete.
 pub fn put_lines<T, F: Fn(&mut Vec<u8>, u64, &T) -> Result<(), Memory>>(
     text: &mut Vec<u8>,
     items: &[T],

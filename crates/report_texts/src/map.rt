@@ -1,5 +1,5 @@
-//! The report of the map: a line for each run. The names of types stand here and not beside their numbers
-//! (`e820_model`), since a report alone has them.
+//! Writes the map: a line for each run. The names of types are here and not next to their numbers
+//! (`e820_model`), since only a report needs them.
 
 ghost use Rattle.std.specs.Prelude.{◌≡◌};
 ghost use Rattle.bm_base.specs.PutsText.{PutsText};
@@ -13,7 +13,7 @@ use e820_model::{
     E820_TYPE_RESERVED, E820_TYPE_RESERVED_KERN, E820_TYPE_SOFT_RESERVED, E820_TYPE_UNUSABLE, Run,
 };
 
-/// The name of a type (`enum e820_type`).
+/// Returns the name of a type (`enum e820_type`).
 fn kind_name(kind: u32) -> &'static str
     ensures { result.now ≡ kind_name kind }
 {
@@ -32,6 +32,10 @@ fn kind_name(kind: u32) -> &'static str
 }
 
 /// Appends the text of the map: a line for each run.
+///
+/// # Errors
+///
+/// - `Memory`: the program ran out of memory; the text is incomplete.
 pub fn put_map(text: &mut Vec<u8>, runs: &[Run]) -> Result<(), Memory>
     ensures { PutsText text.old text.new result (map_text runs.now) }
 {

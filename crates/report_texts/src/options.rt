@@ -1,5 +1,5 @@
-//! The text of the options: what the command line asks of the memory set-up. They are told as they were read,
-//! before anything comes of them; that the reports of the map, the nodes and the crash area tell.
+//! Writes the options that the command line sets for the memory set-up, as they were read. Their
+//! effects are in other reports: those of the map, the nodes and the crash area.
 
 ghost use Rattle.std.specs.Prelude.{◌++◌, codes};
 ghost use Rattle.std.specs.Option.{option_map};
@@ -14,8 +14,13 @@ use crate::ranges::{put_range, put_word_range};
 use bm_base::{Memory, put_dec, put_hex, put_text};
 use boot_options::{CrashOption, CrashPlain, CrashRange, Edit, Options};
 
-/// Appends the text of the options: a line for each edit in the order of the command line, then those
-/// of the crash area, and one each where `numa=off` and `add_efi_memmap` stand in it.
+/// Appends the text of the options: a line for each edit, in the order of the command line, then
+/// the lines of the crash area. Lines for `numa=off` and `add_efi_memmap` follow, if the command
+/// line has them.
+///
+/// # Errors
+///
+/// - `Memory`: the program ran out of memory; the text is incomplete.
 pub fn put_options(text: &mut Vec<u8>, options: &Options) -> Result<(), Memory>
     ensures { PutsText text.old text.new result (options_text (chosen options.now)) }
 {
@@ -33,7 +38,7 @@ fn put_edit_line(text: &mut Vec<u8>, index: u64, edit: &Edit) -> Result<(), Memo
     put_text(text, b"\n")
 }
 
-/// Appends what an edit does, with its types and its range.
+/// Appends an edit: what it does, its types, and its range.
 fn put_edit(text: &mut Vec<u8>, edit: &Edit) -> Result<(), Memory>
     ensures { PutsText text.old text.new result (edit_text edit.now) }
 {
@@ -67,8 +72,8 @@ fn put_kind(text: &mut Vec<u8>, kind: u32) -> Result<(), Memory>
     put_text(text, b" ")
 }
 
-/// Appends the lines of the crash area that is asked for: a line for each range of the plain form, and
-/// one for each other form that is there.
+/// Appends the lines of the requested crash area: one for each range of the plain form, and one
+/// for each other form that is given.
 fn put_crash_lines(text: &mut Vec<u8>, crash: &CrashOption) -> Result<(), Memory>
     ensures { PutsText text.old text.new result (crash_lines (crash_view crash.now)) }
 {
@@ -77,7 +82,7 @@ fn put_crash_lines(text: &mut Vec<u8>, crash: &CrashOption) -> Result<(), Memory
     put_size_line(text, b"crash low ", crash.low)
 }
 
-/// Appends a line for each range of the plain form, if there is one.
+/// Appends a line for each range of the plain form, if it is given.
 fn put_plain_lines(text: &mut Vec<u8>, plain: &Option<CrashPlain>) -> Result<(), Memory>
     ensures { PutsText text.old text.new result (plain_lines (option_map plain_view plain.now)) }
 {
@@ -96,7 +101,7 @@ fn put_plain_lines(text: &mut Vec<u8>, plain: &Option<CrashPlain>) -> Result<(),
     }
 }
 
-/// Appends the word, a range of the plain form, and the base of its area, which end the line.
+/// Appends a line: the word, a range of the plain form, and the base of the area.
 fn put_crash_range(
     text: &mut Vec<u8>,
     word: &[u8],
@@ -112,7 +117,7 @@ fn put_crash_range(
     put_text(text, b"\n")
 }
 
-/// Appends the bounds of a range of total memory, and the size that is kept there.
+/// Appends the bounds of a range of total memory, and the size that is set aside there.
 #[tactic(auto, unfolding(crate::specs::OptionsText::crash_range_text))]
 fn put_crash_bounds(text: &mut Vec<u8>, range: &CrashRange) -> Result<(), Memory>
     ensures { PutsText text.old text.new result (crash_range_text range.now) }
@@ -124,7 +129,7 @@ fn put_crash_bounds(text: &mut Vec<u8>, range: &CrashRange) -> Result<(), Memory
     put_hex(text, range.size)
 }
 
-/// Appends where a range of total memory ends, if it does.
+/// Appends the end of a range of total memory, or `-` if it has none.
 fn put_end(text: &mut Vec<u8>, end: Option<u64>) -> Result<(), Memory>
     ensures { PutsText text.old text.new result (end_text end) }
 {
@@ -134,7 +139,7 @@ fn put_end(text: &mut Vec<u8>, end: Option<u64>) -> Result<(), Memory>
     }
 }
 
-/// Appends a line of the word and the size, if there is one.
+/// Appends a line with the word and the size, if there is a size.
 fn put_size_line(text: &mut Vec<u8>, word: &[u8], size: Option<u64>) -> Result<(), Memory>
     ensures { PutsText text.old text.new result (size_line word.now size) }
 {
@@ -146,7 +151,7 @@ fn put_size_line(text: &mut Vec<u8>, word: &[u8], size: Option<u64>) -> Result<(
     put_text(text, b"\n")
 }
 
-/// Appends the line of `numa=off`, where it stands in the command line.
+/// Appends the line of `numa=off`, if the command line has it.
 fn put_numa_line(text: &mut Vec<u8>, numa_off: bool) -> Result<(), Memory>
     ensures { PutsText text.old text.new result (numa_line numa_off) }
 {
@@ -156,7 +161,7 @@ fn put_numa_line(text: &mut Vec<u8>, numa_off: bool) -> Result<(), Memory>
     put_text(text, b"numa off\n")
 }
 
-/// Appends the line of `add_efi_memmap`, where it stands in the command line.
+/// Appends the line of `add_efi_memmap`, if the command line has it.
 fn put_efi_line(text: &mut Vec<u8>, add_efi: bool) -> Result<(), Memory>
     ensures { PutsText text.old text.new result (efi_line add_efi) }
 {

@@ -1,4 +1,4 @@
-//! Owners and tables by name, and the text of who has which bytes.
+//! Writes the names of owners and tables, and who owns which bytes.
 
 ghost use Rattle.std.specs.Prelude.{◌≡◌, ◌++◌, decimal};
 ghost use Rattle.bm_base.specs.PutsText.{PutsText};
@@ -10,14 +10,19 @@ use crate::ranges::{put_index, put_range};
 use bm_base::{Memory, put_dec, put_text};
 use boot_journal::{Journal, Owner, OwnerRun, Which};
 
-/// Appends the text of who has which bytes at the end of the journal: a line for each run of one owner.
+/// Appends who owns which bytes at the end of the journal: a line for each run of bytes with one
+/// owner.
+///
+/// # Errors
+///
+/// - `Memory`: the program ran out of memory; the text is incomplete.
 pub fn put_owners(text: &mut Vec<u8>, journal: &Journal) -> Result<(), Memory>
     ensures { PutsText text.old text.new result (owners_text (owner_runs_of journal.now.items)) }
 {
     put_lines(text, journal.owners(), put_owner_line)
 }
 
-/// Appends the line of a run of one owner.
+/// Appends the line of a run of bytes with one owner.
 fn put_owner_line(text: &mut Vec<u8>, index: u64, run: &OwnerRun) -> Result<(), Memory>
     ensures { PutsText text.old text.new result (owner_line index run.now) }
 {
@@ -28,7 +33,11 @@ fn put_owner_line(text: &mut Vec<u8>, index: u64, run: &OwnerRun) -> Result<(), 
     put_text(text, b"\n")
 }
 
-/// Appends the name of an owner, with its number where it has one.
+/// Appends the name of an owner, and its number if it has one.
+///
+/// # Errors
+///
+/// - `Memory`: the program ran out of memory; the text is incomplete.
 pub fn put_owner(text: &mut Vec<u8>, owner: Owner) -> Result<(), Memory>
     ensures { PutsText text.old text.new result (owner_text owner) }
 {
@@ -53,7 +62,7 @@ pub fn put_owner(text: &mut Vec<u8>, owner: Owner) -> Result<(), Memory>
     }
 }
 
-/// Appends a word and the number behind it.
+/// Appends a word and a number.
 fn put_numbered(text: &mut Vec<u8>, word: &[u8], number: u32) -> Result<(), Memory>
     ensures { PutsText text.old text.new result (word.now ++ decimal number) }
 {
@@ -61,7 +70,7 @@ fn put_numbered(text: &mut Vec<u8>, word: &[u8], number: u32) -> Result<(), Memo
     put_dec(text, u64::from(number), 0)
 }
 
-/// The name of a table.
+/// Returns the name of a table.
 pub fn which_name(which: Which) -> &'static str
     ensures { result.now ≡ which_name which }
 {

@@ -1,5 +1,6 @@
-//! The text of a table's records, as the bytes at its place have them. There is no list of records to hand to
-//! `put_lines`: each is read from the store when its line is put, so what is told is what stands in memory.
+//! Writes the records of a table, as its bytes have them. There is no list of records for
+//! `put_lines`: each record is read from the store when its line is written. So the report shows
+//! what is in memory.
 
 ghost use Rattle.std.specs.Prelude.{◌+◌, ◌^◌, ◌<◌, ◌≤◌};
 ghost use Rattle.bm_base.specs.PutsText.{PutsText};
@@ -12,8 +13,12 @@ use bm_base::{Memory, put_hex, put_text};
 use memblock_ranges::{Head, Region, region_at};
 use phys_store::Store;
 
-/// Appends a line for each record of the table that the head names. The head's bytes in the store
-/// are an ascending list of records; their flags and nodes may be any.
+/// Appends a line for each record of the table at this head. The bytes at the head must be an
+/// ascending list of records; their flags and nodes may be any.
+///
+/// # Errors
+///
+/// - `Memory`: the program ran out of memory; the text is incomplete.
 pub fn put_records(text: &mut Vec<u8>, store: &Store, head: &Head) -> Result<(), Memory>
     requires { HasRecords store.now head.now (2 ^ 64) }
     ensures { PutsText text.old text.new result (records_text (list_in store.now head.now)) }
@@ -24,7 +29,7 @@ pub fn put_records(text: &mut Vec<u8>, store: &Store, head: &Head) -> Result<(),
     Ok(())
 }
 
-/// Appends the line of a record, which has an address, and none from 2^64 on.
+/// Appends the line of a record. It must not be empty, and must end at or below 2^64.
 fn put_record_line(text: &mut Vec<u8>, index: u64, region: &Region) -> Result<(), Memory>
     requires some { 0 < region.now.size }
     requires within { region.now.base + region.now.size ≤ 2 ^ 64 }

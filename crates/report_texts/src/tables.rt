@@ -1,5 +1,5 @@
-//! The text of the two heads: where each table lies, and how full it is. A table that grows moves and doubles,
-//! which its records don't tell: so the heads are a report beside them.
+//! Writes the two heads: where each table is, and how full. A table that grows moves and doubles
+//! its room. Its records don't show that, so the heads have a report of their own.
 
 ghost use Rattle.bm_base.specs.PutsText.{PutsText};
 ghost use Rattle.report_texts.specs.TablesText.{table_line, tables_text};
@@ -10,6 +10,10 @@ use boot_journal::Which;
 use memblock_ranges::{Head, Heads};
 
 /// Appends the text of both heads: a line for each table.
+///
+/// # Errors
+///
+/// - `Memory`: the program ran out of memory; the text is incomplete.
 pub fn put_tables(text: &mut Vec<u8>, heads: &Heads) -> Result<(), Memory>
     ensures { PutsText text.old text.new result (tables_text heads.now) }
 {

@@ -1,5 +1,5 @@
--- The text so far and the lines of the elements that are left are the text of all, whatever line each one has. Where no call
--- takes other memory than the text's, the text has no less room than before, either.
+-- The text so far, and the lines of the elements that are left, are the whole text, for every
+-- format of a line. If no call allocates other memory, the text has no less room than before.
 use Rattle.std.proofs.Common.{◌≡◌, ℕ, ◌≤◌, List, ◌++◌, drop, vec_capacity}
 use Rattle.std.specs.Prelude.{OnOk}
 use Rattle.bm_base.specs.PutsText.{PutsText}

@@ -1,4 +1,4 @@
--- Each record has an address, and its line is the next one.
+-- Each record isn't empty, and its line is the next one.
 use Rattle.std.proofs.Common.{arith}
 use Rattle.std.proofs.lemmas.Result.{err_from_is_err_and}
 use Rattle.memblock_ranges.specs.Tables.{list_in}

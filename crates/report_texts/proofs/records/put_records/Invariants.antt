@@ -1,4 +1,5 @@
--- The text so far and the lines of the records that are left are the text of all; and the text has no less room than before.
+-- The text so far, and the lines of the records that are left, are the whole text; the text has no
+-- less room than before.
 use Rattle.std.proofs.Common.{◌≡◌, ◌≤◌, ◌++◌, drop, vec_capacity}
 use Rattle.memblock_ranges.specs.Tables.{list_in}
 use Rattle.report_texts.specs.Lines.{lines_from}

@@ -1,4 +1,4 @@
--- The parts of the line, one behind another.
+-- The parts of the line, one after another.
 use Rattle.memblock_model.specs.declared.which.Which.TheVariants as which
 use Rattle.report_texts.specs.TablesText.{table_line}
 use Rattle.report_texts.proofs.PutLaws.{goes_on}
