@@ -1,4 +1,4 @@
--- The listed blocks are in bounds: their orders, their first frames, and how many they are.
+-- Lemmas on the bounds of the listed blocks: their orders, their first frames, and their number.
 use Rattle.std.proofs.Common.{◌≡◌, ℕ, zero, suc, ◌+◌, ◌%◌, ◌^◌, ◌<◌, ◌≤◌, ◌==◌, Option, Some, None, List, [], ◌∷◌, length, arith}
 use Rattle.std.proofs.lemmas.Bool.{cond_both}
 use Rattle.frame_blocks.specs.declared.block.Block.{Block}
@@ -9,7 +9,7 @@ use Rattle.frame_blocks.proofs.GoodLaws.{up_small}
 use Rattle.frame_blocks.proofs.SetLaws.{base_whole}
 use Rattle.frame_blocks.proofs.ListLaws.{from-few}
 
--- the order is at most 10, the first frame lies below 2^40, and its number is a multiple of how many there are
+-- the order is at most 10; the first frame is below 2^40, and a multiple of the number of frames
 pub record InBounds (b : Block) : Type 0 where
   pub order : b.order ≤ 10
   pub first : b.first < 2 ^ 40

@@ -1,4 +1,4 @@
--- Small texts and their parts, by computing.
+-- Worked examples of reports and their parts.
 use Rattle.std.proofs.Common.{◌≡◌, [], ◌∷◌, codes, Some, None, refl}
 use Rattle.std.specs.Fmt.{digits}
 use Rattle.hex.specs.Hex.{encode_with}
@@ -27,7 +27,7 @@ use Rattle.stage_texts.specs.SectionsText.{root_line, roots_line, section_line, 
 use Rattle.stage_texts.specs.SummaryText.{fullness_line, number_line, summary_text}
 use Rattle.stage_texts.specs.ZonesText.{buddy_line, buddyinfo_text, count_text, counts_text, frames_there, padded_zone, zone_line, zones_text}
 
--- the script; lines are numbered by it, not by their place in the report
+-- the early script; lines have their number in the script, not in the report
 script_examples : (outcome_text (outcomes.At 0x7FF0000) ≡ codes "at 0x0000000007ff0000") × (outcome_text outcomes.Done ≡ codes "done")
     × (outcome_text outcomes.NoGap ≡ codes "no gap")
     × (outcome_text (outcomes.NoGapForTable which.Reserved 128) ≡ codes "no gap for table reserved room 128")
@@ -58,11 +58,11 @@ list_examples : (use_line uses.Used ≡ codes "slit used\n") × (use_line uses.A
 unfolding digits
 list_examples = (refl, refl, refl, refl, refl)
 
--- nodes
+-- the nodes
 first_MiB : Extent
 first_MiB = record { base = 0; size = 0x100000 }
 
--- other items have no line
+-- items that give no node have no line
 node_examples : (why_line why.Used ≡ codes "numa used\n") × (why_line why.Off ≡ codes "numa off\n")
     × (why_line why.Absent ≡ codes "numa absent\n")
     × (why_line why.NoBlocks ≡ codes "numa no blocks\n") × (why_line why.TooManyDomains ≡ codes "numa too many domains\n")
@@ -96,7 +96,7 @@ crash_examples : (low_line (Some low_part) ≡ codes "crash low 0x000000006f0000
 unfolding low_part digits above_4G
 crash_examples = (refl, refl, refl, refl, refl, refl, refl, refl)
 
--- sections
+-- the sections
 low_section : Placed
 low_section = record { section = 0; node = 1; map = 0x7A00000; usage = 0x7FDAFC0 }
 
@@ -109,7 +109,7 @@ section_examples : (roots_line 0x7FDC000 ≡ codes "roots 0x0000000007fdc000\n")
 unfolding digits low_section
 section_examples = (refl, refl, refl, refl, refl)
 
--- blocks and zones
+-- the blocks and the zones
 one_frame : Block
 one_frame = record { order = 0; first = 1; node = 0; zone = zone.Dma }
 

@@ -1,4 +1,4 @@
--- A great row in three parts, of which the middle one fills batches.
+-- Lemmas on a long row in three parts; the middle one consists of batches.
 use Rattle.std.proofs.Common.{◌≡◌, ℕ, ◌+◌, ◌-◌, ◌*◌, ◌/◌, ◌%◌, ◌^◌, ◌<◌, ◌≤◌, List, ◌++◌, ap, ◌∙◌, append_assoc, Result, Ok, Err, arith}
 use Rattle.std.specs.Prelude.{OnOk}
 use Rattle.bm_base.specs.declared.memory.Memory.{Memory}
@@ -9,14 +9,14 @@ use Rattle.stage_texts.specs.BlocksText.{ArePlaced, row_text}
 use Rattle.stage_texts.specs.Batches.{FillBatches}
 use Rattle.stage_texts.proofs.RowLaws.{first_placed, lines, lines_append, part, placed_before, placed_behind, row_end, three_parts}
 
--- how many blocks come before the first multiple of 4 GiB
+-- the number of blocks before the first multiple of 4 GiB
 abbrev pub before : ℕ → ℕ
 before x = (1048576 - x % 1048576) % 1048576 / 1024
 
 before_is : (x : ℕ) → x % 1024 ≡ 0 → (before x < 1024) × ((x + before x * 1024) % 1048576 ≡ 0)
 before_is x aligned = (omega arith, omega (arith, aligned))
 
--- the middle part with b blocks before it and e after it
+-- the middle part, with b blocks before it and e blocks after it
 pub record InParts (row : BlockRow) (b e : ℕ) : Type 0 where
   pub few : b + e < row.count
   pub end : row.first + row.count * 1024 ≤ 2 ^ 40

@@ -1,4 +1,4 @@
--- The lines of blocks that follow one another in rows, and where such blocks lie.
+-- Lemmas on the lines of consecutive blocks in rows, and on the bounds of such blocks.
 use Rattle.std.proofs.Common.{◌≡◌, ℕ, zero, suc, ◌+◌, ◌-◌, ◌*◌, ◌%◌, ◌^◌, ◌<◌, ◌≤◌, List, [], ◌∷◌, ◌++◌, length, drop, refl, sym, ap, ◌∙◌, append_assoc, drop-cons, get_or, length-append, arith, zero-add, suc-add, add-one}
 use Rattle.std.proofs.Math.Nat.{suc-mul, pow-le-pow_right}
 use Rattle.bm_base.specs.declared.zone.Zone.{Zone}
@@ -14,7 +14,7 @@ use Rattle.stage_texts.proofs.BlockLaws.{AreInBounds}
 abbrev pub lines : List Block → List ℕ
 lines bs = lines_from block_line 0 bs
 
--- no line has its index
+-- no line depends on its index
 lines_any : (i k : ℕ) (bs : List Block) → lines_from block_line i bs ≡ lines_from block_line k bs
 lines_any i k [] = refl
 lines_any i k (b ∷ bs) = ap (λ t. block_line 0 b ++ t) (lines_any (i + 1) (k + 1) bs)
@@ -41,7 +41,7 @@ unfolding row_from
 some_first o x n zero z some = absurd (omega arith)
 some_first o x n (suc k) z some = let less : suc k - 1 ≡ k = omega arith in rw less refl
 
--- a row has as many blocks as it says, and the rows that are left are one row and the others
+-- a row has the number of blocks that it states; the rows that are left are one row and the others
 row_length : (o x n k : ℕ) (z : Zone) → length (row_from o x n z k) ≡ k
 unfolding row_from
 row_length o x n zero z = refl
@@ -56,12 +56,12 @@ rows_left rs i d within =
     ap (λ (bs : List Block). length bs) whole ∙ length-append (blocks_of_row r) rest
     ∙ ap (λ n. n + length rest) (row_length r.order r.first r.node r.count r.zone)
 
--- blocks in bounds are placed
+-- blocks in bounds are aligned and below the limit
 pub bounds_placed : (bs : List Block) → AreInBounds bs → ArePlaced bs
 bounds_placed [] all = tt
 bounds_placed (b ∷ bs) all = (all.0.order, all.0.first, all.0.aligned, bounds_placed bs all.1)
 
--- those behind others are placed too, and so are those before them
+-- so are the blocks after others, and those before others
 pub placed_behind : (bs cs : List Block) → ArePlaced (bs ++ cs) → ArePlaced cs
 placed_behind [] cs all = all
 placed_behind (b ∷ bs) cs all = placed_behind bs cs all.3
@@ -70,14 +70,14 @@ pub placed_before : (bs cs : List Block) → ArePlaced (bs ++ cs) → ArePlaced 
 placed_before [] cs all = tt
 placed_before (b ∷ bs) cs all = (all.0, all.1, all.2, placed_before bs cs all.3)
 
--- the first of some blocks in a row, and those behind it
+-- the first of the blocks in a row, and those after it
 pub first_placed : (o x n k : ℕ) (z : Zone) → ArePlaced (row_from o x n z k) → 0 < k → (o ≤ 10) × (x < 2 ^ 40) × (x % 2 ^ o ≡ 0)
 first_placed o x n k z all some = let parts = rw (some_first o x n k z some) at all in (parts.0, parts.1, parts.2)
 
 pub rest_placed : (o x n k : ℕ) (z : Zone) → ArePlaced (row_from o x n z k) → 0 < k → ArePlaced (row_from o (x + 2 ^ o) n z (k - 1))
 rest_placed o x n k z all some = (rw (some_first o x n k z some) at all).3
 
--- the line of the first of them and those of the others, and none left
+-- the line of the first of them, and those of the others; and no block is left
 pub next_line : (o x n k y : ℕ) (z : Zone) → 0 < k → y ≡ x + 2 ^ o
     → lines (row_from o x n z k) ≡ block_line 0 (record { order = o; first = x; node = n; zone = z }) ++ lines (row_from o y n z (k - 1))
 next_line o x n k y z some next = rw (some_first o x n k z some, lines_any 1 0 (row_from o (x + 2 ^ o) n z (k - 1)), next) refl
@@ -89,7 +89,7 @@ no_lines o x n k z none = rw none refl
 pub none_more : (o x n k : ℕ) (z : Zone) (text whole : List ℕ) → k ≡ 0 → text ++ lines (row_from o x n z k) ≡ whole → text ≡ whole
 none_more o x n k z text whole none so_far = text_end text _ whole (no_lines o x n k z none) so_far
 
--- blocks of the greatest order that end by 2^40
+-- blocks of the largest order that end at or below 2^40
 pub row_low : (k x n : ℕ) (z : Zone) → x % 1024 ≡ 0 → x + k * 1024 ≤ 2 ^ 40 → ArePlaced (row_from 10 x n z k)
 unfolding row_from
 row_low zero x n z aligned low = tt
@@ -97,7 +97,7 @@ row_low (suc k) x n z aligned low =
     let sum = suc-mul k 1024 in
     (omega arith, omega (arith, sum, low), aligned, row_low k (x + 2 ^ 10) n z (omega (arith, aligned)) (omega (arith, sum, low)))
 
--- and they do end there
+-- blocks of the largest order within the limit end at or below 2^40
 pub row_end : (k x n : ℕ) (z : Zone) → ArePlaced (row_from 10 x n z k) → 0 < k → x + k * 1024 ≤ 2 ^ 40
 unfolding row_from
 row_end zero x n z all some = absurd (omega (arith, some))
@@ -107,7 +107,7 @@ row_end (suc (suc k)) x n z all some =
     let sum = suc-mul (suc k) 1024 in
     omega (arith, rest, sum)
 
--- so many blocks of such a row, from the given one on
+-- this number of blocks of such a row, after those that are skipped
 abbrev pub part : BlockRow → ℕ → ℕ → BlockRow
 part row skipped count = record row { first = row.first + skipped * 1024; count = count }
 
@@ -138,7 +138,7 @@ row_put rs i d before after whole within put so_far =
     let first : drop i rs ≡ r ∷ drop (i + 1) rs = rw add-one (drop-cons rs i d within) in
     rw (put, append_assoc before (lines (blocks_of_row r)) (lines rest), ← lines_append (blocks_of_row r) rest) (rw first at so_far)
 
--- the frames of a block as code says them
+-- the number of frames in a block, in the terms of the code
 pub size_is : (o : ℕ) → o ≤ 10 → (1 * 2 ^ o % 18446744073709551616 ≡ 2 ^ o) × (2 ^ o ≤ 1024)
 size_is o small =
     let few : 2 ^ o ≤ 2 ^ 10 = pow-le-pow_right {n = 2} (omega arith) small in (omega (arith, few), omega (arith, few))

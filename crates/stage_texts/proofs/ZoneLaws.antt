@@ -1,4 +1,4 @@
--- How many frames the blocks of a node and a zone have, order by order.
+-- Lemmas on the number of frames in the blocks of a node and a zone, order by order.
 use Rattle.std.proofs.Common.{◌≡◌, ℕ, suc, ◌+◌, ◌-◌, ◌*◌, ◌%◌, ◌^◌, ◌<◌, ◌≤◌, ◌==◌, Bool, ◌&&◌, cond, List, [], ◌∷◌, length, ◌++◌, codes, refl, arith}
 use Rattle.std.specs.Prelude.{nat_lt}
 use Rattle.std.specs.List.{count_by, filter, flat_map, range_with_len, sum_by}
@@ -13,7 +13,7 @@ use Rattle.frame_blocks.specs.Listed.{blocks_of, count_of, is_of, same_zone}
 use Rattle.stage_texts.specs.ZonesText.{count_text, frames_there, is_there}
 use Rattle.stage_texts.proofs.BlockLaws.{AreInBounds, listed_few, listed_in_bounds}
 
--- how many frames the blocks of the node and the zone have whose order is below m
+-- the number of frames in the blocks of the node and the zone with orders below m
 abbrev pub frames_below : ℕ → Zone → ℕ → List Block → ℕ
 frames_below node z m [] = 0
 frames_below node z m (b ∷ bs) = cond (is_there node z b && nat_lt b.order m) (2 ^ b.order) 0 + frames_below node z m bs
@@ -46,14 +46,14 @@ all_below node z (b ∷ bs) all =
     let total = sum_by-cons (λ (c : Block). 2 ^ c.order) b (filter (is_there node z) bs) in
     grind (arith, nat_tests, low, total, all_below node z bs all.1)
 
--- none has more than 1,024 frames
+-- no block has more than 1,024 frames
 few_below : (node : ℕ) (z : Zone) (m : ℕ) (bs : List Block) → AreInBounds bs → frames_below node z m bs ≤ 1024 * length bs
 few_below node z m [] all = omega arith
 few_below node z m (b ∷ bs) all =
     let power : 2 ^ b.order ≤ 2 ^ 10 = pow_mono all.0.order in
     grind (arith, power, few_below node z m bs all.1)
 
--- and so of the listed blocks
+-- the same for the listed blocks
 pub next_count : (f : Frames) (node : ℕ) (z : Zone) (m : ℕ)
     → frames_below node z (m + 1) (blocks_of f) ≡ frames_below node z m (blocks_of f) + count_of f node z m * 2 ^ m
 unfolding count_of
@@ -69,7 +69,7 @@ counted_few f node z m =
     let length = listed_few f in
     omega (arith, few, length)
 
--- the sum with one more order fits, and is that of one more
+-- the sum with one more order fits into 64 bits
 pub next_frames : (f : Frames) (node : ℕ) (z : Zone) (m frames count : ℕ) → frames ≡ frames_below node z m (blocks_of f)
     → count ≡ count_of f node z m → frames + count * 2 ^ m % 2 ^ 64 ≡ frames_below node z (m + 1) (blocks_of f)
 next_frames f node z m frames count so_far is =

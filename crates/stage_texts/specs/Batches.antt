@@ -1,5 +1,6 @@
--- A batch is the lines of the 1,024 blocks of the greatest order that lie in 4 GiB, at a multiple of that. The last eight digits of their
--- addresses are the same in each batch, and the eight before them are the same in each line of one.
+-- A batch is the lines of the 1,024 blocks of the largest order in 4 GiB, at a multiple of 4 GiB.
+-- The last eight digits of their addresses are the same in each batch. The eight digits before
+-- them are the same in each line of one batch.
 use Rattle.std.specs.Prelude.{◌≡◌, ℕ, zero, suc, ◌+◌, ◌*◌, ◌%◌, ◌^◌, ◌≤◌, List, [], ◌++◌, drop, codes}
 use Rattle.bm_base.specs.Text.{hex_text}
 use Rattle.frame_blocks.specs.declared.block.BlockRow.{BlockRow}
@@ -9,19 +10,19 @@ use Rattle.frame_blocks.specs.Rows.{row_from}
 use Rattle.report_texts.specs.Lines.{lines_from}
 use Rattle.stage_texts.specs.BlocksText.{block_line}
 
--- the last eight digits of a number
+-- the last eight hexadecimal digits of a number
 abbrev pub last_digits : ℕ → List ℕ
 last_digits n = drop 10 (hex_text n)
 
--- those of the address of the j-th block of such memory, and the end of its line
+-- the last eight digits of the address of block j in such 4 GiB, and the end of its line
 abbrev pub low_digits : ℕ → List ℕ
 low_digits j = last_digits (j * 2 ^ 22) ++ codes "\n"
 
--- its line, by what comes before the digits and by the higher ones
+-- the line of that block, from the text before the address's digits and its higher digits
 abbrev pub batch_line : List ℕ → List ℕ → ℕ → List ℕ
 batch_line front digits j = front ++ (digits ++ low_digits j)
 
--- n lines from the j-th on
+-- n lines from that of block j on
 unfoldable pub batch_from : List ℕ → List ℕ → ℕ → ℕ → List ℕ
 batch_from front digits j zero = []
 batch_from front digits j (suc n) = batch_line front digits j ++ batch_from front digits (j + 1) n
@@ -30,13 +31,14 @@ batch_from front digits j (suc n) = batch_line front digits j ++ batch_from fron
 abbrev pub batch_text : List ℕ → List ℕ → List ℕ
 batch_text front digits = batch_from front digits 0 1024
 
--- the blocks of the row are of the greatest order, and lie from a multiple of 4 GiB to another; all their frames have addresses
+-- the blocks of the row are of the largest order, begin and end at multiples of 4 GiB, and all
+-- their frames are below the limit
 pub record FillBatches (row : BlockRow) : Type 0 where
   pub order : row.order ≡ MAX_ORDER
   pub first : row.first % 2 ^ 20 ≡ 0
   pub count : row.count % 1024 ≡ 0
   pub end : row.first + row.count * 1024 ≤ MAX_FRAMES
 
--- the lines of 1,024 of them, from the first on
+-- the lines of the first 1,024 blocks of the row
 abbrev pub first_batch : BlockRow → List ℕ
 first_batch row = lines_from block_line 0 (row_from row.order row.first row.node row.zone 1024)

@@ -12,21 +12,23 @@ use Rattle.frame_blocks.specs.Rows.{blocks_of_row}
 use Rattle.report_texts.specs.Lines.{lines_from}
 use Rattle.stage_texts.specs.ZonesText.{zone_name}
 
--- the line of a block: its node, its zone, its order, and the address of its first byte; the index isn't in it
+-- the line of a block: its node, its zone, its order, and the address of its first byte; it
+-- doesn't have the index
 abbrev pub block_line : ℕ → Block → List ℕ
 block_line n b =
     codes "node " ++ decimal b.node ++ codes " zone " ++ zone_name b.zone ++ codes " order " ++ decimal b.order ++ codes " "
     ++ hex_text (bytes_of_frame b.first).base ++ codes "\n"
 
--- all blocks, ascending, by the frames that are free
+-- all blocks of these free frames, in ascending order
 abbrev pub blocks_text : Frames → List ℕ
 blocks_text f = lines_from block_line 0 (blocks_of f)
 
--- those of a row
+-- the lines of a row
 abbrev pub row_text : BlockRow → List ℕ
 row_text row = lines_from block_line 0 (blocks_of_row row)
 
--- each block is of an order up to 10, its first frame has an address, and the number of that is a multiple of how many it has
+-- each block has an order up to 10; its first frame is below the limit, and a multiple of the
+-- number of its frames
 abbrev pub ArePlaced : List Block → Type 0
 ArePlaced [] = Unit {0}
 ArePlaced (b ∷ bs) = (b.order ≤ MAX_ORDER) × (b.first < MAX_FRAMES) × (b.first % 2 ^ b.order ≡ 0) × ArePlaced bs

@@ -1,4 +1,5 @@
--- Whether distances are used, and the list of each node, as lines. The words are this project's own.
+-- Whether distances are used, and the zone list of each node, as lines. The words are this
+-- project's own.
 use Rattle.std.specs.Prelude.{ℕ, List, ◌++◌, codes, decimal}
 use Rattle.std.specs.List.{flat_map}
 use Rattle.slit_zonelists.specs.declared.entry.ListZone.{ListZone}
@@ -8,7 +9,7 @@ use Rattle.slit_zonelists.specs.Lists.{Known, nodes_of, used_of, zones_of}
 use Rattle.report_texts.specs.Lines.{lines_from}
 use Rattle.stage_texts.specs.ZonesText.{zone_name}
 
--- whether the distances of the SLIT are used, and why not
+-- whether the distances of the SLIT are used, and the reason if they aren't
 abbrev pub use_text : SlitUse → List ℕ
 use_text uses.Used = codes "used"
 use_text uses.Absent = codes "absent"
@@ -22,10 +23,10 @@ use_line used = codes "slit " ++ use_text used ++ codes "\n"
 abbrev pub entry_text : ListZone → List ℕ
 entry_text z = codes " " ++ decimal z.node ++ codes "/" ++ zone_name z.zone
 
--- the line of a node: the zones in the order of its list; the index isn't in it
+-- the line of a node: the zones in the order of its list; it doesn't have the index
 abbrev pub list_line : Known → ℕ → ℕ → List ℕ
 list_line k n node = codes "Node " ++ decimal node ++ codes ":" ++ flat_map entry_text (zones_of k node) ++ codes "\n"
 
--- the use, and a line for each node that has memory
+-- whether the SLIT is used, and a line for each node that has memory
 abbrev pub zonelists_text : Known → List ℕ
 zonelists_text k = use_line (used_of k) ++ lines_from (list_line k) 0 (nodes_of k.zones)

@@ -1,4 +1,4 @@
--- What came of the lines of a page script, as lines. The words are this project's own.
+-- The outcomes of the lines of a page script, as lines. The words are this project's own.
 use Rattle.std.specs.Prelude.{ℕ, List, ◌++◌, codes, decimal}
 use Rattle.bm_base.specs.Text.{hex_text}
 use Rattle.page_alloc.specs.declared.outcome.PageAnswer.{PageAnswer}
@@ -6,7 +6,7 @@ use Rattle.page_alloc.specs.declared.outcome.PageOutcome.{PageOutcome}
 use Rattle.page_alloc.specs.declared.outcome.PageOutcome.TheVariants as outcomes
 use Rattle.report_texts.specs.Lines.{lines_from}
 
--- what came of a line
+-- the outcome of a line
 abbrev pub page_text : PageOutcome → List ℕ
 page_text (outcomes.At address) = codes "at " ++ hex_text address
 page_text outcomes.Done = codes "done"
@@ -14,7 +14,8 @@ page_text outcomes.NoBlock = codes "no block"
 page_text outcomes.Taken = codes "taken"
 page_text outcomes.Unknown = codes "unknown"
 
--- the line of an answer: the number of the script's line, and what came of it; the index isn't in it
+-- the line of an outcome: the number of the line in the script, and the outcome; it doesn't have
+-- the index
 abbrev pub page_line : ℕ → PageAnswer → List ℕ
 page_line n answer = decimal answer.line ++ codes ": " ++ page_text answer.outcome ++ codes "\n"
 

@@ -1,4 +1,4 @@
--- What came of the lines of the early script, as lines. The words are this project's own.
+-- The outcomes of the lines of the early script, as lines. The words are this project's own.
 use Rattle.std.specs.Prelude.{ℕ, List, ◌++◌, codes, decimal}
 use Rattle.hex.specs.Hex.{encode_lower}
 use Rattle.bm_base.specs.Text.{hex_text}
@@ -8,7 +8,7 @@ use Rattle.early_script.specs.declared.outcome.Outcome.TheVariants as outcomes
 use Rattle.report_texts.specs.Lines.{lines_from}
 use Rattle.report_texts.specs.OwnersText.{which_name}
 
--- what came of a line; bytes are told as two lower-case hexadecimal digits each
+-- the outcome of a line; bytes are written as two lower-case hexadecimal digits each
 abbrev pub outcome_text : Outcome → List ℕ
 outcome_text (outcomes.At address) = codes "at " ++ hex_text address
 outcome_text outcomes.Done = codes "done"
@@ -22,7 +22,8 @@ outcome_text outcomes.TableInUse = codes "table in use"
 outcome_text outcomes.TooLargeKeep = codes "keep too large"
 outcome_text outcomes.TooLargeFill = codes "fill too large"
 
--- the line of an answer: the number of the script's line, and what came of it; the index isn't in it
+-- the line of an outcome: the number of the line in the script, and the outcome; it doesn't have
+-- the index
 abbrev pub answer_line : ℕ → Answer → List ℕ
 answer_line n answer = decimal answer.line ++ codes ": " ++ outcome_text answer.outcome ++ codes "\n"
 

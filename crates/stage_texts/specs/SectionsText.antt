@@ -1,5 +1,6 @@
--- The places of the sections, as lines of this project's own: the table of roots (`mem_section`), each root, and of each section
--- with memory its page structures and its usage data (`sparse_init_nid`).
+-- Where the data of the sections are, as lines of this project's own: the table of roots
+-- (`mem_section`), each root, and the page structures and the usage data of each section with
+-- memory (`sparse_init_nid`).
 use Rattle.std.specs.Prelude.{ℕ, List, ◌++◌, codes, decimal}
 use Rattle.bm_base.specs.Text.{hex_text}
 use Rattle.sparse_sections.specs.declared.roots.RootPlace.{RootPlace}
@@ -11,11 +12,11 @@ use Rattle.report_texts.specs.Lines.{lines_from}
 abbrev pub roots_line : ℕ → List ℕ
 roots_line table = codes "roots " ++ hex_text table ++ codes "\n"
 
--- the line of a root; the index isn't in it
+-- the line of a root; it doesn't have the index
 abbrev pub root_line : ℕ → RootPlace → List ℕ
 root_line n root = codes "root " ++ decimal root.number ++ codes " " ++ hex_text root.place ++ codes "\n"
 
--- the line of a section; the index isn't in it
+-- the line of a section; it doesn't have the index
 abbrev pub section_line : ℕ → Placed → List ℕ
 section_line n s =
     codes "section " ++ decimal s.section ++ codes " node " ++ decimal s.node ++ codes " map " ++ hex_text s.map ++ codes " usage "

@@ -1,4 +1,4 @@
--- How much there is of everything at the end of a boot, as lines of this project's own.
+-- The totals at the end of a boot, as lines of this project's own.
 use Rattle.std.specs.Prelude.{ℕ, List, ◌++◌, codes, decimal}
 use Rattle.memblock_model.specs.declared.which.Which.{Which}
 use Rattle.memblock_model.specs.declared.which.Which.TheVariants as which
@@ -6,11 +6,11 @@ use Rattle.report_texts.specs.OwnersText.{which_name}
 use Rattle.stage_texts.specs.declared.summary.Fullness.{Fullness}
 use Rattle.stage_texts.specs.declared.summary.Summary.{Summary}
 
--- the line of a word and a number
+-- a line with a word and a number
 abbrev pub number_line : List ℕ → ℕ → List ℕ
 number_line word n = word ++ decimal n ++ codes "\n"
 
--- the line of a table: its records, and for how many it has room
+-- the line of a table: its records, and the number of records that it has room for
 abbrev pub fullness_line : Which → Fullness → List ℕ
 fullness_line w full = which_name w ++ codes " records " ++ decimal full.records ++ codes " room " ++ decimal full.room ++ codes "\n"
 

@@ -1,5 +1,5 @@
--- The zones of each node, as lines: what the memory spans, in this project's own form, and how many free blocks of each order there
--- are, in the form of `/proc/buddyinfo` (`frag_show_print`).
+-- The zones of each node, as lines: the frames that they span, in this project's own format, and
+-- the number of free blocks of each order, in the format of `/proc/buddyinfo` (`frag_show_print`).
 use Rattle.std.specs.Prelude.{ℕ, ◌+◌, ◌-◌, ◌^◌, ◌==◌, Bool, ◌&&◌, List, ◌++◌, length, replicate, codes, decimal}
 use Rattle.std.specs.List.{count_by, filter, flat_map, range_with_len, sum_by}
 use Rattle.bm_base.specs.Text.{padded_decimal}
@@ -18,38 +18,40 @@ zone_name zone.Dma = codes "DMA"
 zone_name zone.Dma32 = codes "DMA32"
 zone_name zone.Normal = codes "Normal"
 
--- and right-aligned with spaces in eight places (`%8s`)
+-- the name, right-aligned in eight columns (`%8s`)
 abbrev pub padded_zone : Zone → List ℕ
 padded_zone z = replicate (8 - length (zone_name z)) 32 ++ zone_name z
 
--- whether the block is of the node and in the zone
+-- the block is on the node and in the zone
 abbrev pub is_there : ℕ → Zone → Block → Bool
 is_there node z b = (b.node == node) && same_zone b.zone z
 
--- how many frames all these blocks have that are of the node and in the zone: a block of an order has 2^order
+-- the number of frames in those of the blocks that are on the node and in the zone; a block has
+-- 2^order frames
 unfoldable pub frames_there : ℕ → Zone → List Block → ℕ
 frames_there node z blocks = sum_by (λ b. 2 ^ b.order) (filter (is_there node z) blocks)
 
--- the line of a span: its first frame, the one behind its last, how many there are, and how many of them the free blocks have; the
--- index isn't in it
+-- the line of a span: its first frame, the one after its last, the number of its frames, and how
+-- many of them are in free blocks; it doesn't have the index
 abbrev pub zone_line : List Block → ℕ → Span → List ℕ
 zone_line blocks n s =
     codes "Node " ++ decimal s.node ++ codes ", zone " ++ zone_name s.zone ++ codes " start " ++ decimal s.start ++ codes " end "
     ++ decimal s.end ++ codes " present " ++ decimal s.present ++ codes " free " ++ decimal (frames_there s.node s.zone blocks)
     ++ codes "\n"
 
--- the spans, by the frames that are free
+-- the lines of the spans, for these free frames
 abbrev pub zones_text : Frames → List Span → List ℕ
 zones_text f spans = lines_from (zone_line (blocks_of f)) 0 spans
 
--- how many of these blocks are of the node, in the zone and of the order, right-aligned in six places, and a space (`%6lu `)
+-- how many of the blocks are on the node, in the zone and of the order, right-aligned in six
+-- columns, and a space (`%6lu `)
 abbrev pub count_text : List Block → ℕ → Zone → ℕ → List ℕ
 count_text blocks node z order = padded_decimal 6 (count_by (is_of node z order) blocks) ++ codes " "
 
 unfoldable pub counts_text : List Block → ℕ → Zone → List ℕ
 counts_text blocks node z = flat_map (count_text blocks node z) (range_with_len 0 (MAX_ORDER + 1))
 
--- the line of a span: the number of blocks of each order, from 0 on; the index isn't in it
+-- the line of a span: the number of blocks of each order, from 0 on; it doesn't have the index
 unfoldable pub buddy_line : List Block → ℕ → Span → List ℕ
 buddy_line blocks n s =
     codes "Node " ++ decimal s.node ++ codes ", zone " ++ padded_zone s.zone ++ codes " "

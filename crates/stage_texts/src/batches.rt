@@ -1,9 +1,9 @@
-//! The lines of great rows of blocks, batch by batch.
+//! Writes the lines of long rows of blocks, in batches.
 //!
-//! A row of blocks of the greatest order may have millions, and their lines differ in the address
-//! alone. A batch is the lines of the 1,024 of them that lie in 4 GiB: from one batch to the next
-//! only eight digits of each line change. So the lines of the first 4 GiB are made one by one, and
-//! copied for each next 4 GiB with those digits written anew.
+//! A row of blocks of the largest order may have millions of them, and their lines differ only in
+//! the address. A batch is the lines of the 1,024 blocks in 4 GiB; from one batch to the next only
+//! eight digits of each line change. So the lines of the first 4 GiB are written one by one. For
+//! each further 4 GiB they are copied, with these digits replaced.
 
 ghost use Rattle.std.specs.Prelude.{◌≡◌, ℕ, List, ◌*◌, ◌%◌, ◌^◌, ◌<◌, ◌≤◌, ◌++◌, IfOk, OnOk, false, length};
 ghost use Rattle.std.specs.Fmt.{digit_glyph};
@@ -15,14 +15,18 @@ use bm_base::{Memory, put_text};
 use buddy_handover::{BlockRow, MAX_ORDER};
 use std::alloc::Global;
 
-/// How many blocks of the greatest order lie in 4 GiB.
+/// The number of blocks of the largest order in 4 GiB.
 pub(crate) const BATCH_BLOCKS: u64 = 1024;
 
-/// How many frames those have.
+/// The number of frames in these blocks.
 pub(crate) const BATCH_FRAMES: u64 = BATCH_BLOCKS << MAX_ORDER;
 
-/// Appends the line of each block of a row that fills 4 GiB or a multiple of it. Takes memory for
-/// the lines of 4 GiB besides the text's own, some 48 KB.
+/// Appends the line of each block of a row that fills 4 GiB or a multiple of it. Also allocates
+/// memory for the lines of 4 GiB, about 48 KB.
+///
+/// # Errors
+///
+/// - `Memory`: the program ran out of memory; the text is incomplete.
 pub(crate) fn put_batches(text: &mut Vec<u8>, row: &BlockRow) -> Result<(), Memory>
     requires fill { FillBatches row.now }
     requires some { 0 < row.now.count }
@@ -41,6 +45,10 @@ pub(crate) fn put_batches(text: &mut Vec<u8>, row: &BlockRow) -> Result<(), Memo
 }
 
 /// Returns the lines of the first 4 GiB of a row.
+///
+/// # Errors
+///
+/// - `Memory`: the program ran out of memory.
 fn first_lines(alloc: Global, row: &BlockRow) -> Result<Vec<u8>, Memory>
     requires fill { FillBatches row.now }
     requires some { 0 < row.now.count }
@@ -55,7 +63,7 @@ fn first_lines(alloc: Global, row: &BlockRow) -> Result<Vec<u8>, Memory>
     Ok(lines)
 }
 
-/// Turns the lines of one 4 GiB into those of the numbered one, 0 being the lowest.
+/// Changes the lines of a batch to those of the 4 GiB with this number; the lowest has number 0.
 fn set_number(batch: &mut Vec<u8>, number: u64)
     requires small { number < 2 ^ 32 }
     requires whole { length batch.old.items % 1024 ≡ 0 }
@@ -66,7 +74,7 @@ fn set_number(batch: &mut Vec<u8>, number: u64)
     renumber(batch, &digits_of(number));
 }
 
-/// Overwrites the eight higher digits of each line of a batch.
+/// Overwrites the eight higher digits of the address in each line of a batch.
 fn renumber(batch: &mut [u8], digits: &[u8; 8])
     requires whole { length batch.old % 1024 ≡ 0 }
     requires long { 17 * 1024 ≤ length batch.old }
@@ -80,7 +88,7 @@ fn renumber(batch: &mut [u8], digits: &[u8; 8])
     }
 }
 
-/// Returns the last eight hexadecimal digits of a number that has no more.
+/// Returns the eight hexadecimal digits of a number below 2^32.
 fn digits_of(number: u64) -> [u8; 8]
     requires { number < 2 ^ 32 }
     ensures { result ≡ last_digits number }

@@ -1,8 +1,8 @@
-//! The text of the blocks: each of them, where it lies and how large it is.
+//! Writes the free blocks: where each is, and how large.
 //!
-//! There may be millions, nearly all of the greatest order and next to each other. Room for the
-//! whole text is taken once. The lines of great rows are put batch by batch ([`put_batches`]); the
-//! others, and those at the ends of great rows, one by one.
+//! There may be millions of them, nearly all of the largest order and next to each other. The room
+//! for the whole text is allocated once. The lines of long rows are written in batches
+//! ([`put_batches`]). The other lines, and those at the ends of long rows, are written one by one.
 
 ghost use Rattle.std.specs.Prelude.{◌≡◌, ◌+◌, ◌*◌, ◌^◌, ◌<◌, ◌≤◌, ◌++◌, OnOk, length};
 ghost use Rattle.bm_base.specs.PutsText.{PutsText};
@@ -18,11 +18,16 @@ use crate::zones::zone_name;
 use bm_base::{FRAME_SIZE, Memory, put_text};
 use buddy_handover::{Block, BlockRow, Buddy, MAX_ORDER};
 
-/// A line has no more bytes: `node 4294967295 zone Normal order 10 0x0123456789abcdef` and its end.
+/// The largest number of bytes in a line: `node 4294967295 zone Normal order 10
+/// 0x0123456789abcdef` and a newline.
 const LONGEST_LINE: usize = 56;
 
-/// Appends the text of the free blocks: a line for each, ascending. Takes the memory of the whole
+/// Appends the free blocks: a line for each, in ascending order. Allocates the room for the whole
 /// text at once.
+///
+/// # Errors
+///
+/// - `Memory`: the program ran out of memory; the text is incomplete.
 pub fn put_blocks(text: &mut Vec<u8>, buddy: &Buddy) -> Result<(), Memory>
     ensures { OnOk result (text.new.items ≡ text.old.items ++ blocks_text (free buddy.now)) }
 {
@@ -66,8 +71,8 @@ fn put_row(text: &mut Vec<u8>, row: &BlockRow) -> Result<(), Memory>
     put_each(text, row)
 }
 
-/// Appends the line of each block of a row of the greatest order: batch by batch from the first
-/// multiple of 4 GiB to the last, and one by one before and after.
+/// Appends the line of each block of a row of the largest order. The lines from the first multiple
+/// of 4 GiB to the last are written in batches, those before and after one by one.
 fn put_great_row(text: &mut Vec<u8>, row: &BlockRow) -> Result<(), Memory>
     requires great { row.now.order ≡ MAX_ORDER }
     requires many { 2 * 1024 ≤ row.now.count }
@@ -81,7 +86,7 @@ fn put_great_row(text: &mut Vec<u8>, row: &BlockRow) -> Result<(), Memory>
     put_each(text, &part_of(row, row.count - after, after))
 }
 
-/// Returns so many blocks of a row of the greatest order, from the given one on.
+/// Returns `count` blocks of a row of the largest order, after the first `skipped`.
 fn part_of(row: &BlockRow, skipped: u64, count: u64) -> BlockRow
     requires { row.now.first + skipped * 1024 ≤ MAX_FRAMES }
     ensures { result ≡ record row.now { first = row.now.first + skipped * 1024; count = count } }
@@ -116,7 +121,7 @@ pub(crate) fn put_each(text: &mut Vec<u8>, row: &BlockRow) -> Result<(), Memory>
     Ok(())
 }
 
-/// Appends the line of a block, whose frames have addresses.
+/// Appends the line of a block. Its first frame must be below `MAX_FRAMES`.
 fn put_block_line(text: &mut Vec<u8>, block: &Block) -> Result<(), Memory>
     requires { block.now.first < MAX_FRAMES }
     ensures { PutsText text.old text.new result (block_line 0 block.now) }

@@ -1,5 +1,5 @@
-//! The text of the crash area: where it lies, or why it doesn't. A boot goes on without the area, so no stop tells
-//! that reason: this text alone does.
+//! Writes the crash area: where it is, or why there is none. A boot continues without the area, so
+//! only this report has the reason.
 
 ghost use Rattle.bm_base.specs.PutsText.{PutsText};
 ghost use Rattle.stage_texts.specs.CrashText.{crash_text, low_line};
@@ -8,7 +8,11 @@ use bm_base::{Memory, Range, put_text};
 use crash_kernel::Crash;
 use report_texts::put_word_range;
 
-/// Appends the text of the crash area: one line, and a second one for the low part where there is one.
+/// Appends the crash area: one line, and a second one for the low part if there is one.
+///
+/// # Errors
+///
+/// - `Memory`: the program ran out of memory; the text is incomplete.
 pub fn put_crash(text: &mut Vec<u8>, crash: &Crash) -> Result<(), Memory>
     ensures { PutsText text.old text.new result (crash_text crash.now) }
 {

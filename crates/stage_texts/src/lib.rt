@@ -1,24 +1,28 @@
-//! The lines of the reports of later stages: what the stages behind the first claims, and the handover of
-//! free frames, are as text.
+//! Writes the reports on the later stages of a boot as text: the scripts, the nodes, the crash
+//! area, the sections, the zones and the free blocks.
 //!
-//! It is the sister of `report_texts`, which has the texts of what the boot can't do without, so that that
-//! crate stays low. The parts are the same: the definition of a line in `specs/`, which a reader compares
-//! with the page of the formats, the function that puts that line, and one call of `put_lines`. Ranges,
-//! owners' and tables' names and numbers are those of `report_texts` and `bm_base`.
+//! The sister crate `report_texts` has the reports that every boot needs. This crate depends on
+//! more of the boot, so that that crate needn't. Both have the same structure: the definition of a
+//! line in `specs/`, which can be compared with the documentation of the formats; the function
+//! that writes this line; and one call of `put_lines`. Each `put_` function appends the text of
+//! one report:
 //!
-//! A `put_` call appends the text of one part: [`put_script`] of what came of each line of the early script,
-//! [`put_nodes`] of the table of domains and the nodes that memory got, [`put_crash`] of the crash area,
-//! [`put_sections`] of the places that sections have, [`put_zones`], [`put_buddyinfo`] and [`put_blocks`] of
-//! the zones and the free blocks at the handover, [`put_pages`] of what came of each line of the page script,
-//! [`put_zonelists`] of the zones in the order in which a request near a node asks them, [`put_summary`] of how much there is
-//! of everything.
+//! - [`put_script`], [`put_pages`]: the outcome of each line of the early script, and of the page
+//!   script
+//! - [`put_nodes`]: whether the SRAT is used, and the nodes that memory got
+//! - [`put_crash`]: the crash area
+//! - [`put_sections`]: where the data of the memory sections are
+//! - [`put_zones`], [`put_buddyinfo`], [`put_blocks`]: the zones and the free blocks at the
+//!   handover
+//! - [`put_zonelists`]: the zones in the order in which a request on a node tries them
+//! - [`put_summary`]: the totals at the end of the boot
 //!
-//! The text of the blocks may have millions of lines: [`put_blocks`] takes the room for all of
-//! them at once.
-//!
-//! A call fails for want of memory alone, and only if the text's room is too small (`PutsText` of
-//! `bm_base`). [`put_blocks`] and [`put_zonelists`] alone take other memory, for lists. The text
-//! is then of no use, and whoever asked for it drops it.
+//! The layer above may rest on this: a `put_` call appends exactly the text of its definition. It
+//! fails only with `Memory`; the text is incomplete then, and the caller discards it. Except for
+//! [`put_blocks`] and [`put_zonelists`], which also allocate lists, a call fails only if the text
+//! has too little room (`PutsText` of `bm_base`). The text of the blocks may have millions of
+//! lines, so [`put_blocks`] allocates the room for all of them at once. In contracts, a name means
+//! the definition in `specs/`.
 #![tactic(auto)]
 
 mod batches;

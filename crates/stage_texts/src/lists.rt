@@ -1,5 +1,5 @@
-//! The text of the zone lists: whether the distances that the firmware tells are used, and in which order a request near a node asks the
-//! zones.
+//! Writes the zone lists: whether the firmware's distances are used, and in which order a request
+//! on a node tries the zones.
 
 ghost use Rattle.std.specs.Prelude.{◌≡◌, ◌++◌, OnOk};
 ghost use Rattle.std.specs.List.{flat_map};
@@ -13,8 +13,12 @@ use bm_base::{Memory, put_text};
 use report_texts::put_lines;
 use slit_zonelists::{ListZone, Lists, SlitUse};
 
-/// Appends the text of the zone lists: whether the SLIT is used, and a line for each node that has memory. The list of those nodes
-/// takes memory beside the text's, and so does the list of each node in its line.
+/// Appends the zone lists: whether the SLIT is used, and a line for each node that has memory.
+/// Also allocates the list of these nodes, and the list of each node.
+///
+/// # Errors
+///
+/// - `Memory`: the program ran out of memory; the text is incomplete.
 pub fn put_zonelists(text: &mut Vec<u8>, lists: &Lists) -> Result<(), Memory>
     ensures { OnOk result (text.new.items ≡ text.old.items ++ zonelists_text lists.now) }
 {
@@ -23,7 +27,7 @@ pub fn put_zonelists(text: &mut Vec<u8>, lists: &Lists) -> Result<(), Memory>
     put_list_lines(text, &nodes, lists)
 }
 
-/// Appends the line of each of the nodes, which takes memory beside the text's.
+/// Appends the line of each of these nodes. Also allocates the list of each node.
 fn put_list_lines(text: &mut Vec<u8>, nodes: &[u32], lists: &Lists) -> Result<(), Memory>
     ensures { OnOk result (text.new.items ≡ text.old.items ++ lines_from (list_line lists.now) 0 nodes.now) }
 {
@@ -32,7 +36,7 @@ fn put_list_lines(text: &mut Vec<u8>, nodes: &[u32], lists: &Lists) -> Result<()
     })
 }
 
-/// Appends the line of the use.
+/// Appends the line that says whether the SLIT is used.
 fn put_use_line(text: &mut Vec<u8>, used: SlitUse) -> Result<(), Memory>
     ensures { PutsText text.old text.new result (use_line used) }
 {
@@ -41,7 +45,7 @@ fn put_use_line(text: &mut Vec<u8>, used: SlitUse) -> Result<(), Memory>
     put_text(text, b"\n")
 }
 
-/// Appends whether the SLIT is used, and why not.
+/// Appends whether the SLIT is used, and the reason if it isn't.
 fn put_use(text: &mut Vec<u8>, used: SlitUse) -> Result<(), Memory>
     ensures { PutsText text.old text.new result (use_text used) }
 {
@@ -56,7 +60,7 @@ fn put_use(text: &mut Vec<u8>, used: SlitUse) -> Result<(), Memory>
     }
 }
 
-/// Appends the line of a node: its number, and the zones of its list, which is made anew and takes memory beside the text's.
+/// Appends the line of a node: its number, and the zones of its list. Also allocates that list.
 fn put_list_line(text: &mut Vec<u8>, index: u64, node: &u32, lists: &Lists) -> Result<(), Memory>
     ensures { OnOk result (text.new.items ≡ text.old.items ++ list_line lists.now index node.now) }
 {

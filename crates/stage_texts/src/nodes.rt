@@ -1,5 +1,6 @@
-//! The text of the nodes: why the table of domains is or isn't used, and which memory is of which node. The ranges
-//! are the Node items of the journal, in its own words (`put_item`), since what the stage answers has none.
+//! Writes the nodes: why the SRAT is or isn't used, and which memory is on which node. The ranges
+//! are the `Node` items of the journal, in its own words (`put_item`), since the result of the
+//! stage doesn't have them.
 
 ghost use Rattle.bm_base.specs.PutsText.{PutsText};
 ghost use Rattle.numa_nodes.specs.Assigned.{nodes_view};
@@ -11,8 +12,12 @@ use boot_journal::{Item, Journal};
 use numa_nodes::{Nodes, Why};
 use report_texts::{put_item, put_lines};
 
-/// Appends the text of the nodes: why the table of domains is or isn't used, the domain of each node, the
-/// frames that no block covers, and a line for each item of the journal that gives a range its node.
+/// Appends why the SRAT is or isn't used, the domain of each node, the number of frames that no
+/// block covers, and a line for each journal item that gives a range its node.
+///
+/// # Errors
+///
+/// - `Memory`: the program ran out of memory; the text is incomplete.
 pub fn put_nodes(text: &mut Vec<u8>, nodes: &Nodes, journal: &Journal) -> Result<(), Memory>
     ensures { PutsText text.old text.new result (nodes_text (nodes_view nodes.now) journal.now.items) }
 {
@@ -23,7 +28,7 @@ pub fn put_nodes(text: &mut Vec<u8>, nodes: &Nodes, journal: &Journal) -> Result
     Ok(())
 }
 
-/// Appends the line that says whether the table of domains is used, and why not.
+/// Appends the line that says whether the SRAT is used, and the reason if it isn't.
 fn put_why_line(text: &mut Vec<u8>, why: &Why) -> Result<(), Memory>
     ensures { PutsText text.old text.new result (why_line why.now) }
 {
@@ -51,7 +56,7 @@ fn put_why(text: &mut Vec<u8>, why: &Why) -> Result<(), Memory>
     }
 }
 
-/// Appends the line of a node, whose number is the index: its domain, and that number.
+/// Appends the line of a node: its domain, and its number, which is the index.
 fn put_domain_line(text: &mut Vec<u8>, index: u64, domain: &u32) -> Result<(), Memory>
     ensures { PutsText text.old text.new result (domain_line index domain.now) }
 {
@@ -60,7 +65,7 @@ fn put_domain_line(text: &mut Vec<u8>, index: u64, domain: &u32) -> Result<(), M
     put_text(text, b"\n")
 }
 
-/// Appends how many frames no block covers.
+/// Appends the number of frames that no block covers.
 fn put_uncovered_line(text: &mut Vec<u8>, frames: u64) -> Result<(), Memory>
     ensures { PutsText text.old text.new result (uncovered_line frames) }
 {

@@ -1,4 +1,4 @@
-//! The text of the page script: what came of each of its lines.
+//! Writes the outcome of each line of the page script.
 
 ghost use Rattle.bm_base.specs.PutsText.{PutsText};
 ghost use Rattle.stage_texts.specs.PagesText.{page_line, page_text, pages_text};
@@ -8,14 +8,18 @@ use bm_base::{Memory, put_dec, put_text};
 use page_alloc::{PageAnswer, PageOutcome};
 use report_texts::put_lines;
 
-/// Appends the text of the answers: a line for each, in their order.
+/// Appends the outcomes: a line for each, in their order.
+///
+/// # Errors
+///
+/// - `Memory`: the program ran out of memory; the text is incomplete.
 pub fn put_pages(text: &mut Vec<u8>, answers: &[PageAnswer]) -> Result<(), Memory>
     ensures { PutsText text.old text.new result (pages_text answers.now) }
 {
     put_lines(text, answers, put_page_line)
 }
 
-/// Appends the line of an answer: the number of the script's line, and what came of it.
+/// Appends the line of an outcome: the number of the line in the script, and the outcome.
 fn put_page_line(text: &mut Vec<u8>, index: u64, answer: &PageAnswer) -> Result<(), Memory>
     ensures { PutsText text.old text.new result (page_line index answer.now) }
 {
@@ -25,7 +29,7 @@ fn put_page_line(text: &mut Vec<u8>, index: u64, answer: &PageAnswer) -> Result<
     put_text(text, b"\n")
 }
 
-/// Appends what came of a line.
+/// Appends the outcome of a line.
 fn put_page_outcome(text: &mut Vec<u8>, outcome: PageOutcome) -> Result<(), Memory>
     ensures { PutsText text.old text.new result (page_text outcome) }
 {

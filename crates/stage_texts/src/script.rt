@@ -1,5 +1,5 @@
-//! The text of the early script: what came of each of its lines. A refused line stops no boot, so its refusal is
-//! told here, by the number that the line has in the script.
+//! Writes the outcome of each line of the early script. A line that is refused doesn't stop the
+//! boot, so its refusal is reported here, with the number of the line.
 
 ghost use Rattle.std.specs.Prelude.{◌≤◌, length};
 ghost use Rattle.bm_base.specs.PutsText.{PutsText};
@@ -12,17 +12,21 @@ use early_script::{Answer, Outcome};
 use memblock_model::Which;
 use report_texts::{put_lines, which_name};
 
-/// The most bytes that one line of the script tells.
+/// The largest number of bytes that a line of the script prints.
 const MOST_BYTES: usize = 64;
 
-/// Appends the text of the answers: a line for each, in their order.
+/// Appends the outcomes: a line for each, in their order.
+///
+/// # Errors
+///
+/// - `Memory`: the program ran out of memory; the text is incomplete.
 pub fn put_script(text: &mut Vec<u8>, answers: &[Answer]) -> Result<(), Memory>
     ensures { PutsText text.old text.new result (script_text answers.now) }
 {
     put_lines(text, answers, put_answer_line)
 }
 
-/// Appends the line of an answer: the number of the script's line, and what came of it.
+/// Appends the line of an outcome: the number of the line in the script, and the outcome.
 fn put_answer_line(text: &mut Vec<u8>, index: u64, answer: &Answer) -> Result<(), Memory>
     ensures { PutsText text.old text.new result (answer_line index answer.now) }
 {
@@ -32,7 +36,7 @@ fn put_answer_line(text: &mut Vec<u8>, index: u64, answer: &Answer) -> Result<()
     put_text(text, b"\n")
 }
 
-/// Appends what came of a line.
+/// Appends the outcome of a line.
 fn put_outcome(text: &mut Vec<u8>, outcome: &Outcome) -> Result<(), Memory>
     ensures { PutsText text.old text.new result (outcome_text outcome.now) }
 {
@@ -54,7 +58,7 @@ fn put_outcome(text: &mut Vec<u8>, outcome: &Outcome) -> Result<(), Memory>
     }
 }
 
-/// Appends which table found no place to grow to, and the room that was too small.
+/// Appends which table found no place to grow to, and its room, in records, which was too small.
 fn put_no_gap(text: &mut Vec<u8>, which: Which, room: u64) -> Result<(), Memory>
     ensures { PutsText text.old text.new result (outcome_text (Outcome.NoGapForTable which room)) }
 {
@@ -63,7 +67,8 @@ fn put_no_gap(text: &mut Vec<u8>, which: Which, room: u64) -> Result<(), Memory>
     put_word_dec(text, b" room ", room)
 }
 
-/// Appends bytes as two lower-case hexadecimal digits each. There are at most as many as a line tells.
+/// Appends bytes as two lower-case hexadecimal digits each. There are at most `MOST_BYTES` of
+/// them.
 fn put_bytes(text: &mut Vec<u8>, bytes: &[u8]) -> Result<(), Memory>
     requires { length bytes.now ≤ MOST_BYTES }
     ensures { PutsText text.old text.new result (encode_lower bytes.now) }

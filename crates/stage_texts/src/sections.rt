@@ -1,5 +1,5 @@
-//! The text of the sections: where the table of roots, the roots, and what belongs to each section lie. The roots
-//! are those of `sparse_sections`, the rest is of `section_maps`: here both come into one report.
+//! Writes the sections: where the table of roots, the roots, and the data of each section are. The
+//! roots come from `sparse_sections`, the rest from `section_maps`.
 
 ghost use Rattle.bm_base.specs.PutsText.{PutsText};
 ghost use Rattle.stage_texts.specs.SectionsText.{root_line, roots_text, section_line, sections_text};
@@ -10,8 +10,12 @@ use report_texts::put_lines;
 use section_maps::Placed;
 use sparse_sections::{RootPlace, Roots};
 
-/// Appends the text of the sections: a line for the table of roots, one for each root, and one for each
+/// Appends the sections: a line for the table of roots, one for each root, and one for each
 /// section with memory.
+///
+/// # Errors
+///
+/// - `Memory`: the program ran out of memory; the text is incomplete.
 pub fn put_sections(text: &mut Vec<u8>, roots: &Roots, placed: &[Placed]) -> Result<(), Memory>
     ensures { PutsText text.old text.new result
         (sections_text (record { table = roots.now.table; roots = roots.now.roots.items }) placed.now) }

@@ -1,5 +1,5 @@
-//! The text of the summary: how much there is of everything at the end of a boot. The numbers are counted above,
-//! where a whole boot is known (`debugfs_reports`); their record stands here, since the lines are defined over it.
+//! Writes the summary: the totals at the end of a boot. `debugfs_reports` counts them; the record
+//! of the numbers is here, since the lines are defined over it.
 
 ghost use Rattle.bm_base.specs.PutsText.{PutsText};
 ghost use Rattle.stage_texts.specs.SummaryText.{fullness_line, number_line, summary_text};
@@ -12,28 +12,32 @@ use report_texts::which_name;
 /// How full a table of memblock is.
 #[derive(Clone, Copy, Debug, PartialEq, Eq)]
 pub struct Fullness {
-    /// The number of its records.
+    /// The number of records that it has.
     pub records: u64,
-    /// For how many it has room.
+    /// The number of records that it has room for.
     pub room: u64,
 }
 
-/// How much there is of everything at the end of a boot.
+/// The totals at the end of a boot.
 #[derive(Clone, Copy, Debug, PartialEq, Eq)]
 pub struct Summary {
-    /// The runs of the map.
+    /// The number of runs of the map.
     pub runs: u64,
-    /// The usable frames.
+    /// The number of usable frames.
     pub usable: u64,
-    /// The frames in free blocks.
+    /// The number of frames in free blocks.
     pub free: u64,
     pub memory: Fullness,
     pub reserved: Fullness,
-    /// The free blocks.
+    /// The number of free blocks.
     pub blocks: u64,
 }
 
-/// Appends the text of the summary: six lines.
+/// Appends the summary: six lines.
+///
+/// # Errors
+///
+/// - `Memory`: the program ran out of memory; the text is incomplete.
 pub fn put_summary(text: &mut Vec<u8>, summary: &Summary) -> Result<(), Memory>
     ensures { PutsText text.old text.new result (summary_text summary.now) }
 {
@@ -45,7 +49,7 @@ pub fn put_summary(text: &mut Vec<u8>, summary: &Summary) -> Result<(), Memory>
     put_number_line(text, b"blocks ", summary.blocks)
 }
 
-/// Appends the line of a word and a number.
+/// Appends a line with a word and a number.
 fn put_number_line(text: &mut Vec<u8>, word: &[u8], number: u64) -> Result<(), Memory>
     ensures { PutsText text.old text.new result (number_line word.now number) }
 {

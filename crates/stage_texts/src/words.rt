@@ -1,5 +1,5 @@
-//! A word and what stands behind it, the same in every text. Most lines of this crate are a few such pairs, so a
-//! line is put by a call for each, in the order of its definition.
+//! Appends a word followed by a number or an address. Most lines of this crate consist of a few
+//! such pairs, so a line is written by one call for each.
 
 ghost use Rattle.std.specs.Prelude.{◌++◌, decimal};
 ghost use Rattle.bm_base.specs.PutsText.{PutsText};
@@ -7,7 +7,11 @@ ghost use Rattle.bm_base.specs.Text.{hex_text};
 
 use bm_base::{Memory, put_dec, put_hex, put_text};
 
-/// Appends a word and the number behind it.
+/// Appends a word and a number.
+///
+/// # Errors
+///
+/// - `Memory`: the program ran out of memory; the text is incomplete.
 pub fn put_word_dec(text: &mut Vec<u8>, word: &[u8], number: u64) -> Result<(), Memory>
     ensures { PutsText text.old text.new result (word.now ++ decimal number) }
 {
@@ -15,7 +19,11 @@ pub fn put_word_dec(text: &mut Vec<u8>, word: &[u8], number: u64) -> Result<(), 
     put_dec(text, number, 0)
 }
 
-/// Appends a word and the address behind it.
+/// Appends a word and an address.
+///
+/// # Errors
+///
+/// - `Memory`: the program ran out of memory; the text is incomplete.
 pub fn put_word_hex(text: &mut Vec<u8>, word: &[u8], address: u64) -> Result<(), Memory>
     ensures { PutsText text.old text.new result (word.now ++ hex_text address) }
 {

@@ -1,5 +1,6 @@
-//! The texts of the zones: what the memory of each node spans, and how many free blocks there are. Both have a
-//! line for each span, and count where the free frames are (`Buddy::count`), without a list of blocks.
+//! Writes the zones: the range of frames of each node and zone, and the number of free blocks.
+//! Both reports have a line for each span. They count in the free frames (`Buddy::count`), without
+//! a list of blocks.
 
 ghost use Rattle.std.specs.Prelude.{◌≡◌, ◌++◌, codes, decimal};
 ghost use Rattle.bm_base.specs.PutsText.{PutsText};
@@ -14,7 +15,11 @@ use buddy_handover::{Buddy, MAX_ORDER};
 use report_texts::put_lines;
 use zone_spans::Span;
 
-/// Appends the text of the zones: a line for each span, with the frames of it that are free.
+/// Appends the zones: a line for each span, with the number of its frames that are free.
+///
+/// # Errors
+///
+/// - `Memory`: the program ran out of memory; the text is incomplete.
 pub fn put_zones(text: &mut Vec<u8>, spans: &[Span], buddy: &Buddy) -> Result<(), Memory>
     ensures { PutsText text.old text.new result (zones_text (free buddy.now) spans.now) }
 {
@@ -23,7 +28,12 @@ pub fn put_zones(text: &mut Vec<u8>, spans: &[Span], buddy: &Buddy) -> Result<()
     })
 }
 
-/// Appends the numbers of free blocks by order (`/proc/buddyinfo`): a line for each span.
+/// Appends the numbers of free blocks by order, in the format of `/proc/buddyinfo`: a line for
+/// each span.
+///
+/// # Errors
+///
+/// - `Memory`: the program ran out of memory; the text is incomplete.
 pub fn put_buddyinfo(text: &mut Vec<u8>, spans: &[Span], buddy: &Buddy) -> Result<(), Memory>
     ensures { PutsText text.old text.new result (buddyinfo_text (free buddy.now) spans.now) }
 {
@@ -32,7 +42,7 @@ pub fn put_buddyinfo(text: &mut Vec<u8>, spans: &[Span], buddy: &Buddy) -> Resul
     })
 }
 
-/// The name of a zone (`zone_names`).
+/// Returns the name of a zone (`zone_names`).
 pub fn zone_name(zone: Zone) -> &'static str
     ensures { result.now ≡ zone_name zone }
 {
@@ -43,7 +53,8 @@ pub fn zone_name(zone: Zone) -> &'static str
     }
 }
 
-/// Appends the line of a span: its bounds, how many frames there are, and how many are free.
+/// Appends the line of a span: its bounds, the number of its frames, and the number of these that
+/// are free.
 fn put_zone_line(text: &mut Vec<u8>, index: u64, span: &Span, buddy: &Buddy) -> Result<(), Memory>
     ensures { PutsText text.old text.new result (zone_line (blocks_of (free buddy.now)) index span.now) }
 {
@@ -68,7 +79,7 @@ fn put_buddy_line(text: &mut Vec<u8>, index: u64, span: &Span, buddy: &Buddy) ->
     put_text(text, b"\n")
 }
 
-/// Appends the number of a node, and the word before a zone's name.
+/// Appends the number of a node, and the word before the name of a zone.
 fn put_node_zone(text: &mut Vec<u8>, node: u32) -> Result<(), Memory>
     ensures { PutsText text.old text.new result (codes "Node " ++ decimal node ++ codes ", zone ") }
 {
@@ -76,7 +87,7 @@ fn put_node_zone(text: &mut Vec<u8>, node: u32) -> Result<(), Memory>
     put_text(text, b", zone ")
 }
 
-/// Appends the name of a zone, right-aligned with spaces in eight places.
+/// Appends the name of a zone, right-aligned in eight columns.
 fn put_padded_zone(text: &mut Vec<u8>, zone: Zone) -> Result<(), Memory>
     ensures { PutsText text.old text.new result (padded_zone zone) }
 {
@@ -86,7 +97,7 @@ fn put_padded_zone(text: &mut Vec<u8>, zone: Zone) -> Result<(), Memory>
     put_text(text, name.as_bytes())
 }
 
-/// Appends the number of free blocks of each order that the node has in the zone.
+/// Appends the number of free blocks of each order in this node and zone.
 #[tactic(auto, unfolding(crate::specs::ZonesText::counts_text))]
 fn put_counts(text: &mut Vec<u8>, span: &Span, buddy: &Buddy) -> Result<(), Memory>
     ensures { PutsText text.old text.new result (counts_text (blocks_of (free buddy.now)) span.now.node span.now.zone) }
@@ -97,7 +108,7 @@ fn put_counts(text: &mut Vec<u8>, span: &Span, buddy: &Buddy) -> Result<(), Memo
     Ok(())
 }
 
-/// Appends a number of free blocks, right-aligned in six places and with a space behind it.
+/// Appends a number of free blocks, right-aligned in six columns, and a space.
 fn put_count(text: &mut Vec<u8>, count: u64) -> Result<(), Memory>
     ensures { PutsText text.old text.new result (padded_decimal 6 count ++ codes " ") }
 {
@@ -105,7 +116,7 @@ fn put_count(text: &mut Vec<u8>, count: u64) -> Result<(), Memory>
     put_text(text, b" ")
 }
 
-/// How many frames the free blocks of the node in the zone have. Takes no memory.
+/// Returns the number of frames in the free blocks of this node and zone. Allocates nothing.
 fn free_frames(buddy: &Buddy, node: u32, zone: Zone) -> u64
     ensures { result ≡ frames_there node zone (blocks_of (free buddy.now)) }
 {

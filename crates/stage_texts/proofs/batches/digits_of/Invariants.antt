@@ -1,4 +1,4 @@
--- The digits so far stand at the end, and those that are left are of the quotient.
+-- The digits so far are at the end, and those that are left are the digits of the quotient.
 use Rattle.std.proofs.Common.{◌≡◌, ◌-◌, length, drop, []}
 use Rattle.bm_base.proofs.TextLaws.{hex_onto}
 use Rattle.stage_texts.proofs.batches.digits_of.Given as goal

@@ -1,4 +1,4 @@
--- The first blocks of the row are placed.
+-- The first blocks of the row are aligned and below the limit.
 use Rattle.stage_texts.proofs.BatchLaws.{batch_placed}
 use Rattle.stage_texts.proofs.batches.first_lines.Goals as goal
 

@@ -1,4 +1,4 @@
--- The lines of one 4 GiB more, and those in memory are made those of the next one.
+-- The lines of another 4 GiB are written, and those in memory become the lines of the next.
 use Rattle.std.proofs.Common.{◌≡◌, ◌∙◌, ◌++◌, ap, arith}
 use Rattle.frame_blocks.specs.declared.block.BlockRow.{BlockRow}
 use Rattle.report_texts.proofs.PutLaws.{text_end, text_more}

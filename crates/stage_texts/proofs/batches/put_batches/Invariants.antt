@@ -1,4 +1,5 @@
--- The lines are those of the next 4 GiB, and the text so far with the lines of the blocks that are left is the whole.
+-- The lines in memory are those of the next 4 GiB. The text so far, with the lines of the blocks
+-- that are left, is the whole.
 use Rattle.std.proofs.Common.{◌≡◌, ◌++◌}
 use Rattle.stage_texts.specs.BlocksText.{row_text}
 use Rattle.stage_texts.specs.Batches.{FillBatches, first_batch}

@@ -1,4 +1,4 @@
--- The lines up to this one have the new digits, and the others still the old ones.
+-- The lines up to this one have the new digits, and the others still have the old ones.
 use Rattle.std.proofs.Common.{◌≡◌, ℕ, List, ◌-◌, ◌++◌, length}
 use Rattle.stage_texts.specs.Batches.{batch_from, batch_text}
 use Rattle.stage_texts.proofs.batches.renumber.Given as goal

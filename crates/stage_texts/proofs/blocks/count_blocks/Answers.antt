@@ -1,4 +1,4 @@
--- The rows that are left are one row and the others, and all together have few blocks.
+-- The rows that are left are one row and the others, and the number of all their blocks fits.
 use Rattle.std.proofs.Common.{arith}
 use Rattle.bm_base.specs.declared.zone.Zone.TheVariants as zone
 use Rattle.frame_blocks.specs.declared.block.BlockRow.{BlockRow}

@@ -1,4 +1,4 @@
--- The blocks so far and those of the rows that are left are all.
+-- The blocks so far, and those of the rows that are left, are all blocks.
 use Rattle.std.proofs.Common.{◌≡◌, ◌+◌, drop, length}
 use Rattle.frame_blocks.specs.Rows.{blocks_of_rows}
 use Rattle.stage_texts.proofs.blocks.count_blocks.Given as goal

@@ -1,4 +1,4 @@
--- The listed blocks are placed, and few.
+-- The listed blocks are aligned and below the limit, and their number fits.
 use Rattle.std.proofs.Common.{◌≡◌, ◌∙◌, ℕ, List, length, refl, arith}
 use Rattle.frame_blocks.specs.Listed.{blocks_of}
 use Rattle.buddy_handover.specs.Contents.{free}

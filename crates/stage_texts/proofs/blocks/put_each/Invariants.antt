@@ -1,4 +1,5 @@
--- The text so far and the lines of the blocks that are left are those of all blocks, and the text has no less room than before.
+-- The text so far, and the lines of the blocks that are left, are the lines of all blocks; the
+-- text has no less room than before.
 use Rattle.std.proofs.Common.{◌≡◌, ◌≤◌, ◌++◌, vec_capacity}
 use Rattle.frame_blocks.specs.Rows.{row_from, blocks_of_row}
 use Rattle.stage_texts.specs.BlocksText.{ArePlaced}

@@ -1,4 +1,4 @@
--- Each block is placed, and the lines of a row are the next ones.
+-- Each block is aligned and below the limit, and the lines of a row are the next ones.
 use Rattle.stage_texts.proofs.RowLaws.{row_put, rows_placed}
 use Rattle.stage_texts.proofs.blocks.put_rows.Goals as goal
 

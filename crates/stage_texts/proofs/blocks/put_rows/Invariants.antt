@@ -1,4 +1,4 @@
--- The text so far and the lines of the rows that are left are those of all rows.
+-- The text so far, and the lines of the rows that are left, are the lines of all rows.
 use Rattle.std.proofs.Common.{◌≡◌, ◌++◌, drop}
 use Rattle.frame_blocks.specs.Rows.{blocks_of_rows}
 use Rattle.stage_texts.proofs.RowLaws.{lines}

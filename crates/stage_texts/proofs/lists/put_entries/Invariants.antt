@@ -1,4 +1,4 @@
--- The entries so far stand behind the text, which has no less room than before.
+-- The text is followed by the entries so far, and has no less room than before.
 use Rattle.std.proofs.Common.{◌≡◌, ◌≤◌, ◌++◌, drop, vec_capacity}
 use Rattle.std.specs.List.{flat_map}
 use Rattle.stage_texts.specs.ListsText.{entry_text}

@@ -1,4 +1,4 @@
--- The parts of the text, one behind another.
+-- The parts of the text, one after another.
 use Rattle.std.proofs.Common.{Ok}
 use Rattle.report_texts.specs.Lines.{lines_from}
 use Rattle.report_texts.proofs.PutLaws.{goes_on}

@@ -1,4 +1,4 @@
--- One order after the other.
+-- One order after another.
 use Rattle.std.proofs.Common.{◌≡◌, ◌+◌, ◌∙◌, sym, arith}
 use Rattle.frame_blocks.specs.Listed.{blocks_of}
 use Rattle.buddy_handover.specs.Contents.{free}

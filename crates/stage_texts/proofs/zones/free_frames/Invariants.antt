@@ -1,4 +1,4 @@
--- The frames of the blocks of the orders so far.
+-- The frames in the blocks of the orders so far.
 use Rattle.std.proofs.Common.{◌≡◌}
 use Rattle.buddy_handover.specs.Contents.{free}
 use Rattle.frame_blocks.specs.Listed.{blocks_of}

@@ -1,4 +1,4 @@
--- One order after the other.
+-- One order after another.
 use Rattle.std.proofs.Common.{arith}
 use Rattle.std.proofs.lemmas.Result.{err_from_is_err_and}
 use Rattle.buddy_handover.specs.Contents.{free}
