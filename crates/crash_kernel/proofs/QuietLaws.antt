@@ -3,8 +3,8 @@ use Rattle.std.proofs.Common.{ℕ, Bool, true, false, if◌then◌else◌, Optio
 use Rattle.bm_base.specs.Extent.{Extent}
 use Rattle.memblock_model.specs.declared.owner.Owner.TheVariants as owner
 use Rattle.memblock_model.specs.Items.{memory_of}
-use Rattle.growth_model.specs.declared.refusal.Refusal.{Refusal}
 use Rattle.growth_model.proofs.QuietLaws.{claimed-quiet, freed-quiet}
+use Rattle.growth_model.specs.Outcome.{Refused}
 use Rattle.stage_model.specs.Doing.{Doing}
 use Rattle.stage_model.specs.Quiet.{IsQuietStep}
 use Rattle.stage_model.proofs.QuietLaws.{quiet-bind, quiet-changes, quiet-returns, quiet-seen}
@@ -17,7 +17,7 @@ use Rattle.crash_kernel.specs.Area.{area_for}
 use Rattle.crash_kernel.specs.Places.{low_range, low_size, main_range, needs_low, unplaced}
 use Rattle.crash_kernel.specs.Reserved.{low_part, reserved, with_area, with_low, with_main}
 
-quiet_if : (b : Bool) (f g : Doing Refusal Crash) → IsQuietStep f → IsQuietStep g → IsQuietStep (if b then f else g)
+quiet_if : (b : Bool) (f g : Doing Refused Crash) → IsQuietStep f → IsQuietStep g → IsQuietStep (if b then f else g)
 quiet_if true f g first second = first
 quiet_if false f g first second = second
 

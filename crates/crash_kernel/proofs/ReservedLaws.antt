@@ -17,7 +17,8 @@ use Rattle.growth_model.specs.Ends.{Ends}
 use Rattle.growth_model.specs.Sound.{Clear, Seated, IsAway}
 use Rattle.growth_model.proofs.PlacedLaws.{live-same, moves-of, rooms-of, away-still}
 use Rattle.growth_model.proofs.PlacedReservedLaws.{roomy, room-going, claimed-after}
-use Rattle.stage_model.specs.Doing.{Doing, Done, ◌>>=◌, after, going_on, returns, EndsAs}
+use Rattle.stage_model.specs.Causes.{refusal_for}
+use Rattle.stage_model.specs.Doing.{Doing, Done, ◌>>=◌, after, going_on, returns, StageEnds}
 use Rattle.stage_model.specs.Requests.{changes, refusal_of}
 use Rattle.stage_model.proofs.DoingLaws.{ends-second, ends-first, ends-returns}
 use Rattle.stage_model.proofs.RequestLaws.{ends-change}
@@ -32,14 +33,14 @@ use Rattle.crash_kernel.specs.Reserved.{low_part, reserved, with_area, with_low,
 
 -- a change and an answer behind it, and a change that was refused
 pub change-then : (a : Crash) (old new : List Item) (change : Change) → Ends {T = Unit {0}} (Ok tt) old new change
-    → EndsAs refusal.Memory (Ok a) old new ((changes change >>= λ done. returns a) old)
+    → StageEnds (changes change >>= λ done. returns a) refusal_for (Ok a) old new
 change-then a old new change h =
-    ends-second tt (Ok a) refusal.Memory old new new (changes change) (λ done. returns a) (ends-change (Ok tt) old new change h)
-    (ends-returns a refusal.Memory new)
+    ends-second tt (Ok a) refusal_for old new new (changes change) (λ done. returns a) (ends-change (Ok tt) old new change h)
+    (ends-returns a refusal_for new)
 
-pub change-fails : (e : Refusal) (old new : List Item) (change : Change) (next : Unit {0} → Doing Refusal Crash)
-    → Ends {T = Unit {0}} (Err e) old new change → EndsAs {A = Crash} refusal.Memory (Err e) old new ((changes change >>= next) old)
-change-fails e old new change next h = ends-first e refusal.Memory old new (changes change) next (ends-change (Err e) old new change h)
+pub change-fails : (e : Refusal) (old new : List Item) (change : Change) (next : Unit {0} → Doing Refused Crash)
+    → Ends {T = Unit {0}} (Err e) old new change → StageEnds {A = Crash} (changes change >>= next) refusal_for (Err e) old new
+change-fails e old new change next h = ends-first e refusal_for old new (changes change) next (ends-change (Err e) old new change h)
 
 -- the low part, by the place that was found
 pub low-at : (items : List Item) (main : Extent) (size : ℕ) (low : Option Extent) → low ≡ low_range size items
@@ -50,16 +51,16 @@ low-at items main size low found = rw found refl
 -- behind the claim of the area
 pub main-then : (r : Result Crash Refusal) (old mid new : List Item) (low : ℕ) (area : Area) (main : Extent) (b : Bool)
     → b ≡ needs_low main low → Ends {T = Unit {0}} (Ok tt) old mid (claimed main owner.Crash)
-    → EndsAs refusal.Memory r mid new ((if b then low_part main low else returns (crash.At main None)) mid)
-    → EndsAs refusal.Memory r old new (with_main area low (Some main) old)
+    → StageEnds (if b then low_part main low else returns (crash.At main None)) refusal_for r mid new
+    → StageEnds (with_main area low (Some main)) refusal_for r old new
 main-then r old mid new low area main b is claim h =
-    ends-second tt r refusal.Memory old mid new (changes (claimed main owner.Crash))
+    ends-second tt r refusal_for old mid new (changes (claimed main owner.Crash))
     (λ done. if needs_low main low then low_part main low else returns (crash.At main None))
     (ends-change (Ok tt) old mid (claimed main owner.Crash) claim) (rw is at h)
 
 pub main-fails : (e : Refusal) (old new : List Item) (low : ℕ) (area : Area) (main : Extent)
     → Ends {T = Unit {0}} (Err e) old new (claimed main owner.Crash)
-    → EndsAs refusal.Memory (Err e) old new (with_main area low (Some main) old)
+    → StageEnds (with_main area low (Some main)) refusal_for (Err e) old new
 main-fails e old new low area main h =
     change-fails e old new (claimed main owner.Crash)
     (λ done. if needs_low main low then low_part main low else returns (crash.At main None)) h
@@ -89,9 +90,9 @@ pub main-at : (items : List Item) (asked : Asked) (total : ℕ) (area : Area) (m
 main-at items asked total area main counted is found = rw (area-at items asked total (Some area) counted is, found) refl
 
 -- an answer behind no step is the one that is told
-pub idle-ok : (a told : Crash) (old new : List Item) (d : Done Refusal Crash) → EndsAs refusal.Memory (Ok a) old new d
-    → d ≡ returns told old → ◌≡◌ {A = Result Crash Refusal} (Ok a) (Ok told)
-idle-ok a told old new d h is = sym h.0 ∙ ap (λ (t : Done Refusal Crash). t.answer) is
+pub idle-ok : (a told : Crash) (old new : List Item) (f : Doing Refused Crash) → StageEnds f refusal_for (Ok a) old new
+    → f old ≡ returns told old → ◌≡◌ {A = Result Crash Refusal} (Ok a) (Ok told)
+idle-ok a told old new f h is = sym h.0 ∙ ap (λ (t : Done Refused Crash). t.answer) is
 
 -- steps of which one is written in their midst
 some-step : (before behind : List (List Item)) (one : List Item) → (before ++ one ∷ []) ++ behind ≢ []
@@ -100,16 +101,16 @@ some-step (s ∷ ss) behind one = λ is. cc
 
 -- a change that ends with a written item, and goes on to an answer, has a step
 writes : (told : Crash) (items : List Item) (first : Outcome) (refused : Option Refused) (i : Item)
-    (next : Unit {0} → Done Refusal Crash) → first.refused ≡ refused
+    (next : Unit {0} → Done Refused Crash) → first.refused ≡ refused
     → going_on (followed_by first refused (write i items)).steps (refusal_of (followed_by first refused (write i items)).refused) next
     ≢ returns told items
 writes told items first None i next same = λ is.
-    some-step first.steps (next tt).steps (i ∷ []) (ap (λ (t : Done Refusal Crash). t.steps) is)
+    some-step first.steps (next tt).steps (i ∷ []) (ap (λ (t : Done Refused Crash). t.steps) is)
 writes told items first (Some r) i next same = λ is.
-    let none = rw same at (ap (λ (t : Done Refusal Crash). t.answer) is) in cc none
+    let none = rw same at (ap (λ (t : Done Refused Crash). t.answer) is) in cc none
 
 -- so a claim is no answer behind no step
-pub claim-writes : (told : Crash) (items : List Item) (range : Extent) (who : Owner) (next : Unit {0} → Doing Refusal Crash)
+pub claim-writes : (told : Crash) (items : List Item) (range : Extent) (who : Owner) (next : Unit {0} → Doing Refused Crash)
     → (changes (claimed range who) >>= next) items ≢ returns told items
 unfolding claimed
 claim-writes told items range who next =

@@ -14,7 +14,6 @@ use Rattle.memblock_model.specs.Labels.{Label}
 use Rattle.memblock_model.specs.Tables.{table_of}
 use Rattle.memblock_model.specs.Search.{best, fits}
 use Rattle.memblock_model.proofs.SearchLaws.{IsPlace, fits_in-parts}
-use Rattle.growth_model.specs.declared.refusal.Refusal.{Refusal}
 use Rattle.growth_model.specs.Outcome.{Change, Refused}
 use Rattle.growth_model.specs.Growth.{claimed, freed}
 use Rattle.growth_model.specs.Sound.{Unclaimed}
@@ -109,10 +108,10 @@ main_found items size spot.Automatic r is =
 main_found items size spot.High r is = (best_found items size 0x1000000 (2 ^ 46) r is).main
 
 -- the stage, from its answer back to what it found: a change that was refused has no area to tell
-abbrev ok : Crash → Result Crash Refusal
+abbrev ok : Crash → Result Crash Refused
 ok a = Ok a
 
-change_told : (change : Change) (items : List Item) (next : Unit {0} → Doing Refusal Crash) (a : Crash)
+change_told : (change : Change) (items : List Item) (next : Unit {0} → Doing Refused Crash) (a : Crash)
     → ((changes change >>= next) items).answer ≡ Ok a → (next tt (after items (changes change items))).answer ≡ Ok a
 change_told change items next a = by (change items).refused where
   by : (r : Option Refused)
@@ -163,7 +162,7 @@ main_told : (asked : Asked) (items : List Item) (area : Area) (main : Extent) (l
     → (with_main area (low_size asked) found items).answer ≡ Ok (crash.At main low) → IsArea asked items main low
 main_told asked items area main low None asks is h = absurd (unplaced_told area.spot main low h)
 main_told asked items area main low (Some m) asks is h =
-    let next : Unit {0} → Doing Refusal Crash = λ done.
+    let next : Unit {0} → Doing Refused Crash = λ done.
     if needs_low m (low_size asked) then low_part m (low_size asked) else returns (crash.At m None) in
     let behind = needs_told asked items m main low (needs_low m (low_size asked)) refl
     (change_told (claimed m owner.Crash) items next (crash.At main low) h) in

@@ -3,8 +3,8 @@ use Rattle.std.specs.Prelude.{ℕ, if◌then◌else◌, Option, Some, None}
 use Rattle.bm_base.specs.Extent.{Extent}
 use Rattle.memblock_model.specs.declared.owner.Owner.TheVariants as owner
 use Rattle.memblock_model.specs.Items.{memory_of}
-use Rattle.growth_model.specs.declared.refusal.Refusal.{Refusal}
 use Rattle.growth_model.specs.Growth.{claimed, freed}
+use Rattle.growth_model.specs.Outcome.{Refused}
 use Rattle.stage_model.specs.Doing.{Doing, ◌>>=◌, returns, seen}
 use Rattle.stage_model.specs.Requests.{changes}
 use Rattle.boot_options.specs.Crash.{CrashWords as Asked}
@@ -16,7 +16,7 @@ use Rattle.crash_kernel.specs.Area.{area_for}
 use Rattle.crash_kernel.specs.Places.{low_range, low_size, main_range, needs_low, unplaced}
 
 -- the low part is claimed; where it has no place the area is given back
-abbrev pub with_low : Extent → Option Extent → Doing Refusal Crash
+abbrev pub with_low : Extent → Option Extent → Doing Refused Crash
 with_low main None = do
   done ← changes (freed main)
   returns crash.LowFailed
@@ -24,27 +24,27 @@ with_low main (Some low) = do
   done ← changes (claimed low owner.CrashLow)
   returns (crash.At main (Some low))
 
-unfoldable pub low_part : Extent → ℕ → Doing Refusal Crash
+unfoldable pub low_part : Extent → ℕ → Doing Refused Crash
 low_part main size = do
   low ← seen (low_range size)
   with_low main low
 
 -- the area is claimed, and then a low part, where the area needs one
-abbrev pub with_main : Area → ℕ → Option Extent → Doing Refusal Crash
+abbrev pub with_main : Area → ℕ → Option Extent → Doing Refused Crash
 with_main area low None = returns (unplaced area.spot)
 with_main area low (Some main) = do
   done ← changes (claimed main owner.Crash)
   if needs_low main low then low_part main low else returns (crash.At main None)
 
 -- a place is looked for, where something is asked for
-abbrev pub with_area : ℕ → Option Area → Doing Refusal Crash
+abbrev pub with_area : ℕ → Option Area → Doing Refused Crash
 with_area low None = returns crash.Nothing
 with_area low (Some area) = do
   main ← seen (main_range area.size area.spot)
   with_main area low main
 
 -- how much is asked for depends on how much memory there is
-unfoldable pub reserved : Asked → Doing Refusal Crash
+unfoldable pub reserved : Asked → Doing Refused Crash
 reserved asked = do
   total ← seen (λ items. memory_bytes (memory_of items))
   with_area (low_size asked) (area_for total asked)

@@ -3,7 +3,8 @@
 ghost use Rattle.std.specs.Prelude.{◌≡◌, ◌≢◌, ◌<◌, IfErr, Ok};
 ghost use Rattle.growth_model.specs.Sound.{HasBegun, IsAway};
 ghost use Rattle.growth_model.specs.declared.refusal.Refusal.TheVariants as refusals;
-ghost use Rattle.stage_model.specs.Doing.{EndsAs, returns};
+ghost use Rattle.stage_model.specs.Causes.{refusal_for};
+ghost use Rattle.stage_model.specs.Doing.{StageEnds, returns};
 ghost use Rattle.stage_model.specs.Lent.{GoesOn};
 ghost use Rattle.boot_options.specs.Crash.{crash_view};
 ghost use Rattle.crash_kernel.specs.declared.crash.Crash.{Crash as AnyCrash};
@@ -27,8 +28,8 @@ const DEFAULT_LOW: u64 = 1 << 28;
 /// Where nothing is claimed, since nothing is asked for or it has no place, no memory is taken, and none is wanted.
 pub fn reserve(memblock: &mut Memblock, option: &CrashOption) -> Result<Crash, Refusal>
     requires begun { HasBegun memblock.old.journal.items }
-    ensures ends { EndsAs refusals.Memory result memblock.old.journal.items memblock.new.journal.items
-        (reserved (crash_view option.now) memblock.old.journal.items) }
+    ensures ends { StageEnds (reserved (crash_view option.now)) refusal_for result
+        memblock.old.journal.items memblock.new.journal.items }
     ensures idle { (crash : AnyCrash) →
         reserved (crash_view option.now) memblock.old.journal.items ≡ returns crash memblock.old.journal.items → result ≡ Ok crash }
     ensures found { IfErr result (λ refusal. refusal ≢ refusals.NoGap) }
@@ -57,8 +58,8 @@ fn reserve_low(memblock: &mut Memblock, main: Range, size: u64) -> Result<Crash,
     requires main { 0 < main.size }
     requires away { IsAway memblock.old.kernel main memblock.old.journal.items }
     requires some { 0 < size }
-    ensures ends { EndsAs refusals.Memory result memblock.old.journal.items memblock.new.journal.items
-        (low_part main size memblock.old.journal.items) }
+    ensures ends { StageEnds (low_part main size) refusal_for result
+        memblock.old.journal.items memblock.new.journal.items }
     ensures found { IfErr result (λ refusal. refusal ≢ refusals.NoGap) }
     ensures lent { GoesOn memblock.old memblock.new }
 {

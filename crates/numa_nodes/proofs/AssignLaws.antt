@@ -21,7 +21,8 @@ use Rattle.node_hulls.specs.Kept.{in_any}
 use Rattle.node_hulls.proofs.GivenLaws.{given-small}
 use Rattle.memblock_grow.specs.declared.stop.StageStop.{StageStop}
 use Rattle.memblock_grow.specs.declared.stop.StageStop.TheVariants as stop
-use Rattle.stage_model.specs.Doing.{Doing, EndsAs, in_turn, ok_as, returns, listed, ◌>>=◌}
+use Rattle.stage_model.specs.Causes.{StageCause, stage_stop}
+use Rattle.stage_model.specs.Doing.{Doing, StageEnds, in_turn, ok_as, returns, listed, ◌>>=◌}
 use Rattle.stage_model.proofs.DoingLaws.{ends-first, ends-listed, ends-second, ends-wanting}
 use Rattle.numa_nodes.specs.Assigned.{Noded, assigned, assigned_by, data_placed, given, is_memory, noded_by, nodes_with_memory, ranges_by, ranges_given, with_data}
 use Rattle.numa_nodes.specs.Steps.{CanGetNodes}
@@ -30,10 +31,10 @@ use Rattle.numa_nodes.specs.Steps.{CanGetNodes}
 abbrev ranges_in : Judgement → List Item → List NumaBlock
 ranges_in found items = ranges_given (limit_of items) found
 
-abbrev pub behind : Judgement → Unit {0} → Doing StageStop Noded
+abbrev pub behind : Judgement → Unit {0} → Doing StageCause Noded
 behind found done = listed (λ items. nodes_with_memory (memory_of items)) >>= λ nodes. with_data found nodes
 
-abbrev by_ranges : Judgement → List NumaBlock → Doing StageStop Noded
+abbrev by_ranges : Judgement → List NumaBlock → Doing StageCause Noded
 by_ranges found ranges = in_turn given tt ranges >>= behind found
 
 abbrev nodes_in : List Item → List ℕ
@@ -41,58 +42,58 @@ nodes_in items = nodes_with_memory (memory_of items)
 
 -- memory ran out before anything was written
 pub by-wanting : (items : List Item) (found : Judgement)
-    → EndsAs {A = Noded} stop.Memory (Err stop.Memory) items items (assigned_by found items)
+    → StageEnds {A = Noded} (assigned_by found) stage_stop (Err stop.Memory) items items
 unfolding assigned_by
 by-wanting items found =
-    ends-first stop.Memory stop.Memory items items (listed (ranges_in found)) (by_ranges found)
-    (ends-wanting (ranges_in found) stop.Memory items)
+    ends-first stop.Memory stage_stop items items (listed (ranges_in found)) (by_ranges found)
+    (ends-wanting (ranges_in found) stage_stop items)
 
 -- as what comes behind the list of ranges ends, so does all
 by-listed : (r : Result Noded StageStop) (old new : List Item) (found : Judgement)
-    → EndsAs stop.Memory r old new (by_ranges found (ranges_in found old) old) → EndsAs stop.Memory r old new (assigned_by found old)
+    → StageEnds (by_ranges found (ranges_in found old)) stage_stop r old new → StageEnds (assigned_by found) stage_stop r old new
 unfolding assigned_by
 by-listed r old new found rest =
-    ends-second (ranges_in found old) r stop.Memory old old new (listed (ranges_in found)) (by_ranges found)
-    (ends-listed (ranges_in found) stop.Memory old) rest
+    ends-second (ranges_in found old) r stage_stop old old new (listed (ranges_in found)) (by_ranges found)
+    (ends-listed (ranges_in found) stage_stop old) rest
 
 pub by-ranges : (e : StageStop) (old new : List Item) (found : Judgement)
-    → EndsAs {A = Unit {0}} stop.Memory (Err e) old new (in_turn given tt (ranges_given (limit_of old) found) old)
-    → EndsAs {A = Noded} stop.Memory (Err e) old new (assigned_by found old)
+    → StageEnds {A = Unit {0}} (in_turn given tt (ranges_given (limit_of old) found)) stage_stop (Err e) old new
+    → StageEnds {A = Noded} (assigned_by found) stage_stop (Err e) old new
 by-ranges e old new found was =
-    by-listed (Err e) old new found (ends-first e stop.Memory old new (in_turn given tt (ranges_in found old)) (behind found) was)
+    by-listed (Err e) old new found (ends-first e stage_stop old new (in_turn given tt (ranges_in found old)) (behind found) was)
 
 -- behind the ranges
 module _ (old mid : List Item) (found : Judgement)
-    (was : EndsAs {A = Unit {0}} stop.Memory (Ok tt) old mid (in_turn given tt (ranges_given (limit_of old) found) old)) where
-  by-behind : (r : Result Noded StageStop) (new : List Item) → EndsAs stop.Memory r mid new (behind found tt mid)
-      → EndsAs stop.Memory r old new (assigned_by found old)
+    (was : StageEnds {A = Unit {0}} (in_turn given tt (ranges_given (limit_of old) found)) stage_stop (Ok tt) old mid) where
+  by-behind : (r : Result Noded StageStop) (new : List Item) → StageEnds (behind found tt) stage_stop r mid new
+      → StageEnds (assigned_by found) stage_stop r old new
   by-behind r new rest =
       by-listed r old new found
-      (ends-second tt r stop.Memory old mid new (in_turn given tt (ranges_in found old)) (behind found) was rest)
+      (ends-second tt r stage_stop old mid new (in_turn given tt (ranges_in found old)) (behind found) was rest)
 
   -- memory ran out for the nodes of memory
-  pub data-wanting : EndsAs {A = Noded} stop.Memory (Err stop.Memory) old mid (assigned_by found old)
+  pub data-wanting : StageEnds {A = Noded} (assigned_by found) stage_stop (Err stop.Memory) old mid
   data-wanting =
       by-behind (Err stop.Memory) mid
-      (ends-first stop.Memory stop.Memory mid mid (listed nodes_in) (with_data found) (ends-wanting nodes_in stop.Memory mid))
+      (ends-first stop.Memory stage_stop mid mid (listed nodes_in) (with_data found) (ends-wanting nodes_in stage_stop mid))
 
   -- or the data of those nodes is placed
-  by-data : (r : Result Noded StageStop) (new : List Item) → EndsAs stop.Memory r mid new (with_data found (nodes_in mid) mid)
-      → EndsAs stop.Memory r old new (assigned_by found old)
+  by-data : (r : Result Noded StageStop) (new : List Item) → StageEnds (with_data found (nodes_in mid)) stage_stop r mid new
+      → StageEnds (assigned_by found) stage_stop r old new
   by-data r new rest =
       by-behind r new
-      (ends-second (nodes_in mid) r stop.Memory mid mid new (listed nodes_in) (with_data found) (ends-listed nodes_in stop.Memory mid) rest)
+      (ends-second (nodes_in mid) r stage_stop mid mid new (listed nodes_in) (with_data found) (ends-listed nodes_in stage_stop mid) rest)
 
   pub data-told : (r : Result (Unit {0}) StageStop) (new : List Item)
-      → EndsAs stop.Memory r mid new (in_turn data_placed tt (nodes_with_memory (memory_of mid)) mid)
-      → EndsAs stop.Memory (ok_as (λ done. noded_by found (nodes_with_memory (memory_of mid))) r) old new (assigned_by found old)
+      → StageEnds (in_turn data_placed tt (nodes_with_memory (memory_of mid))) stage_stop r mid new
+      → StageEnds (assigned_by found) stage_stop (ok_as (λ done. noded_by found (nodes_with_memory (memory_of mid))) r) old new
   data-told (Ok done) new placed =
       by-data (Ok (noded_by found (nodes_in mid))) new
-      (ends-second tt (Ok (noded_by found (nodes_in mid))) stop.Memory mid new new (in_turn data_placed tt (nodes_in mid))
+      (ends-second tt (Ok (noded_by found (nodes_in mid))) stage_stop mid new new (in_turn data_placed tt (nodes_in mid))
       (λ done. returns (noded_by found (nodes_in mid))) placed (refl, refl))
   data-told (Err e) new placed =
       by-data (Err e) new
-      (ends-first e stop.Memory mid new (in_turn data_placed tt (nodes_in mid)) (λ done. returns (noded_by found (nodes_in mid))) placed)
+      (ends-first e stage_stop mid new (in_turn data_placed tt (nodes_in mid)) (λ done. returns (noded_by found (nodes_in mid))) placed)
 
 -- the stage by its judgement
 pub assigned-is : (table : Option Affinity) (off : Bool) (items : List Item)

@@ -9,7 +9,7 @@ use Rattle.node_hulls.specs.declared.reasons.Why.TheVariants as why
 use Rattle.node_hulls.specs.Hulls.{NumaBlock}
 use Rattle.node_hulls.specs.Judgement.{Judgement, unused}
 use Rattle.growth_model.specs.Outcome.{refuse}
-use Rattle.memblock_grow.specs.declared.stop.StageStop.TheVariants as stop
+use Rattle.stage_model.specs.Causes.{NoTablePlace}
 use Rattle.stage_model.specs.Doing.{in_turn}
 use Rattle.stage_model.specs.Requests.{carried}
 use Rattle.numa_nodes.specs.Assigned.{given, has_node, is_memory, is_of_node, node_data_request, nodes_from, noded_by, nodes_with_memory, ranges_given, with_data}
@@ -54,7 +54,7 @@ memory_is : (is_memory (item.Mem (record { base = 0x1000; size = 0x1000 }) ∷ [
 memory_is = (refl, refl)
 
 -- a table that finds no place to grow to stops the boot, and then no further range gets its node
-given_examples : (carried (refuse which.Memory 128) [] ≡ record { steps = []; answer = Err (stop.NoTablePlace which.Memory 128) })
+given_examples : (carried (refuse which.Memory 128) [] ≡ record { steps = []; answer = Err (NoTablePlace which.Memory 128) })
     × (in_turn given tt [] (item.Trim ∷ []) ≡ record { steps = []; answer = Ok tt })
 given_examples = (refl, refl)
 

@@ -19,8 +19,8 @@ use Rattle.growth_model.specs.Growth.{grown, memory_growth, noded, two}
 use Rattle.growth_model.specs.Outcome.{Outcome, Refused, followed_by, write}
 use Rattle.growth_model.specs.Outcome.{after as after_change}
 use Rattle.growth_model.proofs.QuietLaws.{memory_growth-quiet, quiet-grown}
-use Rattle.memblock_grow.specs.declared.stop.StageStop.{StageStop}
 use Rattle.memblock_grow.specs.declared.stop.What.TheVariants as what
+use Rattle.stage_model.specs.Causes.{StageCause}
 use Rattle.stage_model.specs.Doing.{Done, ◌>>=◌, after, appended, going_on, in_turn, returns}
 use Rattle.stage_model.specs.Requests.{refused_growth}
 use Rattle.stage_model.specs.Quiet.{IsQuietStep}
@@ -137,7 +137,7 @@ module _ {V : Type 0} (seen_of : List Item → V)
       let found : Judgement = judged (is_memory items) off table in
       let ranges : List NumaBlock = ranges_given (limit_of items) found in
       let start : List Item = items ++ [] in
-      let d : Done StageStop (Unit {0}) = in_turn given tt ranges start in
+      let d : Done StageCause (Unit {0}) = in_turn given tt ranges start in
       keeps-going start d d.answer (λ a. behind found a (after start d)) (keeps-turn ranges start)
       (λ a. quiet (after start d) (behind found a (after start d)).steps ((quiet-behind found a).each (after start d)))
       ∙ ap seen_of (append-nil items)
@@ -164,8 +164,8 @@ turn-memory : (rs : List NumaBlock) (items : List Item) → (in_turn given tt rs
 unfolding noded_all
 turn-memory [] items answered = refl
 turn-memory (r ∷ rs) items answered =
-    let d : Done StageStop (Unit {0}) = given tt r items in
-    let next : Unit {0} → Done StageStop (Unit {0}) = λ a. in_turn given a rs (after items d) in
+    let d : Done StageCause (Unit {0}) = given tt r items in
+    let next : Unit {0} → Done StageCause (Unit {0}) = λ a. in_turn given a rs (after items d) in
     let first = went-on d.steps d.answer next tt answered in
     rw first.1 (ap memory_of (appended-append items d.steps (next tt).steps) ∙ turn-memory rs (after items d) (rw first.1 at answered)
     ∙ ap (noded_all rs) (given-memory r items first.1))
@@ -178,18 +178,18 @@ pub record IsBehind (items : List Item) (found : Judgement) (new : List Item) (n
 data-nodes : (found : Judgement) (nodes : List ℕ) (items : List Item) (noded : Noded) → (with_data found nodes items).answer ≡ Ok noded
     → noded.with_memory ≡ nodes
 data-nodes found nodes items noded answered =
-    let d : Done StageStop (Unit {0}) = in_turn data_placed tt nodes items in
+    let d : Done StageCause (Unit {0}) = in_turn data_placed tt nodes items in
     let first = went-on d.steps d.answer (λ a. returns (noded_by found nodes) (after items d)) noded answered in
     let same : noded_by found nodes ≡ noded = cc (rw first.1 at answered) in
     ap (λ (n : Noded). n.with_memory) (sym same)
 
-ended-by : (items : List Item) (found : Judgement) (noded : Noded) (d : Done StageStop (Unit {0}))
+ended-by : (items : List Item) (found : Judgement) (noded : Noded) (d : Done StageCause (Unit {0}))
     → (d.answer ≡ Ok tt → memory_of (after items d) ≡ noded_all (ranges_given (limit_of items) found) (memory_of items))
     → (going_on d.steps d.answer (λ a. behind found a (after items d))).answer ≡ Ok noded
     → IsBehind items found (appended items (going_on d.steps d.answer (λ a. behind found a (after items d))).steps) noded
 ended-by items found noded d all answered =
     let mid : List Item = after items d in
-    let last : Done StageStop Noded = behind found tt mid in
+    let last : Done StageCause Noded = behind found tt mid in
     let first = went-on d.steps d.answer (λ a. behind found a mid) noded answered in
     let still = ap memory_of (appended-append items d.steps last.steps)
     ∙ quiet-appended_memory mid last.steps ((quiet-behind found tt).each mid) in
@@ -206,7 +206,7 @@ unfolding assigned assigned_by
 behind-answer table off items noded answered =
     let found : Judgement = judged (is_memory items) off table in
     let ranges : List NumaBlock = ranges_given (limit_of items) found in
-    let from : List Item → Done StageStop Noded = λ start. (in_turn given tt ranges >>= behind found) start in
+    let from : List Item → Done StageCause Noded = λ start. (in_turn given tt ranges >>= behind found) start in
     subst (λ (start : List Item). (from start).answer ≡ Ok noded → IsBehind items found (after start (from start)) noded)
     (sym (append-nil items))
     (ended-by items found noded (in_turn given tt ranges items) (turn-memory ranges items))

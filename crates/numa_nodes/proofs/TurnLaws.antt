@@ -6,49 +6,49 @@ use Rattle.memblock_model.specs.declared.item.Item.{Item}
 use Rattle.memblock_model.specs.declared.request.Request.{Request}
 use Rattle.memblock_grow.specs.declared.stop.What.TheVariants as what
 use Rattle.memblock_grow.specs.declared.stop.StageStop.{StageStop}
-use Rattle.memblock_grow.specs.declared.stop.StageStop.TheVariants as stop
-use Rattle.stage_model.specs.Doing.{Doing, EndsAs, in_turn, ok_as, returns}
+use Rattle.stage_model.specs.Causes.{StageCause, stage_stop}
+use Rattle.stage_model.specs.Doing.{Doing, StageEnds, in_turn, ok_as, returns}
 use Rattle.stage_model.specs.Requests.{placed}
 use Rattle.stage_model.proofs.DoingLaws.{ends-first, ends-second}
 use Rattle.numa_nodes.specs.Assigned.{data_placed, node_data_request}
 
 -- as the steps from the one with this index on end, so do all
-pub record Turns {X : Type 0} (step : Unit {0} → X → Doing StageStop (Unit {0})) (xs : List X) (i : ℕ) (old here : List Item) : Type 0 where
+pub record Turns {X : Type 0} (step : Unit {0} → X → Doing StageCause (Unit {0})) (xs : List X) (i : ℕ) (old here : List Item) : Type 0 where
   pub ends : (r : Result (Unit {0}) StageStop) (new : List Item)
-      → EndsAs stop.Memory r here new (in_turn step tt (drop i xs) here) → EndsAs stop.Memory r old new (in_turn step tt xs old)
+      → StageEnds (in_turn step tt (drop i xs)) stage_stop r here new → StageEnds (in_turn step tt xs) stage_stop r old new
 
-module _ {X : Type 0} {step : Unit {0} → X → Doing StageStop (Unit {0})} {xs : List X} {i : ℕ} {old here : List Item}
+module _ {X : Type 0} {step : Unit {0} → X → Doing StageCause (Unit {0})} {xs : List X} {i : ℕ} {old here : List Item}
     (turns : Turns step xs i old here) where
   drop-next : (x d : X) → i < length xs → x ≡ get_or xs i d → drop i xs ≡ x ∷ drop (i + 1) xs
   drop-next x d below is = drop_more xs i d below ∙ ap (λ (y : X). y ∷ drop (i + 1) xs) (sym is)
 
   -- the next step answered
   pub turn-next : (x d : X) (mid : List Item) → i < length xs → x ≡ get_or xs i d
-      → EndsAs stop.Memory (Ok tt) here mid (step tt x here) → Turns step xs (i + 1) old mid
+      → StageEnds (step tt x) stage_stop (Ok tt) here mid → Turns step xs (i + 1) old mid
   turn-next x d mid below is was = record {
-    ends = λ r new rest. turns.ends r new (rw (drop-next x d below is) (ends-second tt r stop.Memory here mid new (step tt x)
+    ends = λ r new rest. turns.ends r new (rw (drop-next x d below is) (ends-second tt r stage_stop here mid new (step tt x)
         (λ next. in_turn step next (drop (i + 1) xs)) was rest));
   }
 
   -- it stopped
   pub turn-stops : (x d : X) (new : List Item) (e : StageStop) → i < length xs → x ≡ get_or xs i d
-      → EndsAs {A = Unit {0}} stop.Memory (Err e) here new (step tt x here)
-      → EndsAs {A = Unit {0}} stop.Memory (Err e) old new (in_turn step tt xs old)
+      → StageEnds {A = Unit {0}} (step tt x) stage_stop (Err e) here new
+      → StageEnds {A = Unit {0}} (in_turn step tt xs) stage_stop (Err e) old new
   turn-stops x d new e below is was =
-      turns.ends (Err e) new (rw (drop-next x d below is) (ends-first e stop.Memory here new (step tt x)
+      turns.ends (Err e) new (rw (drop-next x d below is) (ends-first e stage_stop here new (step tt x)
       (λ next. in_turn step next (drop (i + 1) xs)) was))
 
   -- nothing is left
-  pub turn-done : length xs ≤ i → EndsAs {A = Unit {0}} stop.Memory (Ok tt) old here (in_turn step tt xs old)
+  pub turn-done : length xs ≤ i → StageEnds {A = Unit {0}} (in_turn step tt xs) stage_stop (Ok tt) old here
   turn-done all = turns.ends (Ok tt) here (rw (drop_all i xs all) (refl, refl))
 
 -- the data of a node by its allocation
 pub data-placed : (r : Result ℕ StageStop) (n : ℕ) (here new : List Item) (q : Request) → q ≡ node_data_request n
-    → EndsAs stop.Memory r here new (placed (what.NodeData n) q (owner.NodeData n) here)
-    → EndsAs stop.Memory (ok_as (λ base. tt) r) here new (data_placed tt n here)
+    → StageEnds (placed (what.NodeData n) q (owner.NodeData n)) stage_stop r here new
+    → StageEnds (data_placed tt n) stage_stop (ok_as (λ base. tt) r) here new
 data-placed (Ok base) n here new q is was =
-    ends-second base (Ok tt) stop.Memory here new new (placed (what.NodeData n) (node_data_request n) (owner.NodeData n))
+    ends-second base (Ok tt) stage_stop here new new (placed (what.NodeData n) (node_data_request n) (owner.NodeData n))
     (λ place. returns tt) (rw is at was) (refl, refl)
 data-placed (Err e) n here new q is was =
-    ends-first e stop.Memory here new (placed (what.NodeData n) (node_data_request n) (owner.NodeData n)) (λ place. returns tt)
+    ends-first e stage_stop here new (placed (what.NodeData n) (node_data_request n) (owner.NodeData n)) (λ place. returns tt)
     (rw is at was)

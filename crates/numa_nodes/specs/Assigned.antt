@@ -16,7 +16,7 @@ use Rattle.node_hulls.specs.Judgement.{Judgement, judged}
 use Rattle.memblock_model.specs.declared.request.Request.{Request}
 use Rattle.growth_model.specs.Growth.{noded}
 use Rattle.memblock_grow.specs.declared.stop.What.TheVariants as what
-use Rattle.memblock_grow.specs.declared.stop.StageStop.{StageStop}
+use Rattle.stage_model.specs.Causes.{StageCause}
 use Rattle.stage_model.specs.Doing.{Doing, ◌>>=◌, returns, seen, listed, in_turn}
 use Rattle.stage_model.specs.Requests.{carried, placed}
 use Rattle.numa_nodes.specs.declared.nodes.Nodes.{Nodes}
@@ -35,7 +35,7 @@ abbrev pub ranges_given : ℕ → Judgement → List NumaBlock
 ranges_given limit found = ranges_by found.why limit found
 
 -- each range gets its node (`memblock_set_node`)
-abbrev pub given : Unit {0} → NumaBlock → Doing StageStop (Unit {0})
+abbrev pub given : Unit {0} → NumaBlock → Doing StageCause (Unit {0})
 given done r = carried (noded (extent_of r) r.value)
 
 -- whether the byte is memory of the node
@@ -60,7 +60,7 @@ nodes_with_memory f = nodes_from f 0 MAX_NODES
 abbrev pub node_data_request : ℕ → Request
 node_data_request node = record { size = 0x2B000; align = 64; min = 0; max = None; node = Some node; exact = false }
 
-abbrev pub data_placed : Unit {0} → ℕ → Doing StageStop (Unit {0})
+abbrev pub data_placed : Unit {0} → ℕ → Doing StageCause (Unit {0})
 data_placed done node =
     placed (what.NodeData node) (node_data_request node) (owner.NodeData node) >>= λ place. returns tt
 
@@ -78,15 +78,15 @@ abbrev pub noded_by : Judgement → List ℕ → Noded
 noded_by found nodes = record { why = found.why; domains = found.domains; uncovered = found.uncovered; with_memory = nodes }
 
 -- the data of each node with memory
-abbrev pub with_data : Judgement → List ℕ → Doing StageStop Noded
+abbrev pub with_data : Judgement → List ℕ → Doing StageCause Noded
 with_data found nodes = in_turn data_placed tt nodes >>= λ done. returns (noded_by found nodes)
 
 -- all of it, by a judgement
-unfoldable pub assigned_by : Judgement → Doing StageStop Noded
+unfoldable pub assigned_by : Judgement → Doing StageCause Noded
 assigned_by found =
     listed (λ items. ranges_given (limit_of items) found) >>= λ ranges. (in_turn given tt ranges
     >>= λ done. (listed (λ items. nodes_with_memory (memory_of items)) >>= λ nodes. with_data found nodes))
 
 -- and by the table and `numa=off`: the table is judged by the memory that there is before the first range gets its node
-unfoldable pub assigned : Option Affinity → Bool → Doing StageStop Noded
+unfoldable pub assigned : Option Affinity → Bool → Doing StageCause Noded
 assigned table off = seen (λ items. judged (is_memory items) off table) >>= λ found. assigned_by found

@@ -5,8 +5,8 @@ ghost use Rattle.std.specs.Option.{ForSome, option_map, option_copied};
 ghost use Rattle.memblock_model.specs.Items.{limit_of};
 ghost use Rattle.srat_reader.specs.Table.{affinity};
 ghost use Rattle.growth_model.specs.Sound.{HasBegun};
-ghost use Rattle.memblock_grow.specs.declared.stop.StageStop.TheVariants as stops;
-ghost use Rattle.stage_model.specs.Doing.{EndsAs, in_turn, ok_as};
+ghost use Rattle.stage_model.specs.Causes.{stage_stop};
+ghost use Rattle.stage_model.specs.Doing.{StageEnds, in_turn, ok_as};
 ghost use Rattle.stage_model.specs.Lent.{GoesOn};
 ghost use Rattle.node_hulls.specs.Judgement.{judgement};
 ghost use Rattle.numa_nodes.specs.Assigned.{assigned, assigned_by, data_placed, given, node_data_request, nodes_view, ranges_given};
@@ -45,8 +45,8 @@ pub fn assign(
     requires begun { HasBegun memblock.old.journal.items }
     requires limit { 0 < limit_of memblock.old.journal.items }
     requires few { ForSome srat (λ table. length table.now.blocks.items < 2 ^ 32) }
-    ensures ends { EndsAs stops.Memory (ok_as nodes_view result) memblock.old.journal.items memblock.new.journal.items
-        (assigned (option_map affinity (option_copied srat.entry)) off memblock.old.journal.items) }
+    ensures ends { StageEnds (assigned (option_map affinity (option_copied srat.entry)) off) stage_stop (ok_as nodes_view result)
+        memblock.old.journal.items memblock.new.journal.items }
     ensures lent { GoesOn memblock.old memblock.new }
 {
     let memory = memory_ranges(alloc, &memblock.tables().records(Which::Memory))?;
@@ -58,8 +58,8 @@ pub fn assign(
 fn assign_by(alloc: Global, memblock: &mut Memblock, found: Judged) -> Result<Nodes, StageStop>
     requires begun { HasBegun memblock.old.journal.items }
     requires ranges { CanGetNodes (ranges_given (limit_of memblock.old.journal.items) (judgement found)) }
-    ensures ends { EndsAs stops.Memory (ok_as nodes_view result) memblock.old.journal.items memblock.new.journal.items
-        (assigned_by (judgement found) memblock.old.journal.items) }
+    ensures ends { StageEnds (assigned_by (judgement found)) stage_stop (ok_as nodes_view result)
+        memblock.old.journal.items memblock.new.journal.items }
     ensures lent { GoesFurther memblock.old memblock.new }
 {
     let limit = limit_of(memblock.journal().items());
@@ -108,8 +108,8 @@ fn ranges_given(alloc: Global, limit: u64, found: &Judged) -> Result<Vec<NodeRan
 fn give_nodes(memblock: &mut Memblock, ranges: &[NodeRange]) -> Result<(), StageStop>
     requires begun { HasBegun memblock.old.journal.items }
     requires ranges { CanGetNodes ranges.now }
-    ensures ends { EndsAs stops.Memory result memblock.old.journal.items memblock.new.journal.items
-        (in_turn given tt ranges.now memblock.old.journal.items) }
+    ensures ends { StageEnds (in_turn given tt ranges.now) stage_stop result
+        memblock.old.journal.items memblock.new.journal.items }
     ensures lent { GoesFurther memblock.old memblock.new }
 {
     for run in ranges {
@@ -121,8 +121,8 @@ fn give_nodes(memblock: &mut Memblock, ranges: &[NodeRange]) -> Result<(), Stage
 /// Places the data of each node.
 fn place_data(memblock: &mut Memblock, nodes: &[u32]) -> Result<(), StageStop>
     requires begun { HasBegun memblock.old.journal.items }
-    ensures ends { EndsAs stops.Memory result memblock.old.journal.items memblock.new.journal.items
-        (in_turn data_placed tt nodes.now memblock.old.journal.items) }
+    ensures ends { StageEnds (in_turn data_placed tt nodes.now) stage_stop result
+        memblock.old.journal.items memblock.new.journal.items }
     ensures lent { GoesFurther memblock.old memblock.new }
 {
     for node in nodes {

@@ -6,7 +6,8 @@ use Rattle.memblock_model.specs.declared.item.Item.{Item}
 use Rattle.memblock_grow.specs.declared.section.Section.{Section}
 use Rattle.memblock_grow.specs.declared.stop.StageStop.{StageStop}
 use Rattle.memblock_grow.specs.declared.stop.StageStop.TheVariants as stop
-use Rattle.stage_model.specs.Doing.{EndsAs, listed, in_turn}
+use Rattle.stage_model.specs.Causes.{stage_stop}
+use Rattle.stage_model.specs.Doing.{StageEnds, listed, in_turn}
 use Rattle.stage_model.proofs.DoingLaws.{ends-second, ends-first, ends-listed, ends-wanting, ends-returns}
 use Rattle.section_maps.specs.declared.placed.Placed.{Placed}
 use Rattle.section_maps.specs.Maps.{Group, leading, groups_of, group_placed, map_group, maps}
@@ -52,7 +53,7 @@ groups-next s (t ∷ ts) =
 -- all groups end as those of the sections that are left
 pub record Goes (entry : List Item) (sections : List Section) (now : List Item) (placed : List Placed) (rest : List Section) : Type 0 where
   pub ends : (r : Result (List Placed) StageStop) (new : List Item)
-      → EndsAs stop.Memory r now new (in_turn map_group placed (groups_of rest) now) → EndsAs stop.Memory r entry new (maps sections entry)
+      → StageEnds (in_turn map_group placed (groups_of rest)) stage_stop r now new → StageEnds (maps sections) stage_stop r entry new
 
 pub goes-first : (entry : List Item) (sections : List Section) (placed : List Placed) → placed ≡ []
     → Goes entry sections entry placed sections
@@ -61,49 +62,49 @@ goes-first entry sections placed none = record {
   ends = λ r new h.
       let groups : List Group = groups_of sections in
       let no_placed : List Item → List Placed = λ items. [] in
-      ends-second [] r stop.Memory entry entry new (listed no_placed) (λ before. in_turn map_group before groups)
-      (ends-listed no_placed stop.Memory entry)
+      ends-second [] r stage_stop entry entry new (listed no_placed) (λ before. in_turn map_group before groups)
+      (ends-listed no_placed stage_stop entry)
       (rw none at h);
 }
 
 -- memory ran out for the list
 pub maps-wanting : (entry : List Item) (sections : List Section)
-    → EndsAs {A = List Placed} stop.Memory (Err stop.Memory) entry entry (maps sections entry)
+    → StageEnds {A = List Placed} (maps sections) stage_stop (Err stop.Memory) entry entry
 unfolding maps
 maps-wanting entry sections =
     let no_placed : List Item → List Placed = λ items. [] in
-    ends-first stop.Memory stop.Memory entry entry (listed no_placed) (λ before. in_turn map_group before (groups_of sections))
-    (ends-wanting no_placed stop.Memory entry)
+    ends-first stop.Memory stage_stop entry entry (listed no_placed) (λ before. in_turn map_group before (groups_of sections))
+    (ends-wanting no_placed stage_stop entry)
 
 -- nothing is left, or a group in front of it
 module _ {entry : List Item} {sections : List Section} {now : List Item} {placed : List Placed} where
   pub goes-all : (rest : List Section) → length rest ≡ 0 → Goes entry sections now placed rest
-      → EndsAs stop.Memory (Ok placed) entry now (maps sections entry)
-  goes-all [] none goes = goes.ends (Ok placed) now (ends-returns placed stop.Memory now)
+      → StageEnds (maps sections) stage_stop (Ok placed) entry now
+  goes-all [] none goes = goes.ends (Ok placed) now (ends-returns placed stage_stop now)
   goes-all (s ∷ ss) none goes = absurd (omega arith)
 
   front : (s : Section) (ss : List Section) → Goes entry sections now placed (s ∷ ss) → (r : Result (List Placed) StageStop)
       (new : List Item)
-      → EndsAs stop.Memory r now new (in_turn map_group placed (group_at s ss ∷ groups_of (drop (prefix_len (is_of s.node) ss) ss)) now)
-      → EndsAs stop.Memory r entry new (maps sections entry)
+      → StageEnds (in_turn map_group placed (group_at s ss ∷ groups_of (drop (prefix_len (is_of s.node) ss) ss))) stage_stop r now new
+      → StageEnds (maps sections) stage_stop r entry new
   front s ss goes r new h = goes.ends r new (rw (groups-next s ss) h)
 
   pub goes-next : (mid : List Item) (longer : List Placed) (rest : List Section) (d : Section) → 0 < length rest
-      → EndsAs stop.Memory (Ok longer) now mid (group_placed placed (get_or rest 0 d) (take (own_part d rest) rest) now)
+      → StageEnds (group_placed placed (get_or rest 0 d) (take (own_part d rest) rest)) stage_stop (Ok longer) now mid
       → Goes entry sections now placed rest → Goes entry sections mid longer (drop (own_part d rest) rest)
   goes-next mid longer [] d some was goes = absurd (omega arith)
   goes-next mid longer (s ∷ ss) d some was goes = record {
     ends = λ r new h. front s ss goes r new
-        (ends-second longer r stop.Memory now mid new (map_group placed (group_at s ss))
+        (ends-second longer r stage_stop now mid new (map_group placed (group_at s ss))
         (λ next. in_turn map_group next (groups_of (drop (prefix_len (is_of s.node) ss) ss))) (rw (own-length s ss) at was)
         (rw (own-length s ss) at h));
   }
 
   pub goes-stops : (e : StageStop) (new : List Item) (rest : List Section) (d : Section) → 0 < length rest
-      → EndsAs {A = List Placed} stop.Memory (Err e) now new (group_placed placed (get_or rest 0 d) (take (own_part d rest) rest) now)
-      → Goes entry sections now placed rest → EndsAs {A = List Placed} stop.Memory (Err e) entry new (maps sections entry)
+      → StageEnds {A = List Placed} (group_placed placed (get_or rest 0 d) (take (own_part d rest) rest)) stage_stop (Err e) now new
+      → Goes entry sections now placed rest → StageEnds {A = List Placed} (maps sections) stage_stop (Err e) entry new
   goes-stops e new [] d some failed goes = absurd (omega arith)
   goes-stops e new (s ∷ ss) d some failed goes =
       front s ss goes (Err e) new
-      (ends-first e stop.Memory now new (map_group placed (group_at s ss))
+      (ends-first e stage_stop now new (map_group placed (group_at s ss))
       (λ next. in_turn map_group next (groups_of (drop (prefix_len (is_of s.node) ss) ss))) (rw (own-length s ss) at failed))

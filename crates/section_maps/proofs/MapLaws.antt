@@ -3,19 +3,17 @@ use Rattle.std.proofs.Common.{◌≡◌, ◌≢◌, ℕ, ◌+◌, ◌*◌, ◌<�
 use Rattle.std.proofs.lemmas.List.{drop_all, drop_more, take_more, length-take-le}
 use Rattle.memblock_model.specs.declared.item.Item.{Item}
 use Rattle.memblock_model.specs.declared.owner.Owner.TheVariants as owner
-use Rattle.growth_model.specs.declared.refusal.Refusal.{Refusal}
-use Rattle.growth_model.specs.declared.refusal.Refusal.TheVariants as refusal
 use Rattle.memblock_model.specs.declared.request.Request.{Request}
-use Rattle.growth_model.specs.Ends.{Allocates}
-use Rattle.growth_model.specs.Request.{place_for}
 use Rattle.memblock_grow.specs.declared.section.Section.{Section}
+use Rattle.memblock_grow.specs.declared.stop.What.{What}
 use Rattle.memblock_grow.specs.declared.stop.What.TheVariants as what
 use Rattle.memblock_grow.specs.declared.stop.StageStop.{StageStop}
 use Rattle.memblock_grow.specs.declared.stop.StageStop.TheVariants as stop
-use Rattle.stage_model.specs.Doing.{Doing, EndsAs, returns}
-use Rattle.stage_model.specs.Requests.{allocated, placed, or_else, stop_for}
+use Rattle.stage_model.specs.Causes.{StageCause, stage_stop}
+use Rattle.stage_model.specs.Doing.{Doing, StageEnds, returns}
+use Rattle.stage_model.specs.Requests.{placed, or_else}
 use Rattle.stage_model.proofs.DoingLaws.{ends-second, ends-first, ends-returns}
-use Rattle.stage_model.proofs.RequestLaws.{ends-allocation, else-first, else-table, else-wanting, else-second}
+use Rattle.stage_model.proofs.RequestLaws.{else-first, else-stops, else-second}
 use Rattle.section_maps.specs.declared.placed.Placed.{Placed}
 use Rattle.section_maps.specs.Maps.{usage_request, map_request, spread, map_each, map_all, group_placed}
 
@@ -49,11 +47,11 @@ spread-next usage map i ss d before now few so_far =
 -- the maps of sections, one by one
 pub record Goes (entry : List Item) (usage : ℕ) (first : List Placed) (sections : List Section) (now : List Item) (at : ℕ)
     (placed : List Placed) (rest : List Section) : Type 0 where
-  pub ends : (r : Result (List Placed) StageStop) (new : List Item) → EndsAs stop.Memory r now new (map_each at placed rest now)
-      → EndsAs stop.Memory r entry new (map_each usage first sections entry)
+  pub ends : (r : Result (List Placed) StageStop) (new : List Item) → StageEnds (map_each at placed rest) stage_stop r now new
+      → StageEnds (map_each usage first sections) stage_stop r entry new
 
 -- the map of one section
-abbrev pub one_map : Section → Doing StageStop ℕ
+abbrev pub one_map : Section → Doing StageCause ℕ
 one_map s = placed (what.Map s.number) (map_request 1 s.node false) (owner.Map s.number)
 
 module _ {entry : List Item} {usage : ℕ} {first : List Placed} {sections : List Section} {now : List Item} {at : ℕ}
@@ -64,90 +62,82 @@ module _ {entry : List Item} {usage : ℕ} {first : List Placed} {sections : Lis
 
   pub goes-next : (i : ℕ) (d : Section) (mid : List Item) (map : ℕ) (longer : List Placed) → i < length sections
       → Goes entry usage first sections now at before (drop i sections)
-      → EndsAs stop.Memory (Ok map) now mid (one_map (get_or sections i d) now)
+      → StageEnds (one_map (get_or sections i d)) stage_stop (Ok map) now mid
       → longer ≡ before ++ placed_at at map (get_or sections i d) ∷ []
       → Goes entry usage first sections mid (at + 40) longer (drop (i + 1) sections)
   goes-next i d mid map longer few goes was is = record {
     ends = λ r new h. (left-at i d few goes).ends r new
-        (ends-second map r stop.Memory now mid new (one_map (get_or sections i d))
+        (ends-second map r stage_stop now mid new (one_map (get_or sections i d))
         (λ map. map_each (at + 40) (before ++ placed_at at map (get_or sections i d) ∷ []) (drop (i + 1) sections)) was (rw is at h));
   }
 
   pub goes-stops : (e : StageStop) (i : ℕ) (d : Section) (new : List Item) → i < length sections
       → Goes entry usage first sections now at before (drop i sections)
-      → EndsAs {A = ℕ} stop.Memory (Err e) now new (one_map (get_or sections i d) now)
-      → EndsAs {A = List Placed} stop.Memory (Err e) entry new (map_each usage first sections entry)
+      → StageEnds {A = ℕ} (one_map (get_or sections i d)) stage_stop (Err e) now new
+      → StageEnds {A = List Placed} (map_each usage first sections) stage_stop (Err e) entry new
   goes-stops e i d new few goes failed =
       (left-at i d few goes).ends (Err e) new
-      (ends-first e stop.Memory now new (one_map (get_or sections i d))
+      (ends-first e stage_stop now new (one_map (get_or sections i d))
       (λ map. map_each (at + 40) (before ++ placed_at at map (get_or sections i d) ∷ []) (drop (i + 1) sections)) failed)
 
   pub goes-all : (i : ℕ) → length sections ≤ i → Goes entry usage first sections now at before (drop i sections)
-      → EndsAs stop.Memory (Ok before) entry now (map_each usage first sections entry)
+      → StageEnds (map_each usage first sections) stage_stop (Ok before) entry now
   goes-all i all goes =
-      let here = rw (drop_all i sections all) at goes in here.ends (Ok before) now (ends-returns before stop.Memory now)
+      let here = rw (drop_all i sections all) at goes in here.ends (Ok before) now (ends-returns before stage_stop now)
 
 -- the maps of a group in one buffer, or one by one
-abbrev pub maps_in : ℕ → List Placed → Section → List Section → Doing StageStop (List Placed)
-maps_in usage before first sections =
-    or_else (what.Map first.number) (map_all usage before first sections) (map_each usage before sections)
+abbrev pub maps_in : ℕ → List Placed → Section → List Section → Doing StageCause (List Placed)
+maps_in usage before first sections = or_else (map_all usage before first sections) (map_each usage before sections)
 
 module _ (usage : ℕ) (before : List Placed) (first : Section) (sections : List Section) (q : Request) (old : List Item)
     (asked : q ≡ map_request (length sections) first.node true) where
-  alloc-ends : (r : Result ℕ Refusal) (new : List Item) → Allocates r old new (place_for q old) q.size (owner.Map first.number)
-      → EndsAs refusal.Memory r old new (allocated (map_request (length sections) first.node true) (owner.Map first.number) old)
-  alloc-ends r new h = rw asked at (ends-allocation r old new q (owner.Map first.number) h)
+  abbrev one_buffer : Doing StageCause ℕ
+  one_buffer = placed (what.Map first.number) (map_request (length sections) first.node true) (owner.Map first.number)
 
-  buffer-fails : (e : Refusal) (new : List Item) → Allocates (Err e) old new (place_for q old) q.size (owner.Map first.number)
-      → EndsAs {A = List Placed} refusal.Memory (Err e) old new (map_all usage before first sections old)
+  buffer-fails : (e : StageStop) (new : List Item)
+      → StageEnds {A = ℕ} (placed (what.Map first.number) q (owner.Map first.number)) stage_stop (Err e) old new
+      → StageEnds {A = List Placed} (map_all usage before first sections) stage_stop (Err e) old new
   buffer-fails e new h =
-      ends-first e refusal.Memory old new (allocated (map_request (length sections) first.node true) (owner.Map first.number))
-      (λ map. returns (before ++ spread usage map sections)) (alloc-ends (Err e) new h)
+      ends-first e stage_stop old new one_buffer (λ map. returns (before ++ spread usage map sections)) (rw asked at h)
 
   pub buffer-placed : (map : ℕ) (now : List Placed) (new : List Item) → now ≡ before ++ spread usage map sections
-      → Allocates (Ok map) old new (place_for q old) q.size (owner.Map first.number)
-      → EndsAs stop.Memory (Ok now) old new (maps_in usage before first sections old)
+      → StageEnds (placed (what.Map first.number) q (owner.Map first.number)) stage_stop (Ok map) old new
+      → StageEnds (maps_in usage before first sections) stage_stop (Ok now) old new
   buffer-placed map now new is h =
-      else-first now (what.Map first.number) old new (map_all usage before first sections) (map_each usage before sections)
-      (ends-second map (Ok now) refusal.Memory old new new
-      (allocated (map_request (length sections) first.node true) (owner.Map first.number))
-      (λ map. returns (before ++ spread usage map sections)) (alloc-ends (Ok map) new h) (rw is refl, refl))
+      else-first (map_all usage before first sections) (map_each usage before sections) old now new
+      (ends-second map (Ok now) stage_stop old new new one_buffer (λ map. returns (before ++ spread usage map sections)) (rw asked at h)
+      (rw is refl, refl))
 
-  pub buffer-stops : (e : Refusal) (new : List Item) → e ≢ refusal.NoGap
-      → Allocates (Err e) old new (place_for q old) q.size (owner.Map first.number)
-      → EndsAs stop.Memory (Err (stop_for (what.Map first.number) e)) old new (maps_in usage before first sections old)
-  buffer-stops refusal.NoGap new other h = absurd (other refl)
-  buffer-stops (refusal.NoGapForTable w room) new other h =
-      else-table w room (what.Map first.number) old new (map_all usage before first sections) (map_each usage before sections)
-      (buffer-fails (refusal.NoGapForTable w room) new h)
-  buffer-stops refusal.Memory new other h =
-      else-wanting (what.Map first.number) old new (map_all usage before first sections) (map_each usage before sections)
-      (buffer-fails refusal.Memory new h)
+  pub buffer-stops : (e : StageStop) (new : List Item) → ((thing : What) → e ≢ stop.NoPlace thing)
+      → StageEnds {A = ℕ} (placed (what.Map first.number) q (owner.Map first.number)) stage_stop (Err e) old new
+      → StageEnds {A = List Placed} (maps_in usage before first sections) stage_stop (Err e) old new
+  buffer-stops e new other h =
+      else-stops (map_all usage before first sections) (map_each usage before sections) old e new other (buffer-fails e new h)
 
-  pub buffer-each : (r : Result (List Placed) StageStop) (mid new : List Item)
-      → Allocates (Err refusal.NoGap) old mid (place_for q old) q.size (owner.Map first.number)
-      → EndsAs stop.Memory r mid new (map_each usage before sections mid)
-      → EndsAs stop.Memory r old new (maps_in usage before first sections old)
-  buffer-each r mid new h rest =
-      else-second r (what.Map first.number) old mid new (map_all usage before first sections) (map_each usage before sections)
-      (buffer-fails refusal.NoGap mid h) rest
+  pub buffer-each : (r : Result (List Placed) StageStop) (thing : What) (mid new : List Item)
+      → StageEnds {A = ℕ} (placed (what.Map first.number) q (owner.Map first.number)) stage_stop (Err (stop.NoPlace thing)) old mid
+      → StageEnds (map_each usage before sections) stage_stop r mid new
+      → StageEnds (maps_in usage before first sections) stage_stop r old new
+  buffer-each r thing mid new h rest =
+      else-second (map_all usage before first sections) (map_each usage before sections) old r thing mid new
+      (buffer-fails (stop.NoPlace thing) mid h) rest
 
 -- a group: its usage data, and longer its maps
 module _ (before : List Placed) (first : Section) (sections : List Section) (q : Request) (old : List Item)
     (asked : q ≡ usage_request (length sections) first.node) where
   pub group-second : (r : Result (List Placed) StageStop) (usage : ℕ) (mid new : List Item)
-      → EndsAs stop.Memory (Ok usage) old mid (placed (what.Usage first.number) q (owner.Usage first.number) old)
-      → EndsAs stop.Memory r mid new (maps_in usage before first sections mid)
-      → EndsAs stop.Memory r old new (group_placed before first sections old)
+      → StageEnds (placed (what.Usage first.number) q (owner.Usage first.number)) stage_stop (Ok usage) old mid
+      → StageEnds (maps_in usage before first sections) stage_stop r mid new
+      → StageEnds (group_placed before first sections) stage_stop r old new
   group-second r usage mid new was h =
-      ends-second usage r stop.Memory old mid new
+      ends-second usage r stage_stop old mid new
       (placed (what.Usage first.number) (usage_request (length sections) first.node) (owner.Usage first.number))
       (λ usage. maps_in usage before first sections) (rw asked at was) h
 
   pub group-first : (e : StageStop) (new : List Item)
-      → EndsAs {A = ℕ} stop.Memory (Err e) old new (placed (what.Usage first.number) q (owner.Usage first.number) old)
-      → EndsAs {A = List Placed} stop.Memory (Err e) old new (group_placed before first sections old)
+      → StageEnds {A = ℕ} (placed (what.Usage first.number) q (owner.Usage first.number)) stage_stop (Err e) old new
+      → StageEnds {A = List Placed} (group_placed before first sections) stage_stop (Err e) old new
   group-first e new h =
-      ends-first e stop.Memory old new
+      ends-first e stage_stop old new
       (placed (what.Usage first.number) (usage_request (length sections) first.node) (owner.Usage first.number))
       (λ usage. maps_in usage before first sections) (rw asked at h)

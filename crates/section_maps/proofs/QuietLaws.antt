@@ -7,7 +7,7 @@ use Rattle.memblock_grow.specs.declared.section.Section.{Section}
 use Rattle.memblock_grow.specs.declared.stop.What.TheVariants as what
 use Rattle.stage_model.specs.Doing.{after}
 use Rattle.stage_model.specs.Quiet.{IsQuietStep}
-use Rattle.stage_model.proofs.QuietLaws.{quiet-returns, quiet-listed, quiet-bind, quiet-turn, quiet-allocated, quiet-placed, quiet-else, quiet-appended_memory, quiet-appended_limit}
+use Rattle.stage_model.proofs.QuietLaws.{quiet-returns, quiet-listed, quiet-bind, quiet-turn, quiet-placed, quiet-else, quiet-appended_memory, quiet-appended_limit}
 use Rattle.section_maps.specs.declared.placed.Placed.{Placed}
 use Rattle.section_maps.specs.Maps.{Group, sections_in, groups_of, usage_request, map_request, spread, map_each, map_all, map_group, maps}
 
@@ -20,14 +20,14 @@ quiet-each usage before (s ∷ ss) =
 quiet-all : (usage : ℕ) (before : List Placed) (first : Section) (sections : List Section)
     → IsQuietStep (map_all usage before first sections)
 quiet-all usage before first sections =
-    quiet-bind _ _ (quiet-allocated (map_request (length sections) first.node true) (owner.Map first.number))
+    quiet-bind _ _ (quiet-placed (what.Map first.number) (map_request (length sections) first.node true) (owner.Map first.number))
     (λ map. quiet-returns (before ++ spread usage map sections))
 
 quiet-group : (before : List Placed) (g : Group) → IsQuietStep (map_group before g)
 quiet-group before g =
     let ss = sections_in g in
     quiet-bind _ _ (quiet-placed (what.Usage g.first.number) (usage_request (length ss) g.first.node) (owner.Usage g.first.number))
-    (λ usage. quiet-else (what.Map g.first.number) _ _ (quiet-all usage before g.first ss) (quiet-each usage before ss))
+    (λ usage. quiet-else _ _ (quiet-all usage before g.first ss) (quiet-each usage before ss))
 
 pub quiet-maps : (sections : List Section) → IsQuietStep (maps sections)
 unfolding maps

@@ -5,9 +5,9 @@ use Rattle.growth_model.specs.declared.refusal.Refusal.{Refusal}
 use Rattle.memblock_model.specs.declared.request.Request.{Request}
 use Rattle.memblock_grow.specs.declared.section.Section.{Section}
 use Rattle.memblock_grow.specs.declared.stop.What.TheVariants as what
-use Rattle.memblock_grow.specs.declared.stop.StageStop.{StageStop}
+use Rattle.stage_model.specs.Causes.{StageCause}
 use Rattle.stage_model.specs.Doing.{Doing, ◌>>=◌, returns, listed, in_turn}
-use Rattle.stage_model.specs.Requests.{allocated, placed, or_else}
+use Rattle.stage_model.specs.Requests.{placed, or_else}
 use Rattle.section_maps.specs.declared.placed.Placed.{Placed}
 
 -- sections of one node that follow each other: the first, and the others
@@ -49,27 +49,27 @@ spread usage map (s ∷ ss) =
     record { section = s.number; node = s.node; map = map; usage = usage } ∷ spread (usage + 40) (map + 0x200000) ss
 
 -- the map of each section alone
-abbrev pub map_each : ℕ → List Placed → List Section → Doing StageStop (List Placed)
+abbrev pub map_each : ℕ → List Placed → List Section → Doing StageCause (List Placed)
 map_each usage before [] = returns before
 map_each usage before (s ∷ ss) =
     placed (what.Map s.number) (map_request 1 s.node false) (owner.Map s.number)
     >>= λ map. map_each (usage + 40) (before ++ record { section = s.number; node = s.node; map = map; usage = usage } ∷ []) ss
 
 -- all maps of a group in one buffer
-abbrev pub map_all : ℕ → List Placed → Section → List Section → Doing Refusal (List Placed)
+abbrev pub map_all : ℕ → List Placed → Section → List Section → Doing StageCause (List Placed)
 map_all usage before first sections =
-    allocated (map_request (length sections) first.node true) (owner.Map first.number)
+    placed (what.Map first.number) (map_request (length sections) first.node true) (owner.Map first.number)
     >>= λ map. returns (before ++ spread usage map sections)
 
 -- a group: its usage data, and then its maps in one buffer, or one by one where no buffer is free
-abbrev pub group_placed : List Placed → Section → List Section → Doing StageStop (List Placed)
+abbrev pub group_placed : List Placed → Section → List Section → Doing StageCause (List Placed)
 group_placed before first sections =
     placed (what.Usage first.number) (usage_request (length sections) first.node) (owner.Usage first.number)
-    >>= λ usage. or_else (what.Map first.number) (map_all usage before first sections) (map_each usage before sections)
+    >>= λ usage. or_else (map_all usage before first sections) (map_each usage before sections)
 
-abbrev pub map_group : List Placed → Group → Doing StageStop (List Placed)
+abbrev pub map_group : List Placed → Group → Doing StageCause (List Placed)
 map_group before g = group_placed before g.first (sections_in g)
 
 -- a list with room for all sections, and then the groups in their order
-unfoldable pub maps : List Section → Doing StageStop (List Placed)
+unfoldable pub maps : List Section → Doing StageCause (List Placed)
 maps sections = listed (λ items. []) >>= λ none. in_turn map_group none (groups_of sections)

@@ -4,9 +4,9 @@
 ghost use Rattle.std.specs.Prelude.{◌≡◌, ◌+◌, ◌*◌, ◌^◌, ◌<◌, ◌≤◌, false, length, vec_len, vec_capacity};
 ghost use Rattle.memblock_model.specs.declared.owner.Owner.TheVariants as owner;
 ghost use Rattle.growth_model.specs.Sound.{HasBegun};
-ghost use Rattle.memblock_grow.specs.declared.stop.StageStop.TheVariants as stops;
 ghost use Rattle.memblock_grow.specs.declared.stop.What.TheVariants as what;
-ghost use Rattle.stage_model.specs.Doing.{EndsAs, ok_as};
+ghost use Rattle.stage_model.specs.Causes.{stage_stop};
+ghost use Rattle.stage_model.specs.Doing.{StageEnds, ok_as};
 ghost use Rattle.stage_model.specs.Requests.{placed};
 ghost use Rattle.stage_model.specs.Lent.{GoesOn};
 ghost use Rattle.section_maps.specs.Maps.{map_request, map_each};
@@ -20,9 +20,8 @@ use stage_model::{Section, StageStop, What, place, stand_still};
 /// Finds a place for the map of one section.
 fn place_map(memblock: &mut Memblock, section: &Section) -> Result<u64, StageStop>
     requires { HasBegun memblock.old.journal.items }
-    ensures ends { EndsAs stops.Memory result memblock.old.journal.items memblock.new.journal.items
-        (placed (what.Map section.now.number) (map_request 1 section.now.node false) (owner.Map section.now.number)
-        memblock.old.journal.items) }
+    ensures ends { StageEnds (placed (what.Map section.now.number) (map_request 1 section.now.node false) (owner.Map section.now.number)) stage_stop result
+        memblock.old.journal.items memblock.new.journal.items }
     ensures lent { GoesOn memblock.old memblock.new }
 {
     let number = section.number;
@@ -40,8 +39,8 @@ pub fn place_each(
     requires begun { HasBegun memblock.old.journal.items }
     requires room { vec_len placed.old + length sections.now ≤ vec_capacity placed.old }
     requires usage { usage + 40 * length sections.now < 2 ^ 64 }
-    ensures ends { EndsAs stops.Memory (ok_as (λ _. placed.new.items) result) memblock.old.journal.items memblock.new.journal.items
-        (map_each usage placed.old.items sections.now memblock.old.journal.items) }
+    ensures ends { StageEnds (map_each usage placed.old.items sections.now) stage_stop (ok_as (λ _. placed.new.items) result)
+        memblock.old.journal.items memblock.new.journal.items }
     ensures len { vec_len placed.new ≤ vec_len placed.old + length sections.now }
     ensures capacity { vec_capacity placed.old ≤ vec_capacity placed.new }
     ensures lent { GoesOn memblock.old memblock.new }

@@ -3,10 +3,9 @@
 ghost use Rattle.std.specs.Prelude.{◌≡◌, ℕ, ◌+◌, ◌*◌, ◌^◌, ◌<◌, ◌≤◌, ◌==◌, length, vec_len, vec_capacity};
 ghost use Rattle.std.specs.List.{prefix_len};
 ghost use Rattle.growth_model.specs.Sound.{HasBegun};
-ghost use Rattle.memblock_grow.specs.declared.stop.StageStop.TheVariants as stops;
-ghost use Rattle.stage_model.specs.Doing.{EndsAs, ok_as};
+ghost use Rattle.stage_model.specs.Causes.{stage_stop};
+ghost use Rattle.stage_model.specs.Doing.{StageEnds, ok_as};
 ghost use Rattle.stage_model.specs.Requests.{or_else};
-ghost use Rattle.memblock_grow.specs.declared.stop.What.TheVariants as what;
 ghost use Rattle.stage_model.specs.Lent.{GoesOn};
 ghost use Rattle.section_maps.specs.Maps.{map_all, map_each, group_placed};
 
@@ -14,7 +13,6 @@ use crate::each::place_each;
 use crate::placed::{Placed, put_spread};
 use crate::requests::{map_request, usage_request};
 use boot_journal::Owner;
-use growth_model::Refusal;
 use memblock_grow::Memblock;
 use stage_model::{Section, StageStop, What, place};
 
@@ -39,22 +37,22 @@ fn map_group(
     requires few { length sections.now ≤ 2 ^ 32 }
     requires room { vec_len placed.old + length sections.now ≤ vec_capacity placed.old }
     requires usage { usage + 40 * length sections.now < 2 ^ 64 }
-    ensures ends { EndsAs stops.Memory (ok_as (λ _. placed.new.items) result) memblock.old.journal.items memblock.new.journal.items
-        (or_else (what.Map first.now.number) (map_all usage placed.old.items first.now sections.now)
-        (map_each usage placed.old.items sections.now) memblock.old.journal.items) }
+    ensures ends { StageEnds (or_else (map_all usage placed.old.items first.now sections.now)
+        (map_each usage placed.old.items sections.now)) stage_stop (ok_as (λ _. placed.new.items) result)
+        memblock.old.journal.items memblock.new.journal.items }
     ensures len { vec_len placed.new ≤ vec_len placed.old + length sections.now }
     ensures capacity { vec_capacity placed.old ≤ vec_capacity placed.new }
     ensures lent { GoesOn memblock.old memblock.new }
 {
     let request = map_request(sections.len() as u64, first.node, true);
-    match memblock.alloc(&request, Owner::Map(first.number)) {
+    let number = first.number;
+    match place(memblock, What::Map(number), &request, Owner::Map(number)) {
         Ok(map) => {
             put_spread(placed, sections, usage, map);
             Ok(())
         }
-        Err(Refusal::NoGap) => place_each(memblock, placed, sections, usage),
-        Err(Refusal::NoGapForTable { which, room }) => Err(StageStop::NoTablePlace { which, room }),
-        Err(Refusal::Memory) => Err(StageStop::Memory),
+        Err(StageStop::NoPlace { what: _ }) => place_each(memblock, placed, sections, usage),
+        Err(stop) => Err(stop),
     }
 }
 
@@ -69,8 +67,8 @@ pub fn place_group(
     requires some { 1 ≤ length sections.now }
     requires few { length sections.now ≤ 2 ^ 32 }
     requires room { vec_len placed.old + length sections.now ≤ vec_capacity placed.old }
-    ensures ends { EndsAs stops.Memory (ok_as (λ _. placed.new.items) result) memblock.old.journal.items memblock.new.journal.items
-        (group_placed placed.old.items first.now sections.now memblock.old.journal.items) }
+    ensures ends { StageEnds (group_placed placed.old.items first.now sections.now) stage_stop (ok_as (λ _. placed.new.items) result)
+        memblock.old.journal.items memblock.new.journal.items }
     ensures len { vec_len placed.new ≤ vec_len placed.old + length sections.now }
     ensures capacity { vec_capacity placed.old ≤ vec_capacity placed.new }
     ensures lent { GoesOn memblock.old memblock.new }

@@ -3,8 +3,8 @@
 
 ghost use Rattle.std.specs.Prelude.{◌≡◌, ◌^◌, ◌<◌, ◌≤◌, AllPairs, length};
 ghost use Rattle.growth_model.specs.Sound.{HasBegun};
-ghost use Rattle.memblock_grow.specs.declared.stop.StageStop.TheVariants as stops;
-ghost use Rattle.stage_model.specs.Doing.{EndsAs, ok_as};
+ghost use Rattle.stage_model.specs.Causes.{stage_stop};
+ghost use Rattle.stage_model.specs.Doing.{StageEnds, ok_as};
 ghost use Rattle.stage_model.specs.Lent.{GoesOn};
 ghost use Rattle.section_maps.specs.Maps.{maps};
 
@@ -44,8 +44,8 @@ pub fn place_maps(
 ) -> Result<Vec<Placed>, StageStop>
     requires begun { HasBegun memblock.old.journal.items }
     requires ascend { AllPairs (λ s t. s.number < t.number) sections.now }
-    ensures ends { EndsAs stops.Memory (ok_as (λ placed. placed.items) result) memblock.old.journal.items memblock.new.journal.items
-        (maps sections.now memblock.old.journal.items) }
+    ensures ends { StageEnds (maps sections.now) stage_stop (ok_as (λ placed. placed.items) result)
+        memblock.old.journal.items memblock.new.journal.items }
     ensures lent { GoesOn memblock.old memblock.new }
 {
     stand_still(memblock);

@@ -9,8 +9,8 @@ use Rattle.memblock_model.specs.declared.request.Request.{Request}
 use Rattle.memblock_grow.specs.declared.section.Section.{Section}
 use Rattle.memblock_grow.specs.declared.stop.What.TheVariants as what
 use Rattle.memblock_grow.specs.declared.stop.StageStop.{StageStop}
-use Rattle.memblock_grow.specs.declared.stop.StageStop.TheVariants as stop
-use Rattle.stage_model.specs.Doing.{EndsAs, returns, listed, in_turn, ◌>>=◌}
+use Rattle.stage_model.specs.Causes.{stage_stop}
+use Rattle.stage_model.specs.Doing.{StageEnds, returns, listed, in_turn, ◌>>=◌}
 use Rattle.stage_model.specs.Requests.{placed}
 use Rattle.stage_model.proofs.DoingLaws.{ends-second, ends-first, ends-listed, ends-returns}
 use Rattle.sparse_sections.specs.declared.roots.RootPlace.{RootPlace}
@@ -23,8 +23,8 @@ no_section = record { number = 0; node = 0 }
 pub record Goes (entry : List Item) (sections : List Section) (now : List Item) (roots : List RootPlace) (last : Option ℕ)
     (rest : List Section) : Type 0 where
   pub ends : (r : Result (List RootPlace) StageStop) (new : List Item)
-      → EndsAs stop.Memory r now new (in_turn root_placed roots (firsts_behind last rest) now)
-      → EndsAs stop.Memory r entry new (roots_listed sections entry)
+      → StageEnds (in_turn root_placed roots (firsts_behind last rest)) stage_stop r now new
+      → StageEnds (roots_listed sections) stage_stop r entry new
 
 pub goes-first : (entry : List Item) (sections : List Section) (roots : List RootPlace) → roots ≡ []
     → Goes entry sections entry roots None sections
@@ -32,8 +32,8 @@ goes-first entry sections roots none = record {
   ends = λ r new h.
       let firsts : List Section = firsts_behind None sections in
       let no_roots : List Item → List RootPlace = λ items. [] in
-      ends-second [] r stop.Memory entry entry new (listed no_roots) (λ before. in_turn root_placed before firsts)
-      (ends-listed no_roots stop.Memory entry)
+      ends-second [] r stage_stop entry entry new (listed no_roots) (λ before. in_turn root_placed before firsts)
+      (ends-listed no_roots stage_stop entry)
       (rw none at h);
 }
 
@@ -51,7 +51,7 @@ goes-same entry sections now before last i d few same goes =
 
 pub goes-next : (entry : List Item) (sections : List Section) (now mid : List Item) (before roots : List RootPlace) (last : Option ℕ)
     (i : ℕ) (d : Section) → i < length sections → is_root last (root_of (get_or sections i d)) ≡ false
-    → EndsAs stop.Memory (Ok roots) now mid (root_placed before (get_or sections i d) now)
+    → StageEnds (root_placed before (get_or sections i d)) stage_stop (Ok roots) now mid
     → Goes entry sections now before last (drop i sections)
     → Goes entry sections mid roots (Some (root_of (get_or sections i d))) (drop (i + 1) sections)
 goes-next entry sections now mid before roots last i d few other was goes =
@@ -59,65 +59,65 @@ goes-next entry sections now mid before roots last i d few other was goes =
     let here = rw (left-at sections i d few) at goes in
     record {
       ends = λ r new h.
-          here.ends r new (rw other (ends-second roots r stop.Memory now mid new (root_placed before s)
+          here.ends r new (rw other (ends-second roots r stage_stop now mid new (root_placed before s)
           (λ next. in_turn root_placed next (firsts_behind (Some (root_of s)) (drop (i + 1) sections))) was h));
     }
 
 pub goes-fails : (e : StageStop) (entry : List Item) (sections : List Section) (now new : List Item) (before : List RootPlace)
     (last : Option ℕ) (i : ℕ) (d : Section) → i < length sections → is_root last (root_of (get_or sections i d)) ≡ false
-    → EndsAs {A = List RootPlace} stop.Memory (Err e) now new (root_placed before (get_or sections i d) now)
+    → StageEnds {A = List RootPlace} (root_placed before (get_or sections i d)) stage_stop (Err e) now new
     → Goes entry sections now before last (drop i sections)
-    → EndsAs {A = List RootPlace} stop.Memory (Err e) entry new (roots_listed sections entry)
+    → StageEnds {A = List RootPlace} (roots_listed sections) stage_stop (Err e) entry new
 goes-fails e entry sections now new before last i d few other failed goes =
     let s : Section = get_or sections i d in
     let here = rw (left-at sections i d few) at goes in
-    here.ends (Err e) new (rw other (ends-first e stop.Memory now new (root_placed before s)
+    here.ends (Err e) new (rw other (ends-first e stage_stop now new (root_placed before s)
     (λ next. in_turn root_placed next (firsts_behind (Some (root_of s)) (drop (i + 1) sections))) failed))
 
 pub goes-all : (entry : List Item) (sections : List Section) (now : List Item) (roots : List RootPlace) (last : Option ℕ) (i : ℕ)
     → length sections ≤ i → Goes entry sections now roots last (drop i sections)
-    → EndsAs stop.Memory (Ok roots) entry now (roots_listed sections entry)
+    → StageEnds (roots_listed sections) stage_stop (Ok roots) entry now
 goes-all entry sections now roots last i all goes =
-    let here = rw (drop_all i sections all) at goes in here.ends (Ok roots) now (ends-returns roots stop.Memory now)
+    let here = rw (drop_all i sections all) at goes in here.ends (Ok roots) now (ends-returns roots stage_stop now)
 
 -- the table and then the roots
 pub roots-fail : (e : StageStop) (width : Width) (q : Request) (sections : List Section) (old new : List Item)
     → q ≡ small_request (root_table_of width) None
-    → EndsAs {A = ℕ} stop.Memory (Err e) old new (placed what.Roots q owner.Roots old)
-    → EndsAs {A = RootsPlaced} stop.Memory (Err e) old new (roots width sections old)
+    → StageEnds {A = ℕ} (placed what.Roots q owner.Roots) stage_stop (Err e) old new
+    → StageEnds {A = RootsPlaced} (roots width sections) stage_stop (Err e) old new
 unfolding roots
 roots-fail e width q sections old new request h =
-    ends-first e stop.Memory old new (placed what.Roots (small_request (root_table_of width) None) owner.Roots)
+    ends-first e stage_stop old new (placed what.Roots (small_request (root_table_of width) None) owner.Roots)
     (λ table. roots_listed sections >>= λ places. returns (record { table = table; roots = places }))
     (rw request at h)
 
 roots-behind : (r : Result RootsPlaced StageStop) (table : ℕ) (width : Width) (q : Request) (sections : List Section)
     (old mid new : List Item)
-    → q ≡ small_request (root_table_of width) None → EndsAs stop.Memory (Ok table) old mid (placed what.Roots q owner.Roots old)
-    → EndsAs stop.Memory r mid new ((roots_listed sections
-    >>= λ places. returns (record { table = table; roots = places })) mid)
-    → EndsAs stop.Memory r old new (roots width sections old)
+    → q ≡ small_request (root_table_of width) None → StageEnds (placed what.Roots q owner.Roots) stage_stop (Ok table) old mid
+    → StageEnds (roots_listed sections
+    >>= λ places. returns (record { table = table; roots = places })) stage_stop r mid new
+    → StageEnds (roots width sections) stage_stop r old new
 unfolding roots
 roots-behind r table width q sections old mid new request was h =
-    ends-second table r stop.Memory old mid new (placed what.Roots (small_request (root_table_of width) None) owner.Roots)
+    ends-second table r stage_stop old mid new (placed what.Roots (small_request (root_table_of width) None) owner.Roots)
     (λ table. roots_listed sections >>= λ places. returns (record { table = table; roots = places }))
     (rw request at was) h
 
 pub roots-stop : (e : StageStop) (table : ℕ) (width : Width) (q : Request) (sections : List Section) (old mid new : List Item)
-    → q ≡ small_request (root_table_of width) None → EndsAs stop.Memory (Ok table) old mid (placed what.Roots q owner.Roots old)
-    → EndsAs {A = List RootPlace} stop.Memory (Err e) mid new (roots_listed sections mid)
-    → EndsAs {A = RootsPlaced} stop.Memory (Err e) old new (roots width sections old)
+    → q ≡ small_request (root_table_of width) None → StageEnds (placed what.Roots q owner.Roots) stage_stop (Ok table) old mid
+    → StageEnds {A = List RootPlace} (roots_listed sections) stage_stop (Err e) mid new
+    → StageEnds {A = RootsPlaced} (roots width sections) stage_stop (Err e) old new
 roots-stop e table width q sections old mid new request was h =
     roots-behind (Err e) table width q sections old mid new request was
-    (ends-first e stop.Memory mid new (roots_listed sections)
+    (ends-first e stage_stop mid new (roots_listed sections)
     (λ places. returns (record { table = table; roots = places })) h)
 
 pub roots-all : (table : ℕ) (places : List RootPlace) (width : Width) (q : Request) (sections : List Section) (old mid new : List Item)
-    → q ≡ small_request (root_table_of width) None → EndsAs stop.Memory (Ok table) old mid (placed what.Roots q owner.Roots old)
-    → EndsAs stop.Memory (Ok places) mid new (roots_listed sections mid)
-    → EndsAs stop.Memory (Ok (record { table = table; roots = places })) old new (roots width sections old)
+    → q ≡ small_request (root_table_of width) None → StageEnds (placed what.Roots q owner.Roots) stage_stop (Ok table) old mid
+    → StageEnds (roots_listed sections) stage_stop (Ok places) mid new
+    → StageEnds (roots width sections) stage_stop (Ok (record { table = table; roots = places })) old new
 roots-all table places width q sections old mid new request was h =
     roots-behind (Ok (record { table = table; roots = places })) table width q sections old mid new request was
-    (ends-second places (Ok (record { table = table; roots = places })) stop.Memory mid new new
+    (ends-second places (Ok (record { table = table; roots = places })) stage_stop mid new new
     (roots_listed sections) (λ places. returns (record { table = table; roots = places })) h
-    (ends-returns (record { table = table; roots = places }) stop.Memory new))
+    (ends-returns (record { table = table; roots = places }) stage_stop new))

@@ -7,7 +7,7 @@ use Rattle.memblock_model.specs.declared.owner.Owner.TheVariants as owner
 use Rattle.memblock_model.specs.declared.request.Request.{Request}
 use Rattle.memblock_grow.specs.declared.section.Section.{Section}
 use Rattle.memblock_grow.specs.declared.stop.What.TheVariants as what
-use Rattle.memblock_grow.specs.declared.stop.StageStop.{StageStop}
+use Rattle.stage_model.specs.Causes.{StageCause}
 use Rattle.stage_model.specs.Doing.{Doing, ◌>>=◌, returns, listed, in_turn}
 use Rattle.stage_model.specs.Requests.{placed}
 use Rattle.sparse_sections.specs.declared.roots.RootPlace.{RootPlace}
@@ -31,12 +31,12 @@ abbrev pub small_request : ℕ → Option ℕ → Request
 small_request size node = record { size = size; align = 64; min = 0; max = None; node = node; exact = false }
 
 -- a root is a page, on the node of its first section
-abbrev pub root_placed : List RootPlace → Section → Doing StageStop (List RootPlace)
+abbrev pub root_placed : List RootPlace → Section → Doing StageCause (List RootPlace)
 root_placed before s =
     placed (what.Root (root_of s)) (small_request FRAME_SIZE (Some s.node)) (owner.Root (root_of s))
     >>= λ place. returns (before ++ record { number = root_of s; place = place } ∷ [])
 
-abbrev pub roots_listed : List Section → Doing StageStop (List RootPlace)
+abbrev pub roots_listed : List Section → Doing StageCause (List RootPlace)
 roots_listed sections = listed (λ items. []) >>= λ none. in_turn root_placed none (firsts_behind None sections)
 
 -- what contracts see of the roots
@@ -48,7 +48,7 @@ abbrev pub roots_view : Roots → RootsPlaced
 roots_view r = record { table = r.table; roots = r.roots.items }
 
 -- the table, which has room for each root that addresses of that width can have; and then the roots in their order, in a list
-unfoldable pub roots : Width → List Section → Doing StageStop RootsPlaced
+unfoldable pub roots : Width → List Section → Doing StageCause RootsPlaced
 roots width sections =
     placed what.Roots (small_request (root_table_of width) None) owner.Roots
     >>= λ table. (roots_listed sections >>= λ places. returns (record { table = table; roots = places }))

@@ -4,8 +4,8 @@
 ghost use Rattle.std.specs.Prelude.{◌≡◌, ◌≤◌, ◌<◌, ◌+◌, ℕ, None, [], List, IfOk, length, vec_len, vec_capacity};
 ghost use Rattle.bm_base.specs.Width.{root_table_of};
 ghost use Rattle.growth_model.specs.Sound.{HasBegun};
-ghost use Rattle.memblock_grow.specs.declared.stop.StageStop.TheVariants as stops;
-ghost use Rattle.stage_model.specs.Doing.{EndsAs, ok_as};
+ghost use Rattle.stage_model.specs.Causes.{stage_stop};
+ghost use Rattle.stage_model.specs.Doing.{StageEnds, ok_as};
 ghost use Rattle.stage_model.specs.Lent.{GoesOn};
 ghost use Rattle.sparse_sections.specs.Roots.{root_of, is_root, small_request, root_placed, roots, roots_listed, roots_view};
 
@@ -69,8 +69,8 @@ fn place_root(
 ) -> Result<(), StageStop>
     requires begun { HasBegun memblock.old.journal.items }
     requires room { vec_len roots.old < vec_capacity roots.old }
-    ensures ends { EndsAs stops.Memory (ok_as (λ _. roots.new.items) result) memblock.old.journal.items memblock.new.journal.items
-        (root_placed roots.old.items section.now memblock.old.journal.items) }
+    ensures ends { StageEnds (root_placed roots.old.items section.now) stage_stop (ok_as (λ _. roots.new.items) result)
+        memblock.old.journal.items memblock.new.journal.items }
     ensures len { vec_len roots.new ≤ vec_len roots.old + 1 }
     ensures capacity { vec_capacity roots.old ≤ vec_capacity roots.new }
     ensures lent { GoesOn memblock.old memblock.new }
@@ -99,8 +99,8 @@ fn place_each_root(
     sections: &[Section],
 ) -> Result<Vec<RootPlace>, StageStop>
     requires { HasBegun memblock.old.journal.items }
-    ensures ends { EndsAs stops.Memory (ok_as (λ roots. roots.items) result) memblock.old.journal.items memblock.new.journal.items
-        (roots_listed sections.now memblock.old.journal.items) }
+    ensures ends { StageEnds (roots_listed sections.now) stage_stop (ok_as (λ roots. roots.items) result)
+        memblock.old.journal.items memblock.new.journal.items }
     ensures lent { GoesOn memblock.old memblock.new }
 {
     stand_still(memblock);
@@ -127,8 +127,8 @@ pub fn place_roots(
     width: Width,
 ) -> Result<Roots, StageStop>
     requires { HasBegun memblock.old.journal.items }
-    ensures ends { EndsAs stops.Memory (ok_as roots_view result) memblock.old.journal.items memblock.new.journal.items
-        (roots width sections.now memblock.old.journal.items) }
+    ensures ends { StageEnds (roots width sections.now) stage_stop (ok_as roots_view result)
+        memblock.old.journal.items memblock.new.journal.items }
     ensures lent { GoesOn memblock.old memblock.new }
 {
     let request = table_request(width);

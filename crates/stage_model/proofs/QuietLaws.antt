@@ -3,8 +3,6 @@ use Rattle.std.proofs.Common.{◌≡◌, List, [], ◌∷◌, ℕ, Option, Some,
 use Rattle.memblock_model.specs.declared.owner.Owner.{Owner}
 use Rattle.memblock_model.specs.declared.item.Item.{Item}
 use Rattle.memblock_model.specs.Items.{memory_of, limit_of}
-use Rattle.growth_model.specs.declared.refusal.Refusal.{Refusal}
-use Rattle.growth_model.specs.declared.refusal.Refusal.TheVariants as refusal
 use Rattle.memblock_model.specs.declared.request.Request.{Request}
 use Rattle.growth_model.specs.Outcome.{Change}
 use Rattle.growth_model.specs.Request.{place_for}
@@ -12,9 +10,9 @@ use Rattle.growth_model.specs.Carried.{AreQuiet}
 use Rattle.growth_model.proofs.MemoryItemLaws.{quiet-append}
 use Rattle.growth_model.proofs.QuietLaws.{IsQuiet, claimed-quiet, quiet-memory, quiet-limit}
 use Rattle.memblock_grow.specs.declared.stop.What.{What}
-use Rattle.memblock_grow.specs.declared.stop.StageStop.{StageStop}
+use Rattle.stage_model.specs.Causes.{StageCause, NoPlace, NoTablePlace}
 use Rattle.stage_model.specs.Doing.{Done, Doing, appended, after, returns, stops, seen, listed, going_on, ◌>>=◌, in_turn}
-use Rattle.stage_model.specs.Requests.{changes, claimed_at, allocated, placed, unless_gap, or_else}
+use Rattle.stage_model.specs.Requests.{changes, carried, placed_at, placed, unless_gap, or_else}
 use Rattle.stage_model.specs.Quiet.{IsQuietStep}
 use Rattle.stage_model.proofs.DoingLaws.{appended-joined}
 
@@ -51,31 +49,28 @@ quiet-turn f quiet s (x ∷ xs) = quiet-bind (f s x) (λ next. in_turn f next xs
 pub quiet-changes : (change : Change) → IsQuiet change → IsQuietStep (changes change)
 quiet-changes change quiet = record { each = quiet.each }
 
-pub quiet-claimed_at : (place : Option ℕ) (size : ℕ) (who : Owner) → IsQuietStep (claimed_at place size who)
-quiet-claimed_at None size who = quiet-stops refusal.NoGap
-quiet-claimed_at (Some place) size who =
-    quiet-bind _ _ (quiet-changes _ (claimed-quiet (record { base = place; size = size }) who)) (λ done. quiet-returns place)
+pub quiet-carried : (change : Change) → IsQuiet change → IsQuietStep (carried change)
+quiet-carried change quiet = record { each = quiet.each }
 
-pub quiet-allocated : (q : Request) (who : Owner) → IsQuietStep (allocated q who)
-unfolding allocated
-quiet-allocated q who = record { each = λ items. (quiet-claimed_at (place_for q items) q.size who).each items }
+quiet-placed_at : (thing : What) (place : Option ℕ) (size : ℕ) (who : Owner) → IsQuietStep (placed_at thing place size who)
+quiet-placed_at thing None size who = quiet-stops (NoPlace thing)
+quiet-placed_at thing (Some place) size who =
+    quiet-bind _ _ (quiet-carried _ (claimed-quiet (record { base = place; size = size }) who)) (λ done. quiet-returns place)
 
 pub quiet-placed : (thing : What) (q : Request) (who : Owner) → IsQuietStep (placed thing q who)
 unfolding placed
-quiet-placed thing q who = record { each = (quiet-allocated q who).each }
+quiet-placed thing q who = record { each = λ items. (quiet-placed_at thing (place_for q items) q.size who).each items }
 
 module _ {A : Type 0} where
-  quiet_unless : (thing : What) (steps : List (List Item)) (answer : Result A Refusal) (other : Done StageStop A) → AreQuiet steps
-      → AreQuiet other.steps → AreQuiet (unless_gap thing steps answer other).steps
-  quiet_unless thing steps (Ok a) other quiet then = quiet
-  quiet_unless thing steps (Err refusal.NoGap) other quiet then = quiet-append steps other.steps quiet then
-  quiet_unless thing steps (Err (refusal.NoGapForTable w room)) other quiet then = quiet
-  quiet_unless thing steps (Err refusal.Memory) other quiet then = quiet
+  quiet_unless : (steps : List (List Item)) (answer : Result A StageCause) (other : Done StageCause A) → AreQuiet steps
+      → AreQuiet other.steps → AreQuiet (unless_gap steps answer other).steps
+  quiet_unless steps (Ok a) other quiet then = quiet
+  quiet_unless steps (Err (NoPlace thing)) other quiet then = quiet-append steps other.steps quiet then
+  quiet_unless steps (Err (NoTablePlace w room)) other quiet then = quiet
 
-  pub quiet-else : (thing : What) (first : Doing Refusal A) (other : Doing StageStop A) → IsQuietStep first → IsQuietStep other
-      → IsQuietStep (or_else thing first other)
-  quiet-else thing first other quiet then = record {
-    each = λ items. quiet_unless thing (first items).steps (first items).answer (other (after items (first items))) (quiet.each items)
+  pub quiet-else : (first other : Doing StageCause A) → IsQuietStep first → IsQuietStep other → IsQuietStep (or_else first other)
+  quiet-else first other quiet then = record {
+    each = λ items. quiet_unless (first items).steps (first items).answer (other (after items (first items))) (quiet.each items)
         (then.each (after items (first items)));
   }
 

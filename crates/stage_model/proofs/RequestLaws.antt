@@ -1,6 +1,6 @@
 -- Changes and allocations as steps: how a call that carries one out ends.
-use Rattle.std.proofs.Common.{◌≡◌, inl, inr, ⊎_elim, ℕ, Option, Some, None, List, Result, Ok, Err, refl, sym, ◌∙◌, ap}
-use Rattle.memblock_model.specs.declared.which.Which.{Which}
+use Rattle.std.proofs.Common.{◌≡◌, ◌≢◌, inl, inr, ⊎_elim, ℕ, Option, Some, None, List, Result, Ok, Err, refl, sym, ◌∙◌, ap}
+use Rattle.bm_base.specs.ResultSteps.{with_error}
 use Rattle.memblock_model.specs.declared.owner.Owner.{Owner}
 use Rattle.memblock_model.specs.declared.item.Item.{Item}
 use Rattle.growth_model.specs.declared.refusal.Refusal.{Refusal}
@@ -14,87 +14,93 @@ use Rattle.growth_model.proofs.EndLaws.{cut-first, Ends-error}
 use Rattle.memblock_grow.specs.declared.stop.What.{What}
 use Rattle.memblock_grow.specs.declared.stop.StageStop.{StageStop}
 use Rattle.memblock_grow.specs.declared.stop.StageStop.TheVariants as stop
-use Rattle.stage_model.specs.Doing.{Done, Doing, after, returns, EndsAs}
-use Rattle.stage_model.specs.Requests.{refusal_of, changes, refused_growth, carried, claimed_at, allocated, stop_for, or_stop, placed, unless_gap, or_else}
+use Rattle.stage_model.specs.Causes.{StageCause, NoPlace, NoTablePlace, refusal_for, stage_stop, stop_for}
+use Rattle.stage_model.specs.Doing.{Done, Doing, after, returns, StageEnds}
+use Rattle.stage_model.specs.Requests.{refusal_of, changes, refused_growth, carried, placed_at, placed, unless_gap, or_else}
 use Rattle.stage_model.proofs.DoingLaws.{appended-joined, ends-second, ends-first}
 
 -- a change
 pub ends-change : (r : Result (Unit {0}) Refusal) (old new : List Item) (change : Change) → Ends r old new change
-    → EndsAs refusal.Memory r old new (changes change old)
+    → StageEnds (changes change) refusal_for r old new
 ends-change (Ok x) old new change h = (ap refusal_of h.0, h.1 ∙ sym (appended-joined old (change old).steps))
 ends-change (Err refusal.NoGap) old new change h = absurd h
 ends-change (Err (refusal.NoGapForTable w room)) old new change h =
-    inl (ap refusal_of h.0, h.1 ∙ sym (appended-joined old (change old).steps))
+    inl (record { which = w; room = room }, ap refusal_of h.0, refl, h.1 ∙ sym (appended-joined old (change old).steps))
 ends-change (Err refusal.Memory) old new change cut = inr (refl, cut)
 
--- a change that the boot can't do without
-pub ends-carried : (old new : List Item) (change : Change) → Ends {T = Unit {0}} (Ok tt) old new change
-    → EndsAs stop.Memory (Ok tt) old new (carried change old)
-ends-carried old new change h = (ap refused_growth h.0, h.1 ∙ sym (appended-joined old (change old).steps))
+-- a change that the boot can't do without, whatever it is asked for
+module _ (thing : What) where
+  pub ends-carried : (r : Result (Unit {0}) Refusal) (old new : List Item) (change : Change) → Ends r old new change
+      → StageEnds (carried change) stage_stop (with_error (stop_for thing) r) old new
+  ends-carried (Ok x) old new change h =
+      (ap refused_growth h.0, h.1 ∙ sym (appended-joined old (change old).steps))
+  ends-carried (Err refusal.NoGap) old new change h = absurd h
+  ends-carried (Err (refusal.NoGapForTable w room)) old new change h =
+      inl (NoTablePlace w room, ap refused_growth h.0, refl, h.1 ∙ sym (appended-joined old (change old).steps))
+  ends-carried (Err refusal.Memory) old new change cut = inr (refl, cut)
 
-pub carried-table : (T : Type 0) (w : Which) (room : ℕ) (old new : List Item) (change : Change)
-    → Ends {T = T} (Err (refusal.NoGapForTable w room)) old new change
-    → EndsAs {A = Unit {0}} stop.Memory (Err (stop.NoTablePlace w room)) old new (carried change old)
-carried-table T w room old new change h = inl (ap refused_growth h.0, h.1 ∙ sym (appended-joined old (change old).steps))
+  -- an allocation
+  placed_by : (place : Option ℕ) (r : Result ℕ Refusal) (old new : List Item) (size : ℕ) (who : Owner)
+      → Allocates r old new place size who → StageEnds (placed_at thing place size who) stage_stop (with_error (stop_for thing) r) old new
+  placed_by None r old new size who h = rw h.0 (inl (NoPlace thing, refl, refl, h.1))
+  placed_by (Some place) (Ok base) old new size who h =
+      let claim : Change = claimed (record { base = place; size = size }) who in
+      ends-second tt (Ok base) stage_stop old new new (carried claim) (λ done. returns place) (ends-carried (Ok tt) old new claim h.1)
+      (rw h.0 refl, refl)
+  placed_by (Some place) (Err e) old new size who h =
+      let claim : Change = claimed (record { base = place; size = size }) who in
+      ends-first (stop_for thing e) stage_stop old new (carried claim) (λ done. returns place)
+      (ends-carried (Err e) old new claim (Ends-error ℕ (Unit {0}) e old new claim h.1))
 
--- an allocation
-allocation_by : (place : Option ℕ) (r : Result ℕ Refusal) (old new : List Item) (size : ℕ) (who : Owner)
-    → Allocates r old new place size who → EndsAs refusal.Memory r old new (claimed_at place size who old)
-allocation_by None r old new size who h = rw h.0 (inl (refl, h.1))
-allocation_by (Some place) (Ok base) old new size who h =
-    let claim : Change = claimed (record { base = place; size = size }) who in
-    ends-second tt (Ok base) refusal.Memory old new new (changes claim) (λ done. returns place) (ends-change (Ok tt) old new claim h.1)
-    (rw h.0 refl, refl)
-allocation_by (Some place) (Err e) old new size who h =
-    let claim : Change = claimed (record { base = place; size = size }) who in
-    ends-first e refusal.Memory old new (changes claim) (λ done. returns place)
-    (ends-change (Err e) old new claim (Ends-error ℕ (Unit {0}) e old new claim h.1))
-
-pub ends-allocation : (r : Result ℕ Refusal) (old new : List Item) (q : Request) (who : Owner)
-    → Allocates r old new (place_for q old) q.size who → EndsAs refusal.Memory r old new (allocated q who old)
-unfolding allocated
-ends-allocation r old new q who h = allocation_by (place_for q old) r old new q.size who h
-
--- an allocation that the boot can't do without
-pub ends-placed : (r : Result ℕ Refusal) (thing : What) (old new : List Item) (q : Request) (who : Owner)
-    → EndsAs refusal.Memory r old new (allocated q who old) → EndsAs stop.Memory (or_stop thing r) old new (placed thing q who old)
-unfolding placed
-ends-placed (Ok place) thing old new q who h = (ap (or_stop thing) h.0, h.1)
-ends-placed (Err e) thing old new q who h =
-    ⊎_elim (λ told. inl (ap (or_stop thing) told.0, told.1)) (λ cut. inr (ap (stop_for thing) cut.0, cut.1)) h
+  pub ends-placed : (r : Result ℕ Refusal) (old new : List Item) (q : Request) (who : Owner)
+      → Allocates r old new (place_for q old) q.size who
+      → StageEnds (placed thing q who) stage_stop (with_error (stop_for thing) r) old new
+  unfolding placed
+  ends-placed (Ok base) old new q who h = placed_by (place_for q old) (Ok base) old new q.size who h
+  ends-placed (Err e) old new q who h = placed_by (place_for q old) (Err e) old new q.size who h
 
 -- one in place of another that had no gap
-module _ {A : Type 0} where
-  pub else-first : (a : A) (thing : What) (old new : List Item) (first : Doing Refusal A) (other : Doing StageStop A)
-      → EndsAs refusal.Memory (Ok a) old new (first old) → EndsAs stop.Memory (Ok a) old new (or_else thing first other old)
-  else-first a thing old new first other h = rw h.0 (refl, h.1)
+module _ {A : Type 0} (first other : Doing StageCause A) (old : List Item) where
+  -- what the first wrote, as a step that answered
+  abbrev sent : Doing StageCause (Unit {0})
+  sent items = record { steps = (first items).steps; answer = Ok tt }
 
-  pub else-table : (w : Which) (room : ℕ) (thing : What) (old new : List Item) (first : Doing Refusal A) (other : Doing StageStop A)
-      → EndsAs {A = A} refusal.Memory (Err (refusal.NoGapForTable w room)) old new (first old)
-      → EndsAs stop.Memory (Err (stop.NoTablePlace w room)) old new (or_else thing first other old)
-  else-table w room thing old new first other h = ⊎_elim
-      (λ told. rw told.0 (inl (refl, told.1)))
-      (λ cut. let clash : refusal.NoGapForTable w room ≡ refusal.Memory = cut.0 in cc) h
+  pub else-first : (a : A) (new : List Item) → StageEnds first stage_stop (Ok a) old new
+      → StageEnds (or_else first other) stage_stop (Ok a) old new
+  else-first a new h = rw h.0 (refl, h.1)
 
-  cut_by : (answer : Result A Refusal) (thing : What) (old new : List Item) (steps : List (List Item)) (other : Done StageStop A)
-      → IsCutShort old new steps → IsCutShort old new (unless_gap thing steps answer other).steps
-  cut_by (Ok a) thing old new steps other cut = cut
-  cut_by (Err refusal.NoGap) thing old new steps other cut = cut-first old new steps other.steps cut
-  cut_by (Err (refusal.NoGapForTable w room)) thing old new steps other cut = cut
-  cut_by (Err refusal.Memory) thing old new steps other cut = cut
+  cut_by : (new : List Item) (answer : Result A StageCause) (steps : List (List Item)) (then : Done StageCause A)
+      → IsCutShort old new steps → IsCutShort old new (unless_gap steps answer then).steps
+  cut_by new (Ok a) steps then cut = cut
+  cut_by new (Err (NoPlace thing)) steps then cut = cut-first old new steps then.steps cut
+  cut_by new (Err (NoTablePlace w room)) steps then cut = cut
 
-  pub else-wanting : (thing : What) (old new : List Item) (first : Doing Refusal A) (other : Doing StageStop A)
-      → EndsAs {A = A} refusal.Memory (Err refusal.Memory) old new (first old)
-      → EndsAs stop.Memory (Err stop.Memory) old new (or_else thing first other old)
-  else-wanting thing old new first other h = ⊎_elim
-      (λ told. rw told.0 (inl (refl, told.1)))
-      (λ cut. inr (refl, cut_by (first old).answer thing old new (first old).steps (other (after old (first old))) cut.1)) h
+  -- the first stopped, or memory ran out in it
+  stopped_by : (e : StageStop) (new : List Item) → ((thing : What) → e ≢ stop.NoPlace thing) → (why : StageCause)
+      → (first old).answer ≡ Err why → e ≡ stage_stop (Some why) → new ≡ after old (first old)
+      → StageEnds {A = A} (or_else first other) stage_stop (Err e) old new
+  stopped_by e new placed (NoPlace thing) is same stands = absurd (placed thing same)
+  stopped_by e new placed (NoTablePlace w room) is same stands = rw is (inl (NoTablePlace w room, refl, same, stands))
 
-  -- the first had no gap: as the other ends, so do both
-  pub else-second : (r : Result A StageStop) (thing : What) (old mid new : List Item) (first : Doing Refusal A) (other : Doing StageStop A)
-      → EndsAs {A = A} refusal.Memory (Err refusal.NoGap) old mid (first old) → EndsAs stop.Memory r mid new (other mid)
-      → EndsAs stop.Memory r old new (or_else thing first other old)
-  else-second r thing old mid new first other h rest = ⊎_elim
-      (λ told. let sent : Doing StageStop (Unit {0}) = λ items. record { steps = (first items).steps; answer = Ok tt } in
-      rw told.0 (ends-second tt r stop.Memory old mid new sent (λ done. other) (refl, told.1) rest))
-      (λ cut. let clash : refusal.NoGap ≡ refusal.Memory = cut.0 in cc) h
+  pub else-stops : (e : StageStop) (new : List Item) → ((thing : What) → e ≢ stop.NoPlace thing)
+      → StageEnds {A = A} first stage_stop (Err e) old new → StageEnds {A = A} (or_else first other) stage_stop (Err e) old new
+  else-stops e new placed h = ⊎_elim
+      (λ told. stopped_by e new placed told.0 told.1 told.2 told.3)
+      (λ cut. inr (cut.0, cut_by new (first old).answer (first old).steps (other (after old (first old))) cut.1)) h
+
+  -- the first had no place: as the other ends, so do both
+  second_by : (r : Result A StageStop) (thing : What) (mid new : List Item) → StageEnds other stage_stop r mid new → (why : StageCause)
+      → (first old).answer ≡ Err why → stop.NoPlace thing ≡ stage_stop (Some why) → mid ≡ after old (first old)
+      → StageEnds (or_else first other) stage_stop r old new
+  second_by r thing mid new rest (NoTablePlace w room) is same stands = absurd (cc same)
+  second_by (Ok a) thing mid new rest (NoPlace t) is same stands =
+      rw is (ends-second tt (Ok a) stage_stop old mid new sent (λ done. other) (refl, stands) rest)
+  second_by (Err e) thing mid new rest (NoPlace t) is same stands =
+      rw is (ends-second tt (Err e) stage_stop old mid new sent (λ done. other) (refl, stands) rest)
+
+  pub else-second : (r : Result A StageStop) (thing : What) (mid new : List Item)
+      → StageEnds {A = A} first stage_stop (Err (stop.NoPlace thing)) old mid → StageEnds other stage_stop r mid new
+      → StageEnds (or_else first other) stage_stop r old new
+  else-second r thing mid new h rest = ⊎_elim
+      (λ told. second_by r thing mid new rest told.0 told.1 told.2 told.3)
+      (λ cut. let clash : stop.NoPlace thing ≡ stop.Memory = cut.0 in cc) h

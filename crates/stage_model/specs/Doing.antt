@@ -1,5 +1,5 @@
 -- Steps that write items and answer something, one after another; and how a call ends that carries them out.
-use Rattle.std.specs.Prelude.{◌≡◌, ◌⊎◌, List, [], ◌∷◌, ◌++◌, Result, Ok, Err}
+use Rattle.std.specs.Prelude.{◌≡◌, ◌⊎◌, Option, Some, None, List, [], ◌∷◌, ◌++◌, Result, Ok, Err}
 use Rattle.memblock_model.specs.declared.item.Item.{Item}
 use Rattle.growth_model.specs.Ends.{IsCutShort}
 
@@ -49,10 +49,15 @@ abbrev pub in_turn : {E S X : Type 0} → (S → X → Doing E S) → S → List
 in_turn f s [] = returns s
 in_turn f s (x ∷ xs) = f s x >>= λ next. in_turn f next xs
 
--- a call answers what is told, and all groups stand; or it wants memory for one that is still to come, and those before it stand
-abbrev pub EndsAs : {E A : Type 0} → E → Result A E → List Item → List Item → Done E A → Type 0
-EndsAs wanting (Ok a) old new d = (d.answer ≡ Ok a) × (new ≡ after old d)
-EndsAs wanting (Err e) old new d = ((d.answer ≡ Err e) × (new ≡ after old d)) ⊎ ((e ≡ wanting) × IsCutShort old new d.steps)
+-- How a call ends that carries out a stage. It returns the stage's answer, and all groups stand. Or it returns the error for the stage's
+-- cause, and all groups up to that stand. Or it ran out of memory (`error None`) before a group, and those before that stand
+abbrev pub DoneEnds : {E F A : Type 0} → Done E A → (Option E → F) → Result A F → List Item → List Item → Type 0
+DoneEnds d error (Ok a) old new = (d.answer ≡ Ok a) × (new ≡ after old d)
+DoneEnds {E} d error (Err e) old new =
+    ((why : E) × (d.answer ≡ Err why) × (e ≡ error (Some why)) × (new ≡ after old d)) ⊎ ((e ≡ error None) × IsCutShort old new d.steps)
+
+abbrev pub StageEnds : {E F A : Type 0} → Doing E A → (Option E → F) → Result A F → List Item → List Item → Type 0
+StageEnds stage error result old new = DoneEnds (stage old) error result old new
 
 -- an answer as contracts see it
 abbrev pub ok_as : {E A B : Type 0} → (A → B) → Result A E → Result B E

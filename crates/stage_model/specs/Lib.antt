@@ -1,3 +1,4 @@
+pub mod Causes
 pub mod Doing
 pub mod Lent
 pub mod Noded

@@ -1,13 +1,12 @@
 //! One call of memblock each, with its refusal as the stop of a stage.
-ghost use Rattle.std.specs.Prelude.{◌≡◌, ℕ, ◌+◌, ◌-◌, ◌^◌, ◌<◌, ◌≤◌, false, IfOk, IsOk, Some, None, Err};
+ghost use Rattle.std.specs.Prelude.{◌≡◌, ℕ, ◌+◌, ◌-◌, ◌^◌, ◌<◌, ◌≤◌, false, IfOk, IsOk, Some};
 ghost use Rattle.memblock_model.specs.declared.which.Which.TheVariants as tables_of;
-ghost use Rattle.growth_model.specs.Ends.{IsCutShort};
-ghost use Rattle.growth_model.specs.Growth.{claimed, noded, new_in, two, is_full as is_full_by};
+ghost use Rattle.growth_model.specs.Growth.{noded, new_in, two, is_full as is_full_by};
 ghost use Rattle.growth_model.specs.Request.{place_for};
 ghost use Rattle.growth_model.specs.Sound.{HasBegun};
-ghost use Rattle.memblock_grow.specs.declared.stop.StageStop.TheVariants as stops;
-ghost use Rattle.stage_model.specs.Doing.{EndsAs};
-ghost use Rattle.stage_model.specs.Requests.{stop_for, placed, carried};
+ghost use Rattle.stage_model.specs.Causes.{stage_stop, stop_for};
+ghost use Rattle.stage_model.specs.Doing.{StageEnds};
+ghost use Rattle.stage_model.specs.Requests.{placed, carried};
 ghost use Rattle.stage_model.specs.Lent.{GoesOn};
 
 use bm_base::Range;
@@ -15,7 +14,7 @@ use boot_journal::Owner;
 use growth_model::{Refusal, Request};
 use memblock_grow::{Memblock, StageStop, What};
 
-/// Why the boot stops where the thing was refused.
+/// Why a boot stops if memblock refused what it asked for the thing.
 pub fn stop_for(what: What, refusal: Refusal) -> StageStop
     ensures { result ≡ stop_for what refusal }
 {
@@ -26,9 +25,12 @@ pub fn stop_for(what: What, refusal: Refusal) -> StageStop
     }
 }
 
-/// An allocation that the boot can't do without: its place, in bytes. The size is at least 1, the alignment a power of two.
-/// Where no place fits the boot stops for that, and never for want of memory; nor for that where an item can be appended without
-/// memory and the reserved table has room for the place, nor behind the last step.
+/// Allocates memory that the boot needs and returns its place, in bytes. The size is at least 1, the alignment a power of two. It needs none of
+/// the program's own memory if an item can be appended without, and the reserved table has room for the place.
+///
+/// # Errors
+///
+/// `NoPlace` if no place fits the request, `NoTablePlace` if a table had to grow and no place fits it, `Memory` before the last step only.
 pub fn place(
     memblock: &mut Memblock,
     what: What,
@@ -38,12 +40,7 @@ pub fn place(
     requires begun { HasBegun memblock.old.journal.items }
     requires some { 1 ≤ request.now.size }
     requires aligned { (k : ℕ) × (request.now.align ≡ 2 ^ k) }
-    ensures ends { EndsAs stops.Memory result memblock.old.journal.items memblock.new.journal.items
-        (placed what request.now owner memblock.old.journal.items) }
-    ensures none { place_for request.now memblock.old.journal.items ≡ None → result ≡ Err (stops.NoPlace what) }
-    ensures short { (place : ℕ) → place_for request.now memblock.old.journal.items ≡ Some place → result ≡ Err stops.Memory →
-        IsCutShort memblock.old.journal.items memblock.new.journal.items
-        (claimed (record { base = place; size = request.now.size }) owner memblock.old.journal.items).steps }
+    ensures ends { StageEnds (placed what request.now owner) stage_stop result memblock.old.journal.items memblock.new.journal.items }
     ensures inside { IfOk result (λ base. base + request.now.size < 2 ^ 64) }
     ensures ready { (place : ℕ) → place_for request.now memblock.old.journal.items ≡ Some place → 0 < memblock.old.journal.spare →
         is_full_by tables_of.Reserved (new_in tables_of.Reserved (record { base = place; size = request.now.size }))
@@ -63,24 +60,23 @@ pub fn stand_still(memblock: &Memblock)
     let _fact = memblock.tables(); // for its facts alone
 }
 
-/// Gives the memory of a range its node, or the boot stops. It doesn't where an item can be appended without memory and the
-/// memory table has room for two more records; and never for want of memory behind the last step.
+/// Gives the memory of a range its node. It needs none of the program's own memory if an item can be appended without, and the memory table has
+/// room for two more records.
+///
+/// # Errors
+///
+/// `NoTablePlace` if the memory table had to grow and no place fits it, `Memory` before the last step only.
 pub fn set_node(memblock: &mut Memblock, range: Range, node: u32) -> Result<(), StageStop>
     requires begun { HasBegun memblock.old.journal.items }
     requires some { 0 < range.size }
     requires node { node < 1024 }
-    ensures ends { EndsAs stops.Memory result memblock.old.journal.items memblock.new.journal.items
-        (carried (noded range node) memblock.old.journal.items) }
-    ensures short { result ≡ Err stops.Memory → IsCutShort memblock.old.journal.items memblock.new.journal.items
-        (noded range node memblock.old.journal.items).steps }
+    ensures ends { StageEnds (carried (noded range node)) stage_stop result memblock.old.journal.items memblock.new.journal.items }
     ensures ready { 0 < memblock.old.journal.spare → is_full_by tables_of.Memory two memblock.old.journal.items ≡ false →
         IsOk result × (memblock.new.journal.spare ≡ memblock.old.journal.spare - 1) }
     ensures lent { GoesOn memblock.old memblock.new }
 {
     match memblock.set_node(range, node) {
         Ok(()) => Ok(()),
-        Err(Refusal::NoGap) => unreachable!(),
-        Err(Refusal::NoGapForTable { which, room }) => Err(StageStop::NoTablePlace { which, room }),
-        Err(Refusal::Memory) => Err(StageStop::Memory),
+        Err(refusal) => Err(stop_for(What::NodeData(node), refusal)),
     }
 }

@@ -3,34 +3,32 @@
 //! growth in them.
 
 ghost use Rattle.std.specs.Prelude.{◌≡◌, ℕ, List, Result};
+ghost use Rattle.bm_base.specs.ResultSteps.{with_error};
 ghost use Rattle.memblock_model.specs.declared.owner.Owner.{Owner};
 ghost use Rattle.memblock_model.specs.declared.item.Item.{Item};
 ghost use Rattle.memblock_model.specs.Items.{memory_of, limit_of};
 ghost use Rattle.growth_model.specs.declared.refusal.Refusal.{Refusal as AnyRefusal};
-ghost use Rattle.growth_model.specs.declared.refusal.Refusal.TheVariants as refusal;
 ghost use Rattle.memblock_model.specs.declared.request.Request.{Request as AnyRequest};
 ghost use Rattle.growth_model.specs.Outcome.{Change};
 ghost use Rattle.growth_model.specs.Request.{place_for};
 ghost use Rattle.growth_model.specs.Ends.{Ends, Allocates};
 ghost use Rattle.memblock_grow.specs.declared.stop.What.{What as AnyWhat};
-ghost use Rattle.memblock_grow.specs.declared.stop.StageStop.TheVariants as stop;
-ghost use Rattle.stage_model.specs.Doing.{after, EndsAs};
-ghost use Rattle.stage_model.specs.Requests.{changes, allocated, or_stop, placed};
+ghost use Rattle.stage_model.specs.Causes.{refusal_for, stage_stop, stop_for};
+ghost use Rattle.stage_model.specs.Doing.{after, StageEnds};
+ghost use Rattle.stage_model.specs.Requests.{carried, changes, placed};
 
-/// A law: a call that carries out a change, or an allocation, ends as the step of it does; and so does one that the
-/// boot can't do without, with its refusal as a stop.
+/// Law: a call of memblock that carries out a change, or an allocation, ends as the step of it does, with its refusal as the stop.
 pub fn calls_end_as_steps()
     ensures change { (result : Result (Unit {0}) AnyRefusal) (old new : List Item) (change : Change) → Ends result old new change →
-        EndsAs refusal.Memory result old new (changes change old) }
-    ensures allocation { (result : Result ℕ AnyRefusal) (old new : List Item) (request : AnyRequest) (who : Owner) →
+        StageEnds (changes change) refusal_for result old new }
+    ensures carried { (thing : AnyWhat) (result : Result (Unit {0}) AnyRefusal) (old new : List Item) (change : Change) →
+        Ends result old new change → StageEnds (carried change) stage_stop (with_error (stop_for thing) result) old new }
+    ensures placed { (thing : AnyWhat) (result : Result ℕ AnyRefusal) (old new : List Item) (request : AnyRequest) (who : Owner) →
         Allocates result old new (place_for request old) request.size who →
-        EndsAs refusal.Memory result old new (allocated request who old) }
-    ensures placed { (result : Result ℕ AnyRefusal) (thing : AnyWhat) (old new : List Item) (request : AnyRequest) (who : Owner) →
-        EndsAs refusal.Memory result old new (allocated request who old) →
-        EndsAs stop.Memory (or_stop thing result) old new (placed thing request who old) }
+        StageEnds (placed thing request who) stage_stop (with_error (stop_for thing) result) old new }
 {}
 
-/// A law: an allocation leaves memory and the limit as they are, whether it finds a place or not.
+/// Law: an allocation leaves memory and the limit as they are, whether it finds a place or not.
 pub fn allocations_leave_memory()
     ensures memory { (thing : AnyWhat) (request : AnyRequest) (who : Owner) (items : List Item) →
         memory_of (after items (placed thing request who items)) ≡ memory_of items }

@@ -3,11 +3,12 @@
 //!
 //! Node data, the crash area, section roots and section maps are each a row of allocations; what a later one asks for may
 //! depend on what an earlier one got, and the first refusal ends the row. Such a stage is defined as a text of steps
-//! (`specs/Doing.antt`): each step writes groups of items, and has an answer or an error. One relation, `EndsAs`, says how a call ends that
+//! (`specs/Doing.antt`): each step writes groups of items, and has an answer or an error. One relation, `StageEnds`, says how a call ends that
 //! carries such a text out: with its answer or its error, or, where the program's own memory ran out, behind some whole
 //! groups of it.
 //!
-//! - `specs/Doing.antt`: steps, one after another.
+//! - `specs/Doing.antt`: steps, one after another, and `StageEnds`.
+//! - `specs/Causes.antt`: why a stage stops a boot, and the error that a call returns for it.
 //! - `specs/Requests.antt`: a change as a step, an allocation, an allocation that the boot can't do without, and
 //!   one allocation in place of another that had no gap.
 //! - `specs/Lent.antt`: what every call leaves of a memblock that it was lent, `GoesOn`: the same kernel's image, bytes that

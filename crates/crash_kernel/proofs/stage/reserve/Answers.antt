@@ -58,7 +58,7 @@ returns-in_default-clause-ends c =
 pub returns-in_default-clause-idle : goal.returns-in_default-clause-idle
 returns-in_default-clause-idle c = λ told idle.
     let items = c.args.memblock.now.journal.items in
-    idle-ok crash.Nothing told items items (reserved (crash_view c.args.option.now) items) (returns-in_default-clause-ends c) idle
+    idle-ok crash.Nothing told items items (reserved (crash_view c.args.option.now)) (returns-in_default-clause-ends c) idle
 
 pub returns-in_default-clause-lent : goal.returns-in_default-clause-lent
 returns-in_default-clause-lent c = still (goal.at.returns-in_default-clause-lent c).After-tables
@@ -75,7 +75,7 @@ returns-in_default-main_range-clause-ends c =
 pub returns-in_default-main_range-clause-idle : goal.returns-in_default-main_range-clause-idle
 returns-in_default-main_range-clause-idle c = λ told idle.
     let items = c.args.memblock.now.journal.items in
-    idle-ok c.unplaced.result told items items (reserved (crash_view c.args.option.now) items)
+    idle-ok c.unplaced.result told items items (reserved (crash_view c.args.option.now))
     (returns-in_default-main_range-clause-ends c) idle
 
 pub returns-in_default-main_range-clause-lent : goal.returns-in_default-main_range-clause-lent

@@ -3,7 +3,7 @@ use Rattle.std.proofs.Common.{◌≡◌, Ok, Err, refl}
 use Rattle.std.proofs.lemmas.Result.{err_from_is_err_and}
 use Rattle.memblock_model.specs.Items.{limit_of, memory_of}
 use Rattle.node_hulls.specs.Judgement.{judgement}
-use Rattle.memblock_grow.specs.declared.stop.StageStop.TheVariants as stop
+use Rattle.stage_model.specs.Causes.{stage_stop}
 use Rattle.stage_model.specs.Doing.{in_turn}
 use Rattle.stage_model.proofs.DoingLaws.{ends-begun}
 use Rattle.numa_nodes.specs.Assigned.{given, nodes_with_memory, ranges_given}
@@ -51,7 +51,7 @@ pub place_data-requires : goal.place_data-requires
 place_data-requires c =
     let old = c.args.memblock.now.journal.items in
     record {
-      begun = ends-begun (Ok tt) stop.Memory old c.give_nodes.new.memblock.journal.items (in_turn given tt c.deref.result.now old)
+      begun = ends-begun (Ok tt) stage_stop old c.give_nodes.new.memblock.journal.items (in_turn given tt c.deref.result.now)
           c.requires.begun c.in_ok-give_nodes.ensures.ends;
     }
 

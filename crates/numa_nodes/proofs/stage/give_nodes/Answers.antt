@@ -1,8 +1,8 @@
 -- Each range is one change of memory.
 use Rattle.std.proofs.Common.{Ok, Err, subst}
 use Rattle.std.proofs.lemmas.Result.{err_from_is_err_and}
-use Rattle.memblock_grow.specs.declared.stop.StageStop.TheVariants as stop
-use Rattle.stage_model.specs.Doing.{EndsAs}
+use Rattle.stage_model.specs.Causes.{stage_stop}
+use Rattle.stage_model.specs.Doing.{StageEnds}
 use Rattle.stage_model.proofs.DoingLaws.{ends-begun}
 use Rattle.stage_model.proofs.LentLaws.{goes-then}
 use Rattle.node_hulls.specs.Hulls.{NumaBlock}
@@ -18,7 +18,7 @@ returns-in_err-set_node-clause-ends c =
     let e = c.in_err-set_node.field-0.0 in
     let p = err_from_is_err_and c.from_residual.result c.from_residual.ensures.1 in
     rw (p.1, p.2) (turn-stops c.loop-run.invariant.ends run run new e c.loop-run-test.true c.run-item.is
-    (subst (λ (b : NumaBlock). EndsAs {A = Unit {0}} stop.Memory (Err e) here new (given tt b here)) c.run.view_is
+    (subst (λ (b : NumaBlock). StageEnds {A = Unit {0}} (given tt b) stage_stop (Err e) here new) c.run.view_is
     c.in_err-set_node.ensures.ends))
 
 pub returns-in_err-set_node-clause-lent : goal.returns-in_err-set_node-clause-lent
@@ -30,10 +30,10 @@ loop-run-preserved c =
     let here = c.loop-run.memblock.journal.items in
     let mid = c.set_node.new.memblock.journal.items in
     let run = c.run-item.result in
-    let was = subst (λ (b : NumaBlock). EndsAs {A = Unit {0}} stop.Memory (Ok tt) here mid (given tt b here)) c.run.view_is
+    let was = subst (λ (b : NumaBlock). StageEnds {A = Unit {0}} (given tt b) stage_stop (Ok tt) here mid) c.run.view_is
     c.in_ok-set_node.ensures.ends in
     record {
-      begun = ends-begun (Ok tt) stop.Memory here mid (given tt run here) c.loop-run.invariant.begun was;
+      begun = ends-begun (Ok tt) stage_stop here mid (given tt run) c.loop-run.invariant.begun was;
       ends = turn-next c.loop-run.invariant.ends run run mid c.loop-run-test.true c.run-item.is was;
       lent = λ start goes.
           goes-then start c.loop-run.memblock c.set_node.new.memblock (c.loop-run.invariant.lent start goes) c.in_ok-set_node.ensures.lent;

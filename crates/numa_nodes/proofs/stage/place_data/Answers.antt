@@ -2,7 +2,7 @@
 use Rattle.std.proofs.Common.{Ok, Err, get_or, refl, ap}
 use Rattle.std.proofs.lemmas.Result.{err_from_is_err_and}
 use Rattle.memblock_model.specs.declared.request.Request.{Request}
-use Rattle.memblock_grow.specs.declared.stop.StageStop.TheVariants as stop
+use Rattle.stage_model.specs.Causes.{stage_stop}
 use Rattle.stage_model.proofs.DoingLaws.{ends-begun}
 use Rattle.stage_model.proofs.LentLaws.{goes-then}
 use Rattle.numa_nodes.specs.Assigned.{data_placed}
@@ -34,7 +34,7 @@ loop-node-preserved c =
     let was = data-placed (Ok c.in_ok-place.field-0) node here mid c.node_data_request-request.result c.node_data_request-request.ensures
     c.in_ok-place.ensures.ends in
     record {
-      begun = ends-begun (Ok tt) stop.Memory here mid (data_placed tt node here) c.loop-node.invariant.begun was;
+      begun = ends-begun (Ok tt) stage_stop here mid (data_placed tt node) c.loop-node.invariant.begun was;
       ends = turn-next c.loop-node.invariant.ends node 0 mid c.loop-node-test.true refl was;
       lent = λ start goes.
           goes-then start c.loop-node.memblock c.place.new.memblock (c.loop-node.invariant.lent start goes) c.in_ok-place.ensures.lent;

@@ -1,7 +1,7 @@
 -- The next section's map is the next step.
 use Rattle.std.proofs.Common.{Ok, get_or, arith}
 use Rattle.std.proofs.lemmas.Result.{err_from_is_err_and}
-use Rattle.memblock_grow.specs.declared.stop.StageStop.TheVariants as stop
+use Rattle.stage_model.specs.Causes.{stage_stop}
 use Rattle.stage_model.proofs.DoingLaws.{ends-begun}
 use Rattle.stage_model.proofs.LentLaws.{goes-then}
 use Rattle.section_maps.proofs.MapLaws.{no_section, one_map, goes-next, goes-stops, goes-all}
@@ -27,8 +27,8 @@ loop-section-preserved c =
       usages = omega arith;
       len = omega arith;
       capacity = omega arith;
-      begun = ends-begun (Ok c.in_ok-map.map) stop.Memory now mid
-          (one_map (get_or c.args.sections.now c.loop-section.section-index no_section) now) c.loop-section.invariant.begun
+      begun = ends-begun (Ok c.in_ok-map.map) stage_stop now mid
+          (one_map (get_or c.args.sections.now c.loop-section.section-index no_section)) c.loop-section.invariant.begun
           c.in_ok-map.ensures.ends;
       lent = goes-then c.args.memblock.now c.loop-section.memblock c.place_map.new.memblock c.loop-section.invariant.lent
           c.in_ok-map.ensures.lent;

@@ -2,7 +2,7 @@
 use Rattle.std.proofs.Common.{Ok, take, get_or, arith}
 use Rattle.std.proofs.lemmas.List.Sums.{prefix_len-le-length}
 use Rattle.std.proofs.lemmas.Result.{err_from_is_err_and}
-use Rattle.memblock_grow.specs.declared.stop.StageStop.TheVariants as stop
+use Rattle.stage_model.specs.Causes.{stage_stop}
 use Rattle.stage_model.proofs.DoingLaws.{ends-begun}
 use Rattle.stage_model.proofs.LentLaws.{goes-then}
 use Rattle.section_maps.specs.Maps.{group_placed}
@@ -53,8 +53,8 @@ loop-rest-preserved c =
           c.loop-rest.invariant.goes);
       few = omega arith;
       room = omega arith;
-      begun = ends-begun (Ok longer) stop.Memory now mid
-          (group_placed c.loop-rest.placed.items (get_or rest 0 no_section) (take (own_part no_section rest) rest) now)
+      begun = ends-begun (Ok longer) stage_stop now mid
+          (group_placed c.loop-rest.placed.items (get_or rest 0 no_section) (take (own_part no_section rest) rest))
           c.loop-rest.invariant.begun was;
       lent = goes-then c.args.memblock.now c.loop-rest.memblock c.place_group.new.memblock c.loop-rest.invariant.lent
           c.in_ok-place_group.ensures.lent;

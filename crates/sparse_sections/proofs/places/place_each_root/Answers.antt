@@ -2,7 +2,6 @@
 use Rattle.std.proofs.Common.{◌≡◌, ℕ, false, Some, Ok, get_or, sym, ◌∙◌, ap, arith}
 use Rattle.std.proofs.lemmas.Result.{err_from_is_err_and}
 use Rattle.memblock_grow.specs.declared.section.Section.{Section}
-use Rattle.memblock_grow.specs.declared.stop.StageStop.TheVariants as stop
 use Rattle.stage_model.proofs.DoingLaws.{ends-begun}
 use Rattle.stage_model.proofs.LentLaws.{goes-then}
 use Rattle.sparse_sections.specs.Roots.{root_of, is_root, root_placed}
@@ -49,7 +48,7 @@ loop-section-preserved c =
             goes = goes-next entry sections now mid before w.place_root.new.roots.items last i no_section c.loop-section-test.true
                 (told ∙ w.if-not-is_root.true) w.in_ok-place_root.ensures.ends c.loop-section.invariant.goes;
             room = omega (arith, w.place_root.ensures.len, w.place_root.ensures.capacity, c.loop-section.invariant.room);
-            begun = ends-begun (Ok w.place_root.new.roots.items) stop.Memory now mid (root_placed before s now)
+            begun = ends-begun (Ok w.place_root.new.roots.items) stage_stop now mid (root_placed before s)
                 c.loop-section.invariant.begun w.in_ok-place_root.ensures.ends;
             lent = goes-then c.args.memblock.now c.loop-section.memblock w.place_root.new.memblock c.loop-section.invariant.lent
                 w.in_ok-place_root.ensures.lent;
