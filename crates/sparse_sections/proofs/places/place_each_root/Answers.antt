@@ -2,6 +2,7 @@
 use Rattle.std.proofs.Common.{◌≡◌, ℕ, false, Some, Ok, get_or, sym, ◌∙◌, ap, arith}
 use Rattle.std.proofs.lemmas.Result.{err_from_is_err_and}
 use Rattle.memblock_grow.specs.declared.section.Section.{Section}
+use Rattle.stage_model.specs.Causes.{stage_stop}
 use Rattle.stage_model.proofs.DoingLaws.{ends-begun}
 use Rattle.stage_model.proofs.LentLaws.{goes-then}
 use Rattle.sparse_sections.specs.Roots.{root_of, is_root, root_placed}
