@@ -1,5 +1,6 @@
 mod Examples
 pub mod KeptLaws
+pub mod GoingLaws
 pub mod PreparedLaws
 pub mod PlaceLaws
 pub mod MoreLaws

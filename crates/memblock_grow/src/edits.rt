@@ -14,14 +14,15 @@ ghost use Rattle.memblock_grow.specs.Kept.{AreTold};
 use bm_base::Range;
 use memblock_model::Which;
 use memblock_ranges::{NO_NODE, Tables};
+use run_edits::range_end_fits;
 
-/// The bytes of both tables: a look at their heads, for what it tells of the bytes there.
-fn look(tables: &Tables)
+/// Law: the bytes of both tables are their records.
+pub fn tables_stand(tables: &Tables)
     ensures memory { StandsIn tables.now.memory tables.now.store }
     ensures reserved { StandsIn tables.now.reserved tables.now.store }
 {
-    let _fact = tables.head(Which::Memory); // for its facts alone
-    let _fact = tables.head(Which::Reserved); // for its facts alone
+    tables.head(Which::Memory);
+    tables.head(Which::Reserved);
 }
 
 /// The table covers the range: what it didn't cover yet has no node.
@@ -37,9 +38,9 @@ pub fn cover(tables: &mut Tables, which: Which, range: Range)
     ensures ready { (x : ℕ) → is_ready tables.new.store x ≡ is_ready tables.old.store x }
     ensures within { end_of range < 2 ^ 64 }
 {
-    let _fact = range.end(); // for its facts alone
+    range_end_fits(&range);
     tables.insert(which, range, NO_NODE);
-    look(tables);
+    tables_stand(tables);
 }
 
 /// The reserved table doesn't cover the range any more.
@@ -53,9 +54,9 @@ pub fn uncover(tables: &mut Tables, range: Range)
     ensures ready { (x : ℕ) → is_ready tables.new.store x ≡ is_ready tables.old.store x }
     ensures within { end_of range < 2 ^ 64 }
 {
-    let _fact = range.end(); // for its facts alone
+    range_end_fits(&range);
     tables.remove(Which::Reserved, range);
-    look(tables);
+    tables_stand(tables);
 }
 
 /// The memory of the range gets the node.
@@ -70,9 +71,9 @@ pub fn relabel(tables: &mut Tables, range: Range, node: u32)
     ensures ready { (x : ℕ) → is_ready tables.new.store x ≡ is_ready tables.old.store x }
     ensures within { end_of range < 2 ^ 64 }
 {
-    let _fact = range.end(); // for its facts alone
+    range_end_fits(&range);
     tables.set_node(range, node);
-    look(tables);
+    tables_stand(tables);
 }
 
 /// The memory of the range becomes mirrored.
@@ -86,9 +87,9 @@ pub fn mirror(tables: &mut Tables, range: Range)
     ensures ready { (x : ℕ) → is_ready tables.new.store x ≡ is_ready tables.old.store x }
     ensures within { end_of range < 2 ^ 64 }
 {
-    let _fact = range.end(); // for its facts alone
+    range_end_fits(&range);
     tables.set_mirror(range);
-    look(tables);
+    tables_stand(tables);
 }
 
 /// Memory is cut to whole frames.
@@ -99,7 +100,7 @@ pub fn trim(tables: &mut Tables)
     ensures ready { (x : ℕ) → is_ready tables.new.store x ≡ is_ready tables.old.store x }
 {
     tables.trim();
-    look(tables);
+    tables_stand(tables);
 }
 
 /// The table moves to the place, which is prepared and meets no table, and has twice the room.
@@ -114,5 +115,5 @@ pub fn relocate(tables: &mut Tables, which: Which, place: u64)
     ensures ready { (x : ℕ) → is_ready tables.new.store x ≡ is_ready tables.old.store x }
 {
     tables.relocate(which, place);
-    look(tables);
+    tables_stand(tables);
 }

@@ -26,6 +26,7 @@
 
 mod aim;
 mod edits;
+mod laws;
 mod memblock;
 mod memory;
 mod more;
@@ -36,6 +37,7 @@ mod section;
 mod stop;
 
 pub use growth_model::{Refusal, Request};
+pub use laws::no_items_no_change;
 pub use memblock::Memblock;
 pub use section::Section;
 pub use stop::{StageStop, What};

@@ -1,4 +1,4 @@
-//! memblock as one value: the kernel's image, the journal, both tables, the limit of allocations, and from which end a search begins.
+//! memblock as one value: the kernel's image, the journal, both tables, and what searches go by: the limit of allocations and the end to begin at.
 //!
 //! Each call that changes memory is one call of the function that does it over the parts. What is argued here is that the
 //! parts still belong together wherever that call ends: the tables are those of the items, they lie in the bytes that spell
@@ -6,7 +6,7 @@
 //!
 //! A call that takes memory of the program's own may want it for any of its steps. It ends then before that step, with all of
 //! that true.
-ghost use Rattle.std.specs.Prelude.{◌≡◌, ℕ, ◌+◌, ◌-◌, ◌*◌, ◌^◌, ◌<◌, ◌≤◌, ◌↔◌, ◌||◌, Bool, false, max, Some, [], ◌∷◌, ◌++◌, length, OnOk, OnErr, IfOk, IsOk, IsTrue};
+ghost use Rattle.std.specs.Prelude.{◌≡◌, ℕ, ◌+◌, ◌-◌, ◌*◌, ◌^◌, ◌<◌, ◌≤◌, ◌↔◌, ◌||◌, Bool, false, max, Some, [], ◌++◌, length, OnOk, OnErr, IfOk, IfSome, IsOk, IsTrue};
 ghost use Rattle.bm_base.specs.Extent.{covers};
 ghost use Rattle.address_runs.specs.Edits.{NothingFrom};
 ghost use Rattle.phys_store.specs.Bytes.{AreReady, byte_of, is_ready, bytes_at};
@@ -23,6 +23,7 @@ ghost use Rattle.growth_model.specs.Ends.{Ends, Allocates};
 ghost use Rattle.growth_model.specs.Request.{place_for};
 ghost use Rattle.growth_model.specs.Sound.{Sound, IsImage, HasBegun, IsAway, MayClaim};
 ghost use Rattle.growth_model.specs.Bytes.{table_for, AreSpelled, byte as byte_by, put, Follows};
+ghost use Rattle.memblock_grow.specs.Going.{AppendsItem, GoesOn};
 ghost use Rattle.memblock_grow.specs.Kept.{StayReady};
 ghost use Rattle.memblock_grow.specs.Prepared.{Prepares, PreparesBy};
 ghost use Rattle.memblock_grow.specs.Touch.{TouchesTable};
@@ -35,6 +36,7 @@ use growth_model::{Refusal, Request};
 use memblock_find::Query;
 use memblock_ranges::{Heads, Tables};
 use phys_store::Store;
+use run_edits::range_end_fits;
 use std::alloc::Global;
 use std::marker::Model;
 
@@ -45,19 +47,18 @@ pub struct Memblock {
     kernel: Range,
     journal: Journal,
     tables: Tables,
-    limit: u64,
-    upward: bool,
+    aim: Aim,
 }
 
 impl Model for Memblock {
     ghost use Rattle.memblock_grow.specs.Contents.{Contents};
-    ghost use Rattle.memblock_grow.specs.Kept.{IsMemblock, aimed};
+    ghost use Rattle.memblock_grow.specs.Kept.{IsMemblock};
 
     ghost Value = { Contents };
 
     ghost view = { λ m. record { kernel = m.kernel; journal = m.journal; tables = m.tables } };
 
-    ghost invariant = { λ m. IsMemblock m.kernel m.journal.items m.tables (aimed m.limit m.upward) };
+    ghost invariant = { λ m. IsMemblock m.kernel m.journal.items m.tables m.aim };
 }
 
 impl Memblock {
@@ -77,8 +78,10 @@ impl Memblock {
             kernel,
             journal,
             tables,
-            limit: 0,
-            upward: false,
+            aim: Aim {
+                limit: 0,
+                upward: false,
+            },
         })
     }
 
@@ -95,27 +98,24 @@ impl Memblock {
         self.journal.ready(n)
     }
 
-    /// Claims the range for the owner (`memblock_reserve`). The reserved table may have to grow for it. Where there is room and
-    /// an item can be appended, the claim takes no memory.
+    /// Claims the range for the owner (`memblock_reserve`). The reserved table may have to grow for it. If it has room and an item can be
+    /// appended, the claim takes no memory.
+    ///
+    /// The first call claims the kernel's image for [`Owner::Kernel`]. A claim for a script ([`Owner::Script`]) keeps away from both tables.
     pub fn claim(&mut self, range: Range, owner: Owner) -> Result<(), Refusal>
         requires some { 0 < range.size }
         requires may { MayClaim self.old.kernel self.old.journal.items range owner }
         ensures ends { Ends result self.old.journal.items self.new.journal.items (claimed range owner) }
-        ensures kernel { self.new.kernel ≡ self.old.kernel }
-        ensures bytes { Follows self.old.kernel self.old.journal.items self.new.journal.items
-            (byte_of self.old.tables.store) (byte_of self.new.tables.store) }
+        ensures goes_on { GoesOn self.old self.new }
+        ensures away { HasBegun self.old.journal.items → IsAway self.old.kernel range self.old.journal.items →
+            OnOk result (IsAway self.new.kernel range self.new.journal.items) }
         ensures prepared { Prepares self.old.journal.items self.new.journal.items self.old.tables.store self.new.tables.store }
-        ensures still_ready { StayReady self.old.tables.store self.new.tables.store }
         ensures ready { 0 < self.old.journal.spare →
             is_full_by tables_of.Reserved (new_in tables_of.Reserved range) self.old.journal.items ≡ false →
             IsOk result × (self.new.journal.spare ≡ self.old.journal.spare - 1) }
     {
-        let _fact = range.end(); // for its facts alone
-        let aim = Aim {
-            limit: self.limit,
-            upward: self.upward,
-        };
-        reserved::claim(&mut self.journal, &mut self.tables, aim, range, owner)
+        range_end_fits(&range);
+        reserved::claim(&mut self.journal, &mut self.tables, self.aim, range, owner)
     }
 
     /// Frees the range, which meets no table (`memblock_phys_free`). It may split a record in two, so the reserved table may have
@@ -125,19 +125,12 @@ impl Memblock {
         requires begun { HasBegun self.old.journal.items }
         requires away { IsAway self.old.kernel range self.old.journal.items }
         ensures ends { Ends result self.old.journal.items self.new.journal.items (freed range) }
-        ensures kernel { self.new.kernel ≡ self.old.kernel }
-        ensures bytes { Follows self.old.kernel self.old.journal.items self.new.journal.items
-            (byte_of self.old.tables.store) (byte_of self.new.tables.store) }
+        ensures goes_on { GoesOn self.old self.new }
         ensures prepared { Prepares self.old.journal.items self.new.journal.items self.old.tables.store self.new.tables.store }
-        ensures still_ready { StayReady self.old.tables.store self.new.tables.store }
         ensures ready { 0 < self.old.journal.spare → is_full_by tables_of.Reserved two self.old.journal.items ≡ false →
             IsOk result × (self.new.journal.spare ≡ self.old.journal.spare - 1) }
     {
-        let aim = Aim {
-            limit: self.limit,
-            upward: self.upward,
-        };
-        reserved::free(&mut self.journal, &mut self.tables, aim, range)
+        reserved::free(&mut self.journal, &mut self.tables, self.aim, range)
     }
 
     /// The range becomes memory; what of it is memory already keeps its node (`memblock_add`). The memory table may have to grow
@@ -146,20 +139,13 @@ impl Memblock {
         requires some { 0 < range.size }
         requires begun { HasBegun self.old.journal.items }
         ensures ends { Ends result self.old.journal.items self.new.journal.items (added range) }
-        ensures kernel { self.new.kernel ≡ self.old.kernel }
-        ensures bytes { Follows self.old.kernel self.old.journal.items self.new.journal.items
-            (byte_of self.old.tables.store) (byte_of self.new.tables.store) }
+        ensures goes_on { GoesOn self.old self.new }
         ensures prepared { PreparesBy result self.old.journal.items self.new.journal.items self.old.tables.store self.new.tables.store }
-        ensures still_ready { StayReady self.old.tables.store self.new.tables.store }
         ensures ready { 0 < self.old.journal.spare →
             is_full_by tables_of.Memory (new_in tables_of.Memory range) self.old.journal.items ≡ false →
             IsOk result × (self.new.journal.spare ≡ self.old.journal.spare - 1) }
     {
-        let aim = Aim {
-            limit: self.limit,
-            upward: self.upward,
-        };
-        memory::add(&mut self.journal, &mut self.tables, aim, range)
+        memory::add(&mut self.journal, &mut self.tables, self.aim, range)
     }
 
     /// Gives the node to the memory of the range (`memblock_set_node`). It may split a record at both ends of the range, so the
@@ -169,19 +155,12 @@ impl Memblock {
         requires node { node < 1024 }
         requires begun { HasBegun self.old.journal.items }
         ensures ends { Ends result self.old.journal.items self.new.journal.items (noded range node) }
-        ensures kernel { self.new.kernel ≡ self.old.kernel }
-        ensures bytes { Follows self.old.kernel self.old.journal.items self.new.journal.items
-            (byte_of self.old.tables.store) (byte_of self.new.tables.store) }
+        ensures goes_on { GoesOn self.old self.new }
         ensures prepared { PreparesBy result self.old.journal.items self.new.journal.items self.old.tables.store self.new.tables.store }
-        ensures still_ready { StayReady self.old.tables.store self.new.tables.store }
         ensures ready { 0 < self.old.journal.spare → is_full_by tables_of.Memory two self.old.journal.items ≡ false →
             IsOk result × (self.new.journal.spare ≡ self.old.journal.spare - 1) }
     {
-        let aim = Aim {
-            limit: self.limit,
-            upward: self.upward,
-        };
-        memory::set_node(&mut self.journal, &mut self.tables, aim, range, node)
+        memory::set_node(&mut self.journal, &mut self.tables, self.aim, range, node)
     }
 
     /// Makes the memory of the range mirrored (`memblock_mark_mirror`); it keeps its nodes. It may split a record at both ends of the
@@ -190,33 +169,20 @@ impl Memblock {
         requires some { 0 < range.size }
         requires begun { HasBegun self.old.journal.items }
         ensures ends { Ends result self.old.journal.items self.new.journal.items (mirrored range) }
-        ensures kernel { self.new.kernel ≡ self.old.kernel }
-        ensures bytes { Follows self.old.kernel self.old.journal.items self.new.journal.items
-            (byte_of self.old.tables.store) (byte_of self.new.tables.store) }
+        ensures goes_on { GoesOn self.old self.new }
         ensures prepared { PreparesBy result self.old.journal.items self.new.journal.items self.old.tables.store self.new.tables.store }
-        ensures still_ready { StayReady self.old.tables.store self.new.tables.store }
         ensures ready { 0 < self.old.journal.spare → is_full_by tables_of.Memory two self.old.journal.items ≡ false →
             IsOk result × (self.new.journal.spare ≡ self.old.journal.spare - 1) }
     {
-        let aim = Aim {
-            limit: self.limit,
-            upward: self.upward,
-        };
-        memory::set_mirror(&mut self.journal, &mut self.tables, aim, range)
+        memory::set_mirror(&mut self.journal, &mut self.tables, self.aim, range)
     }
 
     /// Cuts memory to whole frames (`memblock_trim_memory`).
     pub fn trim(&mut self) -> Result<(), Memory>
         requires { HasBegun self.old.journal.items }
-        ensures ok { OnOk result (self.new.journal.items ≡ self.old.journal.items ++ item.Trim ∷ []) }
-        ensures spare { OnOk result (self.new.journal.spare ≡ self.old.journal.spare - 1) }
-        ensures err { OnErr result (self.new ≡ self.old) }
-        ensures memory { OnErr result (self.old.journal.spare ≡ 0) }
-        ensures kernel { self.new.kernel ≡ self.old.kernel }
-        ensures bytes { Follows self.old.kernel self.old.journal.items self.new.journal.items
-            (byte_of self.old.tables.store) (byte_of self.new.tables.store) }
+        ensures appends { AppendsItem result item.Trim self.old self.new }
+        ensures goes_on { GoesOn self.old self.new }
         ensures prepared { (x : ℕ) → is_ready self.new.tables.store x ≡ is_ready self.old.tables.store x }
-        ensures still_ready { StayReady self.old.tables.store self.new.tables.store }
     {
         self.journal.push(Item::Trim)?;
         edits::trim(&mut self.tables);
@@ -226,36 +192,24 @@ impl Memblock {
     /// Allocations end at the address or below it from now on (`memblock_set_current_limit`).
     pub fn set_limit(&mut self, at: u64) -> Result<(), Memory>
         requires { HasBegun self.old.journal.items }
-        ensures ok { OnOk result (self.new.journal.items ≡ self.old.journal.items ++ item.Limit at ∷ []) }
-        ensures spare { OnOk result (self.new.journal.spare ≡ self.old.journal.spare - 1) }
-        ensures err { OnErr result (self.new ≡ self.old) }
-        ensures memory { OnErr result (self.old.journal.spare ≡ 0) }
-        ensures kernel { self.new.kernel ≡ self.old.kernel }
+        ensures appends { AppendsItem result (item.Limit at) self.old self.new }
+        ensures goes_on { GoesOn self.old self.new }
         ensures tables { self.new.tables ≡ self.old.tables }
-        ensures bytes { Follows self.old.kernel self.old.journal.items self.new.journal.items
-            (byte_of self.old.tables.store) (byte_of self.new.tables.store) }
-        ensures still_ready { StayReady self.old.tables.store self.new.tables.store }
     {
         self.journal.push(Item::Limit { at })?;
-        self.limit = at;
+        self.aim.limit = at;
         Ok(())
     }
 
     /// From now on a search begins at the lowest address, or again at the highest (`memblock_set_bottom_up`). At first it is the highest.
     pub fn set_upward(&mut self, on: bool) -> Result<(), Memory>
         requires { HasBegun self.old.journal.items }
-        ensures ok { OnOk result (self.new.journal.items ≡ self.old.journal.items ++ item.Upward on ∷ []) }
-        ensures spare { OnOk result (self.new.journal.spare ≡ self.old.journal.spare - 1) }
-        ensures err { OnErr result (self.new ≡ self.old) }
-        ensures memory { OnErr result (self.old.journal.spare ≡ 0) }
-        ensures kernel { self.new.kernel ≡ self.old.kernel }
+        ensures appends { AppendsItem result (item.Upward on) self.old self.new }
+        ensures goes_on { GoesOn self.old self.new }
         ensures tables { self.new.tables ≡ self.old.tables }
-        ensures bytes { Follows self.old.kernel self.old.journal.items self.new.journal.items
-            (byte_of self.old.tables.store) (byte_of self.new.tables.store) }
-        ensures still_ready { StayReady self.old.tables.store self.new.tables.store }
     {
         self.journal.push(Item::Upward { on })?;
-        self.upward = on;
+        self.aim.upward = on;
         Ok(())
     }
 
@@ -265,9 +219,11 @@ impl Memblock {
     pub fn find(&self, query: &Query) -> Option<u64>
         requires some { 1 ≤ query.now.size }
         requires aligned { (k : ℕ) × (query.now.align ≡ 2 ^ k) }
-        ensures { result ≡ best self.now.journal.items query.now }
+        ensures place { result ≡ best self.now.journal.items query.now }
+        ensures away { HasBegun self.now.journal.items → IfSome result (λ base.
+            IsAway self.now.kernel (record { base = base; size = query.now.size }) self.now.journal.items) }
     {
-        places::best(&self.journal, &self.tables, self.upward, query)
+        places::best(&self.journal, &self.tables, self.aim.upward, query)
     }
 
     /// Finds a place for the request and claims it for the owner; its address is the answer (`memblock_alloc_range_nid`). `NoGap` comes
@@ -280,20 +236,13 @@ impl Memblock {
         ensures ends { Allocates result self.old.journal.items self.new.journal.items
             (place_for request.now self.old.journal.items) request.now.size owner }
         ensures inside { IfOk result (λ base. base + request.now.size < 2 ^ 64) }
-        ensures kernel { self.new.kernel ≡ self.old.kernel }
-        ensures bytes { Follows self.old.kernel self.old.journal.items self.new.journal.items
-            (byte_of self.old.tables.store) (byte_of self.new.tables.store) }
+        ensures goes_on { GoesOn self.old self.new }
         ensures prepared { Prepares self.old.journal.items self.new.journal.items self.old.tables.store self.new.tables.store }
-        ensures still_ready { StayReady self.old.tables.store self.new.tables.store }
         ensures ready { (place : ℕ) → place_for request.now self.old.journal.items ≡ Some place → 0 < self.old.journal.spare →
             is_full_by tables_of.Reserved (new_in tables_of.Reserved (record { base = place; size = request.now.size }))
             self.old.journal.items ≡ false → IsOk result × (self.new.journal.spare ≡ self.old.journal.spare - 1) }
     {
-        let aim = Aim {
-            limit: self.limit,
-            upward: self.upward,
-        };
-        request::allocate(&mut self.journal, &mut self.tables, aim, request, owner)
+        request::allocate(&mut self.journal, &mut self.tables, self.aim, request, owner)
     }
 
     /// Writes the byte to each address of the range, which meets no table. After `Memory` all is as before, and some
@@ -345,12 +294,12 @@ impl Memblock {
         ensures reserved { result.now.reserved ≡ table_for tables_of.Reserved self.now.kernel self.now.journal.items }
         ensures within { NothingFrom (2 ^ 64) (memory_of self.now.journal.items) }
         ensures bytes { AreSpelled result.now.memory result.now.reserved (byte_of result.now.store) }
+        ensures still { GoesOn self.now self.now }
         ensures spelled { (w : AnyWhich) → bytes_at (byte_of self.now.tables.store) (place_of w self.now.kernel self.now.journal.items)
             (24 * room_of w self.now.journal.items)
             ≡ spelled_table (records_of w self.now.journal.items) (room_of w self.now.journal.items) }
     {
-        let _fact = self.tables.head(Which::Memory); // for its facts alone
-        let _fact = self.tables.head(Which::Reserved); // for its facts alone
+        edits::tables_stand(&self.tables);
         &self.tables
     }
 
@@ -368,17 +317,16 @@ impl Memblock {
             kernel: _,
             journal,
             tables,
-            limit: _,
-            upward: _,
+            aim: _,
         } = self;
         let (store, heads) = tables.into_parts();
         (store, heads, journal)
     }
 }
 
-// Memblock is the kernel's place, the journal, the tables, the limit and the direction: nothing else tells of memory.
+// Memblock is the kernel's place, the journal, the tables, and what searches go by: it keeps nothing else about memory.
 #[test]
-fn memblock_is_five_parts(rt: HostRuntime) -> Result<(), std::test::Fail> {
+fn memblock_is_four_parts(rt: HostRuntime) -> Result<(), std::test::Fail> {
     let image = Range {
         base: 0x100_0000,
         size: 0x2000,
@@ -387,9 +335,8 @@ fn memblock_is_five_parts(rt: HostRuntime) -> Result<(), std::test::Fail> {
         kernel,
         journal,
         tables,
-        limit,
-        upward,
+        aim,
     } = Memblock::new(rt.alloc(), image)?;
-    let _parts: (Range, Journal, Tables, u64, bool) = (kernel, journal, tables, limit, upward);
+    let _parts: (Range, Journal, Tables, Aim) = (kernel, journal, tables, aim);
     Ok(())
 }

@@ -7,6 +7,7 @@ ghost use Rattle.memblock_grow.specs.More.{more_in, EndsInSpace};
 use bm_base::Range;
 use memblock_model::Which;
 use memblock_ranges::Tables;
+use run_edits::range_end_fits;
 
 /// How many records an edit may add to a table.
 #[derive(Clone, Copy, Debug, PartialEq, Eq)]
@@ -27,7 +28,7 @@ pub fn is_full(tables: &Tables, which: Which, more: &More) -> bool
     let free = head.room - head.count;
     match more {
         More::PiecesOf(range) => {
-            let _fact = range.end(); // for its facts alone
+            range_end_fits(range);
             free < tables.pieces(which, *range)
         }
         More::Two => free < 2,

@@ -11,7 +11,7 @@ ghost use Rattle.memblock_ranges.specs.Tables.{AreRecords};
 use crate::record::Record;
 use bm_base::Range;
 use memblock_model::Label;
-use run_edits::{Change, Cover, Slots, Uncover, amend, rewrite};
+use run_edits::{Change, Cover, Slots, Uncover, amend, range_end_fits, rewrite};
 
 /// What carries a label gets the node; what carries nothing stays so (`memblock_set_node`).
 #[derive(Clone, Copy)]
@@ -59,7 +59,7 @@ pub fn cover<T: Slots<Record>>(table: &mut T, range: &Range, label: Label)
     ensures records { AreRecords (T.list table.new) }
     ensures keeps { T.keeps table.old table.new }
 {
-    let _fact = range.end(); // for its facts alone
+    range_end_fits(range);
     rewrite(table, range, Cover(label));
 }
 

@@ -19,6 +19,7 @@ use crate::region::{Head, Heads, Region};
 use bm_base::{FRAME_SIZE, Memory, Range};
 use memblock_model::Which;
 use phys_store::Store;
+use run_edits::range_end_fits;
 use std::alloc::Global;
 use std::marker::Model;
 
@@ -129,7 +130,7 @@ impl Tables {
         ensures elsewhere { (x : ℕ) → covers (bytes_in which self.old) x ≡ false → byte_of self.new.store x ≡ byte_of self.old.store x }
         ensures ready { (x : ℕ) → is_ready self.new.store x ≡ is_ready self.old.store x }
     {
-        let _fact = range.end(); // for its facts alone
+        range_end_fits(&range);
         let label = label_of(0, node);
         match which {
             Which::Memory => {
@@ -151,7 +152,7 @@ impl Tables {
         ensures elsewhere { (x : ℕ) → covers (bytes_in which self.old) x ≡ false → byte_of self.new.store x ≡ byte_of self.old.store x }
         ensures ready { (x : ℕ) → is_ready self.new.store x ≡ is_ready self.old.store x }
     {
-        let _fact = range.end(); // for its facts alone
+        range_end_fits(&range);
         match which {
             Which::Memory => {
                 lent::uncover(&mut self.store, &mut self.heads.memory, &range);

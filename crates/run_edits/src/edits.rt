@@ -12,6 +12,7 @@ ghost use Rattle.run_edits.specs.Records.{stretch, EndBefore, EndsNoRun};
 ghost use Rattle.run_edits.specs.Ends.{HasRoom};
 
 use crate::change::Change;
+use crate::laws::range_end_fits;
 use crate::reading::{first_ending_from, look, passed, peek};
 use crate::slots::{Rows, Slots};
 use address_runs::{Stretch, agree};
@@ -190,6 +191,6 @@ pub fn amend<S: Stretch, T: Slots<S>, C: Change<S::Value>>(table: &mut T, range:
     ensures few { length (T.list table.new) ≤ length (T.list table.old) + 2 }
     ensures keeps { T.keeps table.old table.new }
 {
-    let _fact = range.end(); // for its facts alone
+    range_end_fits(range);
     rewrite(table, range, change);
 }

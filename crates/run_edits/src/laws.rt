@@ -1,10 +1,12 @@
-//! How many runs an edit may add, said of functions alone: a layer that sees to the room of a table rests on this before
-//! it edits.
+//! What a layer that edits tables may rest on before it edits: how many runs an edit may add, said of functions alone, and that the
+//! range of an edit ends in the address space.
 
-ghost use Rattle.std.specs.Prelude.{◌≡◌, ℕ, ◌+◌, ◌^◌, ◌≤◌, Bool, Option, length};
+ghost use Rattle.std.specs.Prelude.{◌≡◌, ℕ, ◌+◌, ◌^◌, ◌<◌, ◌≤◌, Bool, Option, length};
 ghost use Rattle.bm_base.specs.Extent.{Extent, end_of};
 ghost use Rattle.address_runs.specs.Runs.{Tells, runs_of};
 ghost use Rattle.address_runs.specs.Edits.{covered, uncovered, relabelled, replaced, bare, NothingFrom};
+
+use bm_base::Range;
 
 /// A law: to cover a range adds at most as many runs as it has pieces that carry nothing
 /// (`memblock_add_range`, its count), to take it out one, to change or replace what it carries two.
@@ -20,3 +22,10 @@ pub fn edits_add_few<T>()
         end_of r ≤ 2 ^ 64 → NothingFrom (2 ^ 64) f →
         length (runs_of same (replaced r v f)) ≤ length (runs_of same f) + 2 }
 {}
+
+/// Law: a range ends below 2^64.
+pub fn range_end_fits(range: &Range)
+    ensures { end_of range.now < 2 ^ 64 }
+{
+    range.end();
+}

@@ -25,6 +25,6 @@ mod slots;
 
 pub use change::{Change, Cover, Replace, Uncover};
 pub use edits::{amend, emit, rewrite};
-pub use laws::edits_add_few;
+pub use laws::{edits_add_few, range_end_fits};
 pub use reading::{holds, look, passed, seek, value_of};
 pub use slots::{Rows, Slots};

@@ -5,5 +5,5 @@ use Rattle.memblock_grow.proofs.edits.relabel.Goals as goal
 pub returns-clause-bytes : goal.returns-clause-bytes
 returns-clause-bytes c =
     edit-told which.Memory c.args.tables.now c.set_node.new.self _ c.set_node.ensures.memory c.set_node.ensures.elsewhere
-    c.look.ensures.memory
-    c.look.ensures.reserved
+    c.tables_stand.ensures.memory
+    c.tables_stand.ensures.reserved

@@ -4,5 +4,5 @@ use Rattle.memblock_grow.proofs.edits.trim.Goals as goal
 
 pub returns-clause-bytes : goal.returns-clause-bytes
 returns-clause-bytes c =
-    edit-told which.Memory c.args.tables.now c.trim.new.self _ c.trim.ensures.memory c.trim.ensures.elsewhere c.look.ensures.memory
-    c.look.ensures.reserved
+    edit-told which.Memory c.args.tables.now c.trim.new.self _ c.trim.ensures.memory c.trim.ensures.elsewhere c.tables_stand.ensures.memory
+    c.tables_stand.ensures.reserved

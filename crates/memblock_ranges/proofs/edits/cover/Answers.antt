@@ -11,10 +11,10 @@ rewrite-requires-clause-room g c = (
   same_label,
   label_tells,
   cover_room (g.T.Rows.list c.args.table.now) c.args.range.now c.args.label (g.T.Slots.room c.args.table.now)
-      c.requires.records (omega (arith, c.end-fact.ensures.small)) c.requires.room,
+      c.requires.records (omega (arith, c.range_end_fits.ensures)) c.requires.room,
 )
 
 pub returns-clause-list : goal.returns-clause-list
 returns-clause-list g c =
     edited_list (λ (carried : Option Label). Some (unwrap_or carried c.args.label)) c.args.range.now _ _ c.requires.records
-    (omega (arith, c.end-fact.ensures.small)) c.rewrite.ensures.list
+    (omega (arith, c.range_end_fits.ensures)) c.rewrite.ensures.list

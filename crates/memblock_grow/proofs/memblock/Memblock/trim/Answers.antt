@@ -3,13 +3,13 @@ use Rattle.std.proofs.Common.{refl, sym}
 use Rattle.memblock_model.specs.declared.item.Item.TheVariants as item
 use Rattle.growth_model.proofs.SoundLaws.{trim-stands}
 use Rattle.memblock_grow.proofs.KeptLaws.{kept-trim}
-use Rattle.memblock_grow.proofs.ReservedLaws.{still-bytes}
+use Rattle.memblock_grow.proofs.GoingLaws.{goes-none}
 use Rattle.memblock_grow.proofs.MemblockLaws.{follows-one, whole-one}
 use Rattle.memblock_grow.proofs.memblock.Memblock.trim.Goals as goal
 
-pub returns-in_err-push-clause-bytes : goal.returns-in_err-push-clause-bytes
-returns-in_err-push-clause-bytes c =
-    rw (sym c.self.view_is) (still-bytes c.self.inside.tables (λ k. (c.in_err-push.ensures.err k).items) (λ x. refl) _ c.self.invariant.kept
+pub returns-in_err-push-clause-goes_on : goal.returns-in_err-push-clause-goes_on
+returns-in_err-push-clause-goes_on c =
+    rw (sym c.self.view_is, c.in_err-push.ensures.err) (goes-none _ c.self.invariant.kept.memory c.self.invariant.kept.reserved
     c.self.invariant.spelled)
 
 pub invariant_of-self-2 : goal.invariant_of-self-2
@@ -18,7 +18,11 @@ invariant_of-self-2 c =
     (kept-trim c.self.invariant.kept c.trim.new.tables c.trim.ensures.memory c.trim.ensures.reserved) (λ x. refl) c.trim.ensures.bytes
     (trim-stands _ _ _ c.self.invariant.placed (rw (sym c.self.view_is) at c.requires) c.in_ok-push.ensures.ok)
 
-pub returns-clause-bytes : goal.returns-clause-bytes
-returns-clause-bytes c =
-    rw (sym c.self.view_is) (follows-one item.Trim c.self.invariant c.in_ok-push.ensures.ok
-    (kept-trim c.self.invariant.kept c.trim.new.tables c.trim.ensures.memory c.trim.ensures.reserved) (λ x. refl) c.trim.ensures.bytes)
+pub returns-clause-goes_on : goal.returns-clause-goes_on
+returns-clause-goes_on c =
+    rw (sym c.self.view_is) (record {
+      kernel = refl;
+      bytes = follows-one item.Trim c.self.invariant c.in_ok-push.ensures.ok (kept-trim c.self.invariant.kept c.trim.new.tables c.trim.ensures.memory c.trim.ensures.reserved) (λ x. refl)
+          c.trim.ensures.bytes;
+      ready = λ x h. rw (c.trim.ensures.ready x) h;
+    })

@@ -16,7 +16,7 @@ plain c =
     let none = rw c.in-Reserved.is at c.requires.node in
     let label : c.label_of-label.result ≡ plain_label = c.label_of-label.ensures ∙ ap (label_of 0) none in
     rw label
-    (plain_covered c.args.range _ c.self.invariant.reserved_records c.self.invariant.plain (omega (arith, c.end-fact.ensures.small)))
+    (plain_covered c.args.range _ c.self.invariant.reserved_records c.self.invariant.plain (omega (arith, c.range_end_fits.ensures)))
 
 pub invariant_of-self : goal.invariant_of-self
 invariant_of-self c = (pair_memory _ _ _ _ _ _ c.self.invariant c.cover.ensures.edits c.cover.ensures.records).0

@@ -12,7 +12,7 @@ plain : (c : In-Reserved) →
     HaveNoNode (records_for (uncovered c.args.range (value_at (list_in c.self.inside.store c.self.inside.heads.reserved))))
 plain c =
     plain_uncovered c.args.range (list_in c.self.inside.store c.self.inside.heads.reserved) c.self.invariant.reserved_records
-    c.self.invariant.plain (omega (arith, c.end-fact.ensures.small))
+    c.self.invariant.plain (omega (arith, c.range_end_fits.ensures))
 
 pub invariant_of-self : goal.invariant_of-self
 invariant_of-self c = (pair_memory _ _ _ _ _ _ c.self.invariant c.uncover.ensures.edits c.uncover.ensures.records).0

@@ -1,0 +1,64 @@
+-- A memblock that went on twice went on, and so did one that was only looked at. What a search found, and what was claimed there, is away
+-- from the tables.
+use Rattle.std.proofs.Common.{◌≡◌, ℕ, Option, Some, None, List, [], ◌∷◌, ◌++◌, Result, Ok, Err, IfSome, OnOk, refl, sym, ◌∙◌, subst}
+use Rattle.bm_base.specs.Extent.{Extent}
+use Rattle.phys_store.specs.Bytes.{byte_of}
+use Rattle.memblock_model.specs.declared.which.Which.{Which}
+use Rattle.memblock_model.specs.declared.which.Which.TheVariants as which
+use Rattle.memblock_model.specs.declared.owner.Owner.{Owner}
+use Rattle.memblock_model.specs.declared.item.Item.{Item}
+use Rattle.memblock_model.specs.declared.item.Item.TheVariants as item
+use Rattle.memblock_model.specs.declared.query.Query.{Query}
+use Rattle.memblock_model.specs.Search.{best}
+use Rattle.memblock_model.specs.Tables.{live}
+use Rattle.growth_model.specs.declared.refusal.Refusal.{Refusal}
+use Rattle.growth_model.specs.Growth.{claimed, new_in}
+use Rattle.growth_model.specs.Ends.{Ends}
+use Rattle.growth_model.specs.Sound.{Clear, Seated, IsAway}
+use Rattle.growth_model.specs.Bytes.{table_for, AreSpelled}
+use Rattle.growth_model.proofs.FollowLaws.{follows-next, follows-none}
+use Rattle.growth_model.proofs.FoundLaws.{found-away}
+use Rattle.growth_model.proofs.PlacedLaws.{live-same, moves-of, rooms-of, away-still}
+use Rattle.growth_model.proofs.PlacedReservedLaws.{roomy, room-going, claimed-after}
+use Rattle.memblock_grow.specs.Contents.{Contents}
+use Rattle.memblock_grow.specs.Going.{GoesOn}
+
+pub goes-then : (old mid new : Contents) → GoesOn old mid → GoesOn mid new → GoesOn old new
+goes-then old mid new first second = record {
+  kernel = second.kernel ∙ first.kernel;
+  bytes = follows-next old.kernel mid.kernel old.journal.items mid.journal.items new.journal.items (byte_of old.tables.store)
+      (byte_of mid.tables.store) (byte_of new.tables.store) first.kernel first.bytes second.bytes;
+  ready = λ x h. second.ready x (first.ready x h);
+}
+
+pub goes-none : (m : Contents) → m.tables.memory ≡ table_for which.Memory m.kernel m.journal.items
+    → m.tables.reserved ≡ table_for which.Reserved m.kernel m.journal.items
+    → AreSpelled m.tables.memory m.tables.reserved (byte_of m.tables.store) → GoesOn m m
+goes-none m memory reserved spelled = record {
+  kernel = refl;
+  bytes = follows-none m.kernel m.journal.items m.tables.memory m.tables.reserved (byte_of m.tables.store) memory reserved spelled;
+  ready = λ x h. h;
+}
+
+pub place-away : (kernel : Extent) (items : List Item) (query : Query) (place : Option ℕ) → Seated kernel items → place ≡ best items query
+    → IfSome place (λ base. IsAway kernel (record { base = base; size = query.size }) items)
+place-away kernel items query None seated same = tt
+place-away kernel items query (Some base) seated same = found-away kernel items query base seated (sym same)
+
+-- a range that met no table meets none once it is claimed: what grew for the claim keeps beside it
+claimed-away : (kernel r : Extent) (items new : List Item) (who : Owner) → Seated kernel items → IsAway kernel r items
+    → Ends {T = Unit {0}} (Ok tt) items new (claimed r who) → IsAway kernel r new
+claimed-away kernel r items new who placed away ends =
+    let t : List Item = roomy r (new_in which.Reserved r) items in
+    let one : List Item = item.Claim r who ∷ [] in
+    let still : IsAway kernel r t =
+    away-still kernel r items t (room-going kernel r (new_in which.Reserved r) items placed).aside away in
+    let is : new ≡ t ++ one = ends.1 ∙ claimed-after items r who ends.0 in
+    let clear : (w : Which) → Clear r (live w kernel t) → Clear r (live w kernel (t ++ one)) = λ w.
+    subst (Clear r) (sym (live-same w kernel t (t ++ one) (moves-of w t one) (rooms-of w t one))) in
+    rw is (clear which.Memory still.0, clear which.Reserved still.1)
+
+pub claim-away : (result : Result (Unit {0}) Refusal) (kernel r : Extent) (items new : List Item) (who : Owner) → Seated kernel items
+    → IsAway kernel r items → Ends result items new (claimed r who) → OnOk result (IsAway kernel r new)
+claim-away (Ok x) kernel r items new who placed away ends = claimed-away kernel r items new who placed away ends
+claim-away (Err e) kernel r items new who placed away ends = tt
