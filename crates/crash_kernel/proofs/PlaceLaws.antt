@@ -1,7 +1,6 @@
--- Places that a search found: they end within the window, meet neither table, and one of exactly its range is its base.
+-- Places that a search found: they end within the window, and one of exactly its range is its base.
 use Rattle.std.proofs.Common.{◌≡◌, ℕ, ◌+◌, ◌%◌, ◌^◌, ◌<◌, ◌≤◌, ◌==◌, Bool, true, false, nat_lt, if◌then◌else◌, Some, None, List, refl, arith}
 use Rattle.std.proofs.lemmas.Bool.Decides.{nat_tests}
-use Rattle.bm_base.specs.Extent.{Extent}
 use Rattle.memblock_model.specs.declared.which.Which.TheVariants as which
 use Rattle.memblock_model.specs.declared.query.Query.{Query}
 use Rattle.memblock_model.specs.declared.item.Item.{Item}
@@ -9,8 +8,7 @@ use Rattle.memblock_model.specs.Items.{upward_of}
 use Rattle.memblock_model.specs.Tables.{table_of}
 use Rattle.memblock_model.specs.Search.{best, fits}
 use Rattle.memblock_model.proofs.SearchLaws.{best_in-fits, best_in-none}
-use Rattle.growth_model.specs.Sound.{Seated, IsAway}
-use Rattle.growth_model.proofs.FoundLaws.{found-fits, found-away}
+use Rattle.growth_model.proofs.FoundLaws.{found-fits}
 use Rattle.crash_kernel.specs.Places.{area_query, fixed_range}
 
 pub best-within : (items : List Item) (q : Query) (place : ℕ) → best items q ≡ Some place → place + q.size ≤ q.hi
@@ -26,17 +24,12 @@ best_none items q none place lt = best_in-none (upward_of items) (table_of which
     q none place lt
 
 -- a search of exactly a range finds its base, or the range doesn't fit
-exact_base : (items : List Item) (size base place : ℕ) → best items (area_query size 1 base (base + size)) ≡ Some place → place ≡ base
-exact_base items size base place found =
+pub exact-base : (items : List Item) (size base place : ℕ) → best items (area_query size 1 base (base + size)) ≡ Some place → place ≡ base
+exact-base items size base place found =
     let known = found-fits items (area_query size 1 base (base + size)) place found in
     let low : base ≤ place = known.low in
     let high : place + size ≤ base + size = known.high in
     omega arith
-
-pub exact-away : (kernel : Extent) (items : List Item) (size base place : ℕ) → Seated kernel items
-    → best items (area_query size 1 base (base + size)) ≡ Some place → IsAway kernel (record { base = base; size = size }) items
-exact-away kernel items size base place placed found =
-    rw (exact_base items size base place found) at (found-away kernel items (area_query size 1 base (base + size)) place placed found)
 
 -- what comes of a place that is asked for, by that search
 fixed_by : (items : List Item) (size base : ℕ) (b : Bool) → base % 0x100000 ≡ 0 → base + size < 2 ^ 64
@@ -52,7 +45,7 @@ pub fixed-found : (items : List Item) (size base place : ℕ) → base % 0x10000
     → fixed_range base size items ≡ Some (record { base = base; size = size })
 fixed-found items size base place aligned small found =
     fixed_by items size base true aligned small
-    (rw (exact_base items size base place found) at (best_fits items (area_query size 1 base (base + size)) place found))
+    (rw (exact-base items size base place found) at (best_fits items (area_query size 1 base (base + size)) place found))
 
 pub fixed-fails : (items : List Item) (size base : ℕ) → base % 0x100000 ≡ 0 → base + size < 2 ^ 64
     → best items (area_query size 1 base (base + size)) ≡ None → fixed_range base size items ≡ None

@@ -1,22 +1,16 @@
--- The stage step by step: how its parts end by the ends of what they carry out, and that the area meets no table once it is claimed.
-use Rattle.std.proofs.Common.{◌≡◌, ◌≢◌, ℕ, Bool, if◌then◌else◌, Option, Some, None, List, [], ◌∷◌, ◌++◌, Result, Ok, Err, refl, sym, ◌∙◌, ap, subst}
+-- The stage step by step: how its parts end by the ends of what they carry out.
+use Rattle.std.proofs.Common.{◌≡◌, ◌≢◌, ℕ, Bool, if◌then◌else◌, Option, Some, None, List, [], ◌∷◌, ◌++◌, Result, Ok, Err, refl, sym, ◌∙◌, ap}
 use Rattle.bm_base.specs.Extent.{Extent}
-use Rattle.memblock_model.specs.declared.which.Which.{Which}
 use Rattle.memblock_model.specs.declared.which.Which.TheVariants as which
 use Rattle.memblock_model.specs.declared.owner.Owner.{Owner}
 use Rattle.memblock_model.specs.declared.owner.Owner.TheVariants as owner
 use Rattle.memblock_model.specs.declared.item.Item.{Item}
 use Rattle.memblock_model.specs.declared.item.Item.TheVariants as item
 use Rattle.memblock_model.specs.Items.{memory_of}
-use Rattle.memblock_model.specs.Tables.{live}
 use Rattle.growth_model.specs.declared.refusal.Refusal.{Refusal}
-use Rattle.growth_model.specs.declared.refusal.Refusal.TheVariants as refusal
 use Rattle.growth_model.specs.Outcome.{Change, Outcome, Refused, followed_by, write}
 use Rattle.growth_model.specs.Growth.{claimed, grown, new_in, reserved_growth}
 use Rattle.growth_model.specs.Ends.{Ends}
-use Rattle.growth_model.specs.Sound.{Clear, Seated, IsAway}
-use Rattle.growth_model.proofs.PlacedLaws.{live-same, moves-of, rooms-of, away-still}
-use Rattle.growth_model.proofs.PlacedReservedLaws.{roomy, room-going, claimed-after}
 use Rattle.stage_model.specs.Causes.{refusal_for}
 use Rattle.stage_model.specs.Doing.{Doing, Done, ◌>>=◌, after, going_on, returns, StageEnds}
 use Rattle.stage_model.specs.Requests.{changes, refusal_of}
@@ -65,19 +59,6 @@ main-fails e old new low area main h =
     change-fails e old new (claimed main owner.Crash)
     (λ done. if needs_low main low then low_part main low else returns (crash.At main None)) h
 
--- a range that met no table meets none once it is claimed: what grew for the claim keeps beside it
-pub claimed-away : (kernel r : Extent) (items new : List Item) (who : Owner) → Seated kernel items → IsAway kernel r items
-    → Ends {T = Unit {0}} (Ok tt) items new (claimed r who) → IsAway kernel r new
-claimed-away kernel r items new who placed away ends =
-    let t : List Item = roomy r (new_in which.Reserved r) items in
-    let one : List Item = item.Claim r who ∷ [] in
-    let still : IsAway kernel r t =
-    away-still kernel r items t (room-going kernel r (new_in which.Reserved r) items placed).aside away in
-    let is : new ≡ t ++ one = ends.1 ∙ claimed-after items r who ends.0 in
-    let clear : (w : Which) → Clear r (live w kernel t) → Clear r (live w kernel (t ++ one)) = λ w.
-    subst (Clear r) (sym (live-same w kernel t (t ++ one) (moves-of w t one) (rooms-of w t one))) in
-    rw is (clear which.Memory still.0, clear which.Reserved still.1)
-
 -- the stage as it goes on from the total, the area and the place that was found
 pub area-at : (items : List Item) (asked : Asked) (total : ℕ) (area : Option Area) → total ≡ memory_bytes (memory_of items)
     → area ≡ area_for total asked → reserved asked items ≡ with_area (low_size asked) area items
@@ -92,7 +73,8 @@ main-at items asked total area main counted is found = rw (area-at items asked t
 -- an answer behind no step is the one that is told
 pub idle-ok : (a told : Crash) (old new : List Item) (f : Doing Refused Crash) → StageEnds f refusal_for (Ok a) old new
     → f old ≡ returns told old → ◌≡◌ {A = Result Crash Refusal} (Ok a) (Ok told)
-idle-ok a told old new f h is = sym h.0 ∙ ap (λ (t : Done Refused Crash). t.answer) is
+idle-ok a told old new f h is =
+    let same : a ≡ told = cc (sym h.0 ∙ ap (λ (t : Done Refused Crash). t.answer) is) in rw same refl
 
 -- steps of which one is written in their midst
 some-step : (before behind : List (List Item)) (one : List Item) → (before ++ one ∷ []) ++ behind ≢ []

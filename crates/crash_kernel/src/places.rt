@@ -79,7 +79,6 @@ fn best_range(memblock: &Memblock, size: u64, lo: u64, hi: u64) -> Option<Range>
     ensures some { IfSome result (λ range. 0 < range.size) }
     ensures away { IfSome result (λ range. IsAway memblock.now.kernel range memblock.now.journal.items) }
 {
-    let _fact = memblock.journal(); // for its facts alone
     let query = Query {
         lo,
         hi,
@@ -99,7 +98,6 @@ fn fixed_range(memblock: &Memblock, base: u64, size: u64) -> Option<Range>
     ensures some { IfSome result (λ range. 0 < range.size) }
     ensures away { IfSome result (λ range. IsAway memblock.now.kernel range memblock.now.journal.items) }
 {
-    let _fact = memblock.journal(); // for its facts alone
     if base % FIXED_ALIGN != 0 {
         return None;
     }

@@ -5,7 +5,7 @@ ghost use Rattle.growth_model.specs.Sound.{HasBegun, IsAway};
 ghost use Rattle.growth_model.specs.declared.refusal.Refusal.TheVariants as refusals;
 ghost use Rattle.stage_model.specs.Causes.{refusal_for};
 ghost use Rattle.stage_model.specs.Doing.{StageEnds, returns};
-ghost use Rattle.stage_model.specs.Lent.{GoesOn};
+ghost use Rattle.memblock_grow.specs.Going.{GoesOn};
 ghost use Rattle.boot_options.specs.Crash.{crash_view};
 ghost use Rattle.crash_kernel.specs.declared.crash.Crash.{Crash as AnyCrash};
 ghost use Rattle.crash_kernel.specs.Reserved.{low_part, reserved};
@@ -33,7 +33,7 @@ pub fn reserve(memblock: &mut Memblock, option: &CrashOption) -> Result<Crash, R
     ensures idle { (crash : AnyCrash) →
         reserved (crash_view option.now) memblock.old.journal.items ≡ returns crash memblock.old.journal.items → result ≡ Ok crash }
     ensures found { IfErr result (λ refusal. refusal ≢ refusals.NoGap) }
-    ensures lent { GoesOn memblock.old memblock.new }
+    ensures goes_on { GoesOn memblock.old memblock.new }
 {
     let total = total_memory(memblock.tables());
     let Some(area) = area_for(total, option) else {
@@ -42,7 +42,6 @@ pub fn reserve(memblock: &mut Memblock, option: &CrashOption) -> Result<Crash, R
     let Some(main) = main_range(memblock, &area) else {
         return Ok(unplaced(area.spot));
     };
-    let _fact = memblock.journal(); // for its facts alone
     memblock.claim(main, Owner::Crash)?;
     let low = option.low.unwrap_or(DEFAULT_LOW);
     if needs_low(&main, low) {
@@ -61,7 +60,7 @@ fn reserve_low(memblock: &mut Memblock, main: Range, size: u64) -> Result<Crash,
     ensures ends { StageEnds (low_part main size) refusal_for result
         memblock.old.journal.items memblock.new.journal.items }
     ensures found { IfErr result (λ refusal. refusal ≢ refusals.NoGap) }
-    ensures lent { GoesOn memblock.old memblock.new }
+    ensures goes_on { GoesOn memblock.old memblock.new }
 {
     match low_range(memblock, size) {
         Some(low) => {

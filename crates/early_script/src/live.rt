@@ -5,13 +5,14 @@ ghost use Rattle.std.specs.Prelude.{◌≡◌, ℕ, ◌+◌, ◌-◌, ◌^◌, �
 ghost use Rattle.bm_base.specs.Extent.{Extent};
 ghost use Rattle.script_reader.specs.Forms.{HasBounds};
 ghost use Rattle.growth_model.specs.Sound.{HasBegun, IsAway};
-ghost use Rattle.growth_model.specs.Bytes.{Filled, Follows, Holds};
+ghost use Rattle.growth_model.specs.Bytes.{Filled, Holds};
+ghost use Rattle.memblock_grow.specs.Going.{GoesOn};
 ghost use Rattle.memblock_grow.specs.Kept.{StayReady};
 
 use crate::outcome::Outcome;
-use crate::steps::{bytes_stand, peek, refused, split, touches};
+use crate::steps::{peek, refused, split, touches};
 use bm_base::{Memory, Range};
-use memblock_grow::{Memblock, Request};
+use memblock_grow::{Memblock, Request, no_items_no_change};
 use memblock_model::Owner;
 use script_reader::{Act, Line};
 use std::alloc::Global;
@@ -85,10 +86,9 @@ impl Live {
         requires aligned { (k : ℕ) × (request.now.align ≡ 2 ^ k) }
         ensures acts { Acts result (state_of self.old mb.old) (state_of self.new mb.new)
             (alloc_deed (state_of self.old mb.old) id request.now) }
-        ensures bytes { Follows mb.old.kernel mb.old.journal.items mb.new.journal.items (bytes_in mb.old) (bytes_in mb.new) }
-        ensures still_ready { StayReady mb.old.tables.store mb.new.tables.store }
+        ensures goes_on { GoesOn mb.old mb.new }
     {
-        bytes_stand(mb);
+        no_items_no_change(mb);
         // A live ID is taken, whether or not a place fits.
         if self.is_live(id) {
             return Ok(Outcome::Taken);
@@ -111,10 +111,9 @@ impl Live {
         requires some { 0 < range.size }
         ensures acts { Acts result (state_of self.old mb.old) (state_of self.new mb.new)
             (reserve_deed (state_of self.old mb.old) id range) }
-        ensures bytes { Follows mb.old.kernel mb.old.journal.items mb.new.journal.items (bytes_in mb.old) (bytes_in mb.new) }
-        ensures still_ready { StayReady mb.old.tables.store mb.new.tables.store }
+        ensures goes_on { GoesOn mb.old mb.new }
     {
-        bytes_stand(mb);
+        no_items_no_change(mb);
         if self.is_live(id) {
             return Ok(Outcome::Taken);
         }
@@ -134,10 +133,9 @@ impl Live {
         requires { HasBegun mb.old.journal.items }
         ensures acts { Acts result (state_of self.old mb.old) (state_of self.new mb.new)
             (free_deed (state_of self.old mb.old) id) }
-        ensures bytes { Follows mb.old.kernel mb.old.journal.items mb.new.journal.items (bytes_in mb.old) (bytes_in mb.new) }
-        ensures still_ready { StayReady mb.old.tables.store mb.new.tables.store }
+        ensures goes_on { GoesOn mb.old mb.new }
     {
-        bytes_stand(mb);
+        no_items_no_change(mb);
         let range = match self.whole(mb, id) {
             Ok(range) => range,
             Err(outcome) => return Ok(outcome),
@@ -154,10 +152,9 @@ impl Live {
         requires some { 0 < keep }
         ensures acts { Acts result (state_of self.old mb.old) (state_of self.new mb.new)
             (trim_deed (state_of self.old mb.old) id keep) }
-        ensures bytes { Follows mb.old.kernel mb.old.journal.items mb.new.journal.items (bytes_in mb.old) (bytes_in mb.new) }
-        ensures still_ready { StayReady mb.old.tables.store mb.new.tables.store }
+        ensures goes_on { GoesOn mb.old mb.new }
     {
-        bytes_stand(mb);
+        no_items_no_change(mb);
         let range = match self.whole(mb, id) {
             Ok(range) => range,
             Err(outcome) => return Ok(outcome),
@@ -185,7 +182,7 @@ impl Live {
             (fills_by result (fill_deed (state_of self.old mb.old) id byte) fills) (bytes_in mb.new) }
         ensures still_ready { StayReady mb.old.tables.store mb.new.tables.store }
     {
-        bytes_stand(mb);
+        no_items_no_change(mb);
         let range = match self.whole(mb, id) {
             Ok(range) => range,
             Err(outcome) => return Ok(outcome),

@@ -12,7 +12,7 @@ ghost use Rattle.early_script.specs.Found.{bytes_in, Refuses};
 use crate::outcome::Outcome;
 use arrayvec::ArrayVec;
 use bm_base::{Memory, Range};
-use memblock_grow::{Memblock, Refusal};
+use memblock_grow::{Memblock, Refusal, no_items_no_change};
 
 /// A refusal of memblock is the answer; want of memory isn't.
 pub fn refused(refusal: Refusal) -> Result<Outcome, Memory>
@@ -61,18 +61,10 @@ pub fn peek(mb: &Memblock, at: u64, len: u32) -> Outcome
     ensures told { result ≡ outcomes.Bytes (record { items = bytes_at (bytes_in mb.now) at len }) }
     ensures still { Follows mb.now.kernel mb.now.journal.items mb.now.journal.items (bytes_in mb.now) (bytes_in mb.now) }
 {
-    bytes_stand(mb);
+    no_items_no_change(mb);
     let mut room = [0u8; 64];
     mb.peek(at, &mut room[..len as usize]);
     let mut told = ArrayVec::from(room);
     told.truncate(len as usize);
     Outcome::Bytes(told)
-}
-
-/// A law: while nothing happens, each byte is as it was, and that is what the items say of it.
-pub fn bytes_stand(mb: &Memblock)
-    requires { HasBegun mb.now.journal.items }
-    ensures { Follows mb.now.kernel mb.now.journal.items mb.now.journal.items (bytes_in mb.now) (bytes_in mb.now) }
-{
-    let _fact = mb.tables(); // for its facts alone
 }

@@ -5,7 +5,7 @@ use Rattle.address_runs.specs.Runs.{RunOf}
 use Rattle.memblock_model.specs.Labels.{Label}
 use Rattle.memblock_model.specs.Same.{same_node}
 use Rattle.memblock_grow.specs.Contents.{Contents}
-use Rattle.stage_model.specs.Lent.{GoesOn}
+use Rattle.memblock_grow.specs.Going.{GoesOn}
 use Rattle.node_hulls.specs.Hulls.{NumaBlock}
 
 -- a record of the table is of the node

@@ -7,7 +7,7 @@ ghost use Rattle.srat_reader.specs.Table.{affinity};
 ghost use Rattle.growth_model.specs.Sound.{HasBegun};
 ghost use Rattle.stage_model.specs.Causes.{stage_stop};
 ghost use Rattle.stage_model.specs.Doing.{StageEnds, in_turn, ok_as};
-ghost use Rattle.stage_model.specs.Lent.{GoesOn};
+ghost use Rattle.memblock_grow.specs.Going.{GoesOn};
 ghost use Rattle.node_hulls.specs.Judgement.{judgement};
 ghost use Rattle.numa_nodes.specs.Assigned.{assigned, assigned_by, data_placed, given, node_data_request, nodes_view, ranges_given};
 ghost use Rattle.numa_nodes.specs.Steps.{CanGetNodes, GoesFurther};
@@ -47,7 +47,7 @@ pub fn assign(
     requires few { ForSome srat (λ table. length table.now.blocks.items < 2 ^ 32) }
     ensures ends { StageEnds (assigned (option_map affinity (option_copied srat.entry)) off) stage_stop (ok_as nodes_view result)
         memblock.old.journal.items memblock.new.journal.items }
-    ensures lent { GoesOn memblock.old memblock.new }
+    ensures goes_on { GoesOn memblock.old memblock.new }
 {
     let memory = memory_ranges(alloc, &memblock.tables().records(Which::Memory))?;
     let found = judge(alloc, &memory, srat, off)?;
@@ -60,7 +60,7 @@ fn assign_by(alloc: Global, memblock: &mut Memblock, found: Judged) -> Result<No
     requires ranges { CanGetNodes (ranges_given (limit_of memblock.old.journal.items) (judgement found)) }
     ensures ends { StageEnds (assigned_by (judgement found)) stage_stop (ok_as nodes_view result)
         memblock.old.journal.items memblock.new.journal.items }
-    ensures lent { GoesFurther memblock.old memblock.new }
+    ensures goes_on { GoesFurther memblock.old memblock.new }
 {
     let limit = limit_of(memblock.journal().items());
     let ranges = ranges_given(alloc, limit, &found)?;
@@ -110,7 +110,7 @@ fn give_nodes(memblock: &mut Memblock, ranges: &[NodeRange]) -> Result<(), Stage
     requires ranges { CanGetNodes ranges.now }
     ensures ends { StageEnds (in_turn given tt ranges.now) stage_stop result
         memblock.old.journal.items memblock.new.journal.items }
-    ensures lent { GoesFurther memblock.old memblock.new }
+    ensures goes_on { GoesFurther memblock.old memblock.new }
 {
     for run in ranges {
         set_node(memblock, run.range, run.value)?;
@@ -123,7 +123,7 @@ fn place_data(memblock: &mut Memblock, nodes: &[u32]) -> Result<(), StageStop>
     requires begun { HasBegun memblock.old.journal.items }
     ensures ends { StageEnds (in_turn data_placed tt nodes.now) stage_stop result
         memblock.old.journal.items memblock.new.journal.items }
-    ensures lent { GoesFurther memblock.old memblock.new }
+    ensures goes_on { GoesFurther memblock.old memblock.new }
 {
     for node in nodes {
         let request = node_data_request(*node);

@@ -8,21 +8,21 @@ ghost use Rattle.memblock_grow.specs.declared.stop.What.TheVariants as what;
 ghost use Rattle.stage_model.specs.Causes.{stage_stop};
 ghost use Rattle.stage_model.specs.Doing.{StageEnds, ok_as};
 ghost use Rattle.stage_model.specs.Requests.{placed};
-ghost use Rattle.stage_model.specs.Lent.{GoesOn};
+ghost use Rattle.memblock_grow.specs.Going.{GoesOn};
 ghost use Rattle.section_maps.specs.Maps.{map_request, map_each};
 
 use crate::placed::{Placed, put_placed};
 use crate::requests::{USAGE_SIZE, map_request};
 use boot_journal::Owner;
-use memblock_grow::Memblock;
-use stage_model::{Section, StageStop, What, place, stand_still};
+use memblock_grow::{Memblock, no_items_no_change};
+use stage_model::{Section, StageStop, What, place};
 
 /// Finds a place for the map of one section.
 fn place_map(memblock: &mut Memblock, section: &Section) -> Result<u64, StageStop>
     requires { HasBegun memblock.old.journal.items }
     ensures ends { StageEnds (placed (what.Map section.now.number) (map_request 1 section.now.node false) (owner.Map section.now.number)) stage_stop result
         memblock.old.journal.items memblock.new.journal.items }
-    ensures lent { GoesOn memblock.old memblock.new }
+    ensures goes_on { GoesOn memblock.old memblock.new }
 {
     let number = section.number;
     let request = map_request(1, section.node, false);
@@ -43,9 +43,9 @@ pub fn place_each(
         memblock.old.journal.items memblock.new.journal.items }
     ensures len { vec_len placed.new ≤ vec_len placed.old + length sections.now }
     ensures capacity { vec_capacity placed.old ≤ vec_capacity placed.new }
-    ensures lent { GoesOn memblock.old memblock.new }
+    ensures goes_on { GoesOn memblock.old memblock.new }
 {
-    stand_still(memblock);
+    no_items_no_change(memblock);
     let mut at = usage;
     for section in sections {
         let map = place_map(memblock, section)?;

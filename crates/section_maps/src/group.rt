@@ -6,7 +6,7 @@ ghost use Rattle.growth_model.specs.Sound.{HasBegun};
 ghost use Rattle.stage_model.specs.Causes.{stage_stop};
 ghost use Rattle.stage_model.specs.Doing.{StageEnds, ok_as};
 ghost use Rattle.stage_model.specs.Requests.{or_else};
-ghost use Rattle.stage_model.specs.Lent.{GoesOn};
+ghost use Rattle.memblock_grow.specs.Going.{GoesOn};
 ghost use Rattle.section_maps.specs.Maps.{map_all, map_each, group_placed};
 
 use crate::each::place_each;
@@ -42,7 +42,7 @@ fn map_group(
         memblock.old.journal.items memblock.new.journal.items }
     ensures len { vec_len placed.new ≤ vec_len placed.old + length sections.now }
     ensures capacity { vec_capacity placed.old ≤ vec_capacity placed.new }
-    ensures lent { GoesOn memblock.old memblock.new }
+    ensures goes_on { GoesOn memblock.old memblock.new }
 {
     let request = map_request(sections.len() as u64, first.node, true);
     let number = first.number;
@@ -71,7 +71,7 @@ pub fn place_group(
         memblock.old.journal.items memblock.new.journal.items }
     ensures len { vec_len placed.new ≤ vec_len placed.old + length sections.now }
     ensures capacity { vec_capacity placed.old ≤ vec_capacity placed.new }
-    ensures lent { GoesOn memblock.old memblock.new }
+    ensures goes_on { GoesOn memblock.old memblock.new }
 {
     let number = first.number;
     let request = usage_request(sections.len() as u64, first.node);

@@ -5,20 +5,20 @@ ghost use Rattle.std.specs.Prelude.{◌≡◌, ◌^◌, ◌<◌, ◌≤◌, AllP
 ghost use Rattle.growth_model.specs.Sound.{HasBegun};
 ghost use Rattle.stage_model.specs.Causes.{stage_stop};
 ghost use Rattle.stage_model.specs.Doing.{StageEnds, ok_as};
-ghost use Rattle.stage_model.specs.Lent.{GoesOn};
+ghost use Rattle.memblock_grow.specs.Going.{GoesOn};
 ghost use Rattle.section_maps.specs.Maps.{maps};
 
 use crate::group::{count_same, place_group};
 use crate::placed::{Placed, with_room};
-use memblock_grow::Memblock;
-use stage_model::{Section, StageStop, stand_still};
+use memblock_grow::{Memblock, no_items_no_change};
+use stage_model::{Section, StageStop};
 use std::alloc::Global;
 
-/// A law: the number of a section is of 32 bits.
+/// Law: the number of a section is below 2^32.
 fn number_fits(section: &Section)
     ensures { section.now.number < 2 ^ 32 }
 {
-    let _fact = section.number; // for its facts alone
+    let _number = section.number;
 }
 
 /// How many sections there are: at most 2^32, since their numbers ascend.
@@ -46,9 +46,9 @@ pub fn place_maps(
     requires ascend { AllPairs (λ s t. s.number < t.number) sections.now }
     ensures ends { StageEnds (maps sections.now) stage_stop (ok_as (λ placed. placed.items) result)
         memblock.old.journal.items memblock.new.journal.items }
-    ensures lent { GoesOn memblock.old memblock.new }
+    ensures goes_on { GoesOn memblock.old memblock.new }
 {
-    stand_still(memblock);
+    no_items_no_change(memblock);
     let mut placed = with_room(alloc, count_all(sections))?;
     let mut rest = sections;
     while let [first, ..] = rest {

@@ -6,15 +6,15 @@ ghost use Rattle.bm_base.specs.Width.{root_table_of};
 ghost use Rattle.growth_model.specs.Sound.{HasBegun};
 ghost use Rattle.stage_model.specs.Causes.{stage_stop};
 ghost use Rattle.stage_model.specs.Doing.{StageEnds, ok_as};
-ghost use Rattle.stage_model.specs.Lent.{GoesOn};
+ghost use Rattle.memblock_grow.specs.Going.{GoesOn};
 ghost use Rattle.sparse_sections.specs.Roots.{root_of, is_root, small_request, root_placed, roots, roots_listed, roots_view};
 
 use crate::roots::{RootPlace, Roots};
 use bm_base::{FRAME_SIZE, Memory, Width};
 use boot_journal::Owner;
 use growth_model::Request;
-use memblock_grow::Memblock;
-use stage_model::{Section, StageStop, What, place, stand_still};
+use memblock_grow::{Memblock, no_items_no_change};
+use stage_model::{Section, StageStop, What, place};
 use std::alloc::Global;
 
 /// The bytes of a root: a page.
@@ -73,7 +73,7 @@ fn place_root(
         memblock.old.journal.items memblock.new.journal.items }
     ensures len { vec_len roots.new ≤ vec_len roots.old + 1 }
     ensures capacity { vec_capacity roots.old ≤ vec_capacity roots.new }
-    ensures lent { GoesOn memblock.old memblock.new }
+    ensures goes_on { GoesOn memblock.old memblock.new }
 {
     let number = root_of(section);
     let request = small_request(ROOT_SIZE, Some(section.node));
@@ -101,9 +101,9 @@ fn place_each_root(
     requires { HasBegun memblock.old.journal.items }
     ensures ends { StageEnds (roots_listed sections.now) stage_stop (ok_as (λ roots. roots.items) result)
         memblock.old.journal.items memblock.new.journal.items }
-    ensures lent { GoesOn memblock.old memblock.new }
+    ensures goes_on { GoesOn memblock.old memblock.new }
 {
-    stand_still(memblock);
+    no_items_no_change(memblock);
     let mut roots = with_room(alloc, sections)?;
     let mut last = None;
     for section in sections {
@@ -129,7 +129,7 @@ pub fn place_roots(
     requires { HasBegun memblock.old.journal.items }
     ensures ends { StageEnds (roots width sections.now) stage_stop (ok_as roots_view result)
         memblock.old.journal.items memblock.new.journal.items }
-    ensures lent { GoesOn memblock.old memblock.new }
+    ensures goes_on { GoesOn memblock.old memblock.new }
 {
     let request = table_request(width);
     let table = place(memblock, What::Roots, &request, Owner::Roots)?;

@@ -4,10 +4,10 @@ ghost use Rattle.memblock_model.specs.declared.which.Which.TheVariants as tables
 ghost use Rattle.growth_model.specs.Growth.{noded, new_in, two, is_full as is_full_by};
 ghost use Rattle.growth_model.specs.Request.{place_for};
 ghost use Rattle.growth_model.specs.Sound.{HasBegun};
+ghost use Rattle.memblock_grow.specs.Going.{GoesOn};
 ghost use Rattle.stage_model.specs.Causes.{stage_stop, stop_for};
 ghost use Rattle.stage_model.specs.Doing.{StageEnds};
 ghost use Rattle.stage_model.specs.Requests.{placed, carried};
-ghost use Rattle.stage_model.specs.Lent.{GoesOn};
 
 use bm_base::Range;
 use boot_journal::Owner;
@@ -45,19 +45,12 @@ pub fn place(
     ensures ready { (place : ℕ) → place_for request.now memblock.old.journal.items ≡ Some place → 0 < memblock.old.journal.spare →
         is_full_by tables_of.Reserved (new_in tables_of.Reserved (record { base = place; size = request.now.size }))
         memblock.old.journal.items ≡ false → IsOk result × (memblock.new.journal.spare ≡ memblock.old.journal.spare - 1) }
-    ensures lent { GoesOn memblock.old memblock.new }
+    ensures goes_on { GoesOn memblock.old memblock.new }
 {
     match memblock.alloc(request, owner) {
         Ok(base) => Ok(base),
         Err(refusal) => Err(stop_for(what, refusal)),
     }
-}
-
-/// A law: a memblock that is only looked at goes on; so a row of calls has a first one.
-pub fn stand_still(memblock: &Memblock)
-    ensures { GoesOn memblock.now memblock.now }
-{
-    let _fact = memblock.tables(); // for its facts alone
 }
 
 /// Gives the memory of a range its node. It needs none of the program's own memory if an item can be appended without, and the memory table has
@@ -73,7 +66,7 @@ pub fn set_node(memblock: &mut Memblock, range: Range, node: u32) -> Result<(), 
     ensures ends { StageEnds (carried (noded range node)) stage_stop result memblock.old.journal.items memblock.new.journal.items }
     ensures ready { 0 < memblock.old.journal.spare → is_full_by tables_of.Memory two memblock.old.journal.items ≡ false →
         IsOk result × (memblock.new.journal.spare ≡ memblock.old.journal.spare - 1) }
-    ensures lent { GoesOn memblock.old memblock.new }
+    ensures goes_on { GoesOn memblock.old memblock.new }
 {
     match memblock.set_node(range, node) {
         Ok(()) => Ok(()),

@@ -9,10 +9,8 @@
 //!
 //! - `specs/Doing.antt`: steps, one after another, and `StageEnds`.
 //! - `specs/Causes.antt`: why a stage stops a boot, and the error that a call returns for it.
-//! - `specs/Requests.antt`: a change as a step, an allocation, an allocation that the boot can't do without, and
-//!   one allocation in place of another that had no gap.
-//! - `specs/Lent.antt`: what every call leaves of a memblock that it was lent, `GoesOn`: the same kernel's image, bytes that
-//!   follow the items, and all that was prepared.
+//! - `specs/Requests.antt`: a change as a step, a change and an allocation that the boot can't do without, and one allocation
+//!   in place of another that had no place.
 //!
 //! A stage's code is a row of calls: [`place`], an allocation that the boot can't do without, and [`set_node`], a change that it
 //! can't do without, each over a memblock that was lent. Each ends as its step says. A stage's loop carries two sentences
@@ -24,6 +22,6 @@
 mod calls;
 mod laws;
 
-pub use calls::{place, set_node, stand_still, stop_for};
+pub use calls::{place, set_node, stop_for};
 pub use laws::{allocations_leave_memory, calls_end_as_steps};
 pub use memblock_grow::{Section, StageStop, What};

@@ -1,5 +1,4 @@
 use Rattle.std.proofs.Common.{◌+◌, ◌≤◌, refl, sym, arith}
-use Rattle.growth_model.proofs.FoundLaws.{found-away}
 use Rattle.crash_kernel.specs.Places.{area_query}
 use Rattle.crash_kernel.proofs.PlaceLaws.{best-within}
 use Rattle.crash_kernel.proofs.places.best_range.Goals as goal
@@ -11,11 +10,9 @@ pub invariant_of-result : goal.invariant_of-result
 invariant_of-result c =
     let ends : c.in_ok-base.base + c.args.size ≤ c.args.hi =
     best-within c.args.memblock.now.journal.items (area_query c.args.size 0x1000000 c.args.lo c.args.hi) c.in_ok-base.base
-    (sym c.in_ok-base.ensures) in
+    (sym c.in_ok-base.ensures.place) in
     let fits = c.ranges.hi.fits in
     omega arith
 
 pub returns-clause-away : goal.returns-clause-away
-returns-clause-away c =
-    found-away c.args.memblock.now.kernel c.args.memblock.now.journal.items (area_query c.args.size 0x1000000 c.args.lo c.args.hi)
-    c.in_ok-base.base (c.journal-fact.ensures.sound c.requires.begun).placed (sym c.in_ok-base.ensures)
+returns-clause-away c = c.in_ok-base.ensures.away c.requires.begun

@@ -1,6 +1,6 @@
 use Rattle.std.proofs.Common.{◌≡◌, ◌+◌, Some, sym, ◌∙◌, ap}
 use Rattle.bm_base.specs.Extent.{Extent}
-use Rattle.crash_kernel.proofs.PlaceLaws.{exact-away, fixed-found, fixed-fails}
+use Rattle.crash_kernel.proofs.PlaceLaws.{exact-base, fixed-found, fixed-fails}
 use Rattle.crash_kernel.proofs.places.fixed_range.Goals as goal
 use Rattle.crash_kernel.proofs.places.fixed_range.Goals.{After-end}
 
@@ -10,19 +10,19 @@ end_is c = c.end.ensures.value ∙ ap (λ (r : Extent). r.base + r.size) c.in_ok
 
 pub returns-in_err-find-clause-range : goal.returns-in_err-find-clause-range
 returns-in_err-find-clause-range c =
-    let none = rw (end_is (goal.at.returns-in_err-find-clause-range c).After-end) at (sym c.in_err-find.ensures) in
+    let none = rw (end_is (goal.at.returns-in_err-find-clause-range c).After-end) at (sym c.in_err-find.ensures.place) in
     c.from_residual-in_err-find.ensures
     ∙ sym (fixed-fails c.args.memblock.now.journal.items c.args.size c.args.base c.if-base-ne0.false c.in_ok-range.ensures.0 none)
 
 pub returns-clause-range : goal.returns-clause-range
 returns-clause-range c =
-    let found = rw (end_is (goal.at.returns-clause-range c).After-end) at (sym c.in_ok-find.ensures) in
+    let found = rw (end_is (goal.at.returns-clause-range c).After-end) at (sym c.in_ok-find.ensures.place) in
     ap (λ (r : Extent). Some r) c.in_ok-range.ensures.1
     ∙ sym (fixed-found c.args.memblock.now.journal.items c.args.size c.args.base c.in_ok-find.field-0 c.if-base-ne0.false
     c.in_ok-range.ensures.0 found)
 
 pub returns-clause-away : goal.returns-clause-away
 returns-clause-away c =
-    let found = rw (end_is (goal.at.returns-clause-away c).After-end) at (sym c.in_ok-find.ensures) in
-    rw c.in_ok-range.ensures.1 (exact-away c.args.memblock.now.kernel c.args.memblock.now.journal.items c.args.size c.args.base
-    c.in_ok-find.field-0 (c.journal-fact.ensures.sound c.requires.begun).placed found)
+    let found = rw (end_is (goal.at.returns-clause-away c).After-end) at (sym c.in_ok-find.ensures.place) in
+    rw (c.in_ok-range.ensures.1, ← exact-base c.args.memblock.now.journal.items c.args.size c.args.base c.in_ok-find.field-0 found)
+    (c.in_ok-find.ensures.away c.requires.begun)

@@ -4,8 +4,7 @@ use Rattle.memblock_model.specs.declared.owner.Owner.TheVariants as owner
 use Rattle.memblock_model.specs.Items.{memory_of}
 use Rattle.memblock_ranges.specs.Tables.{Table}
 use Rattle.stage_model.specs.Doing.{returns}
-use Rattle.stage_model.specs.Lent.{GoesOn}
-use Rattle.stage_model.proofs.LentLaws.{goes-none, goes-then}
+use Rattle.memblock_grow.proofs.GoingLaws.{goes-then}
 use Rattle.boot_options.specs.Crash.{crash_view}
 use Rattle.crash_kernel.specs.declared.crash.Crash.{Crash}
 use Rattle.crash_kernel.specs.declared.crash.Crash.TheVariants as crash
@@ -13,7 +12,7 @@ use Rattle.crash_kernel.specs.Total.{memory_bytes}
 use Rattle.crash_kernel.specs.Places.{low_size, needs_low}
 use Rattle.crash_kernel.specs.Reserved.{low_part, reserved, with_main}
 use Rattle.crash_kernel.proofs.TotalLaws.{records-bytes}
-use Rattle.crash_kernel.proofs.ReservedLaws.{area-at, claimed-away, claim-writes, idle-ok, main-at, main-fails, main-then}
+use Rattle.crash_kernel.proofs.ReservedLaws.{area-at, claim-writes, idle-ok, main-at, main-fails, main-then}
 use Rattle.crash_kernel.proofs.stage.reserve.Goals as goal
 use Rattle.crash_kernel.proofs.stage.reserve.Goals.{After-tables, After-total_memory-total, In-Some-main_range}
 
@@ -23,13 +22,6 @@ total_is c =
     c.total_memory-total.ensures
     ∙ records-bytes c.args.memblock.now.journal.items c.tables.result.now.memory.records c.tables.ensures.within
     (ap (λ (m : Table). m.records) c.tables.ensures.memory)
-
--- a memblock that was only looked at
-still : (c : After-tables) → GoesOn c.args.memblock.now c.args.memblock.now
-still c =
-    let same = c.tables.ensures.tables in
-    goes-none c.args.memblock.now (rw same at c.tables.ensures.memory) (rw same at c.tables.ensures.reserved)
-    (rw same at c.tables.ensures.bytes)
 
 -- the stage goes on by the place of the area
 by_main : (c : In-Some-main_range) → c.total_memory-total.result ≡ memory_bytes (memory_of c.args.memblock.now.journal.items)
@@ -60,9 +52,6 @@ returns-in_default-clause-idle c = λ told idle.
     let items = c.args.memblock.now.journal.items in
     idle-ok crash.Nothing told items items (reserved (crash_view c.args.option.now)) (returns-in_default-clause-ends c) idle
 
-pub returns-in_default-clause-lent : goal.returns-in_default-clause-lent
-returns-in_default-clause-lent c = still (goal.at.returns-in_default-clause-lent c).After-tables
-
 pub returns-in_default-main_range-clause-ends : goal.returns-in_default-main_range-clause-ends
 returns-in_default-main_range-clause-ends c =
     let total = total_is (goal.at.returns-in_default-main_range-clause-ends c).After-total_memory-total in
@@ -78,9 +67,6 @@ returns-in_default-main_range-clause-idle c = λ told idle.
     idle-ok c.unplaced.result told items items (reserved (crash_view c.args.option.now))
     (returns-in_default-main_range-clause-ends c) idle
 
-pub returns-in_default-main_range-clause-lent : goal.returns-in_default-main_range-clause-lent
-returns-in_default-main_range-clause-lent c = still (goal.at.returns-in_default-main_range-clause-lent c).After-tables
-
 pub returns-in_err-claim-clause-ends : goal.returns-in_err-claim-clause-ends
 returns-in_err-claim-clause-ends c =
     let at = goal.at.returns-in_err-claim-clause-ends c in
@@ -95,10 +81,7 @@ returns-in_err-claim-clause-idle c = λ told idle.
     absurd (is_no_answer at.In-Some-main_range (total_is at.After-total_memory-total) told idle)
 
 pub reserve_low-requires-clause-away : goal.reserve_low-requires-clause-away
-reserve_low-requires-clause-away c =
-    let m = c.args.memblock.now in
-    rw c.claim.ensures.kernel (claimed-away m.kernel c.in-Some-main_range.main m.journal.items c.claim.new.self.journal.items owner.Crash
-    (c.journal-fact.ensures.sound c.requires.begun).placed c.in-Some-main_range.ensures.away c.in_ok-claim.ensures.ends)
+reserve_low-requires-clause-away c = c.in_ok-claim.ensures.away c.requires.begun c.in-Some-main_range.ensures.away
 
 pub returns-then-needs_low-clause-ends : goal.returns-then-needs_low-clause-ends
 returns-then-needs_low-clause-ends c =
@@ -114,11 +97,10 @@ returns-then-needs_low-clause-idle c = λ told idle.
     let at = goal.at.returns-then-needs_low-clause-idle c in
     absurd (is_no_answer at.In-Some-main_range (total_is at.After-total_memory-total) told idle)
 
-pub returns-then-needs_low-clause-lent : goal.returns-then-needs_low-clause-lent
-returns-then-needs_low-clause-lent c =
+pub returns-then-needs_low-clause-goes_on : goal.returns-then-needs_low-clause-goes_on
+returns-then-needs_low-clause-goes_on c =
     goes-then c.args.memblock.now c.claim.new.self c.reserve_low.new.memblock
-    (record { kernel = c.claim.ensures.kernel; bytes = c.claim.ensures.bytes; ready = c.claim.ensures.still_ready })
-    c.reserve_low.ensures.lent
+    c.claim.ensures.goes_on c.reserve_low.ensures.goes_on
 
 pub returns-else-needs_low-clause-ends : goal.returns-else-needs_low-clause-ends
 returns-else-needs_low-clause-ends c =

@@ -6,18 +6,8 @@ use Rattle.srat_reader.specs.Table.{affinity}
 use Rattle.node_hulls.specs.Judgement.{judged, judgement}
 use Rattle.node_hulls.specs.Kept.{in_any}
 use Rattle.numa_nodes.specs.Assigned.{is_memory}
-use Rattle.stage_model.specs.Lent.{GoesOn}
-use Rattle.stage_model.proofs.LentLaws.{goes-none}
 use Rattle.numa_nodes.proofs.AssignLaws.{assigned-is, by-wanting, can-get, ranges-tell, records-tell}
 use Rattle.numa_nodes.proofs.stage.assign.Goals as goal
-use Rattle.numa_nodes.proofs.stage.assign.Goals.{After-tables}
-
--- to look at the tables changes nothing
-looked_at : (c : After-tables) → GoesOn c.args.memblock.now c.args.memblock.now
-looked_at c =
-    let same = c.tables.ensures.tables in
-    goes-none c.args.memblock.now (rw same at c.tables.ensures.memory) (rw same at c.tables.ensures.reserved)
-    (rw same at c.tables.ensures.bytes)
 
 pub returns-in_err-memory-clause-ends : goal.returns-in_err-memory-clause-ends
 returns-in_err-memory-clause-ends c =
@@ -32,12 +22,6 @@ returns-in_err-found-clause-ends c =
     let table = option_map affinity (option_copied c.args.srat) in
     let p = err_from_is_err_and c.from_residual-in_err-found.result c.from_residual-in_err-found.ensures.1 in
     rw (p.1, p.2, assigned-is table c.args.off items) (by-wanting items (judged (is_memory items) c.args.off table))
-
-pub returns-in_err-memory-clause-lent : goal.returns-in_err-memory-clause-lent
-returns-in_err-memory-clause-lent c = looked_at (goal.at.returns-in_err-memory-clause-lent c).After-tables
-
-pub returns-in_err-found-clause-lent : goal.returns-in_err-found-clause-lent
-returns-in_err-found-clause-lent c = looked_at (goal.at.returns-in_err-found-clause-lent c).After-tables
 
 pub assign_by-requires-clause-ranges : goal.assign_by-requires-clause-ranges
 assign_by-requires-clause-ranges c =
@@ -58,6 +42,5 @@ returns-clause-ends c =
       ← c.in_ok-found.ensures.value,
     ) c.assign_by.ensures.ends
 
-pub returns-clause-lent : goal.returns-clause-lent
-returns-clause-lent c =
-    c.assign_by.ensures.lent c.args.memblock.now (looked_at (goal.at.returns-clause-lent c).After-tables)
+pub returns-clause-goes_on : goal.returns-clause-goes_on
+returns-clause-goes_on c = c.assign_by.ensures.goes_on c.args.memblock.now c.tables.ensures.still

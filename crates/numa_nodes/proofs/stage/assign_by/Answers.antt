@@ -64,9 +64,9 @@ returns-in_err-place_data-clause-ends c =
     rw (p.1, p.2) (data-told c.args.memblock.now.journal.items c.give_nodes.new.memblock.journal.items (judgement c.args.found)
     (rw are at c.in_ok-give_nodes.ensures.ends) (Err c.in_err-place_data.field-0.0) c.place_data.new.memblock.journal.items placed)
 
-pub returns-in_err-place_data-clause-lent : goal.returns-in_err-place_data-clause-lent
-returns-in_err-place_data-clause-lent c = λ start goes.
-    c.in_err-place_data.ensures.lent start (c.in_ok-give_nodes.ensures.lent start goes)
+pub returns-in_err-place_data-clause-goes_on : goal.returns-in_err-place_data-clause-goes_on
+returns-in_err-place_data-clause-goes_on c = λ start goes.
+    c.in_err-place_data.ensures.goes_on start (c.in_ok-give_nodes.ensures.goes_on start goes)
 
 pub returns-clause-ends : goal.returns-clause-ends
 returns-clause-ends c =
@@ -77,6 +77,6 @@ returns-clause-ends c =
     (judgement c.args.found) (rw are at c.in_ok-give_nodes.ensures.ends) (Ok tt) c.place_data.new.memblock.journal.items
     (rw same at c.in_ok-place_data.ensures.ends))
 
-pub returns-clause-lent : goal.returns-clause-lent
-returns-clause-lent c = λ start goes.
-    c.in_ok-place_data.ensures.lent start (c.in_ok-give_nodes.ensures.lent start goes)
+pub returns-clause-goes_on : goal.returns-clause-goes_on
+returns-clause-goes_on c = λ start goes.
+    c.in_ok-place_data.ensures.goes_on start (c.in_ok-give_nodes.ensures.goes_on start goes)

@@ -4,7 +4,7 @@ use Rattle.std.proofs.lemmas.Result.{err_from_is_err_and}
 use Rattle.stage_model.specs.Causes.{stage_stop}
 use Rattle.stage_model.specs.Doing.{StageEnds}
 use Rattle.stage_model.proofs.DoingLaws.{ends-begun}
-use Rattle.stage_model.proofs.LentLaws.{goes-then}
+use Rattle.memblock_grow.proofs.GoingLaws.{goes-then}
 use Rattle.node_hulls.specs.Hulls.{NumaBlock}
 use Rattle.numa_nodes.specs.Assigned.{given}
 use Rattle.numa_nodes.proofs.TurnLaws.{turn-next, turn-stops, turn-done}
@@ -21,9 +21,9 @@ returns-in_err-set_node-clause-ends c =
     (subst (λ (b : NumaBlock). StageEnds {A = Unit {0}} (given tt b) stage_stop (Err e) here new) c.run.view_is
     c.in_err-set_node.ensures.ends))
 
-pub returns-in_err-set_node-clause-lent : goal.returns-in_err-set_node-clause-lent
-returns-in_err-set_node-clause-lent c = λ start goes.
-    goes-then start c.loop-run.memblock c.set_node.new.memblock (c.loop-run.invariant.lent start goes) c.in_err-set_node.ensures.lent
+pub returns-in_err-set_node-clause-goes_on : goal.returns-in_err-set_node-clause-goes_on
+returns-in_err-set_node-clause-goes_on c = λ start goes.
+    goes-then start c.loop-run.memblock c.set_node.new.memblock (c.loop-run.invariant.goes_on start goes) c.in_err-set_node.ensures.goes_on
 
 pub loop-run-preserved : goal.loop-run-preserved
 loop-run-preserved c =
@@ -35,8 +35,8 @@ loop-run-preserved c =
     record {
       begun = ends-begun (Ok tt) stage_stop here mid (given tt run) c.loop-run.invariant.begun was;
       ends = turn-next c.loop-run.invariant.ends run run mid c.loop-run-test.true c.run-item.is was;
-      lent = λ start goes.
-          goes-then start c.loop-run.memblock c.set_node.new.memblock (c.loop-run.invariant.lent start goes) c.in_ok-set_node.ensures.lent;
+      goes_on = λ start goes.
+          goes-then start c.loop-run.memblock c.set_node.new.memblock (c.loop-run.invariant.goes_on start goes) c.in_ok-set_node.ensures.goes_on;
     }
 
 pub returns-clause-ends : goal.returns-clause-ends

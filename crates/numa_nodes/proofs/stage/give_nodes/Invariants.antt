@@ -9,5 +9,5 @@ abbrev pub invariant-loop-run : goal.invariant-loop-run
 invariant-loop-run l = record {
   begun : HasBegun l.memblock.journal.items;
   ends : Turns given l.ranges l.run-index l.fn.memblock.journal.items l.memblock.journal.items;
-  lent : GoesFurther l.fn.memblock l.memblock;
+  goes_on : GoesFurther l.fn.memblock l.memblock;
 }

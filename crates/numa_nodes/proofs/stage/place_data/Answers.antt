@@ -4,7 +4,7 @@ use Rattle.std.proofs.lemmas.Result.{err_from_is_err_and}
 use Rattle.memblock_model.specs.declared.request.Request.{Request}
 use Rattle.stage_model.specs.Causes.{stage_stop}
 use Rattle.stage_model.proofs.DoingLaws.{ends-begun}
-use Rattle.stage_model.proofs.LentLaws.{goes-then}
+use Rattle.memblock_grow.proofs.GoingLaws.{goes-then}
 use Rattle.numa_nodes.specs.Assigned.{data_placed}
 use Rattle.numa_nodes.proofs.TurnLaws.{turn-next, turn-stops, turn-done, data-placed}
 use Rattle.numa_nodes.proofs.stage.place_data.Goals as goal
@@ -22,9 +22,9 @@ returns-in_err-place-clause-ends c =
     rw (p.1, p.2) (turn-stops c.loop-node.invariant.ends node 0 new e c.loop-node-test.true refl
     (data-placed (Err e) node here new c.node_data_request-request.result c.node_data_request-request.ensures c.in_err-place.ensures.ends))
 
-pub returns-in_err-place-clause-lent : goal.returns-in_err-place-clause-lent
-returns-in_err-place-clause-lent c = λ start goes.
-    goes-then start c.loop-node.memblock c.place.new.memblock (c.loop-node.invariant.lent start goes) c.in_err-place.ensures.lent
+pub returns-in_err-place-clause-goes_on : goal.returns-in_err-place-clause-goes_on
+returns-in_err-place-clause-goes_on c = λ start goes.
+    goes-then start c.loop-node.memblock c.place.new.memblock (c.loop-node.invariant.goes_on start goes) c.in_err-place.ensures.goes_on
 
 pub loop-node-preserved : goal.loop-node-preserved
 loop-node-preserved c =
@@ -36,8 +36,8 @@ loop-node-preserved c =
     record {
       begun = ends-begun (Ok tt) stage_stop here mid (data_placed tt node) c.loop-node.invariant.begun was;
       ends = turn-next c.loop-node.invariant.ends node 0 mid c.loop-node-test.true refl was;
-      lent = λ start goes.
-          goes-then start c.loop-node.memblock c.place.new.memblock (c.loop-node.invariant.lent start goes) c.in_ok-place.ensures.lent;
+      goes_on = λ start goes.
+          goes-then start c.loop-node.memblock c.place.new.memblock (c.loop-node.invariant.goes_on start goes) c.in_ok-place.ensures.goes_on;
     }
 
 pub returns-clause-ends : goal.returns-clause-ends

@@ -9,5 +9,5 @@ abbrev pub invariant-loop-node : goal.invariant-loop-node
 invariant-loop-node l = record {
   begun : HasBegun l.memblock.journal.items;
   ends : Turns data_placed l.nodes l.node-index l.fn.memblock.journal.items l.memblock.journal.items;
-  lent : GoesFurther l.fn.memblock l.memblock;
+  goes_on : GoesFurther l.fn.memblock l.memblock;
 }

@@ -3,7 +3,7 @@ use Rattle.std.proofs.Common.{Ok, get_or, arith}
 use Rattle.std.proofs.lemmas.Result.{err_from_is_err_and}
 use Rattle.stage_model.specs.Causes.{stage_stop}
 use Rattle.stage_model.proofs.DoingLaws.{ends-begun}
-use Rattle.stage_model.proofs.LentLaws.{goes-then}
+use Rattle.memblock_grow.proofs.GoingLaws.{goes-then}
 use Rattle.section_maps.proofs.MapLaws.{no_section, one_map, goes-next, goes-stops, goes-all}
 use Rattle.section_maps.proofs.each.place_each.Goals as goal
 
@@ -13,9 +13,9 @@ returns-in_err-map-clause-ends c =
     rw (p.1, p.2) (goes-stops c.in_err-map.field-0.0 c.loop-section.section-index no_section c.place_map.new.memblock.journal.items
     c.loop-section-test.true c.loop-section.invariant.goes c.in_err-map.ensures.ends)
 
-pub returns-in_err-map-clause-lent : goal.returns-in_err-map-clause-lent
-returns-in_err-map-clause-lent c =
-    goes-then c.args.memblock.now c.loop-section.memblock c.place_map.new.memblock c.loop-section.invariant.lent c.in_err-map.ensures.lent
+pub returns-in_err-map-clause-goes_on : goal.returns-in_err-map-clause-goes_on
+returns-in_err-map-clause-goes_on c =
+    goes-then c.args.memblock.now c.loop-section.memblock c.place_map.new.memblock c.loop-section.invariant.goes_on c.in_err-map.ensures.goes_on
 
 pub loop-section-preserved : goal.loop-section-preserved
 loop-section-preserved c =
@@ -30,8 +30,8 @@ loop-section-preserved c =
       begun = ends-begun (Ok c.in_ok-map.map) stage_stop now mid
           (one_map (get_or c.args.sections.now c.loop-section.section-index no_section)) c.loop-section.invariant.begun
           c.in_ok-map.ensures.ends;
-      lent = goes-then c.args.memblock.now c.loop-section.memblock c.place_map.new.memblock c.loop-section.invariant.lent
-          c.in_ok-map.ensures.lent;
+      goes_on = goes-then c.args.memblock.now c.loop-section.memblock c.place_map.new.memblock c.loop-section.invariant.goes_on
+          c.in_ok-map.ensures.goes_on;
     }
 
 pub returns-clause-ends : goal.returns-clause-ends

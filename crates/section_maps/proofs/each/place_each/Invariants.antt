@@ -1,7 +1,7 @@
 -- As the maps that are left end, so do all.
 use Rattle.std.proofs.Common.{◌≡◌, ◌≤◌, ◌+◌, ◌*◌, drop, vec_len, vec_capacity}
 use Rattle.growth_model.specs.Sound.{HasBegun}
-use Rattle.stage_model.specs.Lent.{GoesOn}
+use Rattle.memblock_grow.specs.Going.{GoesOn}
 use Rattle.section_maps.proofs.MapLaws.{Goes}
 use Rattle.section_maps.proofs.each.place_each.Given as goal
 
@@ -13,5 +13,5 @@ invariant-loop-section l = record {
   len : vec_len l.placed ≤ vec_len l.fn.placed + l.section-index;
   capacity : vec_capacity l.fn.placed ≤ vec_capacity l.placed;
   begun : HasBegun l.memblock.journal.items;
-  lent : GoesOn l.fn.memblock l.memblock;
+  goes_on : GoesOn l.fn.memblock l.memblock;
 }

@@ -2,7 +2,7 @@
 use Rattle.std.proofs.Common.{ap}
 use Rattle.memblock_model.specs.declared.request.Request.{Request}
 use Rattle.stage_model.specs.Doing.{ok_as}
-use Rattle.stage_model.proofs.LentLaws.{goes-then}
+use Rattle.memblock_grow.proofs.GoingLaws.{goes-then}
 use Rattle.section_maps.proofs.MapLaws.{buffer-placed, buffer-stops, buffer-each}
 use Rattle.section_maps.proofs.group.map_group.Goals as goal
 
@@ -14,3 +14,15 @@ returns-in-Ok-clause-ends c =
     buffer-placed c.args.usage c.args.placed.now.items c.args.first.now c.args.sections.now c.map_request-request.result
     c.args.memblock.now.journal.items c.map_request-request.ensures c.in-Ok.map c.put_spread.new.placed.items
     c.place.new.memblock.journal.items c.put_spread.ensures.placed c.in-Ok.ensures.ends
+
+pub returns-in-Err-NoPlace-clause-ends : goal.returns-in-Err-NoPlace-clause-ends
+returns-in-Err-NoPlace-clause-ends c =
+    buffer-each c.args.usage c.args.placed.now.items c.args.first.now c.args.sections.now c.map_request-request.result
+    c.args.memblock.now.journal.items c.map_request-request.ensures (ok_as (λ done. c.place_each.new.placed.items) c.place_each.result)
+    c.in-Err-NoPlace.field-0-0 c.place.new.memblock.journal.items c.place_each.new.memblock.journal.items
+    (rw c.in-Err-NoPlace.field-0-is at c.in-Err-NoPlace.ensures.ends) c.place_each.ensures.ends
+
+pub returns-in-Err-NoPlace-clause-goes_on : goal.returns-in-Err-NoPlace-clause-goes_on
+returns-in-Err-NoPlace-clause-goes_on c =
+    goes-then c.args.memblock.now c.place.new.memblock c.place_each.new.memblock c.in-Err-NoPlace.ensures.goes_on
+    c.place_each.ensures.goes_on

@@ -3,7 +3,7 @@ use Rattle.std.proofs.Common.{ap}
 use Rattle.std.proofs.lemmas.Result.{err_from_is_err_and}
 use Rattle.memblock_model.specs.declared.request.Request.{Request}
 use Rattle.stage_model.specs.Doing.{ok_as}
-use Rattle.stage_model.proofs.LentLaws.{goes-then}
+use Rattle.memblock_grow.proofs.GoingLaws.{goes-then}
 use Rattle.section_maps.proofs.MapLaws.{group-first, group-second}
 use Rattle.section_maps.proofs.group.place_group.Goals as goal
 
@@ -24,6 +24,6 @@ returns-clause-ends c =
     c.in_ok-usage.usage c.place.new.memblock.journal.items c.map_group.new.memblock.journal.items c.in_ok-usage.ensures.ends
     c.map_group.ensures.ends
 
-pub returns-clause-lent : goal.returns-clause-lent
-returns-clause-lent c =
-    goes-then c.args.memblock.now c.place.new.memblock c.map_group.new.memblock c.in_ok-usage.ensures.lent c.map_group.ensures.lent
+pub returns-clause-goes_on : goal.returns-clause-goes_on
+returns-clause-goes_on c =
+    goes-then c.args.memblock.now c.place.new.memblock c.map_group.new.memblock c.in_ok-usage.ensures.goes_on c.map_group.ensures.goes_on

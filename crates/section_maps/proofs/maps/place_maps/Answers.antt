@@ -4,7 +4,7 @@ use Rattle.std.proofs.lemmas.List.Sums.{prefix_len-le-length}
 use Rattle.std.proofs.lemmas.Result.{err_from_is_err_and}
 use Rattle.stage_model.specs.Causes.{stage_stop}
 use Rattle.stage_model.proofs.DoingLaws.{ends-begun}
-use Rattle.stage_model.proofs.LentLaws.{goes-then}
+use Rattle.memblock_grow.proofs.GoingLaws.{goes-then}
 use Rattle.section_maps.specs.Maps.{group_placed}
 use Rattle.section_maps.proofs.MapLaws.{no_section}
 use Rattle.section_maps.proofs.GroupLaws.{is_of, own_part, goes-first, goes-next, goes-stops, goes-all, maps-wanting}
@@ -16,7 +16,7 @@ loop-rest-init c = record {
   few = c.count_all.ensures.few;
   room = omega (arith, c.in_ok-placed.ensures.room);
   begun = c.requires.begun;
-  lent = c.stand_still.ensures;
+  goes_on = c.no_items_no_change.ensures;
 }
 
 pub returns-in_err-placed-clause-ends : goal.returns-in_err-placed-clause-ends
@@ -36,10 +36,10 @@ returns-in_err-place_group-clause-ends c =
     c.in-len1-up.len_at_least (rw (c.split_at.ensures.front, c.count_same.ensures) at c.in_err-place_group.ensures.ends)
     c.loop-rest.invariant.goes)
 
-pub returns-in_err-place_group-clause-lent : goal.returns-in_err-place_group-clause-lent
-returns-in_err-place_group-clause-lent c =
-    goes-then c.args.memblock.now c.loop-rest.memblock c.place_group.new.memblock c.loop-rest.invariant.lent
-    c.in_err-place_group.ensures.lent
+pub returns-in_err-place_group-clause-goes_on : goal.returns-in_err-place_group-clause-goes_on
+returns-in_err-place_group-clause-goes_on c =
+    goes-then c.args.memblock.now c.loop-rest.memblock c.place_group.new.memblock c.loop-rest.invariant.goes_on
+    c.in_err-place_group.ensures.goes_on
 
 pub loop-rest-preserved : goal.loop-rest-preserved
 loop-rest-preserved c =
@@ -56,8 +56,8 @@ loop-rest-preserved c =
       begun = ends-begun (Ok longer) stage_stop now mid
           (group_placed c.loop-rest.placed.items (get_or rest 0 no_section) (take (own_part no_section rest) rest))
           c.loop-rest.invariant.begun was;
-      lent = goes-then c.args.memblock.now c.loop-rest.memblock c.place_group.new.memblock c.loop-rest.invariant.lent
-          c.in_ok-place_group.ensures.lent;
+      goes_on = goes-then c.args.memblock.now c.loop-rest.memblock c.place_group.new.memblock c.loop-rest.invariant.goes_on
+          c.in_ok-place_group.ensures.goes_on;
     }
 
 pub returns-clause-ends : goal.returns-clause-ends

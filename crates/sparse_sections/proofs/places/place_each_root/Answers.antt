@@ -4,7 +4,7 @@ use Rattle.std.proofs.lemmas.Result.{err_from_is_err_and}
 use Rattle.memblock_grow.specs.declared.section.Section.{Section}
 use Rattle.stage_model.specs.Causes.{stage_stop}
 use Rattle.stage_model.proofs.DoingLaws.{ends-begun}
-use Rattle.stage_model.proofs.LentLaws.{goes-then}
+use Rattle.memblock_grow.proofs.GoingLaws.{goes-then}
 use Rattle.sparse_sections.specs.Roots.{root_of, is_root, root_placed}
 use Rattle.sparse_sections.proofs.RootLaws.{no_section, goes-first, goes-same, goes-next, goes-fails, goes-all}
 use Rattle.sparse_sections.proofs.places.place_each_root.Goals as goal
@@ -15,7 +15,7 @@ loop-section-init c = record {
   goes = goes-first c.args.memblock.now.journal.items c.args.sections.now c.in_ok-roots.roots.items c.in_ok-roots.ensures.empty;
   room = omega (arith, c.in_ok-roots.ensures.room);
   begun = c.requires;
-  lent = c.stand_still.ensures;
+  goes_on = c.no_items_no_change.ensures;
 }
 
 pub returns-in_err-place_root : goal.returns-in_err-place_root
@@ -27,8 +27,8 @@ returns-in_err-place_root c =
           c.loop-section.memblock.journal.items c.place_root.new.memblock.journal.items c.loop-section.roots.items c.loop-section.last
           c.loop-section.section-index no_section c.loop-section-test.true other c.in_err-place_root.ensures.ends
           c.loop-section.invariant.goes);
-      lent = goes-then c.args.memblock.now c.loop-section.memblock c.place_root.new.memblock c.loop-section.invariant.lent
-          c.in_err-place_root.ensures.lent;
+      goes_on = goes-then c.args.memblock.now c.loop-section.memblock c.place_root.new.memblock c.loop-section.invariant.goes_on
+          c.in_err-place_root.ensures.goes_on;
     }
 
 pub loop-section-preserved : goal.loop-section-preserved
@@ -51,8 +51,8 @@ loop-section-preserved c =
             room = omega (arith, w.place_root.ensures.len, w.place_root.ensures.capacity, c.loop-section.invariant.room);
             begun = ends-begun (Ok w.place_root.new.roots.items) stage_stop now mid (root_placed before s)
                 c.loop-section.invariant.begun w.in_ok-place_root.ensures.ends;
-            lent = goes-then c.args.memblock.now c.loop-section.memblock w.place_root.new.memblock c.loop-section.invariant.lent
-                w.in_ok-place_root.ensures.lent;
+            goes_on = goes-then c.args.memblock.now c.loop-section.memblock w.place_root.new.memblock c.loop-section.invariant.goes_on
+                w.in_ok-place_root.ensures.goes_on;
           })
       | else-not-is_root w ↦
           rw (w.memblock-is, w.roots-is, w.last-is) (record {
@@ -60,7 +60,7 @@ loop-section-preserved c =
                 c.loop-section.invariant.goes;
             room = omega (arith, c.loop-section.invariant.room);
             begun = c.loop-section.invariant.begun;
-            lent = c.loop-section.invariant.lent;
+            goes_on = c.loop-section.invariant.goes_on;
           })
     ]
 

@@ -2,7 +2,7 @@
 use Rattle.std.proofs.Common.{ap}
 use Rattle.std.proofs.lemmas.Result.{err_from_is_err_and}
 use Rattle.memblock_model.specs.declared.request.Request.{Request}
-use Rattle.stage_model.proofs.LentLaws.{goes-then}
+use Rattle.memblock_grow.proofs.GoingLaws.{goes-then}
 use Rattle.sparse_sections.proofs.RootLaws.{roots-fail, roots-stop, roots-all}
 use Rattle.sparse_sections.proofs.places.place_roots.Goals as goal
 
@@ -23,8 +23,8 @@ returns-in_err-roots c =
           c.args.sections.now c.args.memblock.now.journal.items c.place.new.memblock.journal.items
           c.place_each_root.new.memblock.journal.items c.table_request-request.ensures c.in_ok-table.ensures.ends
           c.in_err-roots.ensures.ends);
-      lent = goes-then c.args.memblock.now c.place.new.memblock c.place_each_root.new.memblock c.in_ok-table.ensures.lent
-          c.in_err-roots.ensures.lent;
+      goes_on = goes-then c.args.memblock.now c.place.new.memblock c.place_each_root.new.memblock c.in_ok-table.ensures.goes_on
+          c.in_err-roots.ensures.goes_on;
     }
 
 pub returns : goal.returns
@@ -32,6 +32,6 @@ returns c = record {
   ends = roots-all c.in_ok-table.table c.in_ok-roots.roots.items c.args.width c.table_request-request.result c.args.sections.now
       c.args.memblock.now.journal.items c.place.new.memblock.journal.items c.place_each_root.new.memblock.journal.items
       c.table_request-request.ensures c.in_ok-table.ensures.ends c.in_ok-roots.ensures.ends;
-  lent = goes-then c.args.memblock.now c.place.new.memblock c.place_each_root.new.memblock c.in_ok-table.ensures.lent
-      c.in_ok-roots.ensures.lent;
+  goes_on = goes-then c.args.memblock.now c.place.new.memblock c.place_each_root.new.memblock c.in_ok-table.ensures.goes_on
+      c.in_ok-roots.ensures.goes_on;
 }

@@ -16,8 +16,8 @@ unfolding deed
 returns-in-Alloc c =
     let ran = ran-quiet c.alloc.result c.args.self.now c.args.mb.now c.alloc.new.self c.alloc.new.mb c.args.line.now.act
     (acts.Alloc c.in-Alloc.id c.in-Alloc.request) c.in-Alloc.is
-    (alloc-quiet (state_of c.args.self.now c.args.mb.now) c.in-Alloc.id c.in-Alloc.request) c.alloc.ensures.acts c.alloc.ensures.bytes in
-    record { acts = ran.acts; answered = ran.answered; bytes = ran.bytes; holds = ran.holds; still_ready = c.alloc.ensures.still_ready }
+    (alloc-quiet (state_of c.args.self.now c.args.mb.now) c.in-Alloc.id c.in-Alloc.request) c.alloc.ensures.acts c.alloc.ensures.goes_on.bytes in
+    record { acts = ran.acts; answered = ran.answered; bytes = ran.bytes; holds = ran.holds; still_ready = c.alloc.ensures.goes_on.ready }
 
 pub returns-in-Reserve : goal.returns-in-Reserve
 unfolding deed
@@ -25,24 +25,24 @@ returns-in-Reserve c =
     let ran = ran-quiet c.reserve.result c.args.self.now c.args.mb.now c.reserve.new.self c.reserve.new.mb c.args.line.now.act
     (acts.Reserve c.in-Reserve.id c.in-Reserve.range) c.in-Reserve.is
     (reserve-quiet (state_of c.args.self.now c.args.mb.now) c.in-Reserve.id c.in-Reserve.range) c.reserve.ensures.acts
-    c.reserve.ensures.bytes in
-    record { acts = ran.acts; answered = ran.answered; bytes = ran.bytes; holds = ran.holds; still_ready = c.reserve.ensures.still_ready }
+    c.reserve.ensures.goes_on.bytes in
+    record { acts = ran.acts; answered = ran.answered; bytes = ran.bytes; holds = ran.holds; still_ready = c.reserve.ensures.goes_on.ready }
 
 pub returns-in-Free : goal.returns-in-Free
 unfolding deed
 returns-in-Free c =
     let ran = ran-quiet c.free.result c.args.self.now c.args.mb.now c.free.new.self c.free.new.mb c.args.line.now.act
     (acts.Free c.in-Free.id) c.in-Free.is (free-quiet (state_of c.args.self.now c.args.mb.now) c.in-Free.id) c.free.ensures.acts
-    c.free.ensures.bytes in
-    record { acts = ran.acts; answered = ran.answered; bytes = ran.bytes; holds = ran.holds; still_ready = c.free.ensures.still_ready }
+    c.free.ensures.goes_on.bytes in
+    record { acts = ran.acts; answered = ran.answered; bytes = ran.bytes; holds = ran.holds; still_ready = c.free.ensures.goes_on.ready }
 
 pub returns-in-Trim : goal.returns-in-Trim
 unfolding deed
 returns-in-Trim c =
     let ran = ran-quiet c.trim.result c.args.self.now c.args.mb.now c.trim.new.self c.trim.new.mb c.args.line.now.act
     (acts.Trim c.in-Trim.id c.in-Trim.keep) c.in-Trim.is
-    (trim-quiet (state_of c.args.self.now c.args.mb.now) c.in-Trim.id c.in-Trim.keep) c.trim.ensures.acts c.trim.ensures.bytes in
-    record { acts = ran.acts; answered = ran.answered; bytes = ran.bytes; holds = ran.holds; still_ready = c.trim.ensures.still_ready }
+    (trim-quiet (state_of c.args.self.now c.args.mb.now) c.in-Trim.id c.in-Trim.keep) c.trim.ensures.acts c.trim.ensures.goes_on.bytes in
+    record { acts = ran.acts; answered = ran.answered; bytes = ran.bytes; holds = ran.holds; still_ready = c.trim.ensures.goes_on.ready }
 
 pub returns-in-Fill : goal.returns-in-Fill
 unfolding deed
