@@ -13,6 +13,8 @@
 //! the kernel's image lies (`kept`, `bytes`). It prepares the frames that tables grew into, and no byte more, but that after want of memory
 //! one place may be prepared that the memory table was to grow into (`prepared`, `specs/Prepared.antt`); `new` prepares both tables, and
 //! `fill` its range.
+//! What every call on a [`Memblock`] keeps is one record, `GoesOn` (`specs/Going.antt`): the kernel's image, what the items say of each byte, and
+//! what was prepared.
 //!
 //! What the stages of a boot place by it ([`What`]), why a stage stops a boot ([`StageStop`]) and a piece of memory of 128 MiB with
 //! its node ([`Section`]) are plain data that stages have in common.
