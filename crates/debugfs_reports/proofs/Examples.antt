@@ -1,4 +1,4 @@
--- Small reports and lists of them, by computing.
+-- Worked examples of reports and lists of them.
 use Rattle.std.proofs.Common.{◌≡◌, ℕ, ◌-◌, ◌^◌, nat_le, nat_lt, ◌&&◌, if◌then◌else◌, true, false, [], ◌∷◌, codes, Some, None, refl, ◌∙◌, ap, arith}
 use Rattle.std.proofs.lemmas.Bool.Decides.{nat_tests}
 use Rattle.std.specs.Fmt.{digits}
@@ -43,7 +43,7 @@ heads = record {
 abbrev no_frames : Frames
 no_frames frame = None
 
--- no table of distances, and no zone
+-- no table of distances, and no zones
 abbrev no_lists : Known
 no_lists = known None [] []
 
@@ -73,7 +73,7 @@ made = record nothing {
   answers = record { line = 2; outcome = outcomes.NoGap } ∷ [];
 }
 
--- tables of which no item tells: each is told from the records at its own head
+-- tables that no journal item gives: each is shown from the records at its own head
 abbrev page_at : ℕ → RunOf Label
 page_at base = record { base = base; size = 0x1000; value = plain_label }
 
@@ -86,7 +86,7 @@ table_examples : (shown_text reports.Memory made standing
 unfolding made nothing reserved digits
 table_examples = (refl, refl)
 
--- a list has one name more than commas; a name may stand twice; an empty name is none
+-- a list has one name more than commas; a name may occur twice; no report has an empty name
 list_examples : (names_in (codes "map,,map") ≡ codes "map" ∷ [] ∷ codes "map" ∷ []) × (names_in [] ≡ [] ∷ [])
     × (are_reports (codes "map,options,map") ≡ true) × (are_reports (codes "map") ≡ true) × (are_reports (codes "map,") ≡ false)
     × (are_reports (codes "map, options") ≡ false) × (are_reports [] ≡ false)
@@ -94,7 +94,8 @@ list_examples : (names_in (codes "map,,map") ≡ codes "map" ∷ [] ∷ codes "m
     × (reports_in (codes "maps") ≡ [])
 list_examples = (refl, refl, refl, refl, refl, refl, refl, refl, refl)
 
--- one report has no line with its name; two have it, the one without lines too
+-- a single report has no line with its name; if there are two, each has one, even a report without
+-- lines
 part_examples : (title true reports.Map ≡ codes "== map\n") × (title false reports.Map ≡ [])
     × (part true made reports.Options ≡ codes "== options\nclear\nnuma off\n") × (part false made reports.Options
     ≡ codes "clear\nnuma off\n")
@@ -106,7 +107,7 @@ part_examples : (title true reports.Map ≡ codes "== map\n") × (title false re
 unfolding made nothing reserved digits
 part_examples = (refl, refl, refl, refl, refl, refl, refl, refl)
 
--- each report has a name, and its name finds it
+-- each report has a name, and is found by it
 name_examples : (name_of reports.Map ≡ codes "map") × (report_named (codes "map") ≡ Some reports.Map)
     × (report_named (codes "options") ≡ Some reports.Options) × (report_named (codes "Map") ≡ None) × (report_named [] ≡ None)
     × (first_named [] (codes "map") ≡ None) × (first_named (reports.Map ∷ reports.Map ∷ []) (codes "map") ≡ Some reports.Map)
@@ -129,7 +130,7 @@ text_examples : (report_text reports.Map made ≡ codes "0x0000000007fe0000..0x0
 unfolding made nothing reserved digits
 text_examples = (refl, refl, refl, refl, refl, refl, refl, refl, refl, refl, refl, refl)
 
--- a block of the greatest order and one of order 3
+-- a block of the largest order, and one of order 3
 block : ℕ → ℕ → Block
 block order first = record { order = order; first = first; node = 0; zone = zone.Dma32 }
 
@@ -138,7 +139,7 @@ frames_examples : (frames_in [] ≡ 0) × (frames_in (block 10 0x2000 ∷ block 
 unfolding block
 frames_examples = (refl, refl, refl)
 
--- six frames of RAM, of which the last two are free: a block of order 1
+-- six frames of RAM; the last two are free and are a block of order 1
 six_frames : RunOf ℕ
 six_frames = record { base = 0; size = 0x6000; value = 1 }
 

@@ -1,4 +1,4 @@
--- Reports of tables that stand in the bytes: they show the tables' records.
+-- Lemmas: the reports of tables that are stored in the bytes show the records of these tables.
 use Rattle.std.proofs.Common.{◌≡◌, ℕ, Bool, List, [], ◌∷◌, nat_lt, length, refl, arith}
 use Rattle.std.specs.List.{flat_map}
 use Rattle.memblock_ranges.specs.Tables.{StandsIn, Table, head_of}
@@ -12,7 +12,7 @@ use Rattle.debugfs_reports.specs.Report.{TableRecords, shown_text}
 use Rattle.debugfs_reports.specs.ReportList.{shown_list, shown_part}
 use Rattle.debugfs_reports.specs.Stand.{TablesStand, records_at_heads}
 
--- both tables stand where the heads of a boot tell
+-- both tables are stored where the heads of the boot point
 pub record HaveTables (b : Booted) (memory reserved : Table) : Type 0 where
   pub memory_stands : StandsIn memory b.store
   pub memory_told : b.heads.memory ≡ head_of memory

@@ -1,4 +1,5 @@
--- The frames of the listed blocks are few: there are at most 2^40 blocks, of at most 2^10 frames. And they are those of rows.
+-- Lemmas on the frames of the listed blocks: their number fits, since there are at most 2^40
+-- blocks of at most 2^10 frames; and it is that of the rows.
 use Rattle.std.proofs.Common.{◌≡◌, ◌∙◌, ℕ, zero, suc, ◌+◌, ◌*◌, ◌^◌, ◌<◌, ◌≤◌, List, [], ◌∷◌, ◌++◌, get_or, length, drop, drop-cons, refl, add-one, lt_of_not-le, arith}
 use Rattle.std.proofs.Math.Nat.{suc-mul}
 use Rattle.std.proofs.Math.Pow.{pow_mono}
@@ -22,7 +23,7 @@ few_in (b ∷ bs) all =
 pub listed_frames : (f : Frames) → frames_in (blocks_of f) ≤ 2 ^ 50
 listed_frames f = omega (arith, few_in (blocks_of f) (listed_in_bounds f), listed_few f)
 
--- a row has so many frames
+-- the number of frames in a row
 row_frames : (o x n k : ℕ) (z : Zone) → frames_in (row_from o x n z k) ≡ k * 2 ^ o
 unfolding row_from
 row_frames o x n zero z = omega arith
@@ -46,7 +47,7 @@ row_left rs i d within =
       rows_left rs i d within,
     )
 
--- and what was counted before it, with it
+-- the counts so far, with those of the rows that are left, are the totals
 pub record Counted (rs : List BlockRow) (i free blocks : ℕ) : Type 0 where
   pub all_frames : free + frames_in (blocks_of_rows (drop i rs)) ≡ frames_in (blocks_of_rows rs)
   pub all_blocks : blocks + length (blocks_of_rows (drop i rs)) ≡ length (blocks_of_rows rs)
@@ -63,7 +64,7 @@ pub counted_few : (rs : List BlockRow) (i free blocks : ℕ) (f : Frames) → bl
 counted_few rs i free blocks f is so_far =
     (omega (arith, listed_frames f, rw is at so_far.all_frames), omega (arith, listed_few f, rw is at so_far.all_blocks))
 
--- where a product with a power is small and isn't 0, the power is small
+-- if the product of a number above 0 and a power of two is below 2^64, so is the power
 pub shift_small : (k o : ℕ) → 0 < k → k * 2 ^ o < 2 ^ 64 → o < 64
 shift_small zero o some small = absurd (omega (arith, some))
 shift_small (suc k) o some small = lt_of_not-le (λ above.

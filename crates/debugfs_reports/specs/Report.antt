@@ -1,4 +1,4 @@
--- The reports that there are: the name and the text of each.
+-- All reports, and the name and the text of each.
 use Rattle.std.specs.Prelude.{ℕ, List, [], ◌∷◌, codes, Option, find}
 use Rattle.std.specs.Str.{bytes_eq}
 use Rattle.address_runs.specs.Runs.{RunOf}
@@ -52,7 +52,7 @@ all_reports =
     ∷ reports.Sections ∷ reports.Zones ∷ reports.Script ∷ reports.Tables ∷ reports.Buddyinfo ∷ reports.Blocks
     ∷ reports.Pages ∷ reports.Pagesinfo ∷ reports.Zonelists ∷ reports.Summary ∷ []
 
--- the first of the reports that has the name
+-- the first of these reports that has the name
 abbrev pub first_named : List Report → List ℕ → Option Report
 first_named reports name = find (λ report. bytes_eq name (name_of report)) reports
 
@@ -64,7 +64,8 @@ pub record TableRecords : Type 0 where
   pub memory : List (RunOf Label)
   pub reserved : List (RunOf Label)
 
--- the text of a report, from what is told of a boot and from the records that stand at the heads of its tables
+-- the text of a report, from what contracts see of a boot and from the records at the heads of its
+-- tables
 abbrev pub shown_text : Report → Told → TableRecords → List ℕ
 shown_text reports.Map told records = map_text told.map
 shown_text reports.Options told records = options_text told.options
@@ -85,10 +86,10 @@ shown_text reports.Pagesinfo told records = buddyinfo_text told.after.frames tol
 shown_text reports.Zonelists told records = zonelists_text told.lists
 shown_text reports.Summary told records = summary_text (summary_of told)
 
--- what the items of a boot come to in both tables
+-- the records that the boot's journal gives for both tables
 abbrev pub records_told : Told → TableRecords
 records_told told = record { memory = records_of which.Memory told.items; reserved = records_of which.Reserved told.items }
 
--- the text where those stand at the heads
+-- the text if those are the records at the heads
 abbrev pub report_text : Report → Told → List ℕ
 report_text report told = shown_text report told (records_told told)

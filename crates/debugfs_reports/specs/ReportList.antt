@@ -1,4 +1,4 @@
--- Lists of reports: how one is spelled, and what it comes to.
+-- Lists of reports: how one is written, and its whole text.
 use Rattle.std.specs.Prelude.{ℕ, Bool, is_some, nat_lt, if◌then◌else◌, List, [], ◌++◌, codes, length}
 use Rattle.std.specs.List.{filter_map, flat_map, list_all}
 use Rattle.text_words.specs.declared.separators.Separators.TheVariants.{Byte}
@@ -7,23 +7,24 @@ use Rattle.boot_model.specs.Boot.{Told}
 use Rattle.debugfs_reports.specs.declared.report.Report.{Report}
 use Rattle.debugfs_reports.specs.Report.{TableRecords, name_of, records_told, report_named, shown_text}
 
--- the names that are spelled with a comma between each two; the empty text is one empty name
+-- the names in a list, with commas between them; the empty text is one empty name
 abbrev pub names_in : List ℕ → List (List ℕ)
 names_in list = parts_in (Byte 44) list
 
--- each name is a report's
+-- each name is that of a report
 abbrev pub are_reports : List ℕ → Bool
 are_reports list = list_all (λ name. is_some (report_named name)) (names_in list)
 
--- the reports of the names, in the order of the list
+-- the reports with these names, in the order of the list
 abbrev pub reports_in : List ℕ → List Report
 reports_in list = filter_map report_named (names_in list)
 
--- the line before a report, where it is one of several
+-- the line before a report, if it is one of several
 abbrev pub title : Bool → Report → List ℕ
 title several report = if several then codes "== " ++ name_of report ++ codes "\n" else []
 
--- a report's part of the whole text, by the records at the heads, and where those are what the items come to
+-- the part of a report in the whole text, for the records at the heads; and for the records that
+-- the journal gives
 abbrev pub shown_part : Bool → Told → TableRecords → Report → List ℕ
 shown_part several told records report = title several report ++ shown_text report told records
 

@@ -1,4 +1,4 @@
--- What a boot comes to in numbers: of the map, of the two tables, and of what is free in the end.
+-- The totals of a boot: of the map, of the two tables, and of the free frames at the end.
 use Rattle.std.specs.Prelude.{ℕ, ◌^◌, List, length}
 use Rattle.std.specs.List.{sum_by}
 use Rattle.address_runs.specs.Runs.{value_at}
@@ -10,7 +10,7 @@ use Rattle.stage_texts.specs.declared.summary.Fullness.{Fullness}
 use Rattle.stage_texts.specs.declared.summary.Summary.{Summary}
 use Rattle.boot_model.specs.Boot.{Told, reach_told}
 
--- how many frames these blocks have: one of an order has 2^order
+-- the number of frames in these blocks; a block has 2^order
 abbrev pub frames_in : List Block → ℕ
 frames_in blocks = sum_by (λ b. 2 ^ b.order) blocks
 
@@ -18,8 +18,8 @@ frames_in blocks = sum_by (λ b. 2 ^ b.order) blocks
 abbrev pub fullness_of : Head → Fullness
 fullness_of head = record { records = head.count; room = head.room }
 
--- usable are the frames of the map as far as the kernel's tables of memory reach (`e820__memblock_setup`), free those that the page
--- allocator has (`memblock_free_all`)
+-- the totals. Usable are the frames of the map that the kernel can address
+-- (`e820__memblock_setup`), free those that the page allocator gets (`memblock_free_all`).
 abbrev pub summary_of : Told → Summary
 summary_of told = record {
   runs = length told.map;

@@ -1,24 +1,27 @@
-//! The reports of a boot: their names, their texts, and lists of them.
+//! Renders the reports of a boot: their names, their texts, and lists of them.
 //!
-//! A report is a text of lines, in the manner of the files below `/sys/kernel/debug`. [`Report`]
-//! names those that there are, [`report_named`] finds one by its name, and [`render`] gives its
-//! text. It is that of the definition (`shown_text` of `specs/Report.antt`): `memory` and
-//! `reserved` show the records in the bytes at the heads of the two tables, each other report what
-//! is told of the boot. If the boot's items come to those records it is `report_text`. A report
-//! asks for two ascending lists of records at the heads (`specs/Stand.antt`), whose flags and
-//! nodes may be any, and for a map whose runs ascend; records and runs may touch and say the same.
-//! The lines are those of `report_texts` and `stage_texts`, so a report is here a name and one
-//! call. The summary alone is counted here: [`summary_of`] makes its numbers of what the boot made
-//! (`specs/Summary.antt`).
+//! A report is a text of lines, in the style of the files in `/sys/kernel/debug`. [`Report`] lists
+//! the reports, [`report_named`] finds one by its name, and [`render`] returns its text, which is
+//! `shown_text` of `specs/Report.antt`. `memory` and `reserved` show the records in the bytes at
+//! the heads of memblock's two tables; every other report shows the view that contracts have of
+//! the boot. If the records are those that the boot's journal gives, the text is also
+//! `report_text`.
 //!
-//! A list of reports is spelled as names with a comma between each two, and a name may stand twice:
-//! [`are_reports`] tells whether each name is a report's, and takes no memory, so that a list can be
-//! refused before anything is done for it; [`reports_in`] gives the reports. [`render_all`] gives all
-//! their texts at once (`specs/ReportList.antt`). Where there are two or more, each begins with a line
-//! that says whose it is.
+//! Two conditions must hold. The bytes at both heads are ascending lists of records
+//! (`specs/Stand.antt`); their flags and nodes may be any. The runs of the map ascend. Records and
+//! runs may touch and have the same value. The lines come from `report_texts` and `stage_texts`,
+//! so here a report is a name and one call. Only the summary is counted here ([`summary_of`],
+//! `specs/Summary.antt`).
 //!
-//! The layer above may rest on this: nothing but want of memory comes in the place of a text, and all
-//! texts are whole before any of them is written.
+//! A list of reports is a text of names with commas between them; a name may occur twice.
+//! [`are_reports`] tests whether each name is that of a report. It allocates nothing, so a list
+//! can be refused before any other work. [`reports_in`] returns the reports, and [`render_all`]
+//! all their texts (`specs/ReportList.antt`). If there are two or more, each text begins with a
+//! line that has its name.
+//!
+//! The layer above may rest on this: a call returns exactly these texts or `Memory`, and all texts
+//! are complete before the first is written. In contracts, a name means the definition in
+//! `specs/`.
 #![tactic(auto)]
 
 mod list;

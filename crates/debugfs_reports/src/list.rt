@@ -1,4 +1,4 @@
-//! Lists of reports: names with a comma between each two, and the texts of all of them.
+//! Lists of reports: names with commas between them, and the texts of all of them.
 
 ghost use Rattle.std.specs.Prelude.{◌≡◌, IfOk, length, map, nat_lt};
 ghost use Rattle.std.specs.List.{flat_map};
@@ -14,7 +14,8 @@ use boot_model::Booted;
 use std::alloc::Global;
 use text_words::{Separators, next_part};
 
-/// Whether each name of the list is a report's. The empty list is one empty name, which is no report's.
+/// Tests whether each name in the list is that of a report. The empty list is one empty name,
+/// which no report has.
 pub fn are_reports(list: &[u8]) -> bool
     ensures { result ≡ are_reports list.now }
 {
@@ -29,7 +30,11 @@ pub fn are_reports(list: &[u8]) -> bool
     true
 }
 
-/// The reports of the list, in its order. A name that is no report's gives none.
+/// Returns the reports in the list, in its order. Skips names that no report has.
+///
+/// # Errors
+///
+/// - `Memory`: the program ran out of memory.
 pub fn reports_in(alloc: Global, list: &[u8]) -> Result<Vec<Report>, Memory>
     ensures { IfOk result (λ reports. reports.items ≡ reports_in list.now) }
 {
@@ -45,8 +50,12 @@ pub fn reports_in(alloc: Global, list: &[u8]) -> Result<Vec<Report>, Memory>
     Ok(reports)
 }
 
-/// Returns the texts of all reports of a list, in its order; each begins with its `== NAME` line
-/// if there are two or more. Together they are the whole text of the list.
+/// Returns the texts of all reports in a list, in its order. If there are two or more, each text
+/// begins with its `== NAME` line. Joined together, the texts are the whole text of the list.
+///
+/// # Errors
+///
+/// - `Memory`: the program ran out of memory.
 pub fn render_all(
     alloc: Global,
     reports: &[Report],
@@ -68,7 +77,7 @@ pub fn render_all(
     Ok(texts)
 }
 
-/// Returns a report's part of the whole text.
+/// Returns the part of a report in the whole text.
 fn render_part(
     alloc: Global,
     report: Report,
@@ -86,7 +95,7 @@ fn render_part(
     Ok(text)
 }
 
-/// Appends the `== NAME` line of a report, if there are several.
+/// Appends the `== NAME` line of a report, if there are several reports.
 fn put_title(text: &mut Vec<u8>, several: bool, report: Report) -> Result<(), Memory>
     ensures { PutsText text.old text.new result (title several report) }
 {

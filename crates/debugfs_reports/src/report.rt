@@ -1,5 +1,5 @@
-//! The reports that there are, their names and their texts. The three stand together, since a name is judged
-//! before the boot and its text is made behind it: what is accepted there must have a text here.
+//! The reports, their names and their texts. All three are in one file, since a name is accepted
+//! before the boot, and its text is made after it: each name that is accepted needs a text.
 
 ghost use Rattle.std.specs.Prelude.{◌≡◌, ◌++◌, IfOk, OnOk};
 ghost use Rattle.std.specs.Str.{bytes_eq};
@@ -21,46 +21,46 @@ use std::alloc::Global;
 /// A report of a boot.
 #[derive(Clone, Copy, Debug, PartialEq, Eq)]
 pub enum Report {
-    /// The map: each run, with its type's number and name.
+    /// The map: each run, with the number and the name of its type.
     Map,
-    /// What the command line asks of the memory set-up.
+    /// The options that the command line sets for the memory set-up.
     Options,
-    /// Whether the firmware's table of domains is used, and which range has which node.
+    /// Whether the SRAT is used, and the node of each range.
     Nodes,
     /// The records of `memblock.memory`.
     Memory,
     /// The records of `memblock.reserved`.
     Reserved,
-    /// Who has which bytes.
+    /// The owner of each range of bytes.
     Owners,
-    /// What happened to memory, item by item.
+    /// Everything that happened to memory, item by item.
     Journal,
-    /// What came of the crash area.
+    /// The outcome of reserving the crash area.
     Crash,
-    /// Where the roots, maps and usage data of sections lie.
+    /// Where the roots, page structures and usage data of the sections are.
     Sections,
-    /// What the memory of each node spans in each zone, and how much of it is free.
+    /// The frames of each node and zone, and how many of them are free.
     Zones,
-    /// What came of each line of the early script.
+    /// The outcome of each line of the early script.
     Script,
-    /// Where both tables lie, and how full they are.
+    /// Where both tables are, and how full they are.
     Tables,
-    /// How many free blocks there are of each order, by node and zone.
+    /// The number of free blocks of each order, by node and zone.
     Buddyinfo,
     /// Each free block.
     Blocks,
-    /// What came of each line of the page script.
+    /// The outcome of each line of the page script.
     Pages,
-    /// How many free blocks there are behind the page script.
+    /// The number of free blocks of each order after the page script, by node and zone.
     Pagesinfo,
-    /// In which order each node's requests look at zones.
+    /// The order in which requests on each node try the zones.
     Zonelists,
-    /// How much there is of everything.
+    /// The totals at the end of the boot.
     Summary,
 }
 
 impl Report {
-    /// The name by which it is asked for.
+    /// Returns the name of the report, as a list of reports has it.
     pub fn name(self) -> &'static str
         ensures { result.now ≡ name_of self }
     {
@@ -87,7 +87,7 @@ impl Report {
     }
 }
 
-/// The reports that there are.
+/// All reports.
 const REPORTS: [Report; 18] = [
     Report::Map,
     Report::Options,
@@ -109,14 +109,14 @@ const REPORTS: [Report; 18] = [
     Report::Summary,
 ];
 
-/// Whether that is the name of the report.
+/// Tests whether this is the name of the report.
 fn is_named(report: Report, name: &[u8]) -> bool
     ensures { result ≡ bytes_eq name.now (name_of report) }
 {
     name == report.name().as_bytes()
 }
 
-/// The report of the name; `None` exactly where no report has it. Takes no memory.
+/// Returns the report with this name, or `None` if no report has it. Allocates nothing.
 pub fn report_named(name: &[u8]) -> Option<Report>
     ensures { result ≡ report_named name.now }
 {
@@ -131,7 +131,12 @@ pub fn report_named(name: &[u8]) -> Option<Report>
 }
 
 /// Returns the text of a report. `memory` and `reserved` show the records in the bytes at the
-/// heads of the two tables, whatever the boot's items come to. Takes the memory of the whole text.
+/// heads of the two tables, even if the boot's journal gives other records. Allocates memory for
+/// the whole text.
+///
+/// # Errors
+///
+/// - `Memory`: the program ran out of memory.
 pub fn render(alloc: Global, report: Report, booted: &Booted) -> Result<Vec<u8>, Memory>
     requires tables { TablesStand booted.now }
     requires map { Ascend booted.now.map.items }
@@ -144,6 +149,10 @@ pub fn render(alloc: Global, report: Report, booted: &Booted) -> Result<Vec<u8>,
 }
 
 /// Appends the text of a report.
+///
+/// # Errors
+///
+/// - `Memory`: the program ran out of memory; the text is incomplete.
 pub fn put_report(text: &mut Vec<u8>, report: Report, booted: &Booted) -> Result<(), Memory>
     requires tables { TablesStand booted.now }
     requires map { Ascend booted.now.map.items }

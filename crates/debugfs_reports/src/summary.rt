@@ -1,7 +1,7 @@
-//! What a boot comes to in numbers.
+//! Counts the totals of a boot.
 //!
-//! Most of them stand in what the boot made. The usable frames are counted along the runs of the map, and
-//! the free ones along the rows of the free blocks.
+//! Most of them are already in the result of the boot. The usable frames are counted along the
+//! runs of the map, and the free frames along the rows of free blocks.
 
 ghost use Rattle.std.specs.Prelude.{◌≡◌, ◌*◌, ◌^◌, ◌<◌, IfOk};
 ghost use Rattle.boot_model.specs.View.{booted_view};
@@ -15,8 +15,12 @@ use e820_usable::usable_frames;
 use memblock_ranges::Head;
 use stage_texts::{Fullness, Summary};
 
-/// How much there is of everything at the end of a boot. The runs of its map ascend; those that touch
-/// may be of one type. Takes memory for the rows of the free blocks.
+/// Returns the totals at the end of a boot. The runs of its map must ascend; runs that touch may
+/// have the same type. Allocates the rows of free blocks.
+///
+/// # Errors
+///
+/// - `Memory`: the program ran out of memory.
 pub fn summary_of(booted: &Booted) -> Result<Summary, Memory>
     requires { Ascend booted.now.map.items }
     ensures { IfOk result (λ summary. summary ≡ summary_of (booted_view booted.now)) }
@@ -38,7 +42,8 @@ pub fn summary_of(booted: &Booted) -> Result<Summary, Memory>
     })
 }
 
-/// How many frames the blocks of a row have. A row of no block has none, whatever its order.
+/// Returns the number of frames in the blocks of a row. A row without blocks has none, whatever
+/// its order is.
 fn frames_in_row(row: &BlockRow) -> u64
     requires { row.now.count * 2 ^ row.now.order < 2 ^ 64 }
     ensures { result ≡ row.now.count * 2 ^ row.now.order }
@@ -49,7 +54,7 @@ fn frames_in_row(row: &BlockRow) -> u64
     row.count << row.order
 }
 
-/// How full the table of the head is.
+/// Returns how full the table at this head is.
 fn fullness_of(head: &Head) -> Fullness
     ensures { result ≡ fullness_of head.now }
 {

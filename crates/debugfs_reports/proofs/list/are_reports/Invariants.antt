@@ -1,4 +1,4 @@
--- The names that are left are all reports' exactly where all names are.
+-- The names that are left are all those of reports exactly if all names are.
 use Rattle.std.proofs.Common.{◌≡◌, is_some}
 use Rattle.std.specs.List.{list_all}
 use Rattle.std.specs.Option.{option_map}

@@ -1,4 +1,4 @@
--- The texts so far are those of the reports so far, and together they are their whole text.
+-- The texts so far are those of the reports so far; joined together, they are their whole text.
 use Rattle.std.proofs.Common.{◌≡◌, map, take}
 use Rattle.std.specs.List.{flat_map}
 use Rattle.boot_model.specs.View.{booted_view}

@@ -1,4 +1,4 @@
--- The reports so far and those of the names that are left are those of all names.
+-- The reports so far, and those of the names that are left, are those of all names.
 use Rattle.std.proofs.Common.{◌≡◌, ◌++◌}
 use Rattle.std.specs.List.{filter_map}
 use Rattle.std.specs.Option.{option_map}

@@ -1,4 +1,4 @@
--- The first of those that are left is the first of all.
+-- The first match among those that are left is the first of all.
 use Rattle.std.proofs.Common.{◌≡◌, length}
 use Rattle.debugfs_reports.specs.Report.{all_reports, first_named}
 use Rattle.debugfs_reports.proofs.report.report_named.Given as goal

@@ -1,4 +1,5 @@
--- The blocks of the rows are those of the free frames, so the frames of one more row fit; and behind the last row all are counted.
+-- The blocks of the rows are those of the free frames, so the frames of one more row fit; after
+-- the last row all are counted.
 use Rattle.std.proofs.Common.{arith}
 use Rattle.bm_base.specs.declared.zone.Zone.TheVariants as zone
 use Rattle.frame_blocks.specs.declared.block.BlockRow.{BlockRow}
@@ -6,7 +7,7 @@ use Rattle.buddy_handover.specs.Contents.{free}
 use Rattle.debugfs_reports.proofs.SummaryLaws.{counted_few, row_left, row_more}
 use Rattle.debugfs_reports.proofs.summary.summary_of.Goals as goal
 
--- what stands for a row behind the last one
+-- a placeholder for a row after the last one
 abbrev no_row : BlockRow
 no_row = record { order = 0; first = 0; count = 0; node = 0; zone = zone.Dma }
 

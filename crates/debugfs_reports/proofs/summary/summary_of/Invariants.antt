@@ -1,4 +1,4 @@
--- The blocks so far and those of the rows that are left are all, and so are their frames.
+-- The blocks so far, and those of the rows that are left, are all blocks, and so are their frames.
 use Rattle.debugfs_reports.proofs.SummaryLaws.{Counted}
 use Rattle.debugfs_reports.proofs.summary.summary_of.Given as goal
 
