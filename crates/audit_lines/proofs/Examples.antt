@@ -16,7 +16,7 @@ pair = record { node = 0; zone = zones.Dma; order = 1; at = 8192 }
 pair_bytes : bytes_of_block pair ≡ record { base = 8192; size = 8192 }
 pair_bytes = refl
 
--- behind a front stands the rest, and behind another nothing
+-- the rest after a front that is there; none after another one
 front_there : behind (codes "node ") (codes "node 7") ≡ Some (codes "7")
 unfolding behind
 front_there = refl
@@ -25,7 +25,7 @@ front_other : behind (codes "node ") (codes "mode 7") ≡ None
 unfolding behind
 front_other = refl
 
--- `0` alone is 0; `07` leaves the 7
+-- `0` alone is 0; after the 0 of `07` the 7 is left
 zero_alone : number_in 10 (codes "0 A") ≡ Some (0, codes " A")
 unfolding number_in
 zero_alone = refl
@@ -34,7 +34,7 @@ leading_zero : number_in 10 (codes "07") ≡ Some (0, codes "7")
 unfolding number_in
 leading_zero = refl
 
--- a range of one byte, and one whose last byte is before its first
+-- a range of one byte, and one whose last byte is below its first
 one_byte : range_of 4096 4096 ≡ Some (record { base = 4096; size = 1 })
 one_byte = refl
 
@@ -57,7 +57,7 @@ name_of_others : kind_name 6 ≡ codes "other"
 unfolding kind_name
 name_of_others = refl
 
--- names of owners are whole
+-- names of owners must match entirely
 whole_name : is_just (codes "crash") (codes "crash") ≡ true
 unfolding is_just behind
 whole_name = refl
@@ -66,7 +66,7 @@ longer_name : is_just (codes "crash") (codes "crash-low") ≡ false
 unfolding is_just behind
 longer_name = refl
 
--- the zone of 32 bits begins as the zone of 16 MiB does
+-- the name `DMA32` begins like the name `DMA`
 zone_32 : zone_in (codes "DMA32 o") ≡ Some (zones.Dma32, codes " o")
 unfolding zone_in behind
 zone_32 = refl
@@ -75,12 +75,12 @@ zone_16 : zone_in (codes "DMA o") ≡ Some (zones.Dma, codes " o")
 unfolding zone_in behind
 zone_16 = refl
 
--- a text falls apart at its newlines, and what stands behind the last one is left
+-- a text is split at its newlines, and the text after the last one is left
 two_lines : split_lines (codes "a\n\nb") ≡ (codes "a" ∷ [] ∷ [], codes "b")
 unfolding split_lines
 two_lines = refl
 
--- lines that are one byte each: their own address. The second line of "ba" begins below the first
+-- lines of one byte, which is their address; the second line of "ba" begins below the first
 abbrev letter : ℕ → List ℕ → Option Extent
 letter index [] = None
 letter index (b ∷ []) = Some (record { base = b; size = 1 })
@@ -94,7 +94,7 @@ out_of_order : report_of letter (λ r. r) (codes "b\na\n") ≡ Err (faults.Order
 unfolding split_lines
 out_of_order = refl
 
--- form goes before order, and the lowest line first
+-- the form is checked before the order, and the lowest line first
 form_first : report_of letter (λ r. r) (codes "b\n\na\n") ≡ Err (faults.Form 2)
 unfolding split_lines
 form_first = refl
@@ -103,7 +103,7 @@ no_newline : report_of letter (λ r. r) (codes "a\nb") ≡ Err (faults.Form 2)
 unfolding split_lines
 no_newline = refl
 
--- ranges that touch are in order, those that share a byte aren't
+-- ranges that touch are in order; ranges that share a byte aren't
 touching : AscendApart (record { base = 0; size = 4 } ∷ record { base = 4; size = 4 } ∷ [])
 touching = (omega arith, (tt, tt))
 

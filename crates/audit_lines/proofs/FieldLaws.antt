@@ -1,4 +1,4 @@
--- What stands behind a front.
+-- Lemmas on the rest of a text after its start.
 use Rattle.std.proofs.Common.{◌≡◌, ◌≢◌, ℕ, ◌==◌, List, [], ◌∷◌, ◌++◌, Option, Some, None, refl, sym, ap, ◌∙◌, eq-eqb, inl, inr}
 use Rattle.std.specs.Option.{option_map, MatchOption}
 use Rattle.std.proofs.Common.{Bor}
@@ -6,13 +6,13 @@ use Rattle.std.proofs.lemmas.Bool.{cases_Bool}
 use Rattle.std.proofs.lemmas.Bool.Decides.{Decides-eqb}
 use Rattle.audit_lines.specs.Fields.{behind}
 
--- behind a front that is there stands the rest
+-- the rest after a front that is there
 pub behind_front : (front rest : List ℕ) → behind front (front ++ rest) ≡ Some rest
 unfolding behind
 behind_front [] rest = refl
 behind_front (f ∷ fs) rest = rw (eq-eqb f f refl) (behind_front fs rest)
 
--- and the other way round
+-- if there is a rest, the text is the front followed by it
 pub behind_is : (front text rest : List ℕ) → behind front text ≡ Some rest → text ≡ front ++ rest
 unfolding behind
 behind_is [] text rest is = cc
@@ -31,7 +31,7 @@ none_behind : (front text : List ℕ) (found : Option (List ℕ)) → behind fro
 none_behind front text None is never = refl
 none_behind front text (Some rest) is never = absurd (never rest (behind_is front text rest is))
 
--- what is left behind a front that was taken off
+-- the rest after a front was removed
 pub stripped : (front text : List ℕ) (r : Option (Bor (List ℕ)))
     → MatchOption r ((rest : List ℕ) → text ≢ front ++ rest) (λ x. text ≡ front ++ x.now)
     → option_map (λ x. x.now) r ≡ behind front text

@@ -1,4 +1,4 @@
--- The lines of a report, read one after another.
+-- Lemmas on reading the lines of a report one after another.
 use Rattle.std.proofs.Common.{◌≡◌, ℕ, ◌+◌, ◌<◌, ◌≤◌, nat_lt, List, [], ◌∷◌, ◌++◌, length, map, Option, Some, None, Result, Ok, Err, refl, sym, ap, ◌∙◌, inl, inr, arith, append_assoc, append-nil}
 use Rattle.std.proofs.lemmas.Bool.{cases_Bool}
 use Rattle.std.proofs.lemmas.Bool.Decides.{nat_tests}
@@ -8,13 +8,13 @@ use Rattle.audit_lines.specs.Lines.{StartFrom, AscendApart}
 use Rattle.audit_lines.specs.declared.report.LineFault.{LineFault}
 use Rattle.audit_lines.specs.Reports.{Split, line_at, line_in, in_order, none_left, report_from}
 
--- lines before those of an answer
+-- these lines followed by those of the result, or its fault
 abbrev pub in_front : {L : Type 0} → List L → Result (List L) LineFault → Result (List L) LineFault
 in_front front (Ok lines) = Ok (front ++ lines)
 in_front front (Err fault) = Err fault
 
 module _ {L : Type 0} (form : ℕ → List ℕ → Option L) (extent : L → Extent) where
-  -- no line was read yet
+  -- no line has been read yet
   pub none_read : (answer : Result (List L) LineFault) → in_front [] answer ≡ answer
   none_read (Ok lines) = refl
   none_read (Err fault) = refl
@@ -24,7 +24,7 @@ module _ {L : Type 0} (form : ℕ → List ℕ → Option L) (extent : L → Ext
   more_in_front front line (Ok lines) = ap (λ (ls : List L). Ok ls) (sym (append_assoc front (line ∷ []) lines))
   more_in_front front line (Err fault) = refl
 
-  -- a line more
+  -- one more line
   pub line_read : (front : List L) (index at : ℕ) (split : Split) (text : List ℕ) (texts : List (List ℕ)) (left : List ℕ) (line : L)
       (said : Result (List L) LineFault)
       → split ≡ (text ∷ texts, left) → line_at form extent index at text ≡ Ok line
@@ -42,19 +42,19 @@ module _ {L : Type 0} (form : ℕ → List ℕ → Option L) (extent : L → Ext
       → in_front front (report_from form extent index at split.0 split.1) ≡ said → said ≡ Err fault
   line_faulty front index at split text texts left fault said splits is so = sym (rw is at (rw splits at so))
 
-  -- no line more
+  -- no line is left
   pub lines_end : (front : List L) (index at : ℕ) (split : Split) (said : Result (List L) LineFault)
       → split ≡ ([], []) → in_front front (report_from form extent index at split.0 split.1) ≡ said → said ≡ Ok front
   lines_end front index at split said splits so = sym (rw splits at so) ∙ ap (λ (ls : List L). Ok ls) (append-nil front)
 
-  -- bytes without a newline
+  -- bytes without a newline are left
   pub line_open : (front : List L) (index at : ℕ) (split : Split) (left : List ℕ) (said : Result (List L) LineFault)
       → split ≡ ([], left) → 0 < length left → in_front front (report_from form extent index at split.0 split.1) ≡ said
       → said ≡ none_left form extent index left
   line_open front index at split [] said splits some so = absurd (omega arith)
   line_open front index at split (b ∷ bs) said splits some so = sym (rw splits at so)
 
-  -- a line that was read begins where it has to
+  -- a line that was read begins at or above the end of the one before it
   at_or_behind : (index at : ℕ) (text : List ℕ) (read : Option L) (line : L)
       → (line_in form extent index read >>= in_order form extent index at) ≡ Ok line → at ≤ (extent line).base
   at_or_behind index at text None line is = cc
@@ -67,7 +67,7 @@ module _ {L : Type 0} (form : ℕ → List ℕ → Option L) (extent : L → Ext
             rw (← line_is) (grind (arith, nat_tests))
       ]
 
-  -- what is read is ascending
+  -- the lines that were read are ascending
   abbrev AscendFrom : ℕ → List L → Type 0
   AscendFrom at lines = StartFrom at (map extent lines) × AscendApart (map extent lines)
 

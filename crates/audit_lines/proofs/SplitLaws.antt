@@ -1,4 +1,4 @@
--- Lines of a text, byte by byte.
+-- Lemmas on splitting a text into lines, byte by byte.
 use Rattle.std.proofs.Common.{◌≡◌, ◌≢◌, ℕ, ◌+◌, ◌<◌, ◌==◌, false, List, [], ◌∷◌, ◌++◌, length, take, drop, get_or, refl, ap, add-one, drop-cons, eq-eqb, suc}
 use Rattle.std.proofs.lemmas.Bool.{ne_eqb}
 use Rattle.std.proofs.lemmas.List.{take_more}
@@ -30,7 +30,7 @@ newline_found text i inside is =
     rw (add-one, drop-cons text i 0 inside, eq-eqb (get_or text i 0) 10 is)
     (glued_line (take i text) (split_lines (drop (suc i) text)).0 (split_lines (drop (suc i) text)).1)
 
--- another byte goes on
+-- any other byte belongs to the same line
 pub byte_passed : (text : List ℕ) (i : ℕ) → i < length text → get_or text i 0 ≢ 10
     → glued (take (i + 1) text) (split_lines (drop (i + 1) text)) ≡ glued (take i text) (split_lines (drop i text))
 unfolding split_lines

@@ -1,10 +1,10 @@
--- Free blocks of the page allocator, as a line of the report `blocks` tells them.
+-- Free blocks of the page allocator, as lines of the report `blocks` have them.
 use Rattle.std.specs.Prelude.{ℕ, ◌*◌, ◌^◌, ◌≤◌}
 use Rattle.bm_base.specs.declared.zone.Zone.{Zone}
 use Rattle.bm_base.specs.Extent.{Extent, end_of}
 use Rattle.bm_base.specs.declared.frame.TheConstants.{FRAME_SIZE}
 
--- a block of 2^order frames from the address on, which is said to be of that node and zone
+-- a block of 2^order frames from the address on, with the node and the zone that the line states
 pub record Block : Type 0 where
   pub node : ℕ
   pub zone : Zone
@@ -15,6 +15,6 @@ pub record Block : Type 0 where
 abbrev pub bytes_of_block : Block → Extent
 bytes_of_block b = record { base = b.at; size = FRAME_SIZE * 2 ^ b.order }
 
--- the block's order is one that the lists of the allocator have (`MAX_ORDER` is 11), and it ends by 2^52
+-- the order of the block is at most 10 (`MAX_ORDER` is 11), and it ends at or below 2^52
 abbrev pub IsBlock : Block → Type 0
 IsBlock b = (b.order ≤ 10) × (end_of (bytes_of_block b) ≤ 2 ^ 52)

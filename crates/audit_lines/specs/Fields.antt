@@ -1,4 +1,5 @@
--- The fields of a line: each takes its bytes from the front of the text and leaves the rest.
+-- The fields of a line. Each definition takes a field from the start of a text, and gives it with
+-- the rest of the text.
 use Rattle.std.specs.Prelude.{ℕ, ◌+◌, ◌-◌, ◌^◌, ◌==◌, ◌&&◌, ◌||◌, Bool, false, nat_le, nat_lt, if◌then◌else◌, List, [], ◌∷◌, length, take, drop, codes, Option, Some, None, Result, Ok, Err}
 use Rattle.std.specs.List.{list_all}
 use Rattle.bm_base.specs.Extent.{Extent}
@@ -6,27 +7,28 @@ use Rattle.bm_base.specs.OptionSteps.{◌>>=◌}
 use Rattle.bm_base.specs.Size.{begins_with_zero, number_of}
 use Rattle.bm_base.specs.declared.size.NumFault.{NumFault}
 
--- what is left of the text behind what has to stand in front
+-- the rest of the text after `front`; None if the text doesn't begin with that
 unfoldable pub behind : List ℕ → List ℕ → Option (List ℕ)
 behind [] text = Some text
 behind (f ∷ fs) [] = None
 behind (f ∷ fs) (b ∷ bs) = if f == b then behind fs bs else None
 
--- nothing is left
+-- the text is empty
 abbrev pub ends : List ℕ → Option (Unit {0})
 ends [] = Some tt
 ends (b ∷ bs) = None
 
--- a number that was found, where it is at most that
+-- the number that was found and the rest of the text, if the number is at most `most`
 abbrev pub at_most : ℕ → List ℕ → Result (ℕ × ℕ) NumFault → Option (ℕ × List ℕ)
 at_most most text (Ok (value, taken)) = if nat_le value most then Some (value, drop taken text) else None
 at_most most text (Err fault) = None
 
--- a decimal number of at most that, without leading zeros: `0` alone, or digits of which the first isn't `0`
+-- a decimal number of at most that size without leading zeros: `0` alone, or digits that begin
+-- with another one
 unfoldable pub number_in : ℕ → List ℕ → Option (ℕ × List ℕ)
 number_in most text = if begins_with_zero text then Some (0, drop 1 text) else at_most most text (number_of text)
 
--- a hexadecimal digit, lower case
+-- a lower-case hexadecimal digit
 abbrev pub is_lower_hex : ℕ → Bool
 is_lower_hex b = (nat_le 48 b && nat_le b 57) || (nat_le 97 b && nat_le b 102)
 
@@ -38,23 +40,25 @@ are_sixteen (Some digits) = (length digits == 16) && list_all is_lower_hex digit
 abbrev pub is_address : List ℕ → Bool
 is_address text = are_sixteen (behind (codes "0x") text)
 
--- the number that was read, and what is left
+-- the number that was read, and the rest of the text
 abbrev pub value_in : List ℕ → Result (ℕ × ℕ) NumFault → Option (ℕ × List ℕ)
 value_in left (Ok (value, taken)) = Some (value, left)
 value_in left (Err fault) = None
 
--- an address at the front
+-- an address at the start of the text
 unfoldable pub address_in : List ℕ → Option (ℕ × List ℕ)
 address_in text = if is_address (take 18 text) then value_in (drop 18 text) (number_of (take 18 text)) else None
 
--- the range of its first and its last byte, of which the last is below 2^64 - 1
+-- the range with this first and this last byte, if the last is below 2^64 - 1 and not below the
+-- first
 abbrev pub range_of : ℕ → ℕ → Option Extent
 range_of first last =
     if nat_le first last && nat_lt last (2 ^ 64 - 1)
     then Some (record { base = first; size = last + 1 - first })
     else None
 
--- a range at the front: the addresses of its first and its last byte, with `..` between them
+-- a range at the start of the text: the addresses of its first and its last byte, with `..`
+-- between them
 unfoldable pub range_in : List ℕ → Option (Extent × List ℕ)
 range_in text = do
   first ← address_in text

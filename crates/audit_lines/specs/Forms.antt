@@ -23,7 +23,7 @@ kind_name kind =
     (if kind == 128 then codes "usable kernel" else
     (if kind == 4026531839 then codes "soft reserved" else codes "other"))))))))
 
--- it is true
+-- a step that succeeds if the test is true
 abbrev pub guard : Bool → Option (Unit {0})
 guard true = Some tt
 guard false = None
@@ -40,7 +40,7 @@ map_in index text = do
   nothing ← ends left
   Some (record { range = range.0; kind = kind.0 })
 
--- a text that is that
+-- the text is exactly this word
 abbrev pub is_none_left : Option (List ℕ) → Bool
 is_none_left (Some []) = true
 is_none_left (Some (b ∷ bs)) = false
@@ -49,7 +49,7 @@ is_none_left None = false
 unfoldable pub is_just : List ℕ → List ℕ → Bool
 is_just word text = is_none_left (behind word text)
 
--- a text that is that with a number behind it
+-- the text is this word followed by a number
 abbrev pub is_number_left : Option (List ℕ) → Bool
 is_number_left None = false
 is_number_left (Some text) = is_none_left (option_map (λ number. number.1) (number_in (2 ^ 32 - 1) text))
@@ -57,7 +57,8 @@ is_number_left (Some text) = is_none_left (option_map (λ number. number.1) (num
 unfoldable pub is_numbered : List ℕ → List ℕ → Bool
 is_numbered front text = is_number_left (behind front text)
 
--- the names of the owners of reserved memory: those of the first claims, those of later stages, and those with a number
+-- the names of the owners of reserved memory: those at the start of the boot, those of later
+-- stages, and those with a number
 abbrev pub is_first_owner : List ℕ → Bool
 is_first_owner text =
     is_just (codes "kernel") text || is_just (codes "low-64k") text || is_just (codes "initrd") text || is_just (codes "low-1m") text
@@ -76,7 +77,7 @@ is_numbered_owner text =
 unfoldable pub is_owner : List ℕ → Bool
 is_owner text = is_first_owner text || is_later_owner text || is_numbered_owner text
 
--- `INDEX: A..A OWNER`: the line's own index in four places, a range, and the name of its owner
+-- `INDEX: A..A OWNER`: the index of the line in four columns, a range, and the name of its owner
 unfoldable pub owner_in : ℕ → List ℕ → Option Extent
 owner_in index text = do
   colon ← behind (padded_decimal 4 index) text
@@ -86,7 +87,7 @@ owner_in index text = do
   known ← guard (is_owner name)
   Some range.0
 
--- the name of a zone at the front
+-- the name of a zone at the start of the text
 unfoldable pub zone_in : List ℕ → Option (Zone × List ℕ)
 zone_in text = dma32 (behind (codes "DMA32") text) (behind (codes "DMA") text) (behind (codes "Normal") text)
   where
@@ -96,7 +97,7 @@ zone_in text = dma32 (behind (codes "DMA32") text) (behind (codes "DMA") text) (
     dma32 None None (Some left) = Some (zones.Normal, left)
     dma32 None None None = None
 
--- the block, where its order is at most 10 and it ends by 2^52
+-- the block, if its order is at most 10 and it ends at or below 2^52
 abbrev pub bounded : Block → Option Block
 bounded b = if nat_le b.order 10 && nat_le (end_of (bytes_of_block b)) (2 ^ 52) then Some b else None
 

@@ -1,15 +1,15 @@
--- Reports: texts whose lines follow one another without meeting.
+-- Reports: texts of lines that are ascending and disjoint.
 use Rattle.std.specs.Prelude.{ℕ, ◌+◌, ◌==◌, nat_lt, if◌then◌else◌, List, [], ◌∷◌, Option, Some, None, Result, Ok, Err}
 use Rattle.bm_base.specs.Extent.{Extent, end_of}
 use Rattle.bm_base.specs.ResultSteps.{◌>>=◌}
 use Rattle.audit_lines.specs.declared.report.LineFault.{LineFault}
 use Rattle.audit_lines.specs.declared.report.LineFault.TheVariants as faults
 
--- the lines of a text, without their newlines, and what stands behind the last newline
+-- the lines of a text, without their newlines, and the text after the last newline
 abbrev pub Split : Type 0
 Split = List (List ℕ) × List ℕ
 
--- a newline before a text ends an empty line, and another byte goes to the front of the first line
+-- a newline before a text ends an empty line; any other byte belongs to the first line
 abbrev pub with_byte : ℕ → Split → Split
 with_byte b ([], left) = ([], b ∷ left)
 with_byte b (line ∷ lines, left) = ((b ∷ line) ∷ lines, left)
@@ -22,22 +22,22 @@ split_lines [] = ([], [])
 split_lines (b ∷ bs) = if b == 10 then with_newline (split_lines bs) else with_byte b (split_lines bs)
 
 module _ {L : Type 0} (form : ℕ → List ℕ → Option L) (extent : L → Extent) where
-  -- the line of that text, which stands at that index, from 0; lines are numbered from 1
+  -- the line that the text spells at this index, from 0 on; faults number lines from 1
   abbrev pub line_in : ℕ → Option L → Result L LineFault
   line_in index None = Err (faults.Form (index + 1))
   line_in index (Some line) = Ok line
 
-  -- it begins behind the last byte of the line before, which ends at `at`
+  -- the line begins at or above `at`, the end of the line before it
   abbrev pub in_order : ℕ → ℕ → L → Result L LineFault
   in_order index at line = if nat_lt (extent line).base at then Err (faults.Order (index + 1)) else Ok line
 
-  -- the line of that text, with its fault: its form goes before its order
+  -- the line that the text spells, or its fault: the form is checked before the order
   abbrev pub line_at : ℕ → ℕ → List ℕ → Result L LineFault
   line_at index at text = do
     line ← line_in index (form index text)
     in_order index at line
 
-  -- what stands behind the last newline is a line that lacks its own
+  -- a text after the last newline is a line that lacks its own
   abbrev pub none_left : ℕ → List ℕ → Result (List L) LineFault
   none_left index [] = Ok []
   none_left index (b ∷ bs) = Err (faults.Form (index + 1))
@@ -49,6 +49,6 @@ module _ {L : Type 0} (form : ℕ → List ℕ → Option L) (extent : L → Ext
     others ← report_from (index + 1) (end_of (extent line)) texts left
     Ok (line ∷ others)
 
-  -- the lines of a report, or the fault of its lowest line that has one
+  -- the lines of a report, or the fault of the lowest line that has one
   abbrev pub report_of : List ℕ → Result (List L) LineFault
   report_of bytes = report_from 0 0 (split_lines bytes).0 (split_lines bytes).1

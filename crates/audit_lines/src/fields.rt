@@ -1,4 +1,5 @@
-//! The fields of a line, each of which takes its bytes from the front of a text and leaves the rest.
+//! Reads the fields of a line. Each function takes a field from the start of a text, and returns
+//! it with the rest of the text.
 
 ghost use Rattle.std.specs.Prelude.{◌≡◌, ◌≤◌, length, take, drop, IsTrue};
 ghost use Rattle.std.specs.List.{list_all};
@@ -8,14 +9,15 @@ ghost use Rattle.bm_base.specs.Size.{begins_with_zero};
 
 use bm_base::{Range, read_number};
 
-/// What is left of the text behind `front`; `None` exactly where it doesn't begin with that.
+/// Returns the rest of the text after `front`, or `None` if the text doesn't begin with that.
 pub fn behind<'t>(text: &'t [u8], front: &[u8]) -> Option<&'t [u8]>
     ensures { option_map (λ rest. rest.now) result ≡ behind front.now text.now }
 {
     text.strip_prefix(front)
 }
 
-/// The decimal number of at most `most` at the front, without leading zeros, and what is left.
+/// Returns the decimal number at the start of the text, and the rest. The number has no leading
+/// zeros and is at most `most`. Returns `None` if there is no such number.
 #[tactic(auto, unfolding(crate::specs::Fields::number_in))]
 pub fn number_in(text: &[u8], most: u32) -> Option<(u32, &[u8])>
     ensures { option_map (λ found. (found.0, found.1.now)) result ≡ number_in most text.now }
@@ -42,7 +44,8 @@ fn begins_with_zero(text: &[u8]) -> bool
     }
 }
 
-/// The address at the front, `0x` and sixteen lower-case digits, and what is left.
+/// Returns the address at the start of the text, `0x` and sixteen lower-case digits, and the rest.
+/// Returns `None` if there is no such address.
 #[tactic(auto, unfolding(crate::specs::Fields::address_in))]
 pub fn address_in(text: &[u8]) -> Option<(u64, &[u8])>
     ensures { option_map (λ found. (found.0, found.1.now)) result ≡ address_in text.now }
@@ -57,7 +60,7 @@ pub fn address_in(text: &[u8]) -> Option<(u64, &[u8])>
     Some((value, rest))
 }
 
-/// The first bytes, so many or all that there are, and the others.
+/// Returns the first `count` bytes of the text, or all if there are fewer, and the rest.
 fn cut_at(text: &[u8], count: usize) -> (&[u8], &[u8])
     ensures front { result.0.now ≡ take count text.now }
     ensures back { result.1.now ≡ drop count text.now }
@@ -68,7 +71,7 @@ fn cut_at(text: &[u8], count: usize) -> (&[u8], &[u8])
     text.split_at(count)
 }
 
-/// Whether the text is `0x` and sixteen lower-case digits.
+/// Tests whether the text is `0x` and sixteen lower-case hexadecimal digits.
 fn is_address(text: &[u8]) -> bool
     ensures { result ≡ is_address text.now }
 {
@@ -90,8 +93,9 @@ fn is_lower_hex(byte: u8) -> bool
     byte.is_ascii_digit() || (b'a'..=b'f').contains(&byte)
 }
 
-/// The range at the front, told by the addresses of its first and its last byte, and what is left. Its last byte is
-/// below 2^64 - 1.
+/// Returns the range at the start of the text, and the rest. A range is written as the addresses
+/// of its first and its last byte; the last must be below 2^64 - 1. Returns `None` if there is no
+/// such range.
 #[tactic(auto, unfolding(crate::specs::Fields::range_in))]
 pub fn range_in(text: &[u8]) -> Option<(Range, &[u8])>
     ensures { option_map (λ found. (found.0, found.1.now)) result ≡ range_in text.now }

@@ -1,4 +1,5 @@
-//! The lines of the three reports. Each reader takes a line's text without its newline.
+//! Reads a line of each of the three reports. Each reader gets the text of a line without its
+//! newline.
 
 ghost use Rattle.std.specs.Prelude.{◌≡◌, ◌-◌, ◌^◌};
 ghost use Rattle.std.specs.Option.{option_map};
@@ -19,7 +20,7 @@ impl ReportLine for MapLine {
 
     ghost extent = { λ l. l.range };
 
-    /// `A..A T NAME`.
+    /// Reads `A..A T NAME`.
     #[tactic(auto, unfolding(crate::specs::Forms::map_in))]
     fn read(_index: u64, text: &[u8]) -> Option<MapLine> {
         let Some((range, rest)) = range_in(text) else {
@@ -50,7 +51,7 @@ impl ReportLine for Range {
 
     ghost extent = { λ r. r };
 
-    /// `INDEX: A..A OWNER`.
+    /// Reads `INDEX: A..A OWNER`.
     #[tactic(auto, unfolding(crate::specs::Forms::owner_in))]
     fn read(index: u64, text: &[u8]) -> Option<Range> {
         let rest = behind(behind_index(text, index)?, b": ")?;
@@ -81,7 +82,7 @@ impl ReportLine for BlockLine {
 
     ghost extent = { bytes_of_block };
 
-    /// `node N zone Z order O A`.
+    /// Reads `node N zone Z order O A`.
     #[tactic(auto, unfolding(crate::specs::Forms::block_in))]
     fn read(_index: u64, text: &[u8]) -> Option<BlockLine> {
         let (node, rest) = number_in(behind(text, b"node ")?, u32::MAX)?;
@@ -101,14 +102,15 @@ impl ReportLine for BlockLine {
     }
 }
 
-/// Nothing is left.
+/// Returns `Some(())` if the text is empty.
 fn ends(text: &[u8]) -> Option<()>
     ensures { result ≡ ends text.now }
 {
     if text.is_empty() { Some(()) } else { None }
 }
 
-/// What is left behind an index, right-aligned in four places.
+/// Returns the rest of the text after the index, which is right-aligned in four columns. Returns
+/// `None` if the text doesn't begin with that.
 fn behind_index(text: &[u8], index: u64) -> Option<&[u8]>
     ensures { option_map (λ rest. rest.now) result ≡ behind (padded_decimal 4 index) text.now }
 {
@@ -118,7 +120,7 @@ fn behind_index(text: &[u8], index: u64) -> Option<&[u8]>
     behind(text, &digits[from..])
 }
 
-/// The name of a type of memory.
+/// Returns the name of a type of memory.
 #[tactic(auto, unfolding(crate::specs::Forms::kind_name))]
 fn kind_name(kind: u32) -> &'static [u8]
     ensures { result.now ≡ kind_name kind }
@@ -137,7 +139,8 @@ fn kind_name(kind: u32) -> &'static [u8]
     }
 }
 
-/// The zone at the front, and what is left.
+/// Returns the zone whose name is at the start of the text, and the rest. Returns `None` if there
+/// is none.
 #[tactic(auto, unfolding(crate::specs::Forms::zone_in))]
 fn zone_in(text: &[u8]) -> Option<(Zone, &[u8])>
     ensures { option_map (λ found. (found.0, found.1.now)) result ≡ zone_in text.now }
@@ -152,7 +155,7 @@ fn zone_in(text: &[u8]) -> Option<(Zone, &[u8])>
     Some((Zone::Normal, rest))
 }
 
-/// The block, where it ends at 2^52 or below.
+/// Returns the block, or `None` if its order is above 10, or it ends above 2^52.
 fn bounded(node: u32, zone: Zone, order: u32, at: u64) -> Option<BlockLine>
     ensures { result ≡ bounded (record { node = node; zone = zone; order = order; at = at }) }
 {

@@ -1,11 +1,18 @@
-//! The lines of three saved reports of a boot, `map`, `owners` and `blocks`, as `bootmem` prints them.
+//! Reads three saved reports of a boot, `map`, `owners` and `blocks`, in the form in which
+//! `bootmem` prints them.
 //!
-//! Each report is a text of lines, in ascending order and disjoint. [`read_report`] reads any of the three: what a line
-//! has to be is told by its type ([`MapLine`], [`Range`] for a line of `owners`, [`BlockLine`]), and what the whole
-//! comes to is `report_of` (`specs/Reports.antt`): the lines, or the fault of the lowest line that has one.
+//! The lines of each report are in ascending order of their addresses, and don't overlap.
+//! [`read_report`] reads any of the three reports. The type of a line decides what its text must
+//! be: [`MapLine`], [`Range`] for a line of `owners`, or [`BlockLine`]. `report_of`
+//! (`specs/Reports.antt`) defines the result: the lines, or the fault of the lowest line that has
+//! one.
 //!
-//! Nothing is passed over: a number has no leading zeros, an address has sixteen lower-case digits, a line of `owners`
-//! has its own index, and a line of `map` the name of its own type. So a text that is read says one thing.
+//! The reader accepts only the exact form. A number has no leading zeros, an address has sixteen
+//! lower-case digits, a line of `owners` has its own index, and a line of `map` has the name of
+//! its own type. So a text that is accepted has only one meaning.
+//!
+//! The layer above may rest on this: the lines are ascending and disjoint, and there are at most
+//! as many as bytes. In contracts, a name means the definition in `specs/`.
 //!
 //! [`Range`]: bm_base::Range
 #![tactic(auto)]

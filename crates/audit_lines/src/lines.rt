@@ -1,4 +1,4 @@
-//! The lines of the reports that are more than a range.
+//! The types of lines that have more than a range.
 
 ghost use Rattle.std.specs.Prelude.{◌≡◌};
 ghost use Rattle.audit_lines.specs.Blocks.{bytes_of_block};
@@ -7,25 +7,26 @@ ghost use Rattle.bm_base.specs.Extent.{end_of};
 use bm_base::{FRAME_SIZE, Range, Zone};
 use std::marker::Model;
 
-/// A line of the report `map`: a run of the finished map of memory and its type.
+/// A line of the report `map`: a run of the finished map, and its type.
 #[derive(Clone, Copy, Debug, PartialEq, Eq)]
 pub struct MapLine {
     /// The addresses of the run.
     pub range: Range,
-    /// Its type (`enum e820_type`), above 0.
+    /// The type (`enum e820_type`), above 0.
     pub kind: u32,
 }
 
-/// A line of the report `blocks`: a free block of the page allocator. It ends at 2^52 or below.
+/// A line of the report `blocks`: a free block of the page allocator. It ends at or below 2^52.
 #[derive(Clone, Copy, Debug, PartialEq, Eq)]
 pub struct BlockLine {
-    /// The node, from 0.
+    /// The number of the node.
     pub node: u32,
     /// The zone.
     pub zone: Zone,
-    /// The block has 2^`order` frames; 0 to 10 (`MAX_ORDER` is 11).
+    /// The order, from 0 to 10 (`MAX_ORDER` is 11): the block has 2^`order` frames.
     pub order: u32,
-    /// The address of its first byte. A sound block's is a multiple of its size.
+    /// The address of the first byte. The reader doesn't require that it is a multiple of the
+    /// block's size.
     pub at: u64,
 }
 
@@ -42,7 +43,7 @@ impl Model for BlockLine {
 }
 
 impl BlockLine {
-    /// The address behind its last byte.
+    /// Returns the address after the last byte of the block.
     pub fn end(&self) -> u64
         ensures { result ≡ end_of (bytes_of_block self.now) }
     {

@@ -1,11 +1,11 @@
-//! The names of the owners of reserved memory, as the report `owners` prints them.
+//! Tests for the names of the owners of reserved memory, as the report `owners` prints them.
 
 ghost use Rattle.std.specs.Prelude.{◌≡◌};
 ghost use Rattle.audit_lines.specs.Forms.{is_first_owner, is_just, is_later_owner, is_numbered, is_numbered_owner, is_owner};
 
 use crate::fields::{behind, number_in};
 
-/// Whether the text is the name of an owner.
+/// Tests whether the text is the name of an owner.
 #[tactic(auto, unfolding(crate::specs::Forms::is_owner))]
 pub fn is_owner(text: &[u8]) -> bool
     ensures { result ≡ is_owner text.now }
@@ -13,7 +13,7 @@ pub fn is_owner(text: &[u8]) -> bool
     is_first_owner(text) || is_later_owner(text) || is_numbered_owner(text)
 }
 
-/// Whether it is one of the claims before the allocator's first growth.
+/// Tests whether the text is the name of an owner that claims memory at the start of the boot.
 fn is_first_owner(text: &[u8]) -> bool
     ensures { result ≡ is_first_owner text.now }
 {
@@ -24,7 +24,8 @@ fn is_first_owner(text: &[u8]) -> bool
         || is_just(text, b"soft-reserved")
 }
 
-/// Whether it is one of the tables and places of later stages.
+/// Tests whether the text is the name of a table, or of an owner of a later stage that has no
+/// number.
 fn is_later_owner(text: &[u8]) -> bool
     ensures { result ≡ is_later_owner text.now }
 {
@@ -35,7 +36,7 @@ fn is_later_owner(text: &[u8]) -> bool
         || is_just(text, b"roots")
 }
 
-/// Whether it is one of those that have a number.
+/// Tests whether the text is the name of an owner with a number, followed by that number.
 fn is_numbered_owner(text: &[u8]) -> bool
     ensures { result ≡ is_numbered_owner text.now }
 {

@@ -1,4 +1,4 @@
-//! A report: lines of one form that follow one another without meeting.
+//! Reads a report: lines of one form, ascending and without overlap.
 
 ghost use Rattle.std.specs.Prelude.{◌≡◌, ◌+◌, ◌<◌, ◌≤◌, ◌^◌, ℕ, List, Option, length, map, IfOk, IsErrOf};
 ghost use Rattle.audit_lines.specs.Lines.{AscendApart};
@@ -13,18 +13,18 @@ use std::alloc::Global;
 /// What is wrong with a line of a report. Lines are numbered from 1.
 #[derive(Clone, Copy, Debug, PartialEq, Eq)]
 pub enum LineFault {
-    /// It isn't a line of this report, or it lacks its newline.
+    /// The line isn't a line of this report, or it lacks its newline.
     Form { line: u64 },
-    /// Its range begins at the last byte of the line before or below it.
+    /// The range of the line begins below the end of the line before it.
     Order { line: u64 },
 }
 
-/// Why the lines of a report aren't answered.
+/// The reason why a report is refused.
 #[derive(Clone, Copy, Debug, PartialEq, Eq)]
 pub enum ReadError {
     /// The lowest line that has a fault, and that fault.
     Fault(LineFault),
-    /// The program's own memory ran out.
+    /// The program ran out of memory.
     Memory,
 }
 
@@ -41,27 +41,33 @@ impl From<LineFault> for ReadError {
 
 /// A line of a report.
 pub trait ReportLine: Copy + Drop {
-    // the line of a text that stands at an index, from 0
+    // the line that a text spells at an index, from 0 on
     ghost form: { ℕ → List ℕ → Option Self };
 
-    // its addresses
+    // the addresses of the line
     ghost extent: { Self → Extent };
 
-    /// The line of the text, which has no newline and stands at that index, from 0.
+    /// Returns the line that the text spells, or `None` if it spells none. The text has no
+    /// newline; `index` is the index of the line in the report, from 0 on.
     fn read(index: u64, text: &[u8]) -> Option<Self>
         ensures { result ≡ form index text.now };
 
-    /// The address of its first byte.
+    /// Returns the address of the first byte.
     fn base(&self) -> u64
         ensures { result ≡ (extent self.now).base };
 
-    /// The address behind its last byte.
+    /// Returns the address after the last byte.
     fn end(&self) -> u64
         ensures { result ≡ end_of (extent self.now) };
 }
 
-/// The lines of a report, or the fault of its lowest line that has one. They are ascending and disjoint, and no more
-/// than the report has bytes. `Memory` comes only where there are some.
+/// Reads a report, and returns its lines. They are ascending and disjoint, and there are at most
+/// as many as the report has bytes.
+///
+/// # Errors
+///
+/// - `Fault`: the fault of the lowest line that has one.
+/// - `Memory`: the program ran out of memory; the report isn't empty.
 pub fn read_report<L: ReportLine>(alloc: Global, bytes: &[u8]) -> Result<Vec<L>, ReadError>
     ensures answers { Answers ReadError.Memory (λ lines. lines.items) result
         (with_error ReadError.Fault (report_of L.form L.extent bytes.now)) }
@@ -88,7 +94,12 @@ pub fn read_report<L: ReportLine>(alloc: Global, bytes: &[u8]) -> Result<Vec<L>,
     Err(ReadError::Fault(LineFault::Form { line: index + 1 }))
 }
 
-/// The line of the text, where it begins at `at` or behind it.
+/// Returns the line that the text spells, which must begin at or above `at`.
+///
+/// # Errors
+///
+/// - `Form`: the text isn't a line of this report.
+/// - `Order`: the line begins below `at`.
 fn line_at<L: ReportLine>(index: u64, at: u64, text: &[u8]) -> Result<L, LineFault>
     requires { index + 1 < 2 ^ 64 }
     ensures { result ≡ line_at L.form L.extent index at text.now }

@@ -1,9 +1,10 @@
-//! Texts fall apart at their newlines.
+//! Splits a text at its newlines.
 
 ghost use Rattle.std.specs.Prelude.{◌≡◌, ◌<◌, [], ◌∷◌, length, IfSome, IfNone};
 ghost use Rattle.audit_lines.specs.Reports.{split_lines};
 
-/// The first line, without its newline, and what stands behind that; `None` where there is no newline.
+/// Returns the first line, without its newline, and the rest of the text after that. Returns
+/// `None` if there is no newline.
 pub fn cut_line(text: &[u8]) -> Option<(&[u8], &[u8])>
     ensures line { IfSome result (λ found. split_lines text.now
         ≡ (found.0.now ∷ (split_lines found.1.now).0, (split_lines found.1.now).1)) }
