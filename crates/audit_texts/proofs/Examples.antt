@@ -1,4 +1,4 @@
--- What lines tell of a run and of a block, and of what they can't be told.
+-- Worked examples of the lines of a run and of a block, and of some that have no line.
 use Rattle.std.proofs.Common.{◌≡◌, ℕ, ◌-◌, ◌^◌, refl, arith}
 use Rattle.address_runs.specs.Runs.{RunOf}
 use Rattle.bm_base.specs.declared.zone.Zone.TheVariants as zones
@@ -23,6 +23,6 @@ block_told : told_block (record { node = 0; zone = zones.Dma; order = 8; first =
     ≡ record { node = 0; zone = zones.Dma; order = 8; at = 0x100000 }
 block_told = refl
 
--- a block whose last frame is behind 2^52 has no line
+-- a block whose last frame is above 2^52 has no line
 too_far : ¬ IsToldBlock (record { node = 0; zone = zones.Normal; order = 1; first = 2 ^ 40 - 1 })
 too_far told = absurd (omega (arith, told.1.1))

@@ -1,4 +1,4 @@
--- Lines that were written are read, each as what it says.
+-- Lemmas: each line that is written is read as what it states.
 use Rattle.std.proofs.Common.{◌≡◌, ℕ, ◌-◌, ◌^◌, ◌<◌, ◌==◌, Bool, true, false, nat_le, nat_lt, if◌then◌else◌, List, [], ◌∷◌, ◌++◌, codes, Some, refl, ap, ◌∙◌, sym, arith, append_assoc, append-nil}
 use Rattle.std.specs.Fmt.{decimal}
 use Rattle.std.proofs.lemmas.Bool.Decides.{nat_tests}
@@ -15,7 +15,7 @@ use Rattle.audit_texts.proofs.NumberLaws.{address_line, address_read, number_lin
 use Rattle.report_texts.specs.Lines.{index_text, range_text}
 use Rattle.audit_texts.proofs.SplitLaws.{IsOneLine, one_line-append}
 
--- texts that stand one behind another
+-- texts one after another
 pub apart_eight : (a b c d e f g h : List ℕ)
     → ((((((a ++ b) ++ c) ++ d) ++ e) ++ f) ++ g) ++ h ≡ a ++ (b ++ (c ++ (d ++ (e ++ (f ++ (g ++ h))))))
 apart_eight a b c d e f g h =
@@ -34,7 +34,7 @@ zone_read zones.Dma rest = refl
 zone_read zones.Dma32 rest = refl
 zone_read zones.Normal rest = refl
 
--- a block's line
+-- the line of a block
 block_by : (b : Block) (index : ℕ) → b.node < 2 ^ 32 → IsBlock b
     → block_in index (codes "node " ++ (decimal b.node ++ (codes " zone " ++ (zone_word b.zone ++ (codes " order " ++ (decimal b.order
     ++ (codes " " ++ hex_text b.at))))))) ≡ Some b
@@ -75,7 +75,7 @@ zone_line zones.Dma = (refl, (refl, (refl, tt)))
 zone_line zones.Dma32 = (refl, (refl, (refl, (refl, (refl, tt)))))
 zone_line zones.Normal = (refl, (refl, (refl, (refl, (refl, (refl, tt))))))
 
--- texts of one line that stand one behind another
+-- texts without a newline, one after another
 one_line-more : (xs : List ℕ) (word ys : List ℕ) → IsOneLine xs → IsOneLine word → IsOneLine ys → IsOneLine ((xs ++ word) ++ ys)
 one_line-more xs word ys first middle last = one_line-append (xs ++ word) ys (one_line-append xs word first middle) last
 
@@ -125,7 +125,7 @@ one_line-if : (test : Bool) (xs ys : List ℕ) → IsOneLine xs → IsOneLine ys
 one_line-if true xs ys first second = first
 one_line-if false xs ys first second = second
 
--- a text whose bytes are known has no newline where a test says so
+-- a known text has no newline if this test is true
 abbrev is_one_line : List ℕ → Bool
 is_one_line [] = true
 is_one_line (b ∷ bs) = if b == 10 then false else is_one_line bs

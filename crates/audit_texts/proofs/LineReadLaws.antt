@@ -1,4 +1,4 @@
--- A line that was read is the line of what was read, and so is a report.
+-- Lemmas: a line that was accepted is the line of the result, and so is a whole report.
 use Rattle.std.proofs.Common.{◌≡◌, ℕ, ◌-◌, ◌^◌, ◌&&◌, Bool, true, false, nat_le, nat_lt, if◌then◌else◌, List, [], ◌∷◌, ◌++◌, codes, Option, Some, None, refl, ap, ◌∙◌, sym, inl, inr, append-nil, ◌⊎◌}
 use Rattle.std.specs.Fmt.{decimal}
 use Rattle.bm_base.specs.Extent.{Extent, end_of}

@@ -1,4 +1,4 @@
--- Numbers, addresses and ranges that were written are read.
+-- Lemmas: numbers, addresses and ranges that are written are read.
 use Rattle.std.proofs.Common.{◌≡◌, ℕ, zero, suc, ◌+◌, ◌-◌, ◌/◌, ◌%◌, ◌^◌, ◌<◌, ◌≤◌, ◌==◌, Bool, true, false, nat_le, nat_lt, if◌then◌else◌, List, [], ◌∷◌, ◌++◌, length, take, drop, replicate, codes, get_or, Some, Result, Ok, Err, refl, ap, ◌∙◌, inl, inr, arith, append_assoc, append-nil}
 use Rattle.std.specs.List.{list_all}
 use Rattle.std.specs.Char.{digit_value, is_digit}
@@ -21,7 +21,7 @@ use Rattle.report_texts.specs.Lines.{range_text}
 use Rattle.audit_texts.proofs.SplitLaws.{IsOneLine, one_line-append}
 use Rattle.stage_texts.proofs.BatchLaws.{hex_length}
 
--- a hexadecimal digit in lower case
+-- a lower-case hexadecimal digit
 abbrev pub IsGlyph : ℕ → Type 0
 IsGlyph c = (is_lower_hex c ≡ true) × ((is_digit c 16 ≡ true) × ((c == 10) ≡ false))
 
@@ -54,7 +54,7 @@ lower_glyphs : (ds : List ℕ) → AreGlyphs ds → list_all is_lower_hex ds ≡
 lower_glyphs [] glyphs = refl
 lower_glyphs (d ∷ ds) glyphs = rw (glyphs.0.0) (lower_glyphs ds glyphs.1)
 
--- zeros in front change no value
+-- leading zeros don't change the value
 zeros_value : (z : ℕ) (ds : List ℕ) → digits_value 16 (replicate z 48 ++ ds) ≡ digits_value 16 ds
 zeros_value zero ds = refl
 zeros_value (suc z) ds = zeros_value z ds
@@ -77,7 +77,7 @@ digits_number n small =
     zeros_value (16 - length (hexadecimal n)) (hexadecimal n)
     ∙ (digits_is_IsNumeral 16 false (omega arith) (omega arith) n (omega arith)).1
 
--- digits behind `0x` are read as the number that they write
+-- digits after `0x` are read as the number that they spell
 pub hex_number : (ds : List ℕ) → AreGlyphs ds → 0 < length ds → number_of (48 ∷ 120 ∷ ds) ≡ fitting (digits_value 16 ds) (2 + length ds)
 hex_number [] glyphs some = absurd (omega arith)
 hex_number (d ∷ ds) glyphs some =
@@ -123,12 +123,12 @@ address_read n rest small =
     hex_read (address_digits n) n (digits_glyphs n small) (omega arith) (digits_number n small) small in
     rw (front, left, is, read) refl
 
--- a text that goes on with no digit and no letter, or ends
+-- the text is empty, or doesn't begin with a digit or letter
 abbrev pub EndsNumber : List ℕ → Type 0
 EndsNumber [] = Unit {0}
 EndsNumber (mark ∷ rest) = is_digit mark 36 ≡ false
 
--- decimal digits of which the first isn't `0` are read as the number that they write
+-- decimal digits that don't begin with `0` are read as the number that they spell
 digits_read : (d : ℕ) (ds : List ℕ) (n : ℕ) → AllDigits 10 (d ∷ ds) → 48 < d → digits_value 10 (d ∷ ds) ≡ n → n < 2 ^ 64
     → number_of (d ∷ ds) ≡ Ok (n, length (d ∷ ds))
 digits_read d ds n all above value small =
@@ -160,7 +160,7 @@ by_number : (zero_first : Bool) (text : List ℕ) (found : Result (ℕ × ℕ) N
 by_number zero_first text found m taken {most} other is small left =
     let fits : nat_le m most ≡ true = grind (arith, nat_tests, small) in rw (other, is, fits, left) refl
 
--- a decimal
+-- a decimal number
 pub number_read : (most n : ℕ) (rest : List ℕ) → n ≤ most → most < 2 ^ 64 → EndsNumber rest
     → number_in most (decimal n ++ rest) ≡ Some (n, rest)
 unfolding number_in
@@ -180,7 +180,7 @@ number_read most (suc n) rest small most_small ends =
         by_number (begins_with_zero ((d ∷ ds) ++ rest)) ((d ∷ ds) ++ rest) (number_of ((d ∷ ds) ++ rest)) m (length (d ∷ ds)) other read
         small (drop_front (d ∷ ds) rest (length (d ∷ ds)) refl)
 
--- a range that has a byte and ends below 2^64
+-- a range that isn't empty and ends below 2^64
 range_by : (first last : ℕ) (rest : List ℕ) → first ≤ last → last < 2 ^ 64 - 1
     → range_in (hex_text first ++ (codes ".." ++ (hex_text last ++ rest))) ≡ Some (record { base = first; size = last + 1 - first }, rest)
 unfolding range_in

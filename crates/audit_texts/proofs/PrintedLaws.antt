@@ -1,4 +1,4 @@
--- What was read is what is printed of it.
+-- Lemmas: what was read would be printed as the same text.
 use Rattle.std.proofs.Common.{◌≡◌, ℕ, ◌*◌, ◌/◌, List, ◌++◌, ◌∷◌, [], map, Ok, refl, arith}
 use Rattle.std.specs.List.{All}
 use Rattle.audit_lines.specs.Blocks.{Block as BlockLine, bytes_of_block}

@@ -1,4 +1,4 @@
--- What was read of a text is what stands in it: a number, an address, a range, a line.
+-- Lemmas: a number, an address, a range or a line that was read from a text is in it.
 use Rattle.std.proofs.Common.{◌≡◌, ℕ, suc, ◌+◌, ◌-◌, ◌*◌, ◌/◌, ◌%◌, ◌^◌, ◌<◌, ◌≤◌, ◌==◌, ◌&&◌, Bool, true, false, nat_le, nat_lt, if◌then◌else◌, List, [], ◌∷◌, ◌++◌, length, take, drop, codes, Option, Some, None, Result, Ok, Err, refl, sym, ap, ◌∙◌, inl, inr, arith, append_assoc, append-nil, take-append-drop}
 use Rattle.std.specs.List.{list_all}
 use Rattle.std.specs.Char.{digit_value, is_digit}
@@ -22,7 +22,7 @@ use Rattle.audit_lines.proofs.FieldLaws.{behind_is}
 use Rattle.report_texts.specs.Lines.{range_text}
 use Rattle.audit_texts.proofs.NumberLaws.{AreGlyphs, hex_number}
 
--- a text is its front digits and what stands behind them
+-- a text is the digits at its start, and the rest after them
 front_and_rest : (text : List ℕ) → text ≡ front_digits 10 text ++ drop (length (front_digits 10 text)) text
 front_and_rest [] = refl
 front_and_rest (b ∷ bs) = by_test (is_digit b 10) (front_and_rest bs)
@@ -44,7 +44,7 @@ front_all (b ∷ bs) = by_test (is_digit b 10) refl (front_all bs)
 own : IsNumeralModel (AllDigits 10) (digits_value 10)
 own = record { to = λ ds all. all; from = λ ds all. all; same = λ ds all. refl }
 
--- digits of which the first isn't `0` are the text of their value
+-- digits that don't begin with `0` are the text of their value
 digits_text : (d : ℕ) (ds : List ℕ) → AllDigits 10 (d ∷ ds) → d == 48 ≡ false → digits_value 10 (d ∷ ds) < 2 ^ 64
     → decimal (digits_value 10 (d ∷ ds)) ≡ d ∷ ds
 digits_text d ds all other small =
@@ -53,14 +53,14 @@ digits_text d ds all other small =
     never : d ≡ 48 → ⊥
     never is = let same : d == 48 ≡ true = (Decides-eqb d 48).1 is in cc
 
--- what a reader gives: its value, and what is left
+-- the value and the rest that a reader gives
 pub value_of_found : {A : Type 0} (a b : A) (xs ys : List ℕ) → ◌≡◌ {A = Option (A × List ℕ)} (Some (a, xs)) (Some (b, ys)) → a ≡ b
 value_of_found a b xs ys is = let both : ◌≡◌ {A = _ × List ℕ} (a, xs) (b, ys) = cc in ap (λ p. p.0) both
 
 pub left_of_found : {A : Type 0} (a b : A) (xs ys : List ℕ) → ◌≡◌ {A = Option (A × List ℕ)} (Some (a, xs)) (Some (b, ys)) → xs ≡ ys
 left_of_found a b xs ys is = let both : ◌≡◌ {A = _ × List ℕ} (a, xs) (b, ys) = cc in ap (λ p. p.1) both
 
--- the number that was found is what stands there
+-- the number that was found is the one at the start of the text
 found_is : (text rest : List ℕ) (most n : ℕ) (front : List ℕ) → front ≡ front_digits 10 text
     → (nat_lt (digits_value 10 front) (2 ^ 64) ≡ true → decimal (digits_value 10 front) ≡ front)
     → at_most most text (fitting (digits_value 10 front) (length front)) ≡ Some (n, rest) → text ≡ decimal n ++ rest
@@ -120,7 +120,7 @@ number_is most n (b ∷ bs) rest found =
         spelled (begins_with_digit (b ∷ bs)) (radix_of (b ∷ bs)) (prefix_of (b ∷ bs)) refl is (rw (is_hexadecimal-other b bs is, is) refl)
         (rw (is_hexadecimal-other b bs is) refl) found
 
--- sixteen digits are the text of the number that they write
+-- sixteen digits are the text of the number that they spell
 glyph_of : (c : ℕ) → is_lower_hex c ≡ true → (digit_glyph false (digit_value c) ≡ c) × (digit_value c < 16)
 glyph_of c lower =
     elim (cases_lt c 58) as (λ _. (digit_glyph false (digit_value c) ≡ c) × (digit_value c < 16)) [
@@ -205,7 +205,7 @@ address_is n text rest found = by_front (behind (codes "0x") (take 18 text)) ref
     by_front None is found = cc
     by_front (Some ds) is found = by_digits ds is ((length ds == 16) && list_all is_lower_hex ds) refl found
 
--- a step that gave a value
+-- if two steps in a row give a value, the first one does
 pub chain : {A B : Type 0} (first : Option A) (next : A → Option B) (b : B) → (first >>= next) ≡ Some b
     → (a : A) × ((first ≡ Some a) × (next a ≡ Some b))
 chain None next b is = cc

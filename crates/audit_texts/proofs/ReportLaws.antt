@@ -1,4 +1,4 @@
--- A report whose lines are read one by one is read.
+-- Lemmas: a report is read if its lines are read one by one.
 use Rattle.std.proofs.Common.{◌≡◌, ℕ, ◌+◌, ◌^◌, ◌<◌, ◌≤◌, nat_lt, false, List, [], ◌∷◌, ◌++◌, length, map, Option, Some, Ok, refl, ap, ◌∙◌, arith, append_assoc}
 use Rattle.std.proofs.lemmas.Bool.Decides.{nat_tests}
 use Rattle.bm_base.specs.Extent.{Extent, end_of}
@@ -8,7 +8,7 @@ use Rattle.report_texts.specs.Lines.{lines_from}
 use Rattle.audit_texts.proofs.SplitLaws.{IsOneLine, split_first}
 
 module _ {L X : Type 0} (form : ℕ → List ℕ → Option L) (extent : L → Extent) (line text : ℕ → X → List ℕ) (seen : X → L) where
-  -- at every index the line is a text of one line with its newline, which is read as that
+  -- at each index, the line is one line of text and its newline, and is read as this value
   pub record IsReadBack (x : X) : Type 0 where
     pub ended : (n : ℕ) → line n x ≡ text n x ++ (10 ∷ [])
     pub one : (n : ℕ) → n < 2 ^ 64 → IsOneLine (text n x)

@@ -1,4 +1,4 @@
--- A report that was read is the text of its lines.
+-- Lemmas: a report that was accepted is the text of its lines.
 use Rattle.std.proofs.Common.{◌≡◌, ℕ, ◌+◌, ◌==◌, nat_lt, Bool, true, false, if◌then◌else◌, List, [], ◌∷◌, ◌++◌, map, Option, Some, None, Result, Ok, Err, refl, ap, ◌∙◌, sym, inl, inr, append_assoc}
 use Rattle.std.specs.List.{All}
 use Rattle.std.proofs.lemmas.Bool.{cases_Bool}
@@ -11,7 +11,7 @@ use Rattle.audit_lines.specs.declared.report.LineFault.{LineFault}
 use Rattle.audit_lines.specs.declared.report.LineFault.TheVariants as faults
 use Rattle.report_texts.specs.Lines.{lines_from}
 
--- the text that falls apart so
+-- the text that is split into these lines
 abbrev joined_by : List (List ℕ) → List ℕ → List ℕ
 joined_by [] left = left
 joined_by (t ∷ ts) left = t ++ (10 ∷ joined_by ts left)

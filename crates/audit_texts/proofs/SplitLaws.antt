@@ -1,4 +1,4 @@
--- A text of lines falls apart into them.
+-- Lemmas: a text of lines is split into these lines.
 use Rattle.std.proofs.Common.{◌≡◌, ℕ, ◌==◌, false, List, [], ◌∷◌, ◌++◌, refl, ap}
 use Rattle.audit_lines.specs.Reports.{split_lines, with_byte}
 

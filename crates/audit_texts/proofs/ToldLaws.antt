@@ -1,4 +1,4 @@
--- Each line of the three reports is read back.
+-- Lemmas: each line of the three reports is read back.
 use Rattle.std.proofs.Common.{◌≡◌, ℕ, ◌<◌, ◌^◌, List, [], ◌∷◌, length, map, codes, Option, Ok, true, refl, ap, arith}
 use Rattle.std.specs.List.{All}
 use Rattle.std.proofs.lemmas.List.Elements.{All-head, All-tail}
@@ -31,7 +31,7 @@ module _ {L X : Type 0} (form : ℕ → List ℕ → Option L) (extent : L → E
   all_back [] all = tt
   all_back (x ∷ xs) all = (each x (All-head P x xs all), all_back xs (All-tail P x xs all))
 
--- types have one name
+-- both crates have the same names for types
 pub same_name : (kind : ℕ) → kind_name_in kind ≡ kind_name kind
 unfolding kind_name_in
 same_name kind = refl

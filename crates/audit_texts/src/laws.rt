@@ -1,4 +1,5 @@
-//! What is printed is read as what it says, of each of the three reports; and what is read was printed, of two.
+//! The laws: each of the three reports is read as what it was printed from. Two of them are also
+//! accepted only in the text that would be printed.
 
 ghost use Rattle.std.specs.Prelude.{◌≡◌, ◌<◌, ◌^◌, ℕ, List, Ok, length, map};
 ghost use Rattle.std.specs.List.{All};
@@ -16,32 +17,36 @@ ghost use Rattle.report_texts.specs.MapText.{map_text};
 ghost use Rattle.report_texts.specs.OwnersText.{owners_text};
 ghost use Rattle.stage_texts.specs.BlocksText.{block_line};
 
-/// A law: the text of a map is read as its runs, each with its type.
+/// Law: the text of a map is read as its runs, each with its type. The runs must be ascending and
+/// disjoint, not empty, and end below 2^64.
 pub fn map_is_read_back()
     ensures { (runs : List (RunOf ℕ)) → length runs < 2 ^ 64 → All IsToldRun runs → AscendApart (map extent_of runs)
         → report_of map_in (λ l. l.range) (map_text runs) ≡ Ok (map told_run runs) }
 {}
 
-/// A law: the text of who has what is read as the ranges that have an owner.
+/// Law: the text of the owners is read as the ranges that have an owner. The ranges must be
+/// ascending and disjoint, not empty, and end below 2^64.
 pub fn owners_are_read_back()
     ensures { (runs : List (RunOf Owner)) → length runs < 2 ^ 64 → All IsToldOwner runs → AscendApart (map extent_of runs)
         → report_of owner_in (λ r. r) (owners_text runs) ≡ Ok (map extent_of runs) }
 {}
 
-/// A law: the lines of blocks are read as those blocks.
+/// Law: the lines of blocks are read as these blocks. The blocks must be ascending and disjoint,
+/// of orders up to 10, and end at or below 2^52.
 pub fn blocks_are_read_back()
     ensures { (blocks : List Block) → length blocks < 2 ^ 64 → All IsToldBlock blocks
         → AscendApart (map bytes_of_block (map told_block blocks))
         → report_of block_in bytes_of_block (lines_from block_line 0 blocks) ≡ Ok (map told_block blocks) }
 {}
 
-/// A law: bytes that are read as a map are the text of that map, and no other.
+/// Law: bytes that are read as a map are exactly the text of that map.
 pub fn read_map_is_printed()
     ensures { (bytes : List ℕ) (lines : List MapLine) → report_of map_in (λ l. l.range) bytes ≡ Ok lines
         → bytes ≡ map_text (map run_of lines) }
 {}
 
-/// A law: bytes that are read as blocks, each of which begins with a frame, are the lines of those blocks.
+/// Law: bytes that are read as blocks, each of which begins at a frame, are exactly the lines of
+/// these blocks.
 pub fn read_blocks_are_printed()
     ensures { (bytes : List ℕ) (blocks : List BlockLine) → report_of block_in bytes_of_block bytes ≡ Ok blocks
         → All IsAtFrame blocks → bytes ≡ lines_from block_line 0 (map block_of_line blocks) }

@@ -1,9 +1,17 @@
-//! That the reports which `bootmem` prints are read back as what they say: laws over the definitions of their texts
-//! (`report_texts`, `stage_texts`) and of their readers (`audit_lines`), so that the program and the audit of what it
-//! printed can't drift apart.
+//! Proves that the audit reads the reports which `bootmem` prints as what they state.
 //!
-//! What a line tells of a run or a block is in `specs/Told.antt`. Of `owners` the audit keeps ranges and no names, so its text can't
-//! be told from what was read.
+//! The laws connect the definitions of the texts (`report_texts`, `stage_texts`) with those of
+//! their readers (`audit_lines`). So the program and the audit of its output can't disagree on the
+//! formats. A law is an empty function whose contract is a proven fact; this crate has nothing
+//! else.
+//!
+//! - [`map_is_read_back`], [`owners_are_read_back`], [`blocks_are_read_back`]: a text that is
+//!   printed is read as what it was printed from.
+//! - [`read_map_is_printed`], [`read_blocks_are_printed`]: a text that is accepted is the one that
+//!   would be printed for the result.
+//!
+//! `specs/Told.antt` defines the line that a run or a block is read back as. The audit keeps the
+//! ranges of `owners`, but not the names, so there is no law of the second kind for that report.
 #![tactic(auto)]
 
 mod laws;
