@@ -18,21 +18,22 @@ ghost use Rattle.report_texts.specs.OwnersText.{owners_text};
 ghost use Rattle.stage_texts.specs.BlocksText.{block_line};
 
 /// Law: the text of a map is read as its runs, each with its type. The runs must be ascending and
-/// disjoint, not empty, and end below 2^64.
+/// disjoint, not empty, end below 2^64, and have types above 0. There must be fewer than 2^64
+/// runs.
 pub fn map_is_read_back()
     ensures { (runs : List (RunOf ℕ)) → length runs < 2 ^ 64 → All IsToldRun runs → AscendApart (map extent_of runs)
         → report_of map_in (λ l. l.range) (map_text runs) ≡ Ok (map told_run runs) }
 {}
 
 /// Law: the text of the owners is read as the ranges that have an owner. The ranges must be
-/// ascending and disjoint, not empty, and end below 2^64.
+/// ascending and disjoint, not empty, and end below 2^64. There must be fewer than 2^64 ranges.
 pub fn owners_are_read_back()
     ensures { (runs : List (RunOf Owner)) → length runs < 2 ^ 64 → All IsToldOwner runs → AscendApart (map extent_of runs)
         → report_of owner_in (λ r. r) (owners_text runs) ≡ Ok (map extent_of runs) }
 {}
 
 /// Law: the lines of blocks are read as these blocks. The blocks must be ascending and disjoint,
-/// of orders up to 10, and end at or below 2^52.
+/// of orders up to 10, and end at or below 2^52. There must be fewer than 2^64 blocks.
 pub fn blocks_are_read_back()
     ensures { (blocks : List Block) → length blocks < 2 ^ 64 → All IsToldBlock blocks
         → AscendApart (map bytes_of_block (map told_block blocks))

@@ -3,8 +3,8 @@
 //! A report is a text of lines, in the style of the files in `/sys/kernel/debug`. [`Report`] lists
 //! the reports, [`report_named`] finds one by its name, and [`render`] returns its text, which is
 //! `shown_text` of `specs/Report.antt`. `memory` and `reserved` show the records in the bytes at
-//! the heads of memblock's two tables; every other report shows the view that contracts have of
-//! the boot. If the records are those that the boot's journal gives, the text is also
+//! the heads of memblock's two tables; every other report is made from the result of the boot,
+//! [`Booted`]. If these records are those that the boot's journal gives, the text is also
 //! `report_text`.
 //!
 //! Two conditions must hold. The bytes at both heads are ascending lists of records

@@ -120,8 +120,8 @@ impl Descriptor {
         }
     }
 
-    /// Returns the E820 type of memory that is free once boot services have ended. The specific
-    /// purpose wins over the caching.
+    /// Returns the E820 type of memory that is free once boot services have ended: soft reserved
+    /// with `EFI_MEMORY_SP`, else RAM with `EFI_MEMORY_WB`, and reserved with neither.
     fn type_of_free(self) -> u32
         ensures { result ≡ type_of_free self }
     {

@@ -5,9 +5,10 @@ use bm_base::Zone;
 /// The largest order of a block (`MAX_ORDER - 1` of Linux 6.1): 1,024 frames, 4 MiB.
 pub const MAX_ORDER: u32 = 10;
 
-/// A block of `2^order` free frames, all on one node and in one zone. Its first frame is a
-/// multiple of their number. Blocks are ordered by node, zone, order and first frame, as the page
-/// allocator's lists are nested (`struct pglist_data`, `struct zone`, `struct free_area`).
+/// A block of `2^order` free frames, all on one node and in one zone. The number of its first
+/// frame is a multiple of `2^order`. Blocks are ordered by node, zone, order and first frame, as
+/// the page allocator's lists are nested (`struct pglist_data`, `struct zone`, `struct
+/// free_area`).
 #[derive(Clone, Copy, Debug, PartialEq, Eq, PartialOrd, Ord)]
 pub struct Block {
     pub node: u32,

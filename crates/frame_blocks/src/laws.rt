@@ -20,7 +20,8 @@ pub fn sets_lie_in_one_zone()
 {}
 
 /// Law: the block of a frame is the only block that has the frame; a frame without a block isn't
-/// free. The list of blocks has each block once, in ascending order, and nothing else.
+/// free. The list of blocks ascends, and has only blocks. It has all of them if the free frames
+/// are below [`crate::MAX_FRAMES`].
 pub fn listed_blocks_are_blocks()
     ensures block { (f : Frames) (x : ℕ) (b : AnyBlock) → block_of f x ≡ Some b → IsBlock f b × IsInBlock b x }
     ensures one { (f : Frames) (x : ℕ) (b : AnyBlock) → IsBlock f b → IsInBlock b x → block_of f x ≡ Some b }
@@ -31,8 +32,8 @@ pub fn listed_blocks_are_blocks()
 {}
 
 /// Law: the block that is picked for a node, a zone and an order has the least order, from that
-/// one up, of which a block exists there. It is the lowest block of its order. No block is picked
-/// exactly if there is no such block.
+/// one up, for which a block exists there. It is the lowest block of its order. No block is picked
+/// exactly if there is no such block. All free frames must be below [`crate::MAX_FRAMES`].
 pub fn picked_block_is_least()
     ensures picked { (f : Frames) (n : ℕ) (z : AnyZone) (order : ℕ) (b : AnyBlock) → NothingFrom MAX_FRAMES f →
         (picked f n z order ≡ Some b) ↔ IsPicked f n z order b }

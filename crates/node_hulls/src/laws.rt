@@ -15,8 +15,8 @@ ghost use Rattle.node_hulls.specs.Hulls.{NumaBlock, has};
 ghost use Rattle.node_hulls.specs.Judgement.{judged, left_by, nodes_by};
 ghost use Rattle.node_hulls.specs.Kept.{numa_blocks_of, overlap_at, first_clash, frame_base, is_node_of, kept_of};
 
-/// Law: if no two kept blocks of different nodes share an address, the node of an address is the
-/// only node that it has, if any.
+/// Law: if no two kept blocks of different nodes share an address, and none is empty, the node of
+/// an address is the only node that it has, if any.
 pub fn one_node_an_address()
     ensures { (kept : List AnyKept) → first_clash kept ≡ None → HaveAddresses (numa_blocks_of kept) →
         (x n : ℕ) → (has (numa_blocks_of kept) n x ≡ true) ↔ (nodes_by kept x ≡ Some n) }
@@ -65,9 +65,9 @@ pub fn one_node_a_frame()
         ≡ left_by memory (kept_of memory domains blocks) (frame_base x) }
 {}
 
-/// Law: a node has memory exactly if it is the node of a kept block. The node of each kept block
-/// has a byte of memory. Each node that an address gets, from the blocks or as memory without a
-/// node, is that of a kept block.
+/// Law: if no two kept blocks of different nodes share an address, the node of each kept block has
+/// a byte of memory. Each node that an address gets, from the blocks or as memory without a node,
+/// is that of a kept block, if any block is kept.
 pub fn nodes_with_memory()
     ensures memory { (memory : ℕ → Bool) (domains : List ℕ) (blocks : List AnyBlock) →
         first_clash (kept_of memory domains blocks) ≡ None →

@@ -1,4 +1,5 @@
-//! Allocates and frees pages after the handover: blocks of frames, each under an ID.
+//! Allocates and frees pages, blocks of frames under an ID each, after memblock has handed its
+//! free frames over to the buddy lists (`memblock_free_all`).
 //!
 //! [`Pages`] has the buddy lists (`buddy_handover`) and what was allocated from them: which ID
 //! holds which frames. A request gets the first frames of the block that the lists pick

@@ -19,8 +19,8 @@ kind_name k =
     else (if k == E820_TYPE_SOFT_RESERVED then codes "soft reserved"
     else codes "other"))))))))
 
--- the line of a run: its range, the number of its type and the type's name; it doesn't have the
--- index
+-- the line of a run: its range, the number of its type and the type's name; the index isn't
+-- printed
 abbrev pub map_line : ℕ → RunOf ℕ → List ℕ
 map_line n r = range_text (extent_of r) ++ codes " " ++ decimal r.value ++ codes " " ++ kind_name r.value ++ codes "\n"
 

@@ -8,7 +8,7 @@ use memblock_model::Request;
 pub enum Act {
     /// `alloc`: finds the best range for the request and claims it for the ID.
     Alloc { id: u32, request: Request },
-    /// `reserve`: claims this range for the ID, whatever it contains. It has at least 1 byte.
+    /// `reserve`: claims exactly this range for the ID, wherever it is. It has at least 1 byte.
     Reserve { id: u32, range: Range },
     /// `free`: frees the ID's whole range.
     Free { id: u32 },

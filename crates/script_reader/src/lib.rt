@@ -5,8 +5,8 @@
 //! the start of the buddy allocator. The script states what such callers would do, one call a
 //! line. A line claims a range that a search finds, or one at a given address
 //! (`memblock_alloc_range_nid`, `memblock_reserve`). It frees the range, whole or in part
-//! (`memblock_phys_free`), writes or reads its bytes, or says when the memory sections are set up.
-//! The format is the program's own; no kernel reads it.
+//! (`memblock_phys_free`), writes or reads its bytes, or says when the memory sections are set up
+//! (`sparse_init`). The format is the program's own; no kernel reads it.
 //!
 //! [`read_script`] returns a list of [`Line`]s, each with an [`Act`] and the line's number. Or it
 //! returns the first fault, a [`ScriptFault`]: that of the lowest line that has one.

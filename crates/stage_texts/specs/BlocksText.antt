@@ -12,8 +12,8 @@ use Rattle.frame_blocks.specs.Rows.{blocks_of_row}
 use Rattle.report_texts.specs.Lines.{lines_from}
 use Rattle.stage_texts.specs.ZonesText.{zone_name}
 
--- the line of a block: its node, its zone, its order, and the address of its first byte; it
--- doesn't have the index
+-- the line of a block: its node, its zone, its order, and the address of its first byte; the index
+-- isn't printed
 abbrev pub block_line : ℕ → Block → List ℕ
 block_line n b =
     codes "node " ++ decimal b.node ++ codes " zone " ++ zone_name b.zone ++ codes " order " ++ decimal b.order ++ codes " "

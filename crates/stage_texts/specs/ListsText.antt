@@ -23,7 +23,7 @@ use_line used = codes "slit " ++ use_text used ++ codes "\n"
 abbrev pub entry_text : ListZone → List ℕ
 entry_text z = codes " " ++ decimal z.node ++ codes "/" ++ zone_name z.zone
 
--- the line of a node: the zones in the order of its list; it doesn't have the index
+-- the line of a node: the zones in the order of its list; the index isn't printed
 abbrev pub list_line : Known → ℕ → ℕ → List ℕ
 list_line k n node = codes "Node " ++ decimal node ++ codes ":" ++ flat_map entry_text (zones_of k node) ++ codes "\n"
 

@@ -32,7 +32,7 @@ domain_line node domain = codes "domain " ++ decimal domain ++ codes " node " ++
 abbrev pub uncovered_line : ℕ → List ℕ
 uncovered_line frames = codes "uncovered " ++ decimal frames ++ codes "\n"
 
--- the line of a range that got a node; other items have no line, and the index isn't in it
+-- the line of a range that got a node; other items have no line, and the index isn't printed
 abbrev pub node_line : ℕ → Item → List ℕ
 node_line n (item.Node range node) = codes "node " ++ decimal node ++ codes " " ++ range_text range ++ codes "\n"
 node_line n other = []

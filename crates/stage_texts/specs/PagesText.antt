@@ -14,8 +14,8 @@ page_text outcomes.NoBlock = codes "no block"
 page_text outcomes.Taken = codes "taken"
 page_text outcomes.Unknown = codes "unknown"
 
--- the line of an outcome: the number of the line in the script, and the outcome; it doesn't have
--- the index
+-- the line of an outcome: the number of the line in the script, and the outcome; the index isn't
+-- printed
 abbrev pub page_line : ℕ → PageAnswer → List ℕ
 page_line n answer = decimal answer.line ++ codes ": " ++ page_text answer.outcome ++ codes "\n"
 

@@ -22,8 +22,8 @@ outcome_text outcomes.TableInUse = codes "table in use"
 outcome_text outcomes.TooLargeKeep = codes "keep too large"
 outcome_text outcomes.TooLargeFill = codes "fill too large"
 
--- the line of an outcome: the number of the line in the script, and the outcome; it doesn't have
--- the index
+-- the line of an outcome: the number of the line in the script, and the outcome; the index isn't
+-- printed
 abbrev pub answer_line : ℕ → Answer → List ℕ
 answer_line n answer = decimal answer.line ++ codes ": " ++ outcome_text answer.outcome ++ codes "\n"
 

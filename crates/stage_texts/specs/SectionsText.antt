@@ -12,11 +12,11 @@ use Rattle.report_texts.specs.Lines.{lines_from}
 abbrev pub roots_line : ℕ → List ℕ
 roots_line table = codes "roots " ++ hex_text table ++ codes "\n"
 
--- the line of a root; it doesn't have the index
+-- the line of a root; the index isn't printed
 abbrev pub root_line : ℕ → RootPlace → List ℕ
 root_line n root = codes "root " ++ decimal root.number ++ codes " " ++ hex_text root.place ++ codes "\n"
 
--- the line of a section; it doesn't have the index
+-- the line of a section; the index isn't printed
 abbrev pub section_line : ℕ → Placed → List ℕ
 section_line n s =
     codes "section " ++ decimal s.section ++ codes " node " ++ decimal s.node ++ codes " map " ++ hex_text s.map ++ codes " usage "

@@ -32,7 +32,7 @@ unfoldable pub frames_there : ℕ → Zone → List Block → ℕ
 frames_there node z blocks = sum_by (λ b. 2 ^ b.order) (filter (is_there node z) blocks)
 
 -- the line of a span: its first frame, the one after its last, the number of its frames, and how
--- many of them are in free blocks; it doesn't have the index
+-- many of them are in free blocks; the index isn't printed
 abbrev pub zone_line : List Block → ℕ → Span → List ℕ
 zone_line blocks n s =
     codes "Node " ++ decimal s.node ++ codes ", zone " ++ zone_name s.zone ++ codes " start " ++ decimal s.start ++ codes " end "
@@ -51,7 +51,7 @@ count_text blocks node z order = padded_decimal 6 (count_by (is_of node z order)
 unfoldable pub counts_text : List Block → ℕ → Zone → List ℕ
 counts_text blocks node z = flat_map (count_text blocks node z) (range_with_len 0 (MAX_ORDER + 1))
 
--- the line of a span: the number of blocks of each order, from 0 on; it doesn't have the index
+-- the line of a span: the number of blocks of each order, from 0 on; the index isn't printed
 unfoldable pub buddy_line : List Block → ℕ → Span → List ℕ
 buddy_line blocks n s =
     codes "Node " ++ decimal s.node ++ codes ", zone " ++ padded_zone s.zone ++ codes " "

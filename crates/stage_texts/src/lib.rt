@@ -1,11 +1,11 @@
 //! Writes the reports on the later stages of a boot as text: the scripts, the nodes, the crash
 //! area, the sections, the zones and the free blocks.
 //!
-//! The sister crate `report_texts` has the reports that every boot needs. This crate depends on
-//! more of the boot, so that that crate needn't. Both have the same structure: the definition of a
-//! line in `specs/`, which can be compared with the documentation of the formats; the function
-//! that writes this line; and one call of `put_lines`. Each `put_` function appends the text of
-//! one report:
+//! The crate `report_texts` has the reports on the map, the journal and the tables. The reports
+//! here need the types of later stages, so they are in a crate of their own. Both crates have the
+//! same structure: the definition of a line in `specs/`, which can be compared with the
+//! documentation of the formats; the function that writes this line; and one call of `put_lines`.
+//! Each `put_` function appends the text of one report:
 //!
 //! - [`put_script`], [`put_pages`]: the outcome of each line of the early script, and of the page
 //!   script

@@ -1,4 +1,4 @@
--- Lemmas on frames of which a table has a byte, and frames of which it has none.
+-- Lemmas on frames that overlap a record of a table, and frames that don't.
 use Rattle.std.proofs.Common.{◌≡◌, ℕ, ◌+◌, ◌-◌, ◌*◌, ◌/◌, ◌<◌, ◌≤◌, max, true, false, Option, Some, None, List, length, get_or, drop, refl, sym, ◌∙◌, ap, add-one, arith, drop-cons}
 use Rattle.std.specs.Option.{is_none}
 use Rattle.std.proofs.lemmas.List.{at_drop_all}
@@ -13,14 +13,14 @@ use Rattle.table_frames.specs.Frames.{frames_of, is_unclaimed, IsPassed}
 use Rattle.table_frames.specs.Tables.{AscendBelow}
 use Rattle.table_frames.proofs.RecordLaws.{ascend_at, ascend_drop, ascend_none}
 
--- if the table has no value for any byte of a frame, it has no byte of the frame
+-- a frame without a value for any of its bytes overlaps no record
 pub unclaimed_bare : (f : Labels) (frame : ℕ) → ((y : ℕ) → 4096 * frame ≤ y → y < 4096 * frame + 4096 → f y ≡ None)
     → is_unclaimed f frame ≡ true
 unfolding is_unclaimed
 unclaimed_bare f frame bare =
     each_in-all (bytes_of_frame frame) (λ y. is_none (f y)) (λ y above below. ap (λ (o : Option Label). is_none o) (bare y above below))
 
--- if the table has a value for some byte of a frame, it has a byte of the frame
+-- a frame with a value for one of its bytes overlaps a record
 pub claimed_byte : (f : Labels) (frame y : ℕ) (v : Label) → 4096 * frame ≤ y → y < 4096 * frame + 4096 → f y ≡ Some v
     → is_unclaimed f frame ≡ false
 unfolding is_unclaimed

@@ -18,7 +18,7 @@ abbrev pub node_told : Option Label → Option ℕ
 node_told None = None
 node_told (Some label) = node_below label.node
 
--- the frames of which a record has a byte, and their node
+-- the frames that overlap a record, and their node
 abbrev pub frames_of : RunOf Label → RecordFrames
 frames_of r = record { first = r.base / FRAME_SIZE; end = (r.base + (r.size - 1)) / FRAME_SIZE + 1; node = node_below r.value.node }
 
@@ -36,6 +36,6 @@ unfoldable pub free_node_in : Labels → Labels → ℕ → Option ℕ
 free_node_in memory reserved frame =
     if each_in (bytes_of_frame frame) (λ x. is_some (memory x) && is_none (reserved x)) then node_of_frame memory frame else None
 
--- the records before the index have no byte of the frame or of any above it
+-- the records before the index don't overlap the frame or any above it
 abbrev pub IsPassed : List (RunOf Label) → ℕ → ℕ → Type 0
 IsPassed rs i frame = (x : ℕ) → FRAME_SIZE * frame ≤ x → value_at (drop i rs) x ≡ value_at rs x

@@ -1,5 +1,5 @@
-//! Finds the next frames of which a table has a byte, from a frame on. A caller that goes upward
-//! passes the index that it got before. So a walk over all frames goes through the records once.
+//! Finds the next frames that overlap a record of a table. A caller that goes upward passes the
+//! index that it got before. So a walk over all frames goes through the records once.
 
 ghost use Rattle.std.specs.Prelude.{◌≡◌, ◌^◌, ◌<◌, ◌≤◌, ℕ, true, false};
 ghost use Rattle.address_runs.specs.Runs.{value_at};
@@ -11,7 +11,7 @@ use crate::frames::frames_at;
 use memblock_ranges::Head;
 use phys_store::Store;
 
-/// The next frames of which a table has a byte.
+/// The next frames that overlap a record of a table.
 #[derive(Clone, Copy, Debug, PartialEq, Eq)]
 pub struct Claim {
     /// The index of the record from which the next search can start.
@@ -22,8 +22,9 @@ pub struct Claim {
     pub end: u64,
 }
 
-/// Finds the next frames, from frame `at` on, of which a record has a byte. The records before
-/// `index` must have no byte of these frames. The search only goes to higher indices.
+/// Finds the next frames, from frame `at` on, that overlap a record. The records before `index`
+/// must not overlap any of these frames. The search only goes to higher indices. `at` is below
+/// 2^52.
 pub fn next_claim(store: &Store, head: &Head, index: u64, at: u64) -> Claim
     requires table { HasRecords store.now head.now (2 ^ 64) }
     requires index { index ≤ head.now.count }

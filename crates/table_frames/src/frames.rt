@@ -16,7 +16,7 @@ use phys_store::Store;
 /// Nodes have numbers below this (the largest `MAX_NUMNODES` of x86-64).
 pub const MAX_NODES: u32 = 1024;
 
-/// The frames of which a record has a byte, and their node.
+/// The frames that overlap a record, and their node.
 #[derive(Clone, Copy, Debug, PartialEq, Eq)]
 pub struct RecordFrames {
     /// The frame of the record's first byte.

@@ -1,6 +1,6 @@
-//! Computes the spans from the memory table. Its records are read as frames by the same function
-//! as in the handover (`frames_at`). So each frame is in the span of the node for which it is
-//! freed.
+//! Computes the spans from the memory table. The handover of free frames to the page allocator
+//! reads the records by the same function (`frames_at`). So each frame is in the span of the node
+//! for which it is freed.
 
 ghost use Rattle.std.specs.Prelude.{◌≡◌, ◌^◌, ◌*◌, IfOk};
 ghost use Rattle.address_runs.specs.Runs.{value_at};
