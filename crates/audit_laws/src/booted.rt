@@ -37,8 +37,15 @@ fn read_map(runs: &[Run])
     ensures { All IsNear runs.now }
 {
     for run in runs {
-        let _fact = run.range; // for its facts alone
+        run_ends_in_space(run);
     }
+}
+
+/// Law: a run of a map ends below 2^64.
+fn run_ends_in_space(run: &Run)
+    ensures { IsNear run.now }
+{
+    let _ = run.range;
 }
 
 /// Reads each run of owners.

@@ -76,11 +76,11 @@ impl Buddy {
         })
     }
 
-    /// A law: no frame is free from [`MAX_FRAMES`] on.
+    /// Law: no frame is free from [`MAX_FRAMES`] on.
     pub fn lies_low(&self)
         ensures { NothingFrom MAX_FRAMES (free self.now) }
     {
-        let _fact = &self.runs; // for its facts alone
+        let _ = &self.runs; // their invariant says so
     }
 
     /// Takes the memory for `n` more entries. `Memory` comes only where there was less, and nothing has

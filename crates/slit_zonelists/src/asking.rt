@@ -47,7 +47,7 @@ pub fn unlisted(pages: &Pages, lists: &Lists, order: u32, node: u32) -> Result<P
 {
     for entry in lists.zones() {
         if pages.buddy().serves(entry.node, entry.zone, order) {
-            let _fact = lists.distance(node, entry.node); // for its facts alone
+            lists.distance_is_a_byte(node, entry.node);
             return Err(Memory);
         }
     }

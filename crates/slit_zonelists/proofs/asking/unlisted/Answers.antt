@@ -28,8 +28,7 @@ returns-then-serves-clause-memory c =
     sym (subst (λ (d : Contents). c.serves.result ≡ is_some (first_picked (free d) z.node z.zone c.args.order))
     c.buddy.ensures c.serves.ensures)
     ∙ c.if-serves.true in
-    let at : c.distance-fact.result ≡ distance_in k node z.node = c.distance-fact.ensures in
-    let low : distance_in k node z.node < 256 = omega (arith, at) in
+    let low : distance_in k node z.node < 256 = c.distance_is_a_byte.ensures in
     let there = subst (λ (zs : List ListZone). (i < length zs) × (p (get_or zs i nothing) ≡ true)
     × (distance_in k node (get_or zs i nothing).node < 256)) c.loop-entry.invariant.same (c.loop-entry-test.true, on, low) in
     found_any p (zones_of k node) (some_of k p node i nothing there.0 there.1 there.2)
