@@ -1,5 +1,5 @@
 -- What holds of a boot that isn't stopped.
-use Rattle.std.proofs.Common.{◌≡◌, ℕ, ◌+◌, ◌*◌, ◌^◌, ◌<◌, ◌≤◌, ◌∙◌, sym, ap, refl, arith, inl, inr, Bool, ◌||◌, true, false, ◌==◌, nat_lt, if◌then◌else◌, Option, Some, None, List, [], ◌∷◌, drop, length, Result, Ok, Err}
+use Rattle.std.proofs.Common.{◌≡◌, ℕ, ◌+◌, ◌*◌, ◌^◌, ◌<◌, ◌≤◌, ◌∙◌, sym, ap, refl, arith, inl, inr, Bool, ◌||◌, true, false, ◌==◌, nat_lt, if◌then◌else◌, Option, Some, None, List, [], ◌∷◌, drop, length, Ok, Err}
 use Rattle.std.proofs.lemmas.Bool.{cases_Bool}
 use Rattle.std.proofs.lemmas.Bool.Decides.{nat_tests}
 use Rattle.std.proofs.Math.Bool.{or-false}
@@ -14,19 +14,19 @@ use Rattle.bm_base.specs.Each.{each_in}
 use Rattle.bm_base.specs.Frames.{bytes_of_frame}
 use Rattle.bm_base.proofs.EachLaws.{each_in-same}
 use Rattle.e820_model.proofs.ClaimLaws.{tells_kinds}
-use Rattle.memblock_model.specs.declared.item.Item.{Item}
-use Rattle.growth_model.specs.Outcome.{Refused}
+use Rattle.early_stages.specs.Wanted.{first_items}
 use Rattle.e820_usable.specs.declared.stop.MapStop.{MapStop}
 use Rattle.e820_usable.specs.declared.stop.MapStop.TheVariants as reasons
 use Rattle.e820_usable.specs.Judged.{judged}
 use Rattle.boot_model.specs.declared.stop.Cause.{Cause}
 use Rattle.script_reader.specs.declared.act.Line.{Line}
 use Rattle.early_script.specs.Stage.{after_lines, before_sections, behind_sections}
-use Rattle.boot_model.specs.Boot.{Given, BootSoFar, begin, behind_lines, boot, claims, has_frames, has_room, later_stages, lies_in_memory, map_judged, map_stages, reach, put_crash, put_nodes, put_sections, runs_lines, script_at, types_in_reach, unless_stopped, with_items}
+use Rattle.boot_model.specs.Boot.{Given, BootSoFar, begin, behind_lines, boot, claims, early_of, has_frames, has_memory, has_room, later_stages, lies_in_memory, map_judged, map_stages, reach, put_crash, put_nodes, put_sections, runs_lines, script_at, types_in_reach, unless_stopped}
 use Rattle.numa_nodes.specs.Assigned.{assigned}
 use Rattle.crash_kernel.specs.Reserved.{reserved}
+use Rattle.boot_model.specs.First.{items_carried}
 use Rattle.boot_model.specs.Sections.{places_of_sections}
-use Rattle.boot_model.specs.Stop.{cause_of_refusal, cause_of_stage}
+use Rattle.boot_model.specs.Stop.{cause_of_growth, cause_of_stage}
 use Rattle.boot_model.proofs.ReachLaws.{reach-small}
 use Rattle.boot_model.proofs.StageLaws.{AllKeep, Keeps, chain_keeps, goes_by, passes, steps_keep}
 use Rattle.boot_model.specs.Stages.{in_order}
@@ -60,13 +60,6 @@ judged_first given made ends =
     let last : behind_frames.middle ≡ made = cc in
     (sym (room.1 ∙ frames.1 ∙ last), frames.0, room.0)
 
-pub items_passed : (answer : Result (List Item) Refused) (before after : BootSoFar) → with_items before answer ≡ Ok after
-    → (answer ≡ Ok after.items) × (after.map ≡ before.map)
-items_passed (Ok items) before after ends =
-    let same : record before { items = items } ≡ after = cc in
-    (ap (λ (m : BootSoFar). Ok m.items) same, ap (λ (m : BootSoFar). m.map) (sym same))
-items_passed (Err refused) before after ends = absurd (cc)
-
 -- lines of the script leave the map
 pub lines_passed : (kernel : Extent) (lines : List Line) (before after : BootSoFar) → runs_lines kernel lines before ≡ Ok after
     → after ≡ behind_lines before (after_lines (script_at kernel before) lines)
@@ -79,12 +72,14 @@ lines_map kernel lines before after ends = ap (λ (m : BootSoFar). m.map) (lines
 pub later_keep : (given : Given) → AllKeep (λ (made : BootSoFar). made.map) (later_stages given)
 later_keep given =
     let map : BootSoFar → List (RunOf ℕ) = λ made. made.map in
+    let memory : Keeps map (has_memory given) = λ before after ends. steps_keep map cause_of_growth (λ done next. next)
+    (items_carried (first_items (early_of given) before.map)) (λ a m. refl) (λ last. refl) before after ends in
     let nodes = steps_keep map cause_of_stage put_nodes (assigned given.domains given.options.numa_off) (λ a m. refl) (λ before. refl) in
-    let crash = steps_keep map cause_of_refusal put_crash (reserved given.options.crash) (λ a m. refl) (λ before. refl) in
+    let crash = steps_keep map cause_of_growth put_crash (reserved given.options.crash) (λ a m. refl) (λ before. refl) in
     let sections = steps_keep map cause_of_stage put_sections (places_of_sections given.width) (λ a m. refl) (λ before. refl) in
     let before = lines_map given.kernel (before_sections given.lines) in
     let behind = lines_map given.kernel (behind_sections given.lines) in
-    ((λ before after ends. (items_passed _ before after ends).1), (nodes, (crash, (before, (sections, (behind, tt))))))
+    (memory, (nodes, (crash, (before, (sections, (behind, tt))))))
 
 pub goes_on : (given : Given) (made : BootSoFar) → boot given ≡ Ok made → GoesOn given made
 unfolding boot

@@ -39,11 +39,11 @@ use Rattle.buddy_handover.specs.Contents.{free}
 use Rattle.crash_kernel.specs.declared.crash.Crash.{Crash}
 use Rattle.crash_kernel.specs.declared.crash.Crash.TheVariants as crash
 use Rattle.sparse_sections.specs.Roots.{roots_view}
-use Rattle.growth_model.specs.declared.refusal.Refusal.TheVariants as refusal
-use Rattle.memblock_grow.specs.declared.stop.StageStop.TheVariants as stage
+use Rattle.stage_model.specs.Causes.{NoPlace, NoTablePlace}
 use Rattle.memblock_grow.specs.declared.stop.What.TheVariants as what
-use Rattle.boot_model.specs.Boot.{Given, BootSoFar, added, begin, begin_with, begun, behind_lines, boot, claims, early_of, handed_over, has_room, lies_in_memory, mirrors_of, no_nodes, no_options, put_crash, put_nodes, put_sections, reach, reach_told, runs_lines, script_at, told, told_boot, unless_stopped, with_items}
+use Rattle.boot_model.specs.Boot.{Given, BootSoFar, added, begin, begin_with, begun, behind_lines, boot, claims, early_of, handed_over, has_room, lies_in_memory, mirrors_of, no_nodes, no_options, put_crash, put_nodes, put_sections, reach, reach_told, runs_lines, script_at, told, told_boot, unless_stopped}
 use Rattle.early_stages.specs.Early.{FrameRange}
+use Rattle.boot_model.specs.First.{items_carried}
 use Rattle.boot_model.specs.Kernel.{IsKernel, is_kernel}
 use Rattle.boot_model.specs.Mirrors.{IsMirror, frames_in}
 use Rattle.page_alloc.specs.declared.act.PageAct.TheVariants as pages
@@ -54,7 +54,7 @@ use Rattle.slit_zonelists.specs.Matrix.{matrix}
 use Rattle.slit_zonelists.specs.Lists.{known}
 use Rattle.boot_model.specs.Sections.{SectionPlaces, no_sections}
 use Rattle.boot_model.specs.Stages.{in_order}
-use Rattle.boot_model.specs.Stop.{cause_of, cause_of_growth, cause_of_map, cause_of_refusal, cause_of_stage, stop_of}
+use Rattle.boot_model.specs.Stop.{cause_of, cause_of_growth, cause_of_map, cause_of_stage, stop_by, stop_of}
 use Rattle.boot_model.specs.View.{booted_view, efi_view, inputs_view}
 
 -- a chain of two stages on numbers, of which the second stops at 2
@@ -83,10 +83,11 @@ empty = record { addr = 0; size = 0; kind = 0 }
 abbrev of_image : Given
 of_image = begun Bits46 image
 
--- items that were carried out, and a growth that was refused
-carried_examples : (with_items made (Ok (item.Trim ∷ [])) ≡ Ok (record made { items = item.Trim ∷ [] }))
-    × (with_items made (Err (record { which = which.Reserved; room = 128 })) ≡ Err (causes.NoTablePlace which.Reserved 128))
-carried_examples = (refl, refl)
+-- two items that need no growth are a group each
+carried_example : items_carried (item.Trim ∷ item.Limit 0x2000 ∷ []) []
+    ≡ record { steps = (item.Trim ∷ []) ∷ (item.Limit 0x2000 ∷ []) ∷ []; answer = Ok tt }
+unfolding items_carried
+carried_example = refl
 
 -- what is told of it: both tables are empty, in the image's last two frames
 told_example : ((told of_image made).heads.memory.place ≡ 0x2FFE000) × ((told of_image made).heads.reserved.place ≡ 0x2FFF000)
@@ -219,9 +220,9 @@ cause_examples : (cause_of (stops.MapFull 3201) ≡ Some (causes.MapFull 3201)) 
     × (stop_of causes.NoRam ≡ stops.NoRam) × (stop_of (causes.TooMuchRam 4294967297) ≡ stops.TooMuchRam 4294967297)
     × (cause_of_map reasons.NoRam ≡ causes.NoRam) × (cause_of_map (reasons.TooMuchRam 4294967297) ≡ causes.TooMuchRam 4294967297)
     × (cause_of_growth (record { which = which.Memory; room = 256 }) ≡ causes.NoTablePlace which.Memory 256)
-    × (cause_of_stage (stage.NoPlace (what.Root 3)) ≡ causes.NoPlace (what.Root 3))
-    × (cause_of_stage (stage.NoTablePlace which.Reserved 128) ≡ causes.NoTablePlace which.Reserved 128)
-    × (cause_of_refusal (refusal.NoGapForTable which.Memory 256) ≡ causes.NoTablePlace which.Memory 256)
+    × (cause_of_stage (NoPlace (what.Root 3)) ≡ causes.NoPlace (what.Root 3))
+    × (stop_by cause_of_stage (Some (NoTablePlace which.Reserved 128)) ≡ stops.NoTablePlace which.Reserved 128)
+    × (stop_by cause_of_growth None ≡ stops.Memory)
 cause_examples = (refl, refl, refl, refl, refl, refl, refl, refl, refl, refl, refl)
 
 -- RAM and the kernel's own memory are memory; a reserved run isn't, nor is what lies in no run

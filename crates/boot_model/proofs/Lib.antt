@@ -6,4 +6,4 @@ pub mod NodedLaws
 pub mod ReachLaws
 pub mod StageLaws
 mod RamLaws
-pub mod WantsLaws
+pub mod CarriedLaws

@@ -27,7 +27,7 @@ use Rattle.early_script.specs.Stage.{LineStage as Script, after_line, after_line
 use Rattle.early_script.proofs.QuietLaws.{acts-keep, deed-quiet}
 use Rattle.boot_model.specs.Boot.{Given, BootSoFar, Stage, boot, claims, early_of, has_crash_area, has_memory, has_nodes, has_sections, later_stages, map_judged, mirrors_of, put_crash, put_nodes, put_sections, reach, runs_lines, script_at, types_in_reach}
 use Rattle.boot_model.specs.Sections.{places_of_sections}
-use Rattle.boot_model.specs.Stop.{cause_of_refusal, cause_of_stage}
+use Rattle.boot_model.specs.Stop.{cause_of_growth, cause_of_stage}
 use Rattle.numa_nodes.specs.Assigned.{assigned}
 use Rattle.numa_nodes.proofs.MemoryLaws.{keeps-limit, keeps-memory}
 use Rattle.crash_kernel.specs.Reserved.{reserved}
@@ -37,7 +37,8 @@ use Rattle.stage_model.proofs.QuietLaws.{quiet-appended_limit, quiet-appended_me
 use Rattle.sparse_sections.proofs.QuietLaws.{quiet-roots}
 use Rattle.section_maps.proofs.QuietLaws.{quiet-maps}
 use Rattle.boot_model.specs.Stages.{in_order}
-use Rattle.boot_model.proofs.BootLaws.{items_passed, judged_first, lines_passed, map_between}
+use Rattle.boot_model.proofs.BootLaws.{judged_first, lines_passed, map_between}
+use Rattle.boot_model.proofs.CarriedLaws.{memory_carried}
 use Rattle.boot_model.proofs.ReachLaws.{reach-small}
 use Rattle.boot_model.proofs.StageLaws.{AllKeep, Keeps, chain_keeps, goes_by, passes, steps_keep}
 
@@ -83,13 +84,13 @@ nodes_bound given =
 
 pub crash_labels : (given : Given) → Keeps labels_by (has_crash_area given)
 crash_labels given =
-    steps_keep labels_by cause_of_refusal put_crash (reserved given.options.crash) (λ a m. refl)
+    steps_keep labels_by cause_of_growth put_crash (reserved given.options.crash) (λ a m. refl)
     (λ before. quiet-appended_memory before.items (reserved given.options.crash before.items).steps
     ((quiet-reserved given.options.crash).each before.items))
 
 crash_bound : (given : Given) → Keeps bound_by (has_crash_area given)
 crash_bound given =
-    steps_keep bound_by cause_of_refusal put_crash (reserved given.options.crash) (λ a m. refl)
+    steps_keep bound_by cause_of_growth put_crash (reserved given.options.crash) (λ a m. refl)
     (λ before. quiet-appended_limit before.items (reserved given.options.crash before.items).steps
     ((quiet-reserved given.options.crash).each before.items))
 
@@ -146,11 +147,10 @@ memory_made given made ends =
     let judged = goes_by (map_judged given) (λ m. in_order (later_stages given) m) made ends in
     let behind = passes (has_memory given) (drop 1 (later_stages given)) judged.middle made judged.rest in
     let known = judged_first given judged.middle judged.first in
-    let passed = items_passed (carried_out (first_items (early_of given) judged.middle.map) judged.middle.items)
-    judged.middle behind.middle behind.first in
     record {
       first = behind.middle;
-      carried = ap (λ (m : BootSoFar). carried_out (first_items (early_of given) m.map) m.items) (sym known.0) ∙ passed.0;
+      carried = ap (λ (m : BootSoFar). carried_out (first_items (early_of given) m.map) m.items) (sym known.0)
+          ∙ memory_carried given judged.middle behind.middle behind.first;
       memory = chain_keeps held_by (drop 1 (later_stages given)) (memory_keep given) behind.middle made behind.rest;
       limit = chain_keeps bound_by (drop 1 (later_stages given)) (limit_keep given) behind.middle made behind.rest;
     }

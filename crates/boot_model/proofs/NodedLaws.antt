@@ -1,5 +1,5 @@
 -- Memory behind the map, and behind its nodes: what each stage may rest on.
-use Rattle.std.proofs.Common.{◌≡◌, ℕ, ◌*◌, ◌/◌, ◌<◌, ◌≤◌, ◌^◌, ◌∙◌, false, Option, Some, None, List, [], drop, Ok, refl, ap, sym, inl, inr, arith}
+use Rattle.std.proofs.Common.{◌≡◌, ℕ, ◌*◌, ◌/◌, ◌<◌, ◌≤◌, ◌^◌, ◌∙◌, false, Option, Some, None, List, [], ◌∷◌, drop, Ok, refl, ap, sym, inl, inr, arith}
 use Rattle.std.proofs.lemmas.Bool.{cases_lt, false_from_ne_true}
 use Rattle.address_runs.specs.Runs.{RunOf, value_at}
 use Rattle.address_runs.specs.Edits.{NothingFrom}
@@ -19,14 +19,15 @@ use Rattle.early_stages.proofs.MirrorLaws.{mirrored-alike}
 use Rattle.stage_model.specs.Noded.{AreOfFrames, IsNoded}
 use Rattle.numa_nodes.specs.Assigned.{assigned}
 use Rattle.numa_nodes.proofs.NodedLaws.{answer-noded}
-use Rattle.boot_model.specs.Boot.{Given, BootSoFar, boot, claims, early_of, has_memory, has_nodes, later_stages, map_judged, mirrors_of, put_nodes, reach}
+use Rattle.boot_model.specs.Boot.{Given, BootSoFar, Stage, boot, claims, early_of, has_memory, has_nodes, later_stages, map_judged, mirrors_of, put_nodes, reach}
 use Rattle.boot_model.specs.First.{IsFirstMemory}
 use Rattle.boot_model.specs.Stages.{in_order}
 use Rattle.boot_model.specs.Stop.{cause_of_stage}
-use Rattle.boot_model.proofs.BootLaws.{frames_within, items_passed, judged_first, map_between}
+use Rattle.boot_model.proofs.BootLaws.{frames_within, judged_first, map_between}
+use Rattle.boot_model.proofs.CarriedLaws.{memory_carried}
 use Rattle.boot_model.proofs.MemoryLaws.{labels_by, labels_keep, types_same}
 use Rattle.boot_model.proofs.ReachLaws.{reach-below}
-use Rattle.boot_model.proofs.StageLaws.{chain_keeps, goes_by, passes, steps_answered}
+use Rattle.boot_model.proofs.StageLaws.{AllKeep, chain_keeps, goes_by, passes, steps_answered}
 
 -- nothing lies where each byte that has memory lies below
 none_from : (at : ℕ) (f : Labels) (x : ℕ) (o : Option Label) → f x ≡ o → ((label : Label) → f x ≡ Some label → x < at) → at ≤ x
@@ -94,15 +95,17 @@ nodes_known given before last first ends =
     rw told.same (answer-noded (reach given) given.domains given.options.numa_off before.items told.value told.answer (reach-below given)
     first.frames first.within first.low)
 
--- and at the end of the boot
+-- and behind any stages that leave it, as at the end of the boot
+pub noded_behind : (given : Given) (first made : BootSoFar) (rest : List Stage) → map_judged given ≡ Ok first → AllKeep labels_by rest
+    → in_order (has_memory given ∷ has_nodes given ∷ rest) first ≡ Ok made → IsNoded (reach given) (memory_of made.items)
+noded_behind given first made rest judged keep ends =
+    let behind = passes (has_memory given) (has_nodes given ∷ rest) first made ends in
+    let nodes = passes (has_nodes given) rest behind.middle made behind.rest in
+    let known = first_known given first behind.middle.items judged (memory_carried given first behind.middle behind.first) in
+    rw (chain_keeps labels_by rest keep nodes.middle made nodes.rest) (nodes_known given behind.middle nodes.middle known nodes.first)
+
 pub noded_told : (given : Given) (made : BootSoFar) → boot given ≡ Ok made → IsNoded (reach given) (memory_of made.items)
 unfolding boot
 noded_told given made ends =
-    let judged_map = goes_by (map_judged given) (λ m. in_order (later_stages given) m) made ends in
-    let behind = passes (has_memory given) (drop 1 (later_stages given)) judged_map.middle made judged_map.rest in
-    let passed = items_passed (carried_out (first_items (early_of given) judged_map.middle.map)
-    judged_map.middle.items) judged_map.middle behind.middle behind.first in
-    let first = first_known given judged_map.middle behind.middle.items judged_map.first passed.0 in
-    let nodes = passes (has_nodes given) (drop 2 (later_stages given)) behind.middle made behind.rest in
-    rw (chain_keeps labels_by (drop 2 (later_stages given)) (labels_keep given) nodes.middle made nodes.rest) (nodes_known given
-    behind.middle nodes.middle first nodes.first)
+    let judged = goes_by (map_judged given) (λ m. in_order (later_stages given) m) made ends in
+    noded_behind given judged.middle made (drop 2 (later_stages given)) judged.first (labels_keep given) judged.rest

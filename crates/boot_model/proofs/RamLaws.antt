@@ -1,29 +1,24 @@
 -- A boot stops for want of usable frames only where there are none.
-use Rattle.std.proofs.Common.{◌≡◌, ◌≢◌, ℕ, ◌^◌, ◌==◌, Bool, true, false, nat_lt, if◌then◌else◌, List, [], ◌∷◌, length, Some, None, Result, Ok, Err, refl, arith}
+use Rattle.std.proofs.Common.{◌≡◌, ℕ, ◌^◌, ◌==◌, Bool, true, false, nat_lt, if◌then◌else◌, List, [], ◌∷◌, length, Some, None, Result, Ok, Err, refl, arith}
 use Rattle.std.proofs.lemmas.Bool.Decides.{nat_tests}
 use Rattle.std.specs.Prelude.{IfErr}
 use Rattle.bm_base.specs.ResultSteps.{◌>>=◌}
 use Rattle.e820_model.specs.Usable.{usable_frames}
 use Rattle.e820_model.specs.declared.room.TheConstants.{E820_MAX_ENTRIES}
 use Rattle.e820_usable.specs.declared.stop.MapStop.TheVariants as reasons
-use Rattle.memblock_model.specs.declared.item.Item.{Item}
-use Rattle.growth_model.specs.declared.refusal.Refusal.{Refusal}
-use Rattle.growth_model.specs.declared.refusal.Refusal.TheVariants as refusal
 use Rattle.growth_model.specs.Outcome.{Refused}
-use Rattle.growth_model.specs.Carried.{carried_out}
 use Rattle.early_stages.specs.Wanted.{first_items}
-use Rattle.memblock_grow.specs.declared.stop.StageStop.{StageStop}
-use Rattle.memblock_grow.specs.declared.stop.StageStop.TheVariants as stage
+use Rattle.stage_model.specs.Causes.{StageCause, NoPlace, NoTablePlace}
 use Rattle.stage_model.specs.Doing.{Doing, after}
 use Rattle.numa_nodes.specs.Assigned.{assigned}
 use Rattle.crash_kernel.specs.Reserved.{reserved}
 use Rattle.boot_model.specs.declared.stop.Cause.{Cause}
 use Rattle.boot_model.specs.declared.stop.Cause.TheVariants as causes
-use Rattle.boot_model.specs.Boot.{Given, BootSoFar, Stage, begin, boot, by_steps, early_of, later_stages, map_judged, map_stages, put_crash, put_nodes, put_sections, types_in_reach, unless_stopped, with_answer, with_items}
+use Rattle.boot_model.specs.Boot.{Given, BootSoFar, Stage, begin, boot, by_steps, early_of, later_stages, map_judged, map_stages, put_crash, put_nodes, put_sections, types_in_reach, unless_stopped, with_answer}
+use Rattle.boot_model.specs.First.{items_carried}
 use Rattle.boot_model.specs.Sections.{places_of_sections}
 use Rattle.boot_model.specs.Stages.{in_order}
-use Rattle.boot_model.specs.Stop.{cause_of_refusal, cause_of_stage}
-use Rattle.boot_model.proofs.WantsLaws.{Errs, crash_errs, nodes_errs, sections_errs}
+use Rattle.boot_model.specs.Stop.{cause_of_growth, cause_of_stage}
 
 -- what is said where a boot stops so
 abbrev IsTold : ℕ → Cause → Type 0
@@ -57,36 +52,23 @@ frames_errs frames true many made is = λ same. grind (arith, nat_tests, is)
 frames_errs frames false true made is = λ same. absurd (cc same)
 frames_errs frames false false made is = tt
 
--- a table that found no place is another cause
-items_errs : (frames : ℕ) (made : BootSoFar) (said : Result (List Item) Refused) → IfErr (with_items made said) (IsTold frames)
-items_errs frames made (Ok items) = tt
-items_errs frames made (Err refused) = λ same. absurd (cc same)
-
--- and so is every stop of a stage
+-- a stage stops for another cause
 answer_errs : {E A : Type 0} (P : Cause → Type 0) (cause : E → Cause) (put : A → BootSoFar → BootSoFar) (next : BootSoFar)
-    (answer : Result A E)
-    → IfErr answer (λ e. P (cause e)) → IfErr (with_answer cause put next answer) P
+    (answer : Result A E) → ((e : E) → P (cause e)) → IfErr (with_answer cause put next answer) P
 answer_errs P cause put next (Ok a) errs = tt
-answer_errs P cause put next (Err e) errs = errs
+answer_errs P cause put next (Err e) errs = errs e
 
-if_err : {A E : Type 0} (answer : Result A E) (P Q : E → Type 0) → ((e : E) → P e → Q e) → IfErr answer P → IfErr answer Q
-if_err (Ok a) P Q rest errs = tt
-if_err (Err e) P Q rest errs = rest e errs
+steps_errs : {E A : Type 0} (frames : ℕ) (cause : E → Cause) (put : A → BootSoFar → BootSoFar) (doing : Doing E A)
+    → ((e : E) → IsTold frames (cause e)) → (made : BootSoFar) → IfErr (by_steps cause put doing made) (IsTold frames)
+steps_errs frames cause put doing told made =
+    answer_errs (IsTold frames) cause put (record made { items = after made.items (doing made.items) }) (doing made.items).answer told
 
-steps_errs : {E A : Type 0} (frames : ℕ) (P : E → Type 0) (cause : E → Cause) (put : A → BootSoFar → BootSoFar) (doing : Doing E A)
-    → ((e : E) → P e → IsTold frames (cause e)) → Errs P doing → (made : BootSoFar) → IfErr (by_steps cause put doing made) (IsTold frames)
-steps_errs frames P cause put doing told errs made =
-    answer_errs (IsTold frames) cause put (record made { items = after made.items (doing made.items) }) (doing made.items).answer
-    (if_err (doing made.items).answer P (λ e. IsTold frames (cause e)) told (errs made.items))
+growth_told : (frames : ℕ) (refused : Refused) → IsTold frames (cause_of_growth refused)
+growth_told frames refused = λ same. absurd (cc same)
 
-stage_told : (frames : ℕ) (stop : StageStop) → stop ≢ stage.Memory → IsTold frames (cause_of_stage stop)
-stage_told frames stage.Memory other = absurd (other refl)
-stage_told frames stop other = λ same. absurd (cc same)
-
-refusal_told : (frames : ℕ) (why : Refusal) → (why ≢ refusal.NoGap) × (why ≢ refusal.Memory) → IsTold frames (cause_of_refusal why)
-refusal_told frames refusal.NoGap other = absurd (other.0 refl)
-refusal_told frames (refusal.NoGapForTable w room) other = λ same. absurd (cc same)
-refusal_told frames refusal.Memory other = absurd (other.1 refl)
+stage_told : (frames : ℕ) (why : StageCause) → IsTold frames (cause_of_stage why)
+stage_told frames (NoPlace thing) = λ same. absurd (cc same)
+stage_told frames (NoTablePlace w room) = λ same. absurd (cc same)
 
 -- the stages in their order: one fact a stage
 map_errs : (given : Given) → AllErr (IsTold (usable_frames (types_in_reach given))) (map_stages given)
@@ -100,15 +82,12 @@ later_errs : (given : Given) → AllErr (IsTold (usable_frames (types_in_reach g
 unfolding AllErr
 later_errs given =
     let frames : ℕ = usable_frames (types_in_reach given) in
-    let nodes = steps_errs frames (λ stop. stop ≢ stage.Memory) cause_of_stage put_nodes (assigned given.domains given.options.numa_off)
-    (stage_told frames) (nodes_errs given.domains given.options.numa_off) in
-    let crash = steps_errs frames (λ why. (why ≢ refusal.NoGap) × (why ≢ refusal.Memory)) cause_of_refusal put_crash
-    (reserved given.options.crash) (refusal_told frames) (crash_errs given.options.crash) in
-    let sections = steps_errs frames (λ stop. stop ≢ stage.Memory) cause_of_stage put_sections (places_of_sections given.width)
-    (stage_told frames) (sections_errs given.width) in (
-      λ made. items_errs frames made (carried_out (first_items (early_of given) made.map) made.items),
-      (nodes, (crash, ((λ made. tt), (sections, ((λ made. tt), tt))))),
-    )
+    let memory = λ (made : BootSoFar). steps_errs frames cause_of_growth (λ done next. next)
+    (items_carried (first_items (early_of given) made.map)) (growth_told frames) made in
+    let nodes = steps_errs frames cause_of_stage put_nodes (assigned given.domains given.options.numa_off) (stage_told frames) in
+    let crash = steps_errs frames cause_of_growth put_crash (reserved given.options.crash) (growth_told frames) in
+    let sections = steps_errs frames cause_of_stage put_sections (places_of_sections given.width) (stage_told frames) in
+    (memory, (nodes, (crash, ((λ made. tt), (sections, ((λ made. tt), tt))))))
 
 told_of : (said : Result BootSoFar Cause) (frames : ℕ) → IfErr said (IsTold frames) → said ≡ Err causes.NoRam → frames ≡ 0
 told_of (Ok made) frames errs is = absurd (cc is)

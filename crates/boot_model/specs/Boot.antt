@@ -19,8 +19,6 @@ use Rattle.memblock_model.specs.declared.item.Item.{Item}
 use Rattle.memblock_model.specs.declared.which.Which.TheVariants as which
 use Rattle.memblock_ranges.specs.declared.region.Heads.{Heads}
 use Rattle.memblock_ranges.specs.Tables.{head_of}
-use Rattle.growth_model.specs.Outcome.{Refused}
-use Rattle.growth_model.specs.Carried.{carried_out}
 use Rattle.growth_model.specs.Bytes.{Filled, table_for}
 use Rattle.early_stages.specs.Early.{Early, FrameRange}
 use Rattle.early_stages.specs.Wanted.{first_items}
@@ -50,9 +48,10 @@ use Rattle.zone_spans.specs.declared.span.Span.{Span}
 use Rattle.zone_spans.specs.Spans.{spans_of}
 use Rattle.boot_model.specs.declared.stop.Cause.{Cause}
 use Rattle.boot_model.specs.declared.stop.Cause.TheVariants as causes
+use Rattle.boot_model.specs.First.{items_carried}
 use Rattle.boot_model.specs.Sections.{SectionPlaces, no_sections, places_of_sections}
 use Rattle.boot_model.specs.Stages.{in_order}
-use Rattle.boot_model.specs.Stop.{cause_of_growth, cause_of_map, cause_of_refusal, cause_of_stage}
+use Rattle.boot_model.specs.Stop.{cause_of_growth, cause_of_map, cause_of_stage}
 
 -- what the firmware's own map of memory says: its entries, and the frames of which the machine keeps a second copy
 pub record EfiGiven : Type 0 where
@@ -257,16 +256,6 @@ map_stages given = has_room ∷ has_frames given ∷ []
 abbrev pub map_judged : Given → Result BootSoFar Cause
 map_judged given = in_order (map_stages given) (begin given)
 
--- the items behind a stage, unless a table that had to grow found no place
-abbrev pub with_items : BootSoFar → Result (List Item) Refused → Result BootSoFar Cause
-with_items made (Ok items) = Ok (record made { items = items })
-with_items made (Err refused) = Err (cause_of_growth refused)
-
--- the first claims are made, the map becomes memory, whole frames of it, and the first MiB is claimed (`early_reserve_memory`,
--- `e820__memblock_setup`, `reserve_real_mode`)
-abbrev pub has_memory : Given → Stage
-has_memory given made = with_items made (carried_out (first_items (early_of given) made.map) made.items)
-
 -- where lines of the script begin, and what is made behind them
 abbrev pub script_at : Extent → BootSoFar → Script
 script_at kernel made = record {
@@ -293,6 +282,11 @@ with_done cause put made done = with_answer cause put (record made { items = aft
 abbrev pub by_steps : {E A : Type 0} → (E → Cause) → (A → BootSoFar → BootSoFar) → Doing E A → Stage
 by_steps cause put doing made = with_done cause put made (doing made.items)
 
+-- the first claims are made, the map becomes memory, whole frames of it, and the first MiB is claimed (`early_reserve_memory`,
+-- `e820__memblock_setup`, `reserve_real_mode`)
+abbrev pub has_memory : Given → Stage
+has_memory given made = by_steps cause_of_growth (λ done next. next) (items_carried (first_items (early_of given) made.map)) made
+
 -- memory gets its nodes, and each node its data (`initmem_init`)
 abbrev pub put_nodes : Noded → BootSoFar → BootSoFar
 put_nodes nodes made = record made { nodes = nodes }
@@ -305,7 +299,7 @@ abbrev pub put_crash : Crash → BootSoFar → BootSoFar
 put_crash area made = record made { crash = area }
 
 abbrev pub has_crash_area : Given → Stage
-has_crash_area given = by_steps cause_of_refusal put_crash (reserved given.options.crash)
+has_crash_area given = by_steps cause_of_growth put_crash (reserved given.options.crash)
 
 -- the sections that have memory get their places
 abbrev pub put_sections : SectionPlaces → BootSoFar → BootSoFar

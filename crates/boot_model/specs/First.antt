@@ -1,9 +1,17 @@
--- Memory as the map gives it, before it has nodes (`e820__memblock_setup`).
+-- The first stage on memory, and what memory is behind it, before it has nodes (`e820__memblock_setup`).
 use Rattle.std.specs.Prelude.{ℕ, ◌<◌, List}
 use Rattle.address_runs.specs.Edits.{NothingFrom}
 use Rattle.memblock_model.specs.declared.item.Item.{Item}
 use Rattle.memblock_model.specs.Items.{limit_of, memory_of}
+use Rattle.growth_model.specs.Outcome.{Refused}
+use Rattle.growth_model.specs.Carried.{change}
+use Rattle.stage_model.specs.Doing.{Doing, in_turn}
 use Rattle.stage_model.specs.Noded.{AreOfFrames}
+use Rattle.stage_model.specs.Requests.{changes}
+
+-- the items, one after another, each behind the growth that it needs
+unfoldable pub items_carried : List Item → Doing Refused (Unit {0})
+items_carried wanted = in_turn (λ done i. changes (change i)) tt wanted
 
 -- whole frames within the reach of the kernel's tables of memory, each of one label, which end by the limit of
 -- allocations; and there are some

@@ -3,7 +3,7 @@ use Rattle.std.specs.Prelude.{List, []}
 use Rattle.bm_base.specs.declared.width.Width.{Width}
 use Rattle.memblock_model.specs.Items.{memory_of}
 use Rattle.memblock_grow.specs.declared.section.Section.{Section}
-use Rattle.memblock_grow.specs.declared.stop.StageStop.{StageStop}
+use Rattle.stage_model.specs.Causes.{StageCause}
 use Rattle.stage_model.specs.Doing.{Doing, ◌>>=◌, returns, listed}
 use Rattle.sparse_sections.specs.Present.{present}
 use Rattle.sparse_sections.specs.Roots.{RootsPlaced, roots}
@@ -19,14 +19,14 @@ pub record SectionPlaces : Type 0 where
 abbrev pub no_sections : SectionPlaces
 no_sections = record { roots = record { table = 0; roots = [] }; placed = [] }
 
-abbrev pub sections_placed : Width → List Section → Doing StageStop SectionPlaces
+abbrev pub sections_placed : Width → List Section → Doing StageCause SectionPlaces
 sections_placed width sections = do
   table ← roots width sections
   placed ← maps sections
   returns (record { roots = table; placed = placed })
 
 -- the sections that have memory, in their order
-unfoldable pub places_of_sections : Width → Doing StageStop SectionPlaces
+unfoldable pub places_of_sections : Width → Doing StageCause SectionPlaces
 places_of_sections width = do
   sections ← listed (λ items. present (memory_of items))
   sections_placed width sections

@@ -1,12 +1,9 @@
--- The causes of a stop. Want of memory is the one stop that has none.
+-- The causes of a stop. Running out of memory is the one stop that has none.
 use Rattle.std.specs.Prelude.{Option, Some, None}
 use Rattle.e820_usable.specs.declared.stop.MapStop.{MapStop}
 use Rattle.growth_model.specs.Outcome.{Refused}
 use Rattle.e820_usable.specs.declared.stop.MapStop.TheVariants as reasons
-use Rattle.growth_model.specs.declared.refusal.Refusal.{Refusal}
-use Rattle.growth_model.specs.declared.refusal.Refusal.TheVariants as refusal
-use Rattle.memblock_grow.specs.declared.stop.StageStop.{StageStop}
-use Rattle.memblock_grow.specs.declared.stop.StageStop.TheVariants as stage
+use Rattle.stage_model.specs.Causes.{StageCause, NoPlace, NoTablePlace}
 use Rattle.boot_model.specs.declared.stop.Cause.{Cause}
 use Rattle.boot_model.specs.declared.stop.Cause.TheVariants as causes
 use Rattle.boot_model.specs.declared.stop.Stop.{Stop}
@@ -36,14 +33,12 @@ cause_of_map (reasons.TooMuchRam frames) = causes.TooMuchRam frames
 abbrev pub cause_of_growth : Refused → Cause
 cause_of_growth refused = causes.NoTablePlace refused.which refused.room
 
--- why a stage stops the boot. No step of a stage says that memory is wanting, so what stands there for it is of no account
-abbrev pub cause_of_stage : StageStop → Cause
-cause_of_stage (stage.NoPlace thing) = causes.NoPlace thing
-cause_of_stage (stage.NoTablePlace w room) = causes.NoTablePlace w room
-cause_of_stage stage.Memory = causes.NoRam
+-- why a stage stops the boot
+abbrev pub cause_of_stage : StageCause → Cause
+cause_of_stage (NoPlace thing) = causes.NoPlace thing
+cause_of_stage (NoTablePlace w room) = causes.NoTablePlace w room
 
--- the same of a stage that looks for its places itself: it is never told that there is no gap
-abbrev pub cause_of_refusal : Refusal → Cause
-cause_of_refusal (refusal.NoGapForTable w room) = causes.NoTablePlace w room
-cause_of_refusal refusal.NoGap = causes.NoRam
-cause_of_refusal refusal.Memory = causes.NoRam
+-- the stop for a cause of a stage; without a cause the program's own memory ran out
+abbrev pub stop_by : {E : Type 0} → (E → Cause) → Option E → Stop
+stop_by cause None = stops.Memory
+stop_by cause (Some why) = stop_of (cause why)

@@ -1,11 +1,14 @@
 -- The values of a boot as its definition has them.
-use Rattle.std.specs.Prelude.{map}
+use Rattle.std.specs.Prelude.{map, Vec}
 use Rattle.std.specs.Option.{option_map}
+use Rattle.std.specs.declared.alloc.Global.{Global}
 use Rattle.boot_options.specs.Options.{chosen}
 use Rattle.srat_reader.specs.Table.{affinity}
 use Rattle.efi_map.specs.declared.efi.EfiMap.{EfiMap}
 use Rattle.numa_nodes.specs.Assigned.{nodes_view}
 use Rattle.sparse_sections.specs.Roots.{roots_view}
+use Rattle.sparse_sections.specs.declared.roots.Roots.{Roots}
+use Rattle.section_maps.specs.declared.placed.Placed.{Placed}
 use Rattle.buddy_handover.specs.Contents.{free}
 use Rattle.page_alloc.specs.Book.{state_of}
 use Rattle.slit_zonelists.specs.Matrix.{matrix}
@@ -13,6 +16,7 @@ use Rattle.boot_model.specs.declared.booted.Booted.{Booted}
 use Rattle.boot_model.specs.declared.inputs.Inputs.{Inputs}
 use Rattle.boot_model.specs.Boot.{EfiGiven, Given, Told}
 use Rattle.boot_model.specs.Mirrors.{frames_in}
+use Rattle.boot_model.specs.Sections.{SectionPlaces}
 
 abbrev pub efi_view : EfiMap → EfiGiven
 efi_view m = record { entries = m.entries.items; mirrors = map frames_in m.mirrors.items }
@@ -34,6 +38,9 @@ inputs_view i = record {
   efi = option_map efi_view i.efi;
 }
 
+abbrev pub sections_view : Roots → Vec Placed Global → SectionPlaces
+sections_view roots placed = record { roots = roots_view roots; placed = placed.items }
+
 abbrev pub booted_view : Booted → Told
 booted_view b = record {
   width = b.width;
@@ -43,7 +50,7 @@ booted_view b = record {
   heads = b.heads;
   nodes = nodes_view b.nodes;
   crash = b.crash;
-  sections = record { roots = roots_view b.roots; placed = b.placed.items };
+  sections = sections_view b.roots b.placed;
   answers = b.answers.items;
   spans = b.spans.items;
   free = free b.buddy;

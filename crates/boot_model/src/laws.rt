@@ -1,13 +1,12 @@
 //! What holds of a boot that isn't stopped, for whoever reads its map. The laws speak of the definition of the
 //! boot, so who has an answer of it may rest on them and needs to know none of its stages.
 
-ghost use Rattle.std.specs.Prelude.{◌≡◌, ◌≢◌, ℕ, ◌+◌, ◌*◌, ◌^◌, ◌/◌, ◌<◌, ◌≤◌, Bool, false, Option, None, List, [], is_some, IfErr, IfOk, IfSome, Ok, Err, length};
+ghost use Rattle.std.specs.Prelude.{◌≡◌, ℕ, ◌+◌, ◌*◌, ◌^◌, ◌/◌, ◌<◌, ◌≤◌, false, None, List, [], is_some, IfOk, IfSome, Ok, Err, length};
 ghost use Rattle.address_runs.specs.Runs.{value_at};
 ghost use Rattle.e820_model.specs.Map.{kinds};
 ghost use Rattle.std.specs.List.{All};
 ghost use Rattle.bm_base.specs.Each.{each_in};
 ghost use Rattle.bm_base.specs.Extent.{Extent};
-ghost use Rattle.bm_base.specs.declared.width.Width.{Width as AnyWidth};
 ghost use Rattle.bm_base.specs.Frames.{bytes_of_frame, frames_within};
 ghost use Rattle.efi_map.specs.Map.{efi_of};
 ghost use Rattle.e820_model.specs.Usable.{is_usable, usable_frames};
@@ -15,14 +14,7 @@ ghost use Rattle.e820_model.specs.declared.room.TheConstants.{E820_MAX_ENTRIES};
 ghost use Rattle.memblock_model.specs.Items.{limit_of, memory_of};
 ghost use Rattle.early_stages.specs.Memory.{memory_end};
 ghost use Rattle.memblock_model.specs.declared.item.Item.{Item};
-ghost use Rattle.growth_model.specs.declared.refusal.Refusal.TheVariants as refusal;
-ghost use Rattle.memblock_grow.specs.declared.stop.StageStop.TheVariants as stage;
-ghost use Rattle.srat_reader.specs.Table.{Affinity};
-ghost use Rattle.numa_nodes.specs.Assigned.{assigned};
-ghost use Rattle.boot_options.specs.Crash.{CrashWords as Asked};
-ghost use Rattle.crash_kernel.specs.Reserved.{reserved};
 ghost use Rattle.boot_model.specs.declared.stop.Cause.TheVariants as causes;
-ghost use Rattle.boot_model.specs.Sections.{places_of_sections};
 ghost use Rattle.boot_model.specs.Mirrors.{IsMirror};
 ghost use Rattle.boot_model.specs.Boot.{Given, BootSoFar, boot, claims, efi_entries, lies_in_memory, reach, types_in_reach};
 
@@ -66,17 +58,9 @@ pub fn map_gives_memory()
         limit_of made.items ≡ memory_end (reach given) (kinds (claims given)) }
 {}
 
-/// A law: no step of a stage answers that memory is wanting, and no step of the crash area that there is no gap, whatever is
-/// claimed by then. So what the definition of the boot says for these is of no account: it tells that no frame is usable
-/// only where none is.
-pub fn stages_want_no_memory()
-    ensures nodes { (table : Option Affinity) (off : Bool) (items : List Item) →
-        IfErr (assigned table off items).answer (λ stop. stop ≢ stage.Memory) }
-    ensures crash { (asked : Asked) (items : List Item) →
-        IfErr (reserved asked items).answer (λ why. (why ≢ refusal.NoGap) × (why ≢ refusal.Memory)) }
-    ensures sections { (width : AnyWidth) (items : List Item) →
-        IfErr (places_of_sections width items).answer (λ stop. stop ≢ stage.Memory) }
-    ensures ram { (given : Given) → boot given ≡ Err causes.NoRam → usable_frames (types_in_reach given) ≡ 0 }
+/// Law: a boot stops with `NoRam` only if no frame is usable.
+pub fn no_ram_means_no_usable_frame()
+    ensures { (given : Given) → boot given ≡ Err causes.NoRam → usable_frames (types_in_reach given) ≡ 0 }
 {}
 
 /// A law: the ranges that the firmware mirrors, and those of words that are cut to whole frames, are what a boot may be given.

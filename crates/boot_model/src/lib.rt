@@ -34,6 +34,6 @@ pub use inputs::Inputs;
 pub use kernel::is_kernel;
 pub use laws::{
     firmware_adds_what_is_asked, map_gives_frames, map_gives_memory, map_gives_types,
-    mirrors_are_whole_frames, stages_want_no_memory,
+    mirrors_are_whole_frames, no_ram_means_no_usable_frame,
 };
 pub use stop::{Cause, Stop};

@@ -6,7 +6,7 @@ ghost use Rattle.boot_model.specs.Stop.{cause_of};
 
 use bm_base::Memory;
 use e820_usable::MapStop;
-use memblock_grow::What;
+use memblock_grow::{Refusal, StageStop, What};
 use memblock_model::Which;
 
 /// Why a boot stops, want of memory apart; numbered from 1 in this order.
@@ -82,6 +82,40 @@ impl From<Memory> for Stop {
 
     fn from(_error: Memory) -> Stop {
         Stop::Memory
+    }
+}
+
+impl From<StageStop> for Stop {
+    ghost use Rattle.std.specs.Prelude.{◌≡◌, Option};
+    ghost use Rattle.stage_model.specs.Causes.{StageCause, stage_stop};
+    ghost use Rattle.boot_model.specs.Stop.{cause_of_stage, stop_by};
+
+    ghost from_gives = { λ stage stop. (why : Option StageCause) → stage ≡ stage_stop why → stop ≡ stop_by cause_of_stage why };
+
+    fn from(stage: StageStop) -> Stop {
+        match stage {
+            StageStop::NoPlace { what } => Stop::NoPlace { what },
+            StageStop::NoTablePlace { which, room } => Stop::NoTablePlace { which, room },
+            StageStop::Memory => Stop::Memory,
+        }
+    }
+}
+
+/// Why a stage stops the boot that looks for its places itself: a table had to grow, or memory ran out.
+impl From<Refusal> for Stop {
+    ghost use Rattle.std.specs.Prelude.{◌≡◌, Option};
+    ghost use Rattle.growth_model.specs.Outcome.{Refused};
+    ghost use Rattle.stage_model.specs.Causes.{refusal_for};
+    ghost use Rattle.boot_model.specs.Stop.{cause_of_growth, stop_by};
+
+    ghost from_gives = { λ refusal stop. (why : Option Refused) → refusal ≡ refusal_for why → stop ≡ stop_by cause_of_growth why };
+
+    fn from(refusal: Refusal) -> Stop {
+        if let Refusal::NoGapForTable { which, room } = refusal {
+            Stop::NoTablePlace { which, room }
+        } else {
+            Stop::Memory
+        }
     }
 }
 

@@ -25,6 +25,7 @@ use Rattle.early_stages.proofs.FewLaws.{NeedNone, few_from_nothing}
 use Rattle.bm_base.specs.ResultSteps.{◌>>=◌}
 use Rattle.boot_model.specs.Boot.{Given, BootSoFar, begin_with, begun, boot, claims, early_of, has_memory, map_judged, no_options, reach}
 use Rattle.boot_model.proofs.BootLaws.{goes_on}
+use Rattle.boot_model.proofs.CarriedLaws.{memory_made_by}
 use Rattle.program_words.specs.Kernel.{default_kernel}
 use Rattle.program_words.specs.Spelling.{AreSpellings, Spelling, apart, spelled_values, named}
 use Rattle.program_words.specs.Words.{Wanted, accepted, name_in}
@@ -136,7 +137,7 @@ wanted_is_made = few_from_nothing wanted few_wanted
 
 -- so the boot comes to memory
 memory_is_made : (map_judged given >>= has_memory given) ≡ Ok (record (begin_with runs no_options) { items = wanted })
-memory_is_made = rw (map_is, frames_are, wanted_is_made) refl
+memory_is_made = rw (map_is, frames_are) (memory_made_by given (begin_with runs no_options) wanted wanted_is_made)
 
 -- the words ask for the map of that page
 abbrev spellings : List Spelling
