@@ -5,8 +5,7 @@ use Rattle.phys_store.specs.Bytes.{byte_of}
 use Rattle.growth_model.specs.Bytes.{Filled, Follows, Holds}
 use Rattle.growth_model.proofs.FillLaws.{holds-call}
 use Rattle.memblock_grow.specs.Contents.{Contents}
-use Rattle.memblock_grow.specs.Kept.{StayReady}
-use Rattle.stage_model.specs.Lent.{GoesOn}
+use Rattle.memblock_grow.specs.Going.{GoesOn}
 use Rattle.boot_stages.specs.Boots.{HoldsWith}
 
 pub holds-on : (fills : List Filled) (old new : Contents) → new.kernel ≡ old.kernel
@@ -17,12 +16,6 @@ holds-on fills old new kernel follows holds =
     subst At (sym kernel)
     (holds-call old.kernel old.journal.items new.journal.items fills (byte_of old.tables.store) (byte_of new.tables.store) holds follows)
 
--- so they do behind all that a memblock was lent for
-pub holds-lent : (fills : List Filled) (old new : Contents) → GoesOn old new → HoldsWith fills old → HoldsWith fills new
-holds-lent fills old new lent holds = holds-on fills old new lent.kernel lent.bytes holds
-
--- by what a call of memblock says, it goes on
-pub goes-once : (old new : Contents) → new.kernel ≡ old.kernel
-    → Follows old.kernel old.journal.items new.journal.items (byte_of old.tables.store) (byte_of new.tables.store)
-    → StayReady old.tables.store new.tables.store → GoesOn old new
-goes-once old new kernel follows ready = record { kernel = kernel; bytes = follows; ready = ready }
+-- so they do behind whatever a memblock goes on to
+pub holds-behind : (fills : List Filled) (old new : Contents) → GoesOn old new → HoldsWith fills old → HoldsWith fills new
+holds-behind fills old new goes holds = holds-on fills old new goes.kernel goes.bytes holds

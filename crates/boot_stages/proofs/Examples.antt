@@ -1,20 +1,21 @@
 -- What the boot makes of small answers of the table, and the parts of a small memory.
-use Rattle.std.proofs.Common.{◌≡◌, ℕ, true, List, [], ◌∷◌, ◌++◌, Some, None, Ok, Err, refl, arith}
+use Rattle.std.proofs.Common.{◌≡◌, inr, ⊎_elim, ℕ, true, List, [], ◌∷◌, Some, None, Ok, Err, refl, arith}
 use Rattle.bm_base.specs.Extent.{Extent}
 use Rattle.address_runs.specs.Runs.{RunOf}
 use Rattle.memblock_model.specs.declared.owner.Owner.TheVariants as owner
 use Rattle.memblock_model.specs.declared.item.Item.{Item}
 use Rattle.memblock_model.specs.declared.item.Item.TheVariants as item
 use Rattle.growth_model.specs.declared.refusal.Refusal.TheVariants as refusal
+use Rattle.stage_model.specs.Causes.{refusal_for}
+use Rattle.stage_model.specs.Doing.{StageEnds}
 use Rattle.early_stages.specs.Early.{Early}
 use Rattle.e820_sanitise.specs.declared.fault.MapFault.TheVariants as faults
 use Rattle.e820_usable.specs.declared.stop.MapStop.TheVariants as reasons
 use Rattle.boot_model.specs.declared.stop.Stop.TheVariants as stops
 use Rattle.boot_model.specs.Boot.{Given}
+use Rattle.boot_model.specs.First.{items_carried}
 use Rattle.boot_stages.specs.Boots.{IsDecided, judged_answer, stop_of_map, goes_on_with}
-use Rattle.boot_stages.specs.Carries.{Carries}
 use Rattle.boot_stages.specs.Parts.{beginning, ending, mapping}
-use Rattle.boot_stages.proofs.CarriesLaws.{carries-nothing}
 
 abbrev one_run : List (RunOf ℕ)
 one_run = record { base = 0x1000; size = 0x1000; value = 1 } ∷ []
@@ -47,20 +48,11 @@ parts : (beginning early ≡ item.Claim image owner.Kernel ∷ item.Claim (recor
     × (ending 0x4000 ≡ item.Limit 0x4000 ∷ item.Claim (record { base = 0; size = 0x100000 }) owner.Low1M ∷ [])
 parts = (refl, refl, refl)
 
--- memory may be wanting for a first item, and never where nothing is wanted
-wanting_first : Carries {T = Unit {0}} (Err refusal.Memory) (item.Trim ∷ []) [] []
-wanting_first = record {
-  done = [];
-  next = item.Trim;
-  rest = [];
-  parts = refl;
-  items = [];
-  carried = carries-nothing [];
-  short = record { count = 0; short = omega arith; stands = refl };
-}
+-- memory may run out before a first item, and never where nothing is wanted
+wanting_first : StageEnds {A = Unit {0}} (items_carried (item.Trim ∷ [])) refusal_for (Err refusal.Memory) [] []
+unfolding items_carried
+wanting_first = inr (refl, record { count = 0; short = omega arith; stands = refl })
 
-never_for_nothing : (old new : List Item) → Carries {T = Unit {0}} (Err refusal.Memory) [] old new → ⊥
-never_for_nothing old new cut = some cut.done cut.next cut.rest cut.parts where
-  some : (done : List Item) (next : Item) (rest : List Item) → [] ≡ done ++ next ∷ rest → ⊥
-  some [] next rest is = cc is
-  some (i ∷ done) next rest is = cc is
+never_for_nothing : (old new : List Item) → StageEnds {A = Unit {0}} (items_carried []) refusal_for (Err refusal.Memory) old new → ⊥
+unfolding items_carried
+never_for_nothing old new ends = ⊎_elim (λ told. cc told.1) (λ cut. omega (arith, cut.1.short)) ends

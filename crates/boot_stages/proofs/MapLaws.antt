@@ -1,5 +1,5 @@
 -- What the boot comes to by the table's answer for its map.
-use Rattle.std.proofs.Common.{◌≡◌, ◌≢◌, ℕ, Bool, true, false, nat_lt, if◌then◌else◌, List, drop, length, Option, Some, None, Result, Ok, Err, Vec, Global, refl, subst, ap, ◌∙◌}
+use Rattle.std.proofs.Common.{◌≡◌, ◌≢◌, ℕ, Bool, true, false, nat_lt, if◌then◌else◌, List, length, Option, Some, None, Result, Ok, Err, Vec, Global, refl, subst, ap, ◌∙◌}
 use Rattle.std.specs.Prelude.{IfOk}
 use Rattle.address_runs.specs.Runs.{RunOf, value_at, IsRunsOf}
 use Rattle.bm_base.specs.Answers.{Answers}
@@ -17,19 +17,16 @@ use Rattle.e820_usable.specs.Judged.{judged}
 use Rattle.boot_model.specs.declared.stop.Cause.{Cause}
 use Rattle.boot_model.specs.declared.stop.Stop.{Stop}
 use Rattle.boot_model.specs.declared.stop.Stop.TheVariants as stops
-use Rattle.boot_model.specs.Boot.{Given, BootSoFar, added, begin, begin_with, boot, claims, early_of, has_frames, has_memory, later_stages, map_judged, reach, Told, told, told_boot, types_in_reach, unless_stopped, with_items}
-use Rattle.memblock_model.specs.declared.item.Item.{Item}
-use Rattle.growth_model.specs.Outcome.{Refused}
-use Rattle.growth_model.specs.Carried.{carried_out}
-use Rattle.early_stages.specs.Wanted.{first_items}
-use Rattle.boot_stages.specs.Carries.{or_refused_growth}
-use Rattle.boot_model.specs.First.{IsFirstMemory}
-use Rattle.boot_model.proofs.NodedLaws.{first_known}
+use Rattle.boot_model.specs.Boot.{Given, BootSoFar, added, begin, begin_with, boot, claims, has_frames, later_stages, map_judged, reach, Told, told, told_boot, types_in_reach, unless_stopped}
 use Rattle.boot_model.specs.Stages.{in_order}
-use Rattle.boot_model.specs.Stop.{cause_of_growth, stop_of}
-use Rattle.boot_stages.proofs.CarriesLaws.{answered}
-use Rattle.boot_stages.proofs.LaterLaws.{stopped}
+use Rattle.boot_model.specs.Stop.{stop_of}
+use Rattle.boot_stages.proofs.StagesLaws.{stopped}
 use Rattle.boot_stages.specs.Boots.{IsDecided, MapAnswer, judged_answer, goes_on_with}
+
+-- a last step that changes nothing
+answered : {A E : Type 0} (said : Result A E) → (said >>= λ x. Ok x) ≡ said
+answered (Ok x) = refl
+answered (Err e) = refl
 
 -- what a map in its room, and one that isn't, tells of its number of runs
 told_room : (full : Bool) (runs : ℕ) (map items : List (RunOf ℕ)) → (if full then Err (faults.MapFull runs) else Ok map) ≡ Ok items
@@ -104,33 +101,12 @@ pub boot_stops : (given : Given) (stop : Stop) → Answers stops.Memory (made_of
 unfolding boot
 boot_stops given stop answers other = stopped (map_judged given) (λ made. in_order (later_stages given) made) stop (answers other)
 
--- a growth that is refused is the stop
-items_stop : (made : BootSoFar) (said : Result (List Item) Refused) (stop : Stop) → or_refused_growth said ≡ Err stop
-    → with_error stop_of (with_items made said) ≡ Err stop
-items_stop made (Ok carried) stop is = absurd (cc)
-items_stop made (Err refused) stop is = cc
-
--- the items that the stage of memory wants
-abbrev pub memory_said : Given → BootSoFar → Result (List Item) Refused
-memory_said given made = carried_out (first_items (early_of given) made.map) made.items
-
-pub memory_stops : (given : Given) (made : BootSoFar) (stop : Stop) → with_error stop_of (map_judged given) ≡ Ok made
-    → or_refused_growth (memory_said given made) ≡ Err stop → with_error stop_of (boot given) ≡ Err stop
+-- where the boot goes on with the map, the chain of the other stages is left
+pub boot_left : (given : Given) (made : BootSoFar) → with_error stop_of (map_judged given) ≡ Ok made
+    → boot given ≡ in_order (later_stages given) made
 unfolding boot
-memory_stops given made stop judged refused =
-    ap (λ (said : Result BootSoFar Cause). with_error stop_of (said >>= λ m. in_order (later_stages given) m))
-    (told_ok stop_of (map_judged given) made judged)
-    ∙ stopped (has_memory given made) (λ next. in_order (drop 1 (later_stages given)) next) stop
-    (items_stop made (memory_said given made) stop refused)
-
-pub memory_goes_on : (given : Given) (made : BootSoFar) (items : List Item) → with_error stop_of (map_judged given) ≡ Ok made
-    → or_refused_growth (memory_said given made) ≡ Ok items
-    → boot given ≡ in_order (drop 1 (later_stages given)) (record made { items = items })
-unfolding boot
-memory_goes_on given made items judged answers =
+boot_left given made judged =
     ap (λ (said : Result BootSoFar Cause). said >>= λ m. in_order (later_stages given) m) (told_ok stop_of (map_judged given) made judged)
-    ∙ ap (λ (said : Result (List Item) Refused). with_items made said >>= λ next. in_order (drop 1 (later_stages given)) next)
-    (told_ok (λ refused. stop_of (cause_of_growth refused)) (memory_said given made) items answers)
 
 pub boot_told : (given : Given) (made : BootSoFar) → boot given ≡ Ok made → told_boot given ≡ Ok (told given made)
 boot_told given made comes = ap (λ (said : Result BootSoFar Cause). said >>= λ m. Ok (told given m)) comes
@@ -140,10 +116,3 @@ pub claims-told : (given : Given) (c : Claims) (entries extension : List Entry) 
     → c ≡ finished entries extension edits more
     → entries ≡ given.entries → extension ≡ given.extension → edits ≡ given.options.edits → more ≡ added given → claims given ≡ c
 claims-told given c entries extension edits more is first second third fourth = cc
-
--- memory as the map gives it
-pub first_made : (given : Given) (made : BootSoFar) (items : List Item) → with_error stop_of (map_judged given) ≡ Ok made
-    → or_refused_growth (memory_said given made) ≡ Ok items → IsFirstMemory (reach given) items
-first_made given made items judged answers =
-    first_known given made items (told_ok stop_of (map_judged given) made judged)
-    (told_ok (λ refused. stop_of (cause_of_growth refused)) (memory_said given made) items answers)

@@ -1,69 +1,77 @@
 -- The places of sections, step by step.
-use Rattle.std.proofs.Common.{◌≡◌, List, Result, Ok, Err, refl, subst}
+use Rattle.std.proofs.Common.{◌≡◌, List, Result, Ok, Err, Vec, Global, refl, subst}
 use Rattle.bm_base.specs.declared.width.Width.{Width}
 use Rattle.memblock_model.specs.declared.item.Item.{Item}
 use Rattle.memblock_model.specs.Items.{memory_of}
 use Rattle.memblock_grow.specs.declared.section.Section.{Section}
 use Rattle.memblock_grow.specs.declared.stop.StageStop.{StageStop}
 use Rattle.memblock_grow.specs.declared.stop.StageStop.TheVariants as stage
-use Rattle.stage_model.specs.Doing.{Doing, EndsAs, ◌>>=◌, ok_as, returns, listed}
+use Rattle.stage_model.specs.Causes.{StageCause, stage_stop}
+use Rattle.stage_model.specs.Doing.{Doing, StageEnds, ◌>>=◌, ok_as, returns, listed}
 use Rattle.stage_model.proofs.DoingLaws.{ends-first, ends-listed, ends-second, ends-wanting}
 use Rattle.sparse_sections.specs.Present.{present}
+use Rattle.sparse_sections.specs.declared.roots.Roots.{Roots}
 use Rattle.sparse_sections.specs.Roots.{RootsPlaced, roots}
 use Rattle.section_maps.specs.declared.placed.Placed.{Placed}
 use Rattle.section_maps.specs.Maps.{maps}
 use Rattle.boot_model.specs.Sections.{SectionPlaces, places_of_sections, sections_placed}
-use Rattle.boot_stages.specs.declared.later.Sections.{Sections}
-use Rattle.boot_stages.specs.Boots.{places_view}
+use Rattle.boot_model.specs.View.{sections_view}
+
+-- the places as contracts see them
+abbrev pub places_view : Result (Roots × Vec Placed Global) StageStop → Result SectionPlaces StageStop
+places_view r = ok_as (λ places. sections_view places.0 places.1) r
+
+abbrev placed_of : RootsPlaced → List Placed → SectionPlaces
+placed_of table placed = record { roots = table; placed = placed }
 
 -- the maps behind the roots
-abbrev behind_roots : List Section → RootsPlaced → Doing StageStop SectionPlaces
-behind_roots sections table = maps sections >>= λ placed. returns (record { roots = table; placed = placed })
+abbrev behind_roots : List Section → RootsPlaced → Doing StageCause SectionPlaces
+behind_roots sections table = maps sections >>= λ placed. returns (placed_of table placed)
 
--- as the sections with memory end, so do all
-from_present : (width : Width) (r : Result SectionPlaces StageStop) (old new : List Item) (sections : List Section)
-    → sections ≡ present (memory_of old) → EndsAs stage.Memory r old new (sections_placed width sections old)
-    → EndsAs stage.Memory r old new (places_of_sections width old)
-unfolding places_of_sections
-from_present width r old new sections is ends =
-    let sections_in : List Item → List Section = λ items. present (memory_of items) in
-    ends-second (sections_in old) r stage.Memory old old new (listed sections_in) (sections_placed width)
-    (ends-listed sections_in stage.Memory old)
-    (subst (λ (ss : List Section). EndsAs stage.Memory r old new (sections_placed width ss old)) is ends)
+abbrev sections_in : List Item → List Section
+sections_in items = present (memory_of items)
 
--- memory ran out for the list of them
-pub places-wanting : (width : Width) (r : Result Sections StageStop) (old : List Item) → r ≡ Err stage.Memory
-    → EndsAs stage.Memory (ok_as places_view r) old old (places_of_sections width old)
-unfolding places_of_sections
-places-wanting width r old is =
-    let sections_in : List Item → List Section = λ items. present (memory_of items) in
-    rw is (ends-first stage.Memory stage.Memory old old (listed sections_in) (sections_placed width)
-    (ends-wanting sections_in stage.Memory old))
+module _ (width : Width) where
+  -- as the sections with memory end, so do all
+  from_present : (r : Result SectionPlaces StageStop) (old new : List Item) (sections : List Section) → sections ≡ sections_in old
+      → StageEnds (sections_placed width sections) stage_stop r old new → StageEnds (places_of_sections width) stage_stop r old new
+  unfolding places_of_sections
+  from_present r old new sections is ends =
+      ends-second (sections_in old) r stage_stop old old new (listed sections_in) (sections_placed width)
+      (ends-listed sections_in stage_stop old)
+      (subst (λ (ss : List Section). StageEnds (sections_placed width ss) stage_stop r old new) is ends)
 
-pub places-first : (width : Width) (e : StageStop) (r : Result Sections StageStop) (old new : List Item) (sections : List Section)
-    → r ≡ Err e → sections ≡ present (memory_of old) → EndsAs {A = RootsPlaced} stage.Memory (Err e) old new (roots width sections old)
-    → EndsAs stage.Memory (ok_as places_view r) old new (places_of_sections width old)
-places-first width e r old new sections exits is ends =
-    rw exits (from_present width (Err e) old new sections is
-    (ends-first e stage.Memory old new (roots width sections) (behind_roots sections) ends))
+  -- memory ran out for the list of them
+  pub places-wanting : (r : Result (Roots × Vec Placed Global) StageStop) (old : List Item) → r ≡ Err stage.Memory
+      → StageEnds (places_of_sections width) stage_stop (places_view r) old old
+  unfolding places_of_sections
+  places-wanting r old is =
+      rw is (ends-first stage.Memory stage_stop old old (listed sections_in) (sections_placed width)
+      (ends-wanting sections_in stage_stop old))
 
-pub places-second : (width : Width) (e : StageStop) (r : Result Sections StageStop) (old mid new : List Item) (sections : List Section)
-    (table : RootsPlaced) → r ≡ Err e → sections ≡ present (memory_of old)
-    → EndsAs stage.Memory (Ok table) old mid (roots width sections old)
-    → EndsAs {A = List Placed} stage.Memory (Err e) mid new (maps sections mid)
-    → EndsAs stage.Memory (ok_as places_view r) old new (places_of_sections width old)
-places-second width e r old mid new sections table exits is first ends =
-    rw exits (from_present width (Err e) old new sections is
-    (ends-second table (Err e) stage.Memory old mid new (roots width sections) (behind_roots sections) first
-    (ends-first e stage.Memory mid new (maps sections) (λ placed. returns (record { roots = table; placed = placed })) ends)))
+  module _ (r : Result (Roots × Vec Placed Global) StageStop) (old new : List Item) (sections : List Section)
+      (is : sections ≡ sections_in old) where
+    pub places-first : (e : StageStop) → r ≡ Err e → StageEnds {A = RootsPlaced} (roots width sections) stage_stop (Err e) old new
+        → StageEnds (places_of_sections width) stage_stop (places_view r) old new
+    places-first e exits ends =
+        rw exits (from_present (Err e) old new sections is
+        (ends-first e stage_stop old new (roots width sections) (behind_roots sections) ends))
 
-pub places-all : (width : Width) (old mid new : List Item) (sections : List Section) (table : RootsPlaced) (placed : List Placed)
-    → sections ≡ present (memory_of old) → EndsAs stage.Memory (Ok table) old mid (roots width sections old)
-    → EndsAs stage.Memory (Ok placed) mid new (maps sections mid)
-    → EndsAs stage.Memory (Ok (record { roots = table; placed = placed })) old new (places_of_sections width old)
-places-all width old mid new sections table placed present_is first ends =
-    from_present width (Ok (record { roots = table; placed = placed })) old new sections present_is
-    (ends-second table (Ok (record { roots = table; placed = placed })) stage.Memory old mid new (roots width sections) (behind_roots
-    sections) first
-    (ends-second placed (Ok (record { roots = table; placed = placed })) stage.Memory mid new new (maps sections)
-    (λ p. returns (record { roots = table; placed = p })) ends (refl, refl)))
+    pub places-second : (e : StageStop) (mid : List Item) (table : RootsPlaced) → r ≡ Err e
+        → StageEnds (roots width sections) stage_stop (Ok table) old mid
+        → StageEnds {A = List Placed} (maps sections) stage_stop (Err e) mid new
+        → StageEnds (places_of_sections width) stage_stop (places_view r) old new
+    places-second e mid table exits first ends =
+        rw exits (from_present (Err e) old new sections is
+        (ends-second table (Err e) stage_stop old mid new (roots width sections) (behind_roots sections) first
+        (ends-first e stage_stop mid new (maps sections) (λ placed. returns (placed_of table placed)) ends)))
+
+  pub places-all : (old mid new : List Item) (sections : List Section) (table : RootsPlaced) (placed : List Placed)
+      → sections ≡ sections_in old → StageEnds (roots width sections) stage_stop (Ok table) old mid
+      → StageEnds (maps sections) stage_stop (Ok placed) mid new
+      → StageEnds (places_of_sections width) stage_stop (Ok (placed_of table placed)) old new
+  places-all old mid new sections table placed present_is first ends =
+      from_present (Ok (placed_of table placed)) old new sections present_is
+      (ends-second table (Ok (placed_of table placed)) stage_stop old mid new (roots width sections) (behind_roots sections) first
+      (ends-second placed (Ok (placed_of table placed)) stage_stop mid new new (maps sections)
+      (λ p. returns (placed_of table p)) ends (refl, refl)))

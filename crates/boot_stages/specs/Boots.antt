@@ -1,5 +1,5 @@
 -- What the boot makes of the table's answer for its map.
-use Rattle.std.specs.Prelude.{◌≡◌, ◌≢◌, ℕ, List, [], Vec, Option, Some, None, Result, Ok, Err, drop}
+use Rattle.std.specs.Prelude.{◌≡◌, ◌≢◌, ℕ, List, Vec, Option, Some, None, Result, Ok, Err}
 use Rattle.std.specs.declared.alloc.Global.{Global}
 use Rattle.address_runs.specs.Runs.{RunOf, value_at}
 use Rattle.e820_sanitise.specs.declared.fault.MapFault.{MapFault}
@@ -20,17 +20,12 @@ use Rattle.buddy_handover.specs.Contents.{Contents as Buddy, free}
 use Rattle.boot_model.specs.declared.stop.Cause.TheVariants as causes
 use Rattle.boot_model.specs.declared.stop.Stop.{Stop}
 use Rattle.boot_model.specs.declared.stop.Stop.TheVariants as stops
-use Rattle.memblock_grow.specs.declared.stop.StageStop.{StageStop}
-use Rattle.memblock_grow.specs.declared.stop.StageStop.TheVariants as stage
-use Rattle.numa_nodes.specs.Assigned.{Noded, nodes_view}
-use Rattle.crash_kernel.specs.declared.crash.Crash.{Crash}
-use Rattle.sparse_sections.specs.Roots.{roots_view}
-use Rattle.boot_model.specs.Boot.{Given, BootSoFar, Stage, begin_with, has_frames, later_stages, map_judged}
-use Rattle.boot_model.specs.Sections.{SectionPlaces}
+use Rattle.numa_nodes.specs.Assigned.{nodes_view}
+use Rattle.boot_model.specs.Boot.{Given, BootSoFar, begin_with, has_frames, later_stages, map_judged}
 use Rattle.boot_stages.specs.declared.later.Later.{Later}
-use Rattle.boot_stages.specs.declared.later.Sections.{Sections}
 use Rattle.boot_model.specs.Stages.{in_order}
 use Rattle.boot_model.specs.Stop.{cause_of_map, stop_of}
+use Rattle.boot_model.specs.View.{sections_view}
 use Rattle.growth_model.specs.Bytes.{Filled, Holds}
 use Rattle.memblock_grow.specs.Contents.{Contents}
 use Rattle.early_script.specs.declared.outcome.Answer.{Answer}
@@ -76,61 +71,33 @@ IsSpelledFree store heads buddy =
 abbrev pub HoldsWith : List Filled → Contents → Type 0
 HoldsWith fills m = Holds m.kernel m.journal.items fills (byte_of m.tables.store)
 
--- what is made where memblock is this
-abbrev pub at_memblock : BootSoFar → Contents → BootSoFar
-at_memblock made m = record made { items = m.journal.items }
-
--- a stage over memblock ends so: what it answers stands beside what was made, or the boot stops
-abbrev pub Comes : {A : Type 0} → Stage → (A → BootSoFar → BootSoFar) → BootSoFar → Contents → Contents → Result A Stop → Type 0
-Comes stage put made old new (Ok a) = stage (at_memblock made old) ≡ Ok (put a (at_memblock made new))
-Comes stage put made old new (Err stop) = stop ≢ stops.Memory → with_error stop_of (stage (at_memblock made old)) ≡ Err stop
-
--- what the stages behind memory make
-pub record LaterMade : Type 0 where
-  pub nodes : Noded
-  pub crash : Crash
-  pub sections : SectionPlaces
-  pub answers : List Answer
-
-abbrev pub places_view : Sections → SectionPlaces
-places_view p = record { roots = roots_view p.roots; placed = p.placed.items }
-
-abbrev pub later_view : Later → LaterMade
-later_view l = record { nodes = nodes_view l.nodes; crash = l.crash; sections = places_view l.sections; answers = l.answers.items }
-
--- what is made where lines of the script were run, and behind all these stages
+-- what is made behind lines of the script, over this memblock
 abbrev pub made_by_lines : BootSoFar → Contents → Ids → List Filled → List Answer → BootSoFar
 made_by_lines made m ids fills answers = record made { items = m.journal.items; ids = ids; fills = fills; answers = answers }
 
-abbrev pub made_behind : BootSoFar → Contents → LaterMade → Ids → List Filled → BootSoFar
-made_behind made m later ids fills = record made {
+-- and behind all stages
+abbrev pub made_behind : Given → List (RunOf ℕ) → Contents → Later → Ids → List Filled → BootSoFar
+made_behind given map m later ids fills = record {
+  map = map;
+  options = given.options;
   items = m.journal.items;
-  nodes = later.nodes;
+  nodes = nodes_view later.nodes;
   crash = later.crash;
-  sections = later.sections;
+  sections = sections_view later.roots later.placed;
   ids = ids;
   fills = fills;
-  answers = later.answers;
+  answers = later.answers.items;
 }
 
--- the stages behind memory came to an end
-pub record AreRun (given : Given) (made : BootSoFar) (m : Contents) (later : LaterMade) : Type 0 where
+-- the stages behind the map came to an end
+pub record AreRun (given : Given) (map : List (RunOf ℕ)) (m : Contents) (later : Later) : Type 0 where
   pub ids : Ids
   pub fills : List Filled
+  pub come : in_order (later_stages given) (begin_with map given.options) ≡ Ok (made_behind given map m later ids fills)
   pub kernel : m.kernel ≡ given.kernel
-  pub come : in_order (drop 1 (later_stages given)) made ≡ Ok (made_behind made m later ids fills)
   pub holds : HoldsWith fills m
 
 -- or they stop the boot
-abbrev pub AreStopped : Given → BootSoFar → Stop → Type 0
-AreStopped given made stop = stop ≢ stops.Memory → with_error stop_of (in_order (drop 1 (later_stages given)) made) ≡ Err stop
-
--- where they begin: memory was made, and nothing happened in the script
-abbrev pub begun_with : BootSoFar → Contents → BootSoFar
-begun_with made m = made_by_lines made m [] [] []
-
--- why a stage stops the boot, by what it answers
-abbrev pub stop_of_stage : StageStop → Stop
-stop_of_stage (stage.NoPlace thing) = stops.NoPlace thing
-stop_of_stage (stage.NoTablePlace w room) = stops.NoTablePlace w room
-stop_of_stage stage.Memory = stops.Memory
+abbrev pub AreStopped : Given → List (RunOf ℕ) → Stop → Type 0
+AreStopped given map stop =
+    stop ≢ stops.Memory → with_error stop_of (in_order (later_stages given) (begin_with map given.options)) ≡ Err stop

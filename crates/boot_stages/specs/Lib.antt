@@ -1,4 +1,2 @@
 pub mod Boots
-pub mod Carries
-pub mod Ended
 pub mod Parts

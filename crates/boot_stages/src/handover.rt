@@ -1,59 +1,76 @@
-//! The end of the early boot: memblock's bytes are handed over, with what they say is free. The value of memblock
-//! ends here, so whatever comes behind reads the bytes at the two heads and has nothing else to ask.
+//! The end of the boot: memblock's bytes are handed over, with what they say is free. The value of memblock ends here, so whatever
+//! comes behind reads the bytes at the two heads and has nothing else to ask: spans, free frames, the order of zones, and the page
+//! script, which runs on a copy, so what was handed over stays as it was.
 
-ghost use Rattle.std.specs.Prelude.{◌≡◌, ◌^◌, IfOk};
+ghost use Rattle.std.specs.Prelude.{◌≡◌, ◌^◌, List, IfOk};
 ghost use Rattle.address_runs.specs.Edits.{NothingFrom};
 ghost use Rattle.memblock_model.specs.Items.{memory_of, owner_of};
 ghost use Rattle.memblock_model.specs.Tables.{reserved_of};
+ghost use Rattle.memblock_model.specs.declared.which.Which.{Which};
+ghost use Rattle.memblock_ranges.specs.Tables.{table_in};
 ghost use Rattle.memblock_model.specs.declared.which.Which.TheVariants as which;
-ghost use Rattle.growth_model.specs.Sound.{HasBegun};
+ghost use Rattle.growth_model.specs.Bytes.{Filled, table_for};
+ghost use Rattle.early_script.specs.Ids.{Ids};
 ghost use Rattle.stage_model.specs.Noded.{IsNoded};
-ghost use Rattle.buddy_handover.specs.Contents.{free};
-ghost use Rattle.boot_model.specs.Boot.{handed_over, heads_of, spanned};
-ghost use Rattle.boot_stages.specs.Boots.{IsSpelledFree, TableStands};
+ghost use Rattle.boot_model.specs.Boot.{told};
+ghost use Rattle.boot_model.specs.View.{booted_view, inputs_view};
+ghost use Rattle.boot_stages.specs.Boots.{IsSpelledFree, TableStands, made_behind};
 
+use crate::later::Later;
 use bm_base::Memory;
-use boot_journal::Journal;
-use buddy_handover::{Buddy, hand_over};
+use boot_model::{Booted, Inputs};
+use buddy_handover::hand_over;
+use e820_sanitise::Run;
 use memblock_grow::Memblock;
-use memblock_ranges::Heads;
-use phys_store::Store;
+use page_alloc::Pages;
+use slit_zonelists::{Lists, run_lines};
 use std::alloc::Global;
-use zone_spans::{Span, spans};
-
-/// What is left of memblock, and what its bytes say of frames.
-#[derive(Drop)]
-pub struct End {
-    pub journal: Journal,
-    pub store: Store,
-    pub heads: Heads,
-    pub spans: Vec<Span>,
-    pub buddy: Buddy,
-}
+use zone_spans::spans;
 
 /// Takes memblock apart. What memory spans and which frames are free is read from the bytes at the two heads, and from
-/// nothing else (`free_area_init`, `memblock_free_all`).
-pub fn hand_over_memory(alloc: Global, memblock: Memblock) -> Result<End, Memory>
+/// nothing else (`free_area_init`, `memblock_free_all`). The zones get their order for each node (`build_zonelists`), and the page script is
+/// carried out on a copy of the free frames, of which nothing is taken at first.
+pub fn hand_over_memory(
+    alloc: Global,
+    memblock: Memblock,
+    inputs: Inputs,
+    map: Vec<Run>,
+    later: Later,
+) -> Result<Booted, Memory>
+    requires kernel { memblock.kernel ≡ inputs.kernel }
     requires noded { IsNoded (2 ^ 52) (memory_of memblock.journal.items) }
+    requires tables { (w : Which) → table_in w memblock.tables ≡ table_for w memblock.kernel memblock.journal.items }
     requires within { NothingFrom (2 ^ 64) (reserved_of (owner_of memblock.journal.items)) }
-    ensures store { IfOk result (λ end. end.store ≡ memblock.tables.store) }
-    ensures journal { IfOk result (λ end. end.journal ≡ memblock.journal) }
-    ensures heads { IfOk result (λ end. end.heads ≡ heads_of memblock.kernel memblock.journal.items) }
-    ensures memory { IfOk result (λ end. TableStands which.Memory memblock.journal.items end.store end.heads.memory) }
-    ensures reserved { IfOk result (λ end. TableStands which.Reserved memblock.journal.items end.store end.heads.reserved) }
-    ensures spans { IfOk result (λ end. end.spans.items ≡ spanned memblock.journal.items) }
-    ensures free { IfOk result (λ end. free end.buddy ≡ handed_over memblock.journal.items) }
-    ensures spelled { IfOk result (λ end. IsSpelledFree end.store end.heads end.buddy) }
+    ensures told { IfOk result (λ booted. (ids : Ids) (fills : List Filled) → booted_view booted
+        ≡ told (inputs_view inputs) (made_behind (inputs_view inputs) map.items memblock later ids fills)) }
+    ensures map { IfOk result (λ booted. booted.map ≡ map) }
+    ensures store { IfOk result (λ booted. booted.store ≡ memblock.tables.store) }
+    ensures memory { IfOk result (λ booted. TableStands which.Memory booted.journal.items booted.store booted.heads.memory) }
+    ensures reserved { IfOk result (λ booted. TableStands which.Reserved booted.journal.items booted.store booted.heads.reserved) }
+    ensures spelled { IfOk result (λ booted. IsSpelledFree booted.store booted.heads booted.buddy) }
 {
-    let _fact = memblock.tables(); // for its facts alone
     let (store, heads, journal) = memblock.into_parts();
     let spans = spans(alloc, &store, &heads)?;
     let buddy = hand_over(alloc, &store, &heads)?;
-    Ok(End {
+    let lists = Lists::new(alloc, inputs.slit.as_ref(), &later.nodes.domains, &spans)?;
+    let mut after = Pages::new(alloc, buddy.copy()?);
+    let page_answers = run_lines(alloc, &mut after, &lists, &inputs.page_lines)?;
+    Ok(Booted {
+        width: inputs.width,
+        map,
+        options: inputs.options,
         journal,
         store,
         heads,
+        nodes: later.nodes,
+        crash: later.crash,
+        roots: later.roots,
+        placed: later.placed,
+        answers: later.answers,
         spans,
         buddy,
+        lists,
+        page_answers,
+        after,
     })
 }

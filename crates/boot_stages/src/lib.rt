@@ -9,7 +9,8 @@
 //! frames of it, what of it is mirrored, and the first MiB, each a call of memblock in the order of what is wanted. A table that has to
 //! grow and finds no place stops the boot.
 //!
-//! The page script comes last (`src/pages.rt`), on a copy of what was handed over.
+//! Each stage behind the map is one call over memblock (`src/later.rt`). The handover comes last (`src/handover.rt`), with the page script on
+//! a copy of the free frames.
 //!
 //! What judges takes no memory: it answers a [`Cause`](boot_model::Cause), which want of memory isn't.
 //! So a boot that stops at its map says so whenever the table could tell the map at all
@@ -23,7 +24,6 @@ mod later;
 mod laws;
 mod map;
 mod memory;
-mod pages;
 mod stages;
 
 pub use laws::map_is_judged;

@@ -1,34 +1,32 @@
 //! Memory by the map: the first claims, what the map says is memory and what of it is mirrored, and the first MiB. Each call carries out a part of
 //! the list of what a boot wants, in its order; the growth that comes between is memblock's.
 
-ghost use Rattle.std.specs.Prelude.{◌≡◌, ◌≢◌, ◌-◌, ◌+◌, ◌<◌, ◌++◌, [], true, min, map, Err, IfSome, OnErr, OnOk};
+ghost use Rattle.std.specs.Prelude.{◌≡◌, ◌-◌, ◌+◌, ◌<◌, [], min, map, IfSome, OnOk};
 ghost use Rattle.std.specs.List.{All};
-ghost use Rattle.bm_base.specs.Answers.{Answers};
 ghost use Rattle.address_runs.specs.Runs.{AreRuns};
 ghost use Rattle.growth_model.specs.Sound.{HasBegun};
-ghost use Rattle.growth_model.specs.Carried.{carried_out};
-ghost use Rattle.stage_model.specs.Lent.{GoesOn};
+ghost use Rattle.stage_model.specs.Causes.{refusal_for};
+ghost use Rattle.stage_model.specs.Doing.{StageEnds};
+ghost use Rattle.memblock_grow.specs.Going.{GoesOn};
 ghost use Rattle.early_stages.specs.Memory.{end_of_runs};
 ghost use Rattle.early_stages.specs.Wanted.{direction_items, early_claims, first_items, items_of_map, items_of_run, mirror_items, up_to};
-ghost use Rattle.boot_model.specs.declared.stop.Stop.TheVariants as stops;
 ghost use Rattle.boot_model.specs.Boot.{early_of, mirrors_of};
+ghost use Rattle.boot_model.specs.First.{items_carried};
 ghost use Rattle.boot_model.specs.Mirrors.{IsMirror, frames_in};
 ghost use Rattle.boot_model.specs.View.{inputs_view};
-ghost use Rattle.boot_stages.specs.Carries.{AreCutShort, Carries, or_refused_growth, stop_of_refusal};
 ghost use Rattle.boot_stages.specs.Parts.{beginning, ending, mapping};
 
-use bm_base::{Memory, Range};
+use bm_base::Range;
 use boot_journal::Owner;
-use boot_model::{Inputs, Stop};
+use boot_model::Inputs;
 use e820_model::E820_TYPE_SOFT_RESERVED;
 use e820_sanitise::Run;
 use e820_usable::is_memory;
 use early_stages::{ISA_END_ADDRESS, LOW_END};
 use growth_model::Refusal;
-use memblock_grow::Memblock;
+use memblock_grow::{Memblock, no_items_no_change};
 use memblock_model::Which;
 use memblock_ranges::Tables;
-use stage_model::stand_still;
 
 /// The bytes from 0 up to the address.
 fn up_to(at: u64) -> Range
@@ -44,9 +42,10 @@ fn claim_early(memblock: &mut Memblock, kernel: Range, initrd: Option<Range>) ->
     requires kernel { kernel ≡ memblock.old.kernel }
     requires image { 0 < kernel.size }
     requires initrd { IfSome initrd (λ range. 0 < range.size) }
-    ensures carries { Carries result (early_claims kernel initrd) memblock.old.journal.items memblock.new.journal.items }
+    ensures ends { StageEnds (items_carried (early_claims kernel initrd)) refusal_for result
+        memblock.old.journal.items memblock.new.journal.items }
     ensures begun { OnOk result (HasBegun memblock.new.journal.items) }
-    ensures lent { GoesOn memblock.old memblock.new }
+    ensures goes_on { GoesOn memblock.old memblock.new }
 {
     memblock.claim(kernel, Owner::Kernel)?;
     memblock.claim(up_to(LOW_END), Owner::Low64K)?;
@@ -61,11 +60,12 @@ fn claim_early(memblock: &mut Memblock, kernel: Range, initrd: Option<Range>) ->
 fn add_run(memblock: &mut Memblock, run: &Run, reach: u64) -> Result<(), Refusal>
     requires some { 0 < run.now.size }
     requires begun { HasBegun memblock.old.journal.items }
-    ensures carries { Carries result (items_of_run reach run.now) memblock.old.journal.items memblock.new.journal.items }
+    ensures ends { StageEnds (items_carried (items_of_run reach run.now)) refusal_for result
+        memblock.old.journal.items memblock.new.journal.items }
     ensures begun { HasBegun memblock.new.journal.items }
-    ensures lent { GoesOn memblock.old memblock.new }
+    ensures goes_on { GoesOn memblock.old memblock.new }
 {
-    stand_still(memblock);
+    no_items_no_change(memblock);
     let range = run.range;
     if run.kind == E820_TYPE_SOFT_RESERVED {
         return memblock.claim(range, Owner::Soft);
@@ -95,11 +95,12 @@ fn below_limit(range: Range, reach: u64) -> Range
 fn add_map(memblock: &mut Memblock, map: &[Run], reach: u64) -> Result<(), Refusal>
     requires runs { AreRuns map.now }
     requires begun { HasBegun memblock.old.journal.items }
-    ensures carries { Carries result (items_of_map reach map.now) memblock.old.journal.items memblock.new.journal.items }
+    ensures ends { StageEnds (items_carried (items_of_map reach map.now)) refusal_for result
+        memblock.old.journal.items memblock.new.journal.items }
     ensures begun { HasBegun memblock.new.journal.items }
-    ensures lent { GoesOn memblock.old memblock.new }
+    ensures goes_on { GoesOn memblock.old memblock.new }
 {
-    stand_still(memblock);
+    no_items_no_change(memblock);
     for run in map {
         add_run(memblock, run, reach)?;
     }
@@ -119,16 +120,15 @@ fn end_of_memory(tables: &Tables) -> u64
 }
 
 /// Where it was asked for, places are looked for from the lowest address up (`memblock_set_bottom_up`).
-fn turn_upward(memblock: &mut Memblock, upward: bool) -> Result<(), Memory>
+fn turn_upward(memblock: &mut Memblock, upward: bool) -> Result<(), Refusal>
     requires { HasBegun memblock.old.journal.items }
-    ensures ok { OnOk result (memblock.new.journal.items ≡ memblock.old.journal.items ++ direction_items upward) }
-    ensures wanted { OnErr result (upward ≡ true) }
-    ensures err { OnErr result (memblock.new ≡ memblock.old) }
-    ensures lent { GoesOn memblock.old memblock.new }
+    ensures ends { StageEnds (items_carried (direction_items upward)) refusal_for result
+        memblock.old.journal.items memblock.new.journal.items }
+    ensures goes_on { GoesOn memblock.old memblock.new }
 {
-    stand_still(memblock);
+    no_items_no_change(memblock);
     if upward {
-        return memblock.set_upward(true);
+        memblock.set_upward(true)?;
     }
     Ok(())
 }
@@ -137,27 +137,26 @@ fn turn_upward(memblock: &mut Memblock, upward: bool) -> Result<(), Memory>
 fn begin_memory(memblock: &mut Memblock, inputs: &Inputs) -> Result<(), Refusal>
     requires first { memblock.old.journal.items ≡ [] }
     requires kernel { inputs.now.kernel ≡ memblock.old.kernel }
-    ensures carries { Carries result (beginning (early_of (inputs_view inputs.now)))
+    ensures ends { StageEnds (items_carried (beginning (early_of (inputs_view inputs.now)))) refusal_for result
         memblock.old.journal.items memblock.new.journal.items }
     ensures begun { OnOk result (HasBegun memblock.new.journal.items) }
-    ensures lent { GoesOn memblock.old memblock.new }
+    ensures goes_on { GoesOn memblock.old memblock.new }
 {
     claim_early(memblock, inputs.kernel, inputs.zero.initrd)?;
     memblock.set_limit(ISA_END_ADDRESS)?;
-    turn_upward(memblock, inputs.upward)?;
-    Ok(())
+    turn_upward(memblock, inputs.upward)
 }
 
 /// The memory of the ranges, which are whole frames, is mirrored, one after another (`efi_find_mirror`).
 fn add_mirrors(memblock: &mut Memblock, mirrors: &[Range]) -> Result<(), Refusal>
     requires whole { All IsMirror mirrors.now }
     requires begun { HasBegun memblock.old.journal.items }
-    ensures carries { Carries result (mirror_items (map frames_in mirrors.now))
+    ensures ends { StageEnds (items_carried (mirror_items (map frames_in mirrors.now))) refusal_for result
         memblock.old.journal.items memblock.new.journal.items }
     ensures begun { HasBegun memblock.new.journal.items }
-    ensures lent { GoesOn memblock.old memblock.new }
+    ensures goes_on { GoesOn memblock.old memblock.new }
 {
-    stand_still(memblock);
+    no_items_no_change(memblock);
     for mirror in mirrors {
         memblock.set_mirror(*mirror)?;
     }
@@ -167,10 +166,10 @@ fn add_mirrors(memblock: &mut Memblock, mirrors: &[Range]) -> Result<(), Refusal
 /// What the words say is mirrored, and then what the firmware's own map says.
 fn mirror_memory(memblock: &mut Memblock, inputs: &Inputs) -> Result<(), Refusal>
     requires { HasBegun memblock.old.journal.items }
-    ensures carries { Carries result (mirror_items (mirrors_of (inputs_view inputs.now)))
+    ensures ends { StageEnds (items_carried (mirror_items (mirrors_of (inputs_view inputs.now)))) refusal_for result
         memblock.old.journal.items memblock.new.journal.items }
     ensures begun { HasBegun memblock.new.journal.items }
-    ensures lent { GoesOn memblock.old memblock.new }
+    ensures goes_on { GoesOn memblock.old memblock.new }
 {
     add_mirrors(memblock, &inputs.mirrors)?;
     match &inputs.efi {
@@ -183,10 +182,10 @@ fn mirror_memory(memblock: &mut Memblock, inputs: &Inputs) -> Result<(), Refusal
 fn map_memory(memblock: &mut Memblock, inputs: &Inputs, map: &[Run]) -> Result<(), Refusal>
     requires begun { HasBegun memblock.old.journal.items }
     requires runs { AreRuns map.now }
-    ensures carries { Carries result (mapping (early_of (inputs_view inputs.now)) map.now)
+    ensures ends { StageEnds (items_carried (mapping (early_of (inputs_view inputs.now)) map.now)) refusal_for result
         memblock.old.journal.items memblock.new.journal.items }
     ensures begun { OnOk result (HasBegun memblock.new.journal.items) }
-    ensures lent { GoesOn memblock.old memblock.new }
+    ensures goes_on { GoesOn memblock.old memblock.new }
 {
     add_map(memblock, map, inputs.reach())?;
     memblock.trim()?;
@@ -197,57 +196,27 @@ fn map_memory(memblock: &mut Memblock, inputs: &Inputs, map: &[Run]) -> Result<(
 /// `reserve_real_mode`).
 fn limit_memory(memblock: &mut Memblock, end: u64) -> Result<(), Refusal>
     requires { HasBegun memblock.old.journal.items }
-    ensures carries { Carries result (ending end) memblock.old.journal.items memblock.new.journal.items }
+    ensures ends { StageEnds (items_carried (ending end)) refusal_for result
+        memblock.old.journal.items memblock.new.journal.items }
     ensures begun { OnOk result (HasBegun memblock.new.journal.items) }
-    ensures lent { GoesOn memblock.old memblock.new }
+    ensures goes_on { GoesOn memblock.old memblock.new }
 {
     memblock.set_limit(end)?;
     memblock.claim(up_to(ISA_END_ADDRESS), Owner::Low1M)
 }
 
-/// All of it, in a memblock to which nothing happened yet.
-fn set_up(memblock: &mut Memblock, inputs: &Inputs, map: &[Run]) -> Result<(), Refusal>
+/// Makes memory as the map says it within reach, with what is claimed before nodes are known, in a memblock to which nothing happened yet.
+pub fn make_memory(memblock: &mut Memblock, inputs: &Inputs, map: &[Run]) -> Result<(), Refusal>
     requires first { memblock.old.journal.items ≡ [] }
     requires kernel { inputs.now.kernel ≡ memblock.old.kernel }
     requires runs { AreRuns map.now }
-    ensures carries { Carries result (first_items (early_of (inputs_view inputs.now)) map.now)
+    ensures ends { StageEnds (items_carried (first_items (early_of (inputs_view inputs.now)) map.now)) refusal_for result
         memblock.old.journal.items memblock.new.journal.items }
     ensures begun { OnOk result (HasBegun memblock.new.journal.items) }
-    ensures lent { GoesOn memblock.old memblock.new }
+    ensures goes_on { GoesOn memblock.old memblock.new }
 {
     begin_memory(memblock, inputs)?;
     map_memory(memblock, inputs, map)?;
     let end = end_of_memory(memblock.tables());
     limit_memory(memblock, end)
-}
-
-/// The stop of a refused growth. An allocation isn't made here, so none lacks a gap.
-pub fn stopped(refusal: Refusal) -> Stop
-    requires { refusal ≢ Refusal.NoGap }
-    ensures { result ≡ stop_of_refusal refusal }
-{
-    match refusal {
-        Refusal::NoGap => unreachable!(),
-        Refusal::NoGapForTable { which, room } => Stop::NoTablePlace { which, room },
-        Refusal::Memory => Stop::Memory,
-    }
-}
-
-/// Memory as the map says it within reach, with what is claimed before nodes are known, in a memblock to which nothing happened yet. Memory is wanted
-/// only where a step of that is left.
-pub fn make_memory(memblock: &mut Memblock, inputs: &Inputs, map: &[Run]) -> Result<(), Stop>
-    requires first { memblock.old.journal.items ≡ [] }
-    requires kernel { inputs.now.kernel ≡ memblock.old.kernel }
-    requires runs { AreRuns map.now }
-    ensures answers { Answers Stop.Memory (λ done. memblock.new.journal.items) result
-        (or_refused_growth (carried_out (first_items (early_of (inputs_view inputs.now)) map.now) [])) }
-    ensures short { result ≡ Err stops.Memory →
-        AreCutShort (first_items (early_of (inputs_view inputs.now)) map.now) [] memblock.new.journal.items }
-    ensures begun { OnOk result (HasBegun memblock.new.journal.items) }
-    ensures lent { GoesOn memblock.old memblock.new }
-{
-    match set_up(memblock, inputs, map) {
-        Ok(()) => Ok(()),
-        Err(refusal) => Err(stopped(refusal)),
-    }
 }

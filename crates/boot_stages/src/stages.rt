@@ -2,7 +2,7 @@
 //! one behind the other they come to what the definition says, and that the headline holds of the answer
 //! (`conservation`).
 
-ghost use Rattle.std.specs.Prelude.{◌≡◌, ◌^◌, ◌<◌, ℕ, Ok, IfOk, IfSome, length};
+ghost use Rattle.std.specs.Prelude.{◌≡◌, ℕ, Ok, IfOk};
 ghost use Rattle.address_runs.specs.Runs.{AreRuns};
 ghost use Rattle.boot_model.specs.Boot.{BootSoFar, begin_with, boot, map_judged, told_boot};
 ghost use Rattle.boot_model.specs.View.{booted_view, inputs_view};
@@ -13,16 +13,12 @@ ghost use Rattle.bm_base.specs.ResultSteps.{with_error};
 ghost use Rattle.boot_model.specs.Stop.{stop_of};
 ghost use Rattle.memblock_model.specs.declared.which.Which.TheVariants as which;
 ghost use Rattle.phys_store.specs.Bytes.{byte_of};
-ghost use Rattle.growth_model.specs.Sound.{HasBegun};
 ghost use Rattle.growth_model.specs.Bytes.{byte};
-ghost use Rattle.boot_stages.specs.Boots.{IsSpelledFree, TableStands, later_view};
-ghost use Rattle.boot_stages.specs.Ended.{ended_view};
+ghost use Rattle.boot_stages.specs.Boots.{IsSpelledFree, TableStands};
 
-use crate::handover::{End, hand_over_memory};
-use crate::later::{Later, Sections, run_stages};
+use crate::handover::hand_over_memory;
+use crate::later::run_stages;
 use crate::map::{added_entries, finished_table, judged_map};
-use crate::memory::make_memory;
-use crate::pages::{Paged, run_pages};
 use boot_model::{Booted, Inputs, Stop};
 use e820_sanitise::Run;
 use memblock_grow::Memblock;
@@ -57,11 +53,8 @@ pub fn boot(alloc: Global, inputs: Inputs) -> Result<Booted, Stop>
 {
     let map = settled_map(alloc, &inputs)?;
     let mut memblock = Memblock::new(alloc, inputs.kernel)?;
-    make_memory(&mut memblock, &inputs, &map)?;
-    let later = run_stages(alloc, &mut memblock, &inputs)?;
-    let end = hand_over_memory(alloc, memblock)?;
-    let paged = run_pages(alloc, &inputs, &later.nodes, &end)?;
-    Ok(booted(inputs, map, later, end, paged))
+    let later = run_stages(alloc, &mut memblock, &inputs, &map)?;
+    Ok(hand_over_memory(alloc, memblock, inputs, map, later)?)
 }
 
 /// The map of the finished table's claims, where the boot goes on with it.
@@ -78,34 +71,4 @@ fn settled_map(alloc: Global, inputs: &Inputs) -> Result<Vec<Run>, Stop>
         added_entries(inputs),
     )?;
     judged_map(table.runs(), inputs.reach())
-}
-
-/// What the boot made, put together.
-fn booted(inputs: Inputs, map: Vec<Run>, later: Later, end: End, paged: Paged) -> Booted
-    ensures view { booted_view result ≡ ended_view (inputs_view inputs) map.items (later_view later) end paged }
-    ensures map { result.map ≡ map }
-    ensures journal { result.journal ≡ end.journal }
-    ensures store { result.store ≡ end.store }
-    ensures heads { result.heads ≡ end.heads }
-    ensures buddy { result.buddy ≡ end.buddy }
-{
-    let Sections { roots, placed } = later.sections;
-    Booted {
-        width: inputs.width,
-        map,
-        options: inputs.options,
-        journal: end.journal,
-        store: end.store,
-        heads: end.heads,
-        nodes: later.nodes,
-        crash: later.crash,
-        roots,
-        placed,
-        answers: later.answers,
-        spans: end.spans,
-        buddy: end.buddy,
-        lists: paged.lists,
-        page_answers: paged.answers,
-        after: paged.after,
-    }
 }

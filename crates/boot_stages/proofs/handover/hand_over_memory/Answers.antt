@@ -1,7 +1,19 @@
 -- Both tables stand in the bytes, and behind the nodes the table of memory is whole frames.
-use Rattle.std.proofs.Common.{◌∙◌, arith}
+use Rattle.std.proofs.Common.{◌≡◌, ◌∙◌, ℕ, List, ap, sym, arith}
+use Rattle.boot_journal.specs.Contents.{Contents as Journal}
+use Rattle.memblock_model.specs.declared.which.Which.TheVariants as which
+use Rattle.memblock_model.specs.Tables.{records_of}
+use Rattle.memblock_ranges.specs.declared.region.Heads.{Heads}
+use Rattle.memblock_ranges.specs.Tables.{head_of}
+use Rattle.growth_model.specs.Bytes.{table_for}
+use Rattle.memblock_grow.specs.Contents.{Contents as Memblock}
+use Rattle.address_runs.specs.Runs.{RunOf, value_at}
+use Rattle.buddy_handover.specs.Contents.{free}
+use Rattle.page_alloc.specs.Book.{state_of}
+use Rattle.page_alloc.specs.Pages.{begun}
+use Rattle.boot_model.specs.View.{inputs_view}
 use Rattle.table_frames.proofs.RecordLaws.{records_higher}
-use Rattle.boot_stages.proofs.HandoverLaws.{Stand, free-told, memory-records, memory-whole, reserved-records, spans-told, stand-by}
+use Rattle.boot_stages.proofs.HandoverLaws.{Stand, free-told, memory-records, memory-whole, reserved-records, spans-told, stand-by, told-by}
 use Rattle.boot_stages.proofs.handover.hand_over_memory.Goals as goal
 use Rattle.boot_stages.proofs.handover.hand_over_memory.Goals.{After-into_parts-store}
 
@@ -9,8 +21,8 @@ stood : (c : After-into_parts-store)
     → Stand c.args.memblock.journal.items c.into_parts-store.result.0 c.into_parts-store.result.1.memory
     c.into_parts-store.result.1.reserved
 stood c =
-    stand-by c.args.memblock.kernel _ _ _ _ _ c.into_parts-store.ensures.heads c.tables-fact.ensures.tables c.tables-fact.ensures.memory
-    c.tables-fact.ensures.reserved c.into_parts-store.ensures.memory c.into_parts-store.ensures.reserved c.requires.noded c.requires.within
+    stand-by c.args.memblock _ _ c.into_parts-store.ensures.heads (c.requires.tables which.Memory) (c.requires.tables which.Reserved)
+    c.into_parts-store.ensures.memory c.into_parts-store.ensures.reserved c.requires.noded c.requires.within
 
 pub spans-requires-clause-memory : goal.spans-requires-clause-memory
 spans-requires-clause-memory c =
@@ -29,9 +41,40 @@ hand_over-requires-clause-whole c = memory-whole (stood (goal.at.hand_over-requi
 pub hand_over-requires-clause-reserved : goal.hand_over-requires-clause-reserved
 hand_over-requires-clause-reserved c = reserved-records (stood (goal.at.hand_over-requires-clause-reserved c).After-into_parts-store)
 
-pub returns-clause-spans : goal.returns-clause-spans
-returns-clause-spans c = c.in_ok-spans.ensures ∙ spans-told (stood (goal.at.returns-clause-spans c).After-into_parts-store)
+pub returns-clause-told : goal.returns-clause-told
+returns-clause-told c = λ ids fills. (
+    let stands = stood (goal.at.returns-clause-told c).After-into_parts-store in
+    let heads = c.into_parts-store.ensures.heads in
+    let memory = c.requires.tables which.Memory in
+    let reserved = c.requires.tables which.Reserved in
+    let begins : state_of c.new-after.result ≡ begun (free c.in_ok-buddy.buddy) =
+    c.new-after.ensures ∙ ap (λ (rs : List (RunOf ℕ)). begun (value_at rs)) c.in_ok-copy.ensures in
+    told-by (inputs_view c.args.inputs) c.args.map.items c.args.memblock c.args.later ids fills _ _ _ _ _ _ _ c.requires.kernel
+    (ap (λ (j : Journal). j.items) c.into_parts-store.ensures.journal) (cc) (c.in_ok-spans.ensures ∙ spans-told stands)
+    (λ i frame. (c.in_ok-buddy.ensures frame ∙ free-told stands frame) i)
+    (rw (c.as_ref.ensures.value, c.deref.ensures.value, c.deref-2.ensures.value) at c.in_ok-lists.ensures)
+    (rw (begins, c.deref-3.ensures.value) at c.in_ok-page_answers.ensures.answers)
+    (rw (begins, c.deref-3.ensures.value) at c.in_ok-page_answers.ensures.after))
 
-pub returns-clause-free : goal.returns-clause-free
-returns-clause-free c = λ i frame.
-    (c.in_ok-buddy.ensures frame ∙ free-told (stood (goal.at.returns-clause-free c).After-into_parts-store) frame) i
+pub returns-clause-reserved : goal.returns-clause-reserved
+returns-clause-reserved c =
+    let m : Memblock = c.args.memblock in
+    record {
+      table = table_for which.Reserved m.kernel m.journal.items;
+      stands = c.into_parts-store.ensures.reserved;
+      told = ap (λ (h : Heads). h.reserved) c.into_parts-store.ensures.heads ∙ ap head_of (c.requires.tables which.Reserved);
+      records = ap (λ (j : Journal). records_of which.Reserved j.items) (sym c.into_parts-store.ensures.journal);
+    }
+
+-- of the inputs' facts one is named wherever they are dropped, and the others are found
+pub invariant_of-inputs-clause-entries_end : goal.invariant_of-inputs-clause-entries_end
+invariant_of-inputs-clause-entries_end c = c.args.inputs.entries_end
+
+pub invariant_of-inputs-in_err-buddy-clause-entries_end : goal.invariant_of-inputs-in_err-buddy-clause-entries_end
+invariant_of-inputs-in_err-buddy-clause-entries_end c = c.args.inputs.entries_end
+
+pub invariant_of-inputs-in_err-lists-clause-entries_end : goal.invariant_of-inputs-in_err-lists-clause-entries_end
+invariant_of-inputs-in_err-lists-clause-entries_end c = c.args.inputs.entries_end
+
+pub invariant_of-inputs-2-clause-entries_end : goal.invariant_of-inputs-2-clause-entries_end
+invariant_of-inputs-2-clause-entries_end c = c.args.inputs.entries_end

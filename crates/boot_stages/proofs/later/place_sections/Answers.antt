@@ -1,13 +1,63 @@
--- Memory is wanted where a step of the stage is left.
-use Rattle.boot_model.specs.Sections.{places_of_sections}
-use Rattle.boot_model.specs.View.{inputs_view}
-use Rattle.boot_model.proofs.WantsLaws.{sections_errs}
-use Rattle.boot_stages.proofs.ShortLaws.{stage-short}
+-- The roots are placed, and behind them the maps.
+use Rattle.std.proofs.Common.{◌≡◌, ◌∙◌, ◌^◌, List, ap, sym, subst, arith}
+use Rattle.std.specs.List.{All}
+use Rattle.address_runs.specs.Runs.{RunOf, value_at}
+use Rattle.memblock_model.specs.declared.item.Item.{Item}
+use Rattle.memblock_model.specs.declared.which.Which.TheVariants as which
+use Rattle.memblock_model.specs.Items.{memory_of}
+use Rattle.memblock_model.specs.Labels.{Label}
+use Rattle.memblock_model.specs.Tables.{records_of}
+use Rattle.memblock_ranges.specs.Tables.{Table}
+use Rattle.memblock_grow.proofs.GoingLaws.{goes-then}
+use Rattle.sparse_sections.specs.Present.{IsWholeNoded, present}
+use Rattle.sparse_sections.proofs.AscendLaws.{present-ascends}
+use Rattle.sparse_sections.proofs.NodedLaws.{noded-records, noded-runs, noded-told}
+use Rattle.boot_stages.proofs.ExitLaws.{exit}
+use Rattle.boot_stages.proofs.PlaceLaws.{places-all, places-first, places-second, places-wanting}
 use Rattle.boot_stages.proofs.later.place_sections.Goals as goal
+use Rattle.boot_stages.proofs.later.place_sections.Goals.{After-deref}
 
-pub returns-in-Err-clause-short : goal.returns-in-Err-clause-short
-returns-in-Err-clause-short c = λ is.
-    let items = c.args.memblock.now.journal.items in
-    let width = (inputs_view c.args.inputs.now).width in
-    stage-short c.in-Err.unplaced _ items _ (places_of_sections width items) (sections_errs width items) c.in-Err.ensures.ends
-    c.stop_of_stage.ensures is
+-- the sections that were listed are those of memory
+listed : (c : After-deref) → c.deref.result.now ≡ present (memory_of c.args.memblock.now.journal.items)
+listed c =
+    c.deref.ensures.value ∙ c.in_ok-sections.ensures ∙ ap (λ (t : Table). present (value_at t.records)) c.tables.ensures.memory
+    ∙ ap present (noded-told (2 ^ 52) c.args.memblock.now.journal.items (omega arith) c.requires.noded)
+
+pub present-requires : goal.present-requires
+present-requires c =
+    let items : List Item = c.args.memblock.now.journal.items in
+    let told : All IsWholeNoded (records_of which.Memory items) =
+    noded-records (memory_of items) (records_of which.Memory items) (noded-runs (2 ^ 52) items (omega arith) c.requires.noded)
+    c.requires.noded in
+    subst (λ (rs : List (RunOf Label)). All IsWholeNoded rs) (sym (ap (λ (t : Table). t.records) c.tables.ensures.memory)) told
+
+pub returns-in_err-sections-clause-ends : goal.returns-in_err-sections-clause-ends
+returns-in_err-sections-clause-ends c =
+    places-wanting c.args.width c.from_residual.result c.args.memblock.now.journal.items (exit _ _ c.from_residual.ensures.1)
+
+pub returns-in_err-roots-clause-ends : goal.returns-in_err-roots-clause-ends
+returns-in_err-roots-clause-ends c =
+    places-first c.args.width _ _ _ _ (listed (goal.at.returns-in_err-roots-clause-ends c).After-deref) c.in_err-roots.field-0.0
+    (exit _ _ c.from_residual-in_err-roots.ensures.1) c.in_err-roots.ensures.ends
+
+pub place_maps-requires-clause-ascend : goal.place_maps-requires-clause-ascend
+place_maps-requires-clause-ascend c =
+    rw (c.deref-2.ensures.value ∙ c.in_ok-sections.ensures) (present-ascends (value_at c.tables.result.now.memory.records)).ascend
+
+pub returns-in_err-placed-clause-ends : goal.returns-in_err-placed-clause-ends
+returns-in_err-placed-clause-ends c =
+    let same : c.deref-2.result.now ≡ c.deref.result.now = c.deref-2.ensures.value ∙ sym c.deref.ensures.value in
+    places-second c.args.width _ _ _ _ (listed (goal.at.returns-in_err-placed-clause-ends c).After-deref) c.in_err-placed.field-0.0 _ _
+    (exit _ _ c.from_residual-in_err-placed.ensures.1) c.in_ok-roots.ensures.ends (rw (← same) c.in_err-placed.ensures.ends)
+
+pub returns-in_err-placed-clause-goes_on : goal.returns-in_err-placed-clause-goes_on
+returns-in_err-placed-clause-goes_on c = goes-then _ _ _ c.in_ok-roots.ensures.goes_on c.in_err-placed.ensures.goes_on
+
+pub returns-clause-ends : goal.returns-clause-ends
+returns-clause-ends c =
+    let same : c.deref-2.result.now ≡ c.deref.result.now = c.deref-2.ensures.value ∙ sym c.deref.ensures.value in
+    places-all c.args.width _ _ _ _ _ _ (listed (goal.at.returns-clause-ends c).After-deref) c.in_ok-roots.ensures.ends
+    (rw (← same) c.in_ok-placed.ensures.ends)
+
+pub returns-clause-goes_on : goal.returns-clause-goes_on
+returns-clause-goes_on c = goes-then _ _ _ c.in_ok-roots.ensures.goes_on c.in_ok-placed.ensures.goes_on

@@ -3,8 +3,8 @@ use Rattle.std.proofs.Common.{drop}
 use Rattle.address_runs.specs.Runs.{AreRuns}
 use Rattle.growth_model.specs.Sound.{HasBegun}
 use Rattle.early_stages.specs.Wanted.{items_of_map}
-use Rattle.stage_model.specs.Lent.{GoesOn}
-use Rattle.boot_stages.proofs.CarriesLaws.{Leaves}
+use Rattle.memblock_grow.specs.Going.{GoesOn}
+use Rattle.boot_stages.proofs.ItemsLaws.{Leaves}
 use Rattle.boot_stages.proofs.memory.add_map.Given as goal
 
 abbrev pub invariant-loop-run : goal.invariant-loop-run
@@ -13,5 +13,5 @@ invariant-loop-run l = record {
       l.memblock.journal.items;
   runs : AreRuns (drop l.run-index l.map);
   begun : HasBegun l.memblock.journal.items;
-  lent : GoesOn l.fn.memblock l.memblock;
+  goes_on : GoesOn l.fn.memblock l.memblock;
 }

@@ -1,29 +1,27 @@
 -- Each range's item is the first of those that are left.
-use Rattle.std.proofs.Common.{List, ◌∷◌, [], Ok, map, ◌∙◌, arith}
+use Rattle.std.proofs.Common.{List, ◌∷◌, [], Ok, map, arith}
 use Rattle.std.proofs.lemmas.List.{at_drop_all}
 use Rattle.bm_base.specs.Extent.{Extent}
 use Rattle.memblock_model.specs.declared.item.Item.TheVariants as item
-use Rattle.growth_model.specs.Carried.{carried_out}
 use Rattle.growth_model.specs.Growth.{mirrored}
 use Rattle.growth_model.proofs.SoundLaws.{ends-begun}
-use Rattle.stage_model.proofs.LentLaws.{goes-then}
+use Rattle.memblock_grow.proofs.GoingLaws.{goes-then}
 use Rattle.early_stages.specs.Wanted.{mirror_items}
 use Rattle.boot_model.specs.Mirrors.{frames_in}
-use Rattle.boot_stages.proofs.BytesLaws.{goes-once}
-use Rattle.boot_stages.proofs.CarriesLaws.{carries-change, carries-left, carries-nothing, change-exit, leaves-all, leaves-next}
+use Rattle.boot_stages.proofs.ItemsLaws.{carries-change, carries-nothing, change-exit, leaves-all, leaves-next}
 use Rattle.boot_stages.proofs.ExitLaws.{exit}
 use Rattle.boot_stages.proofs.MemoryLaws.{mirrors_next}
 use Rattle.boot_stages.proofs.memory.add_mirrors.Goals as goal
 
-pub returns-in_err-set_mirror-clause-carries : goal.returns-in_err-set_mirror-clause-carries
-returns-in_err-set_mirror-clause-carries c =
+pub returns-in_err-set_mirror-clause-ends : goal.returns-in_err-set_mirror-clause-ends
+returns-in_err-set_mirror-clause-ends c =
     let next = mirrors_next c.args.mirrors.now c.loop-mirror.mirror-index c.mirror-item.result (omega (arith, c.loop-mirror-test.true))
     c.mirror-item.is c.requires.whole in
-    carries-left _ _ _ _ _ _ (rw next at c.loop-mirror.invariant.left)
-    (change-exit c.in_err-set_mirror.field-0.0 _ _ _ _ _ (exit _ _ c.from_residual.ensures.1) c.in_err-set_mirror.ensures.ends)
+    c.loop-mirror.invariant.left.ends _ _ (rw next (change-exit c.in_err-set_mirror.field-0.0 _ _ _ _ _
+    (exit _ _ c.from_residual.ensures.1) c.in_err-set_mirror.ensures.ends))
 
 pub loop-mirror-init : goal.loop-mirror-init
-loop-mirror-init c = record { left = leaves-all _ _; begun = c.requires.begun; lent = c.stand_still.ensures }
+loop-mirror-init c = record { left = leaves-all _ _; begun = c.requires.begun; goes_on = c.no_items_no_change.ensures }
 
 pub loop-mirror-preserved : goal.loop-mirror-preserved
 loop-mirror-preserved c =
@@ -34,18 +32,17 @@ loop-mirror-preserved c =
       left = leaves-next _ (item.Mirror range ∷ []) _ _ _ _ _ next
           (carries-change (Ok tt) (item.Mirror range) _ _ c.in_ok-set_mirror.ensures.ends) c.loop-mirror.invariant.left;
       begun = ends-begun {T = Unit {0}} (Ok tt) _ _ (mirrored range) c.loop-mirror.invariant.begun c.in_ok-set_mirror.ensures.ends;
-      lent = goes-then _ _ _ c.loop-mirror.invariant.lent
-          (goes-once _ _ c.set_mirror.ensures.kernel c.set_mirror.ensures.bytes c.set_mirror.ensures.still_ready);
+      goes_on = goes-then _ _ _ c.loop-mirror.invariant.goes_on
+          c.set_mirror.ensures.goes_on;
     }
 
-pub returns-clause-carries : goal.returns-clause-carries
-returns-clause-carries c =
-    let here = c.loop-mirror.memblock.journal.items in
-    let rest = at_drop_all (λ (rs : List Extent). carried_out (mirror_items (map frames_in rs)) here) c.args.mirrors.now
-    c.loop-mirror.mirror-index (omega (arith, c.loop-mirror-test.false)) in
-    carries-left (Ok tt) _ _ _ here here c.loop-mirror.invariant.left (rest ∙ carries-nothing here)
+pub returns-clause-ends : goal.returns-clause-ends
+returns-clause-ends c =
+    let none = at_drop_all (λ (rs : List Extent). mirror_items (map frames_in rs)) c.args.mirrors.now c.loop-mirror.mirror-index
+    (omega (arith, c.loop-mirror-test.false)) in
+    c.loop-mirror.invariant.left.ends (Ok tt) _ (rw none (carries-nothing c.loop-mirror.memblock.journal.items))
 
-pub returns-in_err-set_mirror-clause-lent : goal.returns-in_err-set_mirror-clause-lent
-returns-in_err-set_mirror-clause-lent c =
-    goes-then _ _ _ c.loop-mirror.invariant.lent
-    (goes-once _ _ c.set_mirror.ensures.kernel c.set_mirror.ensures.bytes c.set_mirror.ensures.still_ready)
+pub returns-in_err-set_mirror-clause-goes_on : goal.returns-in_err-set_mirror-clause-goes_on
+returns-in_err-set_mirror-clause-goes_on c =
+    goes-then _ _ _ c.loop-mirror.invariant.goes_on
+    c.set_mirror.ensures.goes_on

@@ -2,9 +2,9 @@
 use Rattle.std.proofs.Common.{drop, map}
 use Rattle.growth_model.specs.Sound.{HasBegun}
 use Rattle.early_stages.specs.Wanted.{mirror_items}
-use Rattle.stage_model.specs.Lent.{GoesOn}
+use Rattle.memblock_grow.specs.Going.{GoesOn}
 use Rattle.boot_model.specs.Mirrors.{frames_in}
-use Rattle.boot_stages.proofs.CarriesLaws.{Leaves}
+use Rattle.boot_stages.proofs.ItemsLaws.{Leaves}
 use Rattle.boot_stages.proofs.memory.add_mirrors.Given as goal
 
 abbrev pub invariant-loop-mirror : goal.invariant-loop-mirror
@@ -12,5 +12,5 @@ invariant-loop-mirror l = record {
   left : Leaves (mirror_items (map frames_in l.mirrors)) (mirror_items (map frames_in (drop l.mirror-index l.mirrors)))
       l.fn.memblock.journal.items l.memblock.journal.items;
   begun : HasBegun l.memblock.journal.items;
-  lent : GoesOn l.fn.memblock l.memblock;
+  goes_on : GoesOn l.fn.memblock l.memblock;
 }

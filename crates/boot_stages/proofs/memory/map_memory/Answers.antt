@@ -1,15 +1,14 @@
 -- The runs of the map, a trim, and the mirrors: those before an error were carried out.
-use Rattle.std.proofs.Common.{[], ◌∷◌, refl, ap, arith}
+use Rattle.std.proofs.Common.{◌∷◌, refl, ap, arith}
 use Rattle.memblock_model.specs.declared.item.Item.TheVariants as item
 use Rattle.memblock_grow.specs.Contents.{Contents as Memblock}
-use Rattle.stage_model.specs.Lent.{GoesOn}
-use Rattle.stage_model.proofs.LentLaws.{goes-then}
+use Rattle.memblock_grow.specs.Going.{GoesOn}
+use Rattle.memblock_grow.proofs.GoingLaws.{goes-then}
 use Rattle.early_stages.specs.Early.{Early}
 use Rattle.early_stages.specs.Wanted.{items_of_map, mirror_items}
 use Rattle.boot_model.specs.Boot.{early_of}
 use Rattle.boot_model.specs.View.{inputs_view}
-use Rattle.boot_stages.proofs.BytesLaws.{goes-once}
-use Rattle.boot_stages.proofs.CarriesLaws.{carries-alone, carries-exit, carries-second, carries-wanting}
+use Rattle.boot_stages.proofs.ItemsLaws.{carries-exit, carries-second, carries-wanting, change-second}
 use Rattle.boot_stages.proofs.ExitLaws.{exit}
 use Rattle.boot_stages.proofs.memory.map_memory.Goals as goal
 use Rattle.boot_stages.proofs.memory.map_memory.Goals.{After-trim}
@@ -17,26 +16,26 @@ use Rattle.boot_stages.proofs.memory.map_memory.Goals.{After-trim}
 -- behind the trim memblock went on
 trimmed : (c : After-trim) → GoesOn c.args.memblock.now c.trim.new.self
 trimmed c =
-    goes-then _ _ _ c.in_ok-add_map.ensures.lent (goes-once _ _ c.trim.ensures.kernel c.trim.ensures.bytes c.trim.ensures.still_ready)
+    goes-then _ _ _ c.in_ok-add_map.ensures.goes_on c.trim.ensures.goes_on
 
-pub returns-in_err-add_map-clause-carries : goal.returns-in_err-add_map-clause-carries
-returns-in_err-add_map-clause-carries c =
+pub returns-in_err-add_map-clause-ends : goal.returns-in_err-add_map-clause-ends
+returns-in_err-add_map-clause-ends c =
     rw (← c.reach.ensures) (carries-exit c.in_err-add_map.field-0.0 _ (items_of_map c.reach.result c.args.map.now) _ _ _
-    (exit _ _ c.from_residual.ensures.1) c.in_err-add_map.ensures.carries)
+    (exit _ _ c.from_residual.ensures.1) c.in_err-add_map.ensures.ends)
 
-pub returns-in_err-trim-clause-carries : goal.returns-in_err-trim-clause-carries
-returns-in_err-trim-clause-carries c =
+pub returns-in_err-trim-clause-ends : goal.returns-in_err-trim-clause-ends
+returns-in_err-trim-clause-ends c =
     let e : Early = early_of (inputs_view c.args.inputs.now) in
     rw (← c.reach.ensures) (carries-second _ (items_of_map c.reach.result c.args.map.now) (item.Trim ∷ mirror_items e.mirrors) _ _ _
-    c.in_ok-add_map.ensures.carries (carries-wanting _ _ _ _ _ (exit _ _ c.from_residual-in_err-trim.ensures.1) (omega arith)
-    (ap (λ (m : Memblock). m.journal.items) c.in_err-trim.ensures.err)))
+    c.in_ok-add_map.ensures.ends (carries-wanting _ _ _ _ _ (exit _ _ c.from_residual-in_err-trim.ensures.1) (omega arith)
+    (ap (λ (m : Memblock). m.journal.items) c.in_err-trim.ensures.appends.0)))
 
-pub returns-clause-carries : goal.returns-clause-carries
-returns-clause-carries c =
+pub returns-clause-ends : goal.returns-clause-ends
+returns-clause-ends c =
     let e : Early = early_of (inputs_view c.args.inputs.now) in
     rw (← c.reach.ensures) (carries-second _ (items_of_map c.reach.result c.args.map.now) (item.Trim ∷ mirror_items e.mirrors) _ _ _
-    c.in_ok-add_map.ensures.carries (carries-second _ (item.Trim ∷ []) (mirror_items e.mirrors) _ _ _
-    (carries-alone item.Trim _ _ refl c.in_ok-trim.ensures.ok) c.mirror_memory.ensures.carries))
+    c.in_ok-add_map.ensures.ends (change-second _ item.Trim (mirror_items e.mirrors) _ _ _ (refl, c.in_ok-trim.ensures.appends.0)
+    c.mirror_memory.ensures.ends))
 
-pub returns-clause-lent : goal.returns-clause-lent
-returns-clause-lent c = goes-then _ _ _ (trimmed (goal.at.returns-clause-lent c).After-trim) c.mirror_memory.ensures.lent
+pub returns-clause-goes_on : goal.returns-clause-goes_on
+returns-clause-goes_on c = goes-then _ _ _ (trimmed (goal.at.returns-clause-goes_on c).After-trim) c.mirror_memory.ensures.goes_on

@@ -1,38 +1,41 @@
 -- The mirrors of the words, and then those of the firmware's map, if there is one.
-use Rattle.std.proofs.Common.{◌≡◌, ◌++◌, List, Result, Ok, map, sym, subst}
+use Rattle.std.proofs.Common.{◌++◌, List, Result, Ok, map, sym, subst}
 use Rattle.memblock_model.specs.declared.item.Item.{Item}
 use Rattle.growth_model.specs.declared.refusal.Refusal.{Refusal}
-use Rattle.growth_model.specs.Carried.{carried_out}
 use Rattle.early_stages.specs.Early.{FrameRange}
 use Rattle.early_stages.specs.Wanted.{mirror_items}
-use Rattle.stage_model.proofs.LentLaws.{goes-then}
+use Rattle.stage_model.specs.Causes.{refusal_for}
+use Rattle.stage_model.specs.Doing.{StageEnds}
+use Rattle.memblock_grow.proofs.GoingLaws.{goes-then}
 use Rattle.boot_model.specs.Boot.{efi_mirrors}
+use Rattle.boot_model.specs.First.{items_carried}
 use Rattle.boot_model.specs.Mirrors.{frames_in}
 use Rattle.boot_model.specs.View.{inputs_view}
-use Rattle.boot_stages.specs.Carries.{Carries}
-use Rattle.boot_stages.proofs.CarriesLaws.{carries-exit, carries-second}
+use Rattle.boot_stages.proofs.ItemsLaws.{carries-exit, carries-second}
 use Rattle.boot_stages.proofs.ExitLaws.{exit}
 use Rattle.boot_stages.proofs.MemoryLaws.{mirrors-append}
 use Rattle.boot_stages.proofs.memory.mirror_memory.Goals as goal
 
 -- the items of two lists of mirrors, the first of which was carried out
 both : (r : Result (Unit {0}) Refusal) (words efi : List FrameRange) (old mid new : List Item)
-    → carried_out (mirror_items words) old ≡ Ok mid → Carries r (mirror_items efi) mid new → Carries r (mirror_items (words ++ efi)) old new
+    → StageEnds {A = Unit {0}} (items_carried (mirror_items words)) refusal_for (Ok tt) old mid
+    → StageEnds (items_carried (mirror_items efi)) refusal_for r mid new
+    → StageEnds (items_carried (mirror_items (words ++ efi))) refusal_for r old new
 both r words efi old mid new first rest =
-    subst (λ (is : List Item). Carries r is old new) (sym (mirrors-append words efi))
+    subst (λ (is : List Item). StageEnds (items_carried is) refusal_for r old new) (sym (mirrors-append words efi))
     (carries-second r (mirror_items words) (mirror_items efi) old mid new first rest)
 
-pub returns-in_err-add_mirrors-clause-carries : goal.returns-in_err-add_mirrors-clause-carries
-returns-in_err-add_mirrors-clause-carries c =
+pub returns-in_err-add_mirrors-clause-ends : goal.returns-in_err-add_mirrors-clause-ends
+returns-in_err-add_mirrors-clause-ends c =
     rw (mirrors-append (map frames_in c.args.inputs.now.mirrors.items) (efi_mirrors (inputs_view c.args.inputs.now).efi))
     (carries-exit c.in_err-add_mirrors.field-0.0 _ _ _ _ _ (exit _ _ c.from_residual.ensures.1)
-    (rw c.deref.ensures.value at c.in_err-add_mirrors.ensures.carries))
+    (rw c.deref.ensures.value at c.in_err-add_mirrors.ensures.ends))
 
-pub returns-in-Some-clause-carries : goal.returns-in-Some-clause-carries
-returns-in-Some-clause-carries c =
+pub returns-in-Some-clause-ends : goal.returns-in-Some-clause-ends
+returns-in-Some-clause-ends c =
     rw c.in-Some.is (both _ (map frames_in c.args.inputs.now.mirrors.items) (map frames_in c.in-Some.efi.mirrors.items) _ _ _
-    (rw c.deref.ensures.value at c.in_ok-add_mirrors.ensures.carries)
-    (rw c.deref-in-Some.ensures.value at c.add_mirrors-in-Some.ensures.carries))
+    (rw c.deref.ensures.value at c.in_ok-add_mirrors.ensures.ends)
+    (rw c.deref-in-Some.ensures.value at c.add_mirrors-in-Some.ensures.ends))
 
-pub returns-in-Some-clause-lent : goal.returns-in-Some-clause-lent
-returns-in-Some-clause-lent c = goes-then _ _ _ c.in_ok-add_mirrors.ensures.lent c.add_mirrors-in-Some.ensures.lent
+pub returns-in-Some-clause-goes_on : goal.returns-in-Some-clause-goes_on
+returns-in-Some-clause-goes_on c = goes-then _ _ _ c.in_ok-add_mirrors.ensures.goes_on c.add_mirrors-in-Some.ensures.goes_on
