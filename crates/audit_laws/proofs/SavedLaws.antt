@@ -13,7 +13,8 @@ use Rattle.audit_texts.specs.Told.{told_block, told_run}
 use Rattle.audit_texts.proofs.ToldLaws.{blocks_back, map_back, owners_back}
 use Rattle.boot_audit.specs.Conserved.{AreConserved}
 use Rattle.boot_audit.specs.Headline.{IsConservedBy}
-use Rattle.boot_audit.specs.Outcome.{Held, Lines, lines_by, lines_of}
+use Rattle.boot_audit.specs.Outcome.{Lines, lines_by, lines_of}
+use Rattle.program_end.specs.Program.{Held}
 use Rattle.boot_audit.specs.Words.{Wanted}
 use Rattle.boot_audit.specs.declared.failure.Report.{Report as Saved}
 use Rattle.boot_audit.specs.declared.failure.Report.TheVariants as saved

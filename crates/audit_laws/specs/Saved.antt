@@ -1,6 +1,6 @@
 -- Files that hold three reports of one boot.
 use Rattle.std.specs.Prelude.{◌≡◌, ℕ, ◌≤◌, List, length, Option, Some}
-use Rattle.boot_audit.specs.Outcome.{Held}
+use Rattle.program_end.specs.Program.{Held}
 use Rattle.boot_audit.specs.Words.{Wanted}
 use Rattle.boot_model.specs.Boot.{Told}
 use Rattle.debugfs_reports.specs.Report.{report_text}

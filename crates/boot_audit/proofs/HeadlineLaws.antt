@@ -18,13 +18,14 @@ use Rattle.audit_lines.specs.declared.report.LineFault.{LineFault}
 use Rattle.audit_lines.specs.declared.report.LineFault.TheVariants as line_faults
 use Rattle.audit_lines.proofs.ReportLaws.{report_ascends}
 use Rattle.boot_audit.specs.declared.failure.Fault.TheVariants as faults
-use Rattle.boot_audit.specs.declared.failure.Reason.{Reason}
-use Rattle.boot_audit.specs.declared.failure.Reason.TheVariants as reasons
+use Rattle.program_end.specs.Program.{Held}
+use Rattle.program_end.specs.declared.failure.Reason.TheVariants as reasons
 use Rattle.boot_audit.specs.declared.failure.Report.{Report}
 use Rattle.boot_audit.specs.declared.failure.Report.TheVariants as reports
 use Rattle.boot_audit.specs.declared.verdict.Verdict.TheVariants as verdicts
 use Rattle.boot_audit.specs.Headline.{IsConservedBy}
-use Rattle.boot_audit.specs.Outcome.{Held, Lines, lines_by, lines_of, outcome, verdict_by}
+use Rattle.boot_audit.specs.Outcome.{Lines, lines_by, lines_of, outcome, verdict_by}
+use Rattle.boot_audit.specs.Reason.{Reason}
 use Rattle.boot_audit.specs.Words.{Wanted}
 use Rattle.boot_audit.proofs.ConservedLaws.{conserved_says, reach_near, sound_says}
 use Rattle.boot_audit.proofs.OrderLaws.{frames_ascend}

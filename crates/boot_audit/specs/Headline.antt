@@ -1,8 +1,9 @@
 -- What status 0 says, where the files tell what they hold.
 use Rattle.std.specs.Prelude.{◌≡◌, Option, Some, Ok}
 use Rattle.bm_base.specs.Width.{reach_of}
+use Rattle.program_end.specs.Program.{Held}
 use Rattle.boot_audit.specs.Conserved.{AreConserved}
-use Rattle.boot_audit.specs.Outcome.{Held, Lines, lines_of}
+use Rattle.boot_audit.specs.Outcome.{Lines, lines_of}
 use Rattle.boot_audit.specs.Words.{Wanted}
 
 -- the words have their form, the three texts are well-formed, and by their lines memory was conserved

@@ -1,10 +1,10 @@
-pub mod Answers
+pub mod Audit
 pub mod Conserved
 pub mod Frames
 pub mod Headline
 pub mod Line
 pub mod Outcome
-pub mod Run
+pub mod Reason
 pub mod Status
 pub mod Sweep
 pub mod Verdicts

@@ -1,23 +1,19 @@
 -- The texts of the program: the verdict on the output, and the one line on the error output.
-use Rattle.std.specs.Prelude.{ℕ, ◌*◌, List, [], ◌++◌, codes, decimal, Option, Some, None, ◌⊎◌}
-use Rattle.std.specs.Io.KnownBytes.{Appends}
+use Rattle.std.specs.Prelude.{ℕ, ◌*◌, List, [], ◌++◌, codes, decimal, Option, Some, None}
 use Rattle.bm_base.specs.Text.{hex_text}
 use Rattle.bm_base.specs.declared.frame.TheConstants.{FRAME_SIZE}
-use Rattle.bm_io.specs.Counts.{Rose}
-use Rattle.bm_io.specs.Told.{AppendsFront}
-use Rattle.bm_io.specs.declared.writing.Sink.{Ghosts as SinkOf}
+use Rattle.program_end.specs.declared.failure.Failure.{Failure}
+use Rattle.program_end.specs.Line.{failure_line as end_line}
 use Rattle.audit_lines.specs.declared.report.LineFault.{LineFault}
 use Rattle.audit_lines.specs.declared.report.LineFault.TheVariants as line_faults
-use Rattle.boot_audit.specs.declared.failure.Failure.{Failure}
-use Rattle.boot_audit.specs.declared.failure.Failure.TheVariants as failures
 use Rattle.boot_audit.specs.declared.failure.Fault.{Fault}
 use Rattle.boot_audit.specs.declared.failure.Fault.TheVariants as faults
-use Rattle.boot_audit.specs.declared.failure.Reason.{Reason}
-use Rattle.boot_audit.specs.declared.failure.Reason.TheVariants as reasons
+use Rattle.boot_audit.specs.declared.failure.NoCause.{NoCause}
 use Rattle.boot_audit.specs.declared.failure.Report.{Report}
 use Rattle.boot_audit.specs.declared.failure.Report.TheVariants as reports
 use Rattle.boot_audit.specs.declared.verdict.Verdict.{Verdict}
 use Rattle.boot_audit.specs.declared.verdict.Verdict.TheVariants as verdicts
+use Rattle.boot_audit.specs.Reason.{Reason}
 use Rattle.boot_audit.specs.Words.{Wanted, name_of}
 
 -- a line of `blocks`, numbered from 1
@@ -54,24 +50,20 @@ abbrev pub fault_line : List ℕ → Fault → List ℕ
 fault_line name faults.TooLong = codes "bootaudit: " ++ (name ++ codes ": too long\n")
 fault_line name (faults.Line fault) = line_fault_line name fault
 
+abbrev pub report_line : Report → Fault → List ℕ
+report_line report fault = fault_line (word_for report) fault
+
+-- there is no cause to be told
+abbrev pub cause_line : NoCause → List ℕ
+cause_line cause = []
+
 -- the name of a report's file as the words give it, which is empty where they are refused
 abbrev pub name_text : Option Wanted → Report → List ℕ
 name_text None report = []
 name_text (Some wanted) report = name_of wanted report
 
-abbrev pub reason_line : Option Wanted → Reason → List ℕ
-reason_line accepted reasons.Usage = codes "bootaudit: usage\n"
-reason_line accepted (reasons.Unread report) = codes "bootaudit: cannot read " ++ (name_text accepted report ++ codes "\n")
-reason_line accepted (reasons.Faulty report fault) = fault_line (word_for report) fault
+abbrev pub program_name : List ℕ
+program_name = codes "bootaudit"
 
-abbrev pub failure_line : Option Wanted → Failure → List ℕ
-failure_line accepted (failures.NoVerdict reason) = reason_line accepted reason
-failure_line accepted failures.Unwritten = codes "bootaudit: cannot write\n"
-failure_line accepted failures.Memory = codes "bootaudit: out of memory\n"
-
--- the front of the line was appended to the output, and all of it unless the output itself failed; `sink` is what the
--- output's kind tells
-pub record PutsLine {S : Type 0} (sink : SinkOf S) (old new : S) (line : List ℕ) : Type 0 where
-  pub front : AppendsFront (sink.written old) (sink.written new) line
-  pub whole : Appends (sink.written old) (sink.written new) line ⊎ Rose (sink.faults old) (sink.faults new)
-      ⊎ Rose (sink.wants old) (sink.wants new)
+abbrev pub failure_line : Option Wanted → Failure Reason → List ℕ
+failure_line accepted failure = end_line program_name (name_text accepted) report_line cause_line failure

@@ -3,22 +3,20 @@ use Rattle.std.specs.Prelude.{ℕ, nat_lt, if◌then◌else◌, List, length, Op
 use Rattle.bm_base.specs.Extent.{Extent}
 use Rattle.bm_base.specs.ResultSteps.{◌>>=◌, with_error}
 use Rattle.bm_base.specs.Width.{reach_of}
+use Rattle.program_end.specs.declared.failure.Reason.TheVariants as reasons
+use Rattle.program_end.specs.Fetches.{or_usage}
+use Rattle.program_end.specs.Program.{Held}
 use Rattle.audit_lines.specs.Blocks.{Block, bytes_of_block}
 use Rattle.audit_lines.specs.Forms.{block_in, map_in, owner_in}
 use Rattle.audit_lines.specs.Reports.{report_of}
 use Rattle.audit_lines.specs.declared.lines.MapLine.{MapLine}
 use Rattle.boot_audit.specs.declared.failure.Fault.TheVariants as faults
-use Rattle.boot_audit.specs.declared.failure.Reason.{Reason}
-use Rattle.boot_audit.specs.declared.failure.Reason.TheVariants as reasons
 use Rattle.boot_audit.specs.declared.failure.Report.{Report}
 use Rattle.boot_audit.specs.declared.failure.Report.TheVariants as reports
 use Rattle.boot_audit.specs.declared.verdict.Verdict.{Verdict}
+use Rattle.boot_audit.specs.Reason.{Reason}
 use Rattle.boot_audit.specs.Verdicts.{verdict_on}
 use Rattle.boot_audit.specs.Words.{Wanted}
-
--- what each name holds
-abbrev pub Held : Type 0
-Held = List ℕ → Option (List ℕ)
 
 -- the lines of a report, of the bytes that its name holds, which are at most 512 MiB
 abbrev pub lines_by : {L : Type 0} → (ℕ → List ℕ → Option L) → (L → Extent) → Report → Option (List ℕ) → Result (List L) Reason
@@ -42,11 +40,6 @@ lines_of held wanted = do
 
 abbrev pub verdict_by : Wanted → Lines → Verdict
 verdict_by wanted lines = verdict_on (reach_of wanted.width) lines.map_lines lines.owners lines.blocks
-
--- what the words ask for, where they are accepted
-abbrev pub or_usage : Option Wanted → Result Wanted Reason
-or_usage None = Err reasons.Usage
-or_usage (Some wanted) = Ok wanted
 
 -- what an audit comes to: the verdict on what the three names hold, or why there is none
 abbrev pub outcome : Option Wanted → Held → Result Verdict Reason

@@ -1,12 +1,11 @@
-//! The ways to end but for a verdict.
+//! The saved reports, what is wrong with them, and the ways in which the audit ends without a verdict.
 
 ghost use Rattle.std.specs.Prelude.{◌≡◌};
 ghost use Rattle.boot_audit.specs.Line.{word_for};
-ghost use Rattle.boot_audit.specs.Status.{reason_status, status_of, verdict_status};
+ghost use Rattle.boot_audit.specs.Status.{verdict_status};
 
 use crate::verdict::Verdict;
 use audit_lines::LineFault;
-use bm_base::Memory;
 
 /// A saved report, in the order in which they are read.
 #[derive(Clone, Copy, Debug, PartialEq, Eq)]
@@ -28,27 +27,18 @@ pub enum Fault {
     Line(LineFault),
 }
 
-/// Why the words and the files give no verdict.
+/// Why well-formed reports have no verdict: there is no such cause.
 #[derive(Clone, Copy, Debug, PartialEq, Eq)]
-pub enum Reason {
-    /// The words have another form.
-    Usage,
-    /// A report couldn't be read; those before it are well-formed.
-    Unread(Report),
-    /// A report has a fault; those before it are well-formed.
-    Faulty(Report, Fault),
-}
+pub enum NoCause {}
 
-/// Why the program doesn't end with a verdict.
-#[derive(Clone, Copy, Debug, PartialEq, Eq)]
-pub enum Failure {
-    /// There is none.
-    NoVerdict(Reason),
-    /// The output failed.
-    Unwritten,
-    /// The program's own memory ran out, or the output's.
-    Memory,
-}
+/// Why the words and the files give no verdict.
+pub type Reason = program_end::Reason<Report, Fault, NoCause>;
+
+/// Why there is no verdict.
+pub type NoVerdict = program_end::NoResult<Reason>;
+
+/// Why the audit doesn't end with a verdict.
+pub type Failure = program_end::Failure<Reason>;
 
 impl Report {
     /// The word for it on the error output.
@@ -60,42 +50,6 @@ impl Report {
             Report::Owners => "owners",
             Report::Blocks => "blocks",
         }
-    }
-}
-
-impl Reason {
-    fn status(self) -> u8
-        ensures { result ≡ reason_status self }
-    {
-        match self {
-            Reason::Usage => 2,
-            Reason::Unread(_) => 3,
-            Reason::Faulty(..) => 5,
-        }
-    }
-}
-
-impl Failure {
-    /// The exit status.
-    pub fn status(self) -> u8
-        ensures { result ≡ status_of self }
-    {
-        match self {
-            Failure::NoVerdict(reason) => reason.status(),
-            Failure::Unwritten => 4,
-            Failure::Memory => 7,
-        }
-    }
-}
-
-impl From<Memory> for Failure {
-    ghost use Rattle.std.specs.Prelude.{◌≡◌};
-    ghost use Rattle.boot_audit.specs.declared.failure.Failure.TheVariants as failures;
-
-    ghost from_gives = { λ _ failure. failure ≡ failures.Memory };
-
-    fn from(_error: Memory) -> Failure {
-        Failure::Memory
     }
 }
 

@@ -4,11 +4,15 @@ ghost use Rattle.std.specs.Prelude.{◌≡◌, ◌<◌, ◌≤◌, ◌^◌, ℕ,
 ghost use Rattle.audit_lines.specs.Blocks.{bytes_of_block};
 ghost use Rattle.audit_lines.specs.Lines.{AscendApart};
 ghost use Rattle.bm_io.specs.Counts.{Rose};
-ghost use Rattle.boot_audit.specs.Answers.{FailureHasCause, IsEarly, IsOf, Makes};
+ghost use Rattle.program_end.specs.declared.failure.NoResult.TheVariants as errors;
+ghost use Rattle.program_end.specs.declared.failure.Reason.TheVariants as reasons;
+ghost use Rattle.program_end.specs.Causes.{IsOf, IsOfFile};
+ghost use Rattle.program_end.specs.Fetches.{Fetches};
+ghost use Rattle.boot_audit.specs.Audit.{bootaudit, place};
 ghost use Rattle.boot_audit.specs.Outcome.{lines_by, lines_of};
 ghost use Rattle.boot_audit.specs.View.{saved_lines, wanted_view};
 
-use crate::failure::{Failure, Fault, Reason, Report};
+use crate::failure::{Fault, NoVerdict, Reason, Report};
 use crate::saved::Saved;
 use crate::words::Names;
 use audit_lines::{BlockLine, MapLine, ReadError, ReportLine, read_report};
@@ -24,11 +28,10 @@ pub fn fetch_saved<F: Files>(
     alloc: Global,
     files: &mut F,
     names: &Names<'_>,
-) -> Result<Saved, Failure>
-    ensures makes { IfSome (F.holds files.old) (λ held.
-        Makes saved_lines result (lines_of held (wanted_view names.now))) }
-    ensures cause { IfErr result (FailureHasCause (F.faults files.old) (F.faults files.new) (Some (wanted_view names.now))) }
-    ensures early { IfErr result IsEarly }
+) -> Result<Saved, NoVerdict>
+    ensures fetches { IfSome (F.holds files.old) (λ held.
+        Fetches place saved_lines result (lines_of held (wanted_view names.now))) }
+    ensures cause { IfErr result (IsOfFile (F.faults files.old) (F.faults files.new) (bootaudit.named (wanted_view names.now))) }
     ensures map_order { IfOk result (λ saved. AscendApart (map (λ l. l.range) saved.map.items)) }
     ensures owner_order { IfOk result (λ saved. AscendApart (map (λ r. r) saved.owners.items)) }
     ensures block_order { IfOk result (λ saved. AscendApart (map bytes_of_block saved.blocks.items)) }
@@ -50,11 +53,11 @@ fn fetch_lines<F: Files, L: ReportLine>(
     files: &mut F,
     name: &str,
     report: Report,
-) -> Result<Vec<L>, Failure>
-    ensures makes { IfSome (F.holds files.old) (λ held.
-        Makes (λ lines. lines.items) result (lines_by L.form L.extent report (held name.now))) }
+) -> Result<Vec<L>, NoVerdict>
+    ensures fetches { IfSome (F.holds files.old) (λ held.
+        Fetches place (λ lines. lines.items) result (lines_by L.form L.extent report (held name.now))) }
     ensures own { IfErr result (IsOf report) }
-    ensures failed { IsErrOf result (Failure.NoVerdict (Reason.Unread report))
+    ensures failed { IsErrOf result (errors.Reason (reasons.Unread report))
         → Rose (F.faults files.old name.now) (F.faults files.new name.now) }
     ensures kept { F.holds files.new ≡ F.holds files.old }
     ensures faults_stay { (any : List ℕ) → F.faults files.old any ≤ F.faults files.new any }
@@ -63,19 +66,19 @@ fn fetch_lines<F: Files, L: ReportLine>(
 {
     let bytes = match files.fetch(alloc, name, LIMIT) {
         Ok(bytes) => bytes,
-        Err(Fetch::Failed) => return Err(Failure::NoVerdict(Reason::Unread(report))),
-        Err(Fetch::TooLong) => return Err(Failure::NoVerdict(Reason::Faulty(
+        Err(Fetch::Failed) => return Err(NoVerdict::Reason(Reason::Unread(report))),
+        Err(Fetch::TooLong) => return Err(NoVerdict::Reason(Reason::Faulty(
             report,
             Fault::TooLong,
         ))),
-        Err(Fetch::Memory) => return Err(Failure::Memory),
+        Err(Fetch::Memory) => return Err(NoVerdict::Memory),
     };
     match read_report(alloc, &bytes) {
         Ok(lines) => Ok(lines),
-        Err(ReadError::Fault(fault)) => Err(Failure::NoVerdict(Reason::Faulty(
+        Err(ReadError::Fault(fault)) => Err(NoVerdict::Reason(Reason::Faulty(
             report,
             Fault::Line(fault),
         ))),
-        Err(ReadError::Memory) => Err(Failure::Memory),
+        Err(ReadError::Memory) => Err(NoVerdict::Memory),
     }
 }

@@ -48,6 +48,4 @@ pub fn sound_is_conserved(saved: &Saved, width: Width)
     requires order { AscendApart (map bytes_of_block saved.now.blocks.items) }
     requires fit { All IsBlock saved.now.blocks.items }
     ensures { (verdict_of saved.now width ≡ Verdict.Sound) ↔ IsConserved saved.now width }
-{
-    let _fact = saved.blocks.len(); // for its facts alone
-}
+{}

@@ -9,7 +9,6 @@
 //! The program on the system's files and streams is `bootaudit`.
 #![tactic(auto)]
 
-mod auditing;
 mod blocks;
 mod failure;
 mod fetching;
@@ -24,7 +23,7 @@ mod verdict;
 mod words;
 
 pub use audit_lines::{BlockLine, MapLine};
-pub use failure::{Failure, Fault, Reason, Report};
+pub use failure::{Failure, Fault, NoCause, NoVerdict, Reason, Report};
 pub use judgement::{judge, sound_is_conserved};
 pub use program::audit;
 pub use saved::Saved;

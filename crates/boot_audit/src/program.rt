@@ -1,22 +1,40 @@
-//! The audit as a program over any files and outputs, with its contract in clauses. They follow from the record of
-//! [`run_audit`].
+//! The audit as a program over any files and outputs.
 
-ghost use Rattle.std.specs.Prelude.{◌≡◌, ◌≢◌, ◌↔◌, Ok, IfSome, IsNone, ◌⊎◌, map, string_bytes};
+ghost use Rattle.std.specs.Prelude.{◌≡◌, ◌≢◌, ◌↔◌, Ok, Err, IfErr, IfOk, IfSome, IsNone, IsOkAnd, ◌⊎◌, map, string_bytes};
+ghost use Rattle.std.specs.Option.{option_map};
 ghost use Rattle.std.specs.Io.KnownBytes.{Appends};
 ghost use Rattle.bm_io.specs.Counts.{Rose};
 ghost use Rattle.bm_io.specs.Told.{AppendsFront};
-ghost use Rattle.boot_audit.specs.Answers.{EndFits, MayEndWith, FailureHasCause, IsFaulty, IsUnsound, IsVerdict, RoseFor};
-ghost use Rattle.boot_audit.specs.declared.failure.Failure.{Failure};
-ghost use Rattle.boot_audit.specs.declared.failure.Report.{Report};
-ghost use Rattle.boot_audit.specs.declared.verdict.Verdict.{Verdict};
+ghost use Rattle.program_end.specs.declared.failure.Failure.{Failure as AnyFailure};
+ghost use Rattle.program_end.specs.declared.failure.Failure.TheVariants as failures;
+ghost use Rattle.program_end.specs.declared.failure.NoResult.TheVariants as errors;
+ghost use Rattle.program_end.specs.declared.failure.Reason.TheVariants as reasons;
+ghost use Rattle.program_end.specs.Causes.{EndHasCause, ErrorHasCause, FailureHasCause, RoseFor};
+ghost use Rattle.program_end.specs.Ends.{EndFits, IsFaulty, MayEndWith, Writes, WritingHasCause};
+ghost use Rattle.program_end.specs.Fetches.{Fetches};
+ghost use Rattle.program_end.specs.Line.{PutsLine};
+ghost use Rattle.program_end.specs.Status.{status_of};
+ghost use Rattle.boot_audit.specs.declared.failure.Report.{Report as AnyReport};
+ghost use Rattle.boot_audit.specs.declared.verdict.Verdict.{Verdict as AnyVerdict};
+ghost use Rattle.boot_audit.specs.Audit.{IsUnsound, bootaudit, place};
 ghost use Rattle.boot_audit.specs.Headline.{IsConservedBy};
-ghost use Rattle.boot_audit.specs.Line.{PutsLine, failure_line, verdict_text};
+ghost use Rattle.boot_audit.specs.Line.{failure_line, verdict_text};
 ghost use Rattle.boot_audit.specs.Outcome.{outcome};
-ghost use Rattle.boot_audit.specs.Status.{status_of, verdict_status};
+ghost use Rattle.boot_audit.specs.Reason.{Reason as AnyReason};
+ghost use Rattle.boot_audit.specs.Status.{verdict_status};
+ghost use Rattle.boot_audit.specs.Verdicts.{IsNear};
+ghost use Rattle.boot_audit.specs.View.{wanted_view};
 ghost use Rattle.boot_audit.specs.Words.{accepted};
 
-use crate::auditing::run_audit;
+use crate::failure::{Failure, NoVerdict, Reason, verdict_status};
+use crate::fetching::fetch_saved;
+use crate::judgement::judge;
+use crate::tell::AuditLines;
+use crate::texts::verdict_text;
+use crate::verdict::Verdict;
+use crate::words::{Names, read_names};
 use bm_io::{Files, Sink};
+use program_end::{exit_status, tell_end};
 use std::alloc::Global;
 
 /// The whole program: reads the three saved reports that the words name, `[--la57] MAP OWNERS BLOCKS`, and writes whether
@@ -32,8 +50,8 @@ pub fn audit<F: Files, S: Sink, E: Sink>(
 ) -> u8
     // When each status comes, whatever the files tell. Refused words give 2, and nothing else does.
     ensures usage { (result ≡ 2) ↔ IsNone (accepted (map string_bytes words.now)) }
-    ensures unread { result ≡ 3 → (report : Report)
-        × RoseFor (F.faults files.old) (F.faults files.new) (accepted (map string_bytes words.now)) report }
+    ensures unread { result ≡ 3 → (report : AnyReport)
+        × RoseFor bootaudit (F.faults files.old) (F.faults files.new) (accepted (map string_bytes words.now)) report }
     ensures unwritten { result ≡ 4 → Rose (S.faults out.old) (S.faults out.new) }
 
     // What stays as it was, whatever the files tell: the files and the output with refused words, and the output
@@ -49,13 +67,13 @@ pub fn audit<F: Files, S: Sink, E: Sink>(
     ensures headline { result ≡ 0 → IfSome (F.holds files.old) (IsConservedBy (accepted (map string_bytes words.now))) }
     ensures conserved { IfSome (F.holds files.old) (λ held. IsConservedBy (accepted (map string_bytes words.now)) held
         → ¬ Rose (S.faults out.old) (S.faults out.new)
-        → ((report : Report)
-        → ¬ RoseFor (F.faults files.old) (F.faults files.new) (accepted (map string_bytes words.now)) report)
+        → ((report : AnyReport)
+        → ¬ RoseFor bootaudit (F.faults files.old) (F.faults files.new) (accepted (map string_bytes words.now)) report)
         → (result ≡ 0) ⊎ (result ≡ 7)) }
 
     // Where the files tell what they hold: the status and the output are those of the outcome.
     ensures answers { IfSome (F.holds files.old) (λ held.
-        MayEndWith (outcome (accepted (map string_bytes words.now)) held) result) }
+        MayEndWith bootaudit (outcome (accepted (map string_bytes words.now)) held) result) }
     ensures sound { result ≡ 0 → IfSome (F.holds files.old) (λ held.
         outcome (accepted (map string_bytes words.now)) held ≡ Ok Verdict.Sound) }
     ensures unsound { result ≡ 8 → IfSome (F.holds files.old) (λ held.
@@ -63,32 +81,76 @@ pub fn audit<F: Files, S: Sink, E: Sink>(
     ensures faulty { result ≡ 5 → IfSome (F.holds files.old) (λ held.
         IsFaulty (outcome (accepted (map string_bytes words.now)) held)) }
     ensures written { (result ≡ 0) ⊎ (result ≡ 8) → IfSome (F.holds files.old) (λ held.
-        IsVerdict (outcome (accepted (map string_bytes words.now)) held)
+        IsOkAnd (outcome (accepted (map string_bytes words.now)) held)
         (λ verdict. Appends (S.written out.old) (S.written out.new) (verdict_text verdict))) }
     ensures part { result ≡ 4 → IfSome (F.holds files.old) (λ held.
-        IsVerdict (outcome (accepted (map string_bytes words.now)) held)
+        IsOkAnd (outcome (accepted (map string_bytes words.now)) held)
         (λ verdict. AppendsFront (S.written out.old) (S.written out.new) (verdict_text verdict))) }
     ensures wanted { result ≡ 7 → IfSome (F.holds files.old) (λ held.
         (S.written out.new ≡ S.written out.old)
-        ⊎ IsVerdict (outcome (accepted (map string_bytes words.now)) held)
+        ⊎ IsOkAnd (outcome (accepted (map string_bytes words.now)) held)
         (λ verdict. AppendsFront (S.written out.old) (S.written out.new) (verdict_text verdict))) }
 
     // Nothing but the outside stands between a verdict and its writing.
-    ensures complete { IfSome (F.holds files.old) (λ held. (verdict : Verdict)
+    ensures complete { IfSome (F.holds files.old) (λ held. (verdict : AnyVerdict)
         → outcome (accepted (map string_bytes words.now)) held ≡ Ok verdict
         → ¬ Rose (S.faults out.old) (S.faults out.new)
-        → ((report : Report)
-        → ¬ RoseFor (F.faults files.old) (F.faults files.new) (accepted (map string_bytes words.now)) report)
+        → ((report : AnyReport)
+        → ¬ RoseFor bootaudit (F.faults files.old) (F.faults files.new) (accepted (map string_bytes words.now)) report)
         → (result ≡ verdict_status verdict) ⊎ (result ≡ 7)) }
 
     // What stands on the error output: nothing with a verdict, else the line of a failure that has the status, has its
     // cause, and is that of the outcome.
     ensures silent { (result ≡ 0) ⊎ (result ≡ 8) → err.new ≡ err.old }
-    ensures line { result ≢ 0 → result ≢ 8 → (failure : Failure) × (result ≡ status_of failure)
+    ensures line { result ≢ 0 → result ≢ 8 → (failure : AnyFailure AnyReason) × (result ≡ status_of failure)
         × PutsLine E.Sink err.old err.new (failure_line (accepted (map string_bytes words.now)) failure)
-        × FailureHasCause (F.faults files.old) (F.faults files.new) (accepted (map string_bytes words.now)) failure
+        × FailureHasCause bootaudit (F.faults files.old) (F.faults files.new) (accepted (map string_bytes words.now)) failure
         × IfSome (F.holds files.old) (λ held.
-        EndFits failure (outcome (accepted (map string_bytes words.now)) held)) }
+        EndFits bootaudit failure (outcome (accepted (map string_bytes words.now)) held)) }
 {
-    run_audit(alloc, words, files, out, err)
+    let names = read_names(words);
+    let end = write_verdict(alloc, &names, files, out);
+    tell_end(err, &AuditLines { names: &names }, end);
+    exit_status(end)
+}
+
+/// Writes the verdict, once it is there as text. Answers its exit status.
+fn write_verdict<F: Files, S: Sink>(
+    alloc: Global,
+    names: &Option<Names<'_>>,
+    files: &mut F,
+    out: &mut S,
+) -> Result<u8, Failure>
+    ensures writes { IfSome (F.holds files.old) (λ held.
+        Writes bootaudit (S.written out.old) (S.written out.new) result (outcome (option_map wanted_view names.now) held)) }
+    ensures cause { EndHasCause bootaudit (F.faults files.old) (F.faults files.new) (option_map wanted_view names.now) result }
+    ensures usage { IsNone (option_map wanted_view names.now)
+        → result ≡ Err (failures.NoResult (errors.Reason reasons.Usage)) }
+    ensures unfetched { IsNone (option_map wanted_view names.now) → files.new ≡ files.old }
+    ensures output { WritingHasCause S.Sink out.old out.new result }
+{
+    let verdict = find_verdict(alloc, names, files)?;
+    let text = verdict_text(alloc, verdict)?;
+    out.put(&text)?;
+    Ok(verdict_status(verdict))
+}
+
+/// The verdict on the three files that the words name.
+fn find_verdict<F: Files>(
+    alloc: Global,
+    names: &Option<Names<'_>>,
+    files: &mut F,
+) -> Result<Verdict, NoVerdict>
+    ensures fetches { IfSome (F.holds files.old) (λ held.
+        Fetches place (λ verdict. verdict) result (outcome (option_map wanted_view names.now) held)) }
+    ensures cause { IfErr result (ErrorHasCause bootaudit (F.faults files.old) (F.faults files.new) (option_map wanted_view names.now)) }
+    ensures usage { IsNone (option_map wanted_view names.now) → result ≡ Err (errors.Reason reasons.Usage) }
+    ensures near { IfOk result IsNear }
+    ensures unfetched { IsNone (option_map wanted_view names.now) → files.new ≡ files.old }
+{
+    let Some(names) = names else {
+        return Err(NoVerdict::Reason(Reason::Usage));
+    };
+    let saved = fetch_saved(alloc, files, names)?;
+    Ok(judge(&saved, names.width)?)
 }

@@ -1,49 +1,50 @@
-//! The line of a failure, chunk by chunk: it takes no memory, and no kind of failure that comes here can be want of memory
-//! under another name.
+//! The lines of the audit's failures.
 
-ghost use Rattle.std.specs.Prelude.{◌≡◌, flat_map};
+ghost use Rattle.std.specs.Prelude.{◌≡◌};
 ghost use Rattle.std.specs.Option.{option_map};
-ghost use Rattle.boot_audit.specs.Line.{PutsLine, failure_line, fault_line, line_fault_line, name_text, numbered_line, reason_line};
+ghost use Rattle.program_end.specs.Line.{PutsLine};
+ghost use Rattle.boot_audit.specs.Line.{cause_line, fault_line, line_fault_line, name_text, numbered_line, program_name, report_line};
 ghost use Rattle.boot_audit.specs.View.{wanted_view};
 
-use crate::failure::{Failure, Fault, Reason, Report};
+use crate::failure::{Fault, NoCause, Report};
 use crate::words::Names;
 use audit_lines::LineFault;
-use bm_io::{Sink, put_all};
+use bm_io::Sink;
 use itoa::Buffer;
+use program_end::{Lines, put_line};
 
-/// Puts the line of a failure on the error output. What the output answers changes nothing: the line goes out chunk by
-/// chunk, up to the first that is refused.
-pub fn tell<E: Sink>(err: &mut E, names: &Option<Names<'_>>, failure: Failure)
-    ensures { PutsLine E.Sink err.old err.new (failure_line (option_map wanted_view names.now) failure) }
-{
-    match failure {
-        Failure::NoVerdict(reason) => tell_reason(err, names, reason),
-        Failure::Unwritten => put_line(err, &["bootaudit: cannot write\n"]),
-        Failure::Memory => put_line(err, &["bootaudit: out of memory\n"]),
-    }
+/// The lines of the audit of the files of these names, where the words give some.
+#[derive(Clone, Copy)]
+pub struct AuditLines<'a, 'w> {
+    pub names: &'a Option<Names<'w>>,
 }
 
-fn tell_reason<E: Sink>(err: &mut E, names: &Option<Names<'_>>, reason: Reason)
-    ensures { PutsLine E.Sink err.old err.new (reason_line (option_map wanted_view names.now) reason) }
-{
-    match reason {
-        Reason::Usage => put_line(err, &["bootaudit: usage\n"]),
-        Reason::Unread(report) => put_line(
-            err,
-            &["bootaudit: cannot read ", name_text(names, report), "\n"],
-        ),
-        Reason::Faulty(report, fault) => tell_fault(err, report.word(), fault),
-    }
-}
+impl<'a, 'w> Lines<Report, Fault, NoCause> for AuditLines<'a, 'w> {
+    ghost program_name = { program_name };
 
-/// The name of a report's file, empty where the words weren't accepted.
-fn name_text<'a>(names: &'a Option<Names<'_>>, report: Report) -> &'a str
-    ensures { result.now ≡ name_text (option_map wanted_view names.now) report }
-{
-    match names {
-        Some(names) => names.of(report),
-        None => "",
+    ghost file_name = { λ lines report. name_text (option_map wanted_view lines.names.now) report };
+
+    ghost fault_line = { report_line };
+
+    ghost cause_line = { cause_line };
+
+    fn program() -> &'static str {
+        "bootaudit"
+    }
+
+    fn file(&self, report: Report) -> &str {
+        match self.names {
+            Some(names) => names.of(report),
+            None => "",
+        }
+    }
+
+    fn tell_fault<E: Sink>(err: &mut E, report: Report, fault: Fault) {
+        tell_fault(err, report.word(), fault)
+    }
+
+    fn tell_cause<E: Sink>(_err: &mut E, cause: NoCause) {
+        match cause {}
     }
 }
 
@@ -76,11 +77,4 @@ fn tell_line<'a, E: Sink>(err: &mut E, word: &'a str, line: u64, what: &'a str)
         err,
         &["bootaudit: ", word, ": line ", line, ": ", what, "\n"],
     )
-}
-
-/// Puts the chunks of a line, up to the first that is refused.
-fn put_line<E: Sink>(err: &mut E, chunks: &[&str])
-    ensures { PutsLine E.Sink err.old err.new (flat_map (λ chunk. chunk.now) chunks.now) }
-{
-    let _put = put_all(err, chunks);
 }

@@ -23,10 +23,9 @@ use Rattle.efi_map.specs.declared.efi.EfiFault.TheVariants as efi
 use Rattle.efi_map.specs.Map.{descriptors_from, far_among, mirrors_of}
 use Rattle.boot_inputs.specs.declared.fault.Fault.TheVariants as faults
 use Rattle.boot_inputs.specs.declared.input.Input.TheVariants as inputs
-use Rattle.boot_inputs.specs.declared.refusal.InputRefusal.{InputRefusal}
-use Rattle.boot_inputs.specs.declared.refusal.InputRefusal.TheVariants as refusals
-use Rattle.boot_inputs.specs.declared.refusal.InputError.TheVariants as errors
-use Rattle.boot_inputs.specs.Answers.{ComesTo, FitsAnswer, FitsRefusal, Gives, HasCause, IsCaused, IsOf, RefusalHasCause, RoseAt, input_of}
+use Rattle.boot_inputs.specs.Reason.{Reason}
+use Rattle.program_end.specs.declared.failure.Reason.TheVariants as reasons
+use Rattle.program_end.specs.declared.failure.NoResult.TheVariants as errors
 use Rattle.boot_inputs.specs.CommandLine.{command_line, command_line_diagnostic, options_said, options_take, put_options}
 use Rattle.boot_inputs.specs.Diagnostic.{Diagnostic}
 use Rattle.boot_inputs.specs.Extension.{entries_said, extension_diagnostic, extension_file, put_extension}
@@ -34,7 +33,8 @@ use Rattle.boot_inputs.specs.Efi.{efi_diagnostic, efi_file, efi_given, efi_said,
 use Rattle.boot_inputs.specs.Faults.{IsOfBytes, diagnostic_of}
 use Rattle.boot_inputs.specs.File.{unless_fault, with_value}
 use Rattle.boot_inputs.specs.Input.{place, word_for}
-use Rattle.boot_inputs.specs.Inputs.{Held, Named, file_step, given_in, input_files, inputs_of, named_step, or_faulty, or_unread, step_if, within}
+use Rattle.boot_inputs.specs.Inputs.{Named, file_step, given_in, input_files, inputs_of, named_step, or_faulty, or_unread, step_if, within}
+use Rattle.program_end.specs.Program.{Held}
 use Rattle.boot_inputs.specs.Pages.{pages_diagnostic, pages_file, pages_said, pages_take, put_pages}
 use Rattle.boot_inputs.specs.Reading.{are_behind, ascend}
 use Rattle.boot_inputs.specs.Script.{lines_said, lines_take, put_lines, script_diagnostic, script_file}
@@ -176,10 +176,10 @@ limits : (zero_page.limit ≡ 4096) × (extension_file.limit ≡ 16 + 20 * 3072)
 limits = (refl, refl, refl, refl, refl, refl, refl, refl)
 
 faulty_examples : (or_faulty {A = ℕ} inputs.Extension (Ok 7) ≡ Ok 7)
-    × (or_faulty {A = ℕ} inputs.Extension (Err faults.TooLong) ≡ Err (refusals.Faulty inputs.Extension faults.TooLong))
+    × (or_faulty {A = ℕ} inputs.Extension (Err faults.TooLong) ≡ Err (reasons.Faulty inputs.Extension faults.TooLong))
 faulty_examples = (refl, refl)
 
-unread_examples : (or_unread {A = List ℕ} inputs.ZeroPage None (λ bytes. Ok bytes) ≡ Err (refusals.Unread inputs.ZeroPage))
+unread_examples : (or_unread {A = List ℕ} inputs.ZeroPage None (λ bytes. Ok bytes) ≡ Err (reasons.Unread inputs.ZeroPage))
     × (or_unread inputs.ZeroPage (Some (codes "a")) (λ bytes. Ok bytes) ≡ Ok (codes "a"))
 unread_examples = (refl, refl)
 
@@ -202,23 +202,23 @@ put_examples = (refl, refl, refl, refl, refl, refl, refl, refl, refl)
 -- the step of one file: read, unread, too long, and not named
 step_examples : (named_step held command_line start (codes "cmd")
     ≡ Ok (record start { options = record no_options { numa_off = true; add_efi = false } }))
-    × (named_step held command_line start (codes "no") ≡ Err (refusals.Unread inputs.CommandLine))
-    × (named_step held zero_page start (codes "long") ≡ Err (refusals.Faulty inputs.ZeroPage faults.TooLong))
+    × (named_step held command_line start (codes "no") ≡ Err (reasons.Unread inputs.CommandLine))
+    × (named_step held zero_page start (codes "long") ≡ Err (reasons.Faulty inputs.ZeroPage faults.TooLong))
 step_examples = (refl, refl, refl)
 
 if_examples : (step_if held extension_file start None ≡ Ok start)
     × (step_if held extension_file start (Some (codes "bad"))
-    ≡ Err (refusals.Faulty inputs.Extension (faults.Extension extension.ExtHeader)))
+    ≡ Err (reasons.Faulty inputs.Extension (faults.Extension extension.ExtHeader)))
 if_examples = (refl, refl)
 
 named_examples : (file_step held (naming (codes "zp") None None) extension_file start ≡ Ok start)
-    × (file_step held (naming (codes "zp") (Some (codes "no")) None) extension_file start ≡ Err (refusals.Unread inputs.Extension))
+    × (file_step held (naming (codes "zp") (Some (codes "no")) None) extension_file start ≡ Err (reasons.Unread inputs.Extension))
 named_examples = (refl, refl)
 
 -- files one after another: none, and two of which the first is refused
 list_examples : (given_in held (naming (codes "zp") None None) [] start ≡ Ok start)
     × (given_in held (naming (codes "zp") (Some (codes "no")) (Some (codes "on"))) (extension_file ∷ command_line ∷ []) start
-    ≡ Err (refusals.Unread inputs.Extension))
+    ≡ Err (reasons.Unread inputs.Extension))
 list_examples = (refl, refl)
 
 -- a script beside the zero page alone
@@ -266,8 +266,8 @@ all_inputs = refl
 
 scripts_are_given : (inputs_of held (with_script (codes "free")) start
     ≡ Ok (record start { entries = ram ∷ reserved ∷ []; lines = record { number = 2; act = acts.Free 7 } ∷ [] }))
-    × (inputs_of held (with_script (codes "line")) start ≡ Err (refusals.Faulty inputs.Script (faults.Script (script.BadLine 1))))
-    × (inputs_of held (with_script (codes "no")) start ≡ Err (refusals.Unread inputs.Script))
+    × (inputs_of held (with_script (codes "line")) start ≡ Err (reasons.Faulty inputs.Script (faults.Script (script.BadLine 1))))
+    × (inputs_of held (with_script (codes "no")) start ≡ Err (reasons.Unread inputs.Script))
 unfolding entry_at initrd_of is_initrd_far
 scripts_are_given = (refl, refl, refl)
 
@@ -288,17 +288,17 @@ unfolding entry_at initrd_of is_initrd_far offsets_from is_whole said_at
 both_are_given = refl
 
 srat_goes_before_the_script : inputs_of held (with_both (codes "bad") (codes "no")) start
-    ≡ Err (refusals.Faulty inputs.Srat (faults.Srat srat.Short))
+    ≡ Err (reasons.Faulty inputs.Srat (faults.Srat srat.Short))
 unfolding entry_at is_initrd_far
 srat_goes_before_the_script = refl
 
 first_refusals : (inputs_of held (naming (codes "short") (Some (codes "bad")) (Some (codes "on"))) start
-    ≡ Err (refusals.Faulty inputs.ZeroPage (faults.ZeroPage zero.WrongLength)))
+    ≡ Err (reasons.Faulty inputs.ZeroPage (faults.ZeroPage zero.WrongLength)))
     × (inputs_of held (naming (codes "short") (Some (codes "no")) None) start
-    ≡ Err (refusals.Faulty inputs.ZeroPage (faults.ZeroPage zero.WrongLength)))
+    ≡ Err (reasons.Faulty inputs.ZeroPage (faults.ZeroPage zero.WrongLength)))
     × (inputs_of held (naming (codes "zp") (Some (codes "bad")) (Some (codes "no"))) start
-    ≡ Err (refusals.Faulty inputs.Extension (faults.Extension extension.ExtHeader)))
-    × (inputs_of held (naming (codes "zp") (Some (codes "ext")) (Some (codes "no"))) start ≡ Err (refusals.Unread inputs.CommandLine))
+    ≡ Err (reasons.Faulty inputs.Extension (faults.Extension extension.ExtHeader)))
+    × (inputs_of held (naming (codes "zp") (Some (codes "ext")) (Some (codes "no"))) start ≡ Err (reasons.Unread inputs.CommandLine))
 unfolding entry_at is_initrd_far
 first_refusals = (refl, refl, refl, refl)
 
@@ -335,7 +335,7 @@ before_files = (record { options = refl; efi = refl }, λ is. cc (is.efi))
 map_taken_out : without_map (put_efi (record { entries = ram ∷ []; mirrors = [] }) start) ≡ start
 map_taken_out = refl
 
--- the inputs' places and words, and whose refusal it is
+-- the inputs' places and words
 place_examples : (place inputs.ZeroPage ≡ 0) × (place inputs.CommandLine ≡ 2) × (place inputs.Srat ≡ 3) × (place inputs.Script ≡ 4)
     × (place inputs.Pages ≡ 5) × (place inputs.Slit ≡ 6) × (place inputs.Efi ≡ 7)
 place_examples = (refl, refl, refl, refl, refl, refl, refl)
@@ -343,57 +343,3 @@ place_examples = (refl, refl, refl, refl, refl, refl, refl)
 word_examples : (word_for inputs.ZeroPage ≡ codes "zeropage") × (word_for inputs.CommandLine ≡ codes "cmdline")
     × (word_for inputs.Pages ≡ codes "pages") × (word_for inputs.Slit ≡ codes "slit") × (word_for inputs.Efi ≡ codes "efi")
 word_examples = (refl, refl, refl, refl, refl)
-
-input_examples : (input_of (refusals.Faulty inputs.Extension faults.TooLong) ≡ inputs.Extension)
-    × (input_of (refusals.Unread inputs.CommandLine) ≡ inputs.CommandLine)
-input_examples = (refl, refl)
-
--- the work comes to the extension's file where the command line is at fault, or nothing is; not where the zero page is
-comes_to_it : ComesTo {Y = List ℕ} inputs.Extension (Err (refusals.Unread inputs.CommandLine))
-    × ComesTo {Y = List ℕ} inputs.Extension (Ok [])
-comes_to_it = (omega arith, tt)
-
-never_comes_to_it : ComesTo {Y = List ℕ} inputs.Extension (Err (refusals.Faulty inputs.ZeroPage (faults.ZeroPage zero.TooFew))) → ⊥
-never_comes_to_it comes = omega (arith, comes)
-
--- how an answer fits what is said
-abbrev few : Result (List ℕ) InputRefusal
-few = Err (refusals.Faulty inputs.ZeroPage (faults.ZeroPage zero.TooFew))
-
-refusal_fits : FitsRefusal (refusals.Faulty inputs.ZeroPage (faults.ZeroPage zero.TooFew)) few
-    × (FitsRefusal (refusals.Unread inputs.Extension) few → ⊥)
-refusal_fits = (refl, λ comes. omega (arith, comes))
-
-error_fits : FitsAnswer errors.Memory few
-    × (FitsAnswer (errors.Refused (refusals.Faulty inputs.ZeroPage (faults.ZeroPage zero.TooMany))) few → ⊥)
-error_fits = (tt, λ same. cc same)
-
-gives_examples : Gives {X = ℕ} (λ n. codes "ab") (Ok 7) (Ok (codes "ab")) × (Gives {X = ℕ} (λ n. codes "ab") (Ok 7) few → ⊥)
-gives_examples = (refl, λ same. cc same)
-
-own_examples : IsOf {X = ℕ} inputs.Extension (Err (errors.Refused (refusals.Unread inputs.Extension)))
-    × (IsOf {X = ℕ} inputs.Extension (Err (errors.Refused (refusals.Unread inputs.ZeroPage))) → ⊥)
-own_examples = (refl, λ same. cc same)
-
--- before the call no fault of any name was counted; after it one of each was
-abbrev before : List ℕ → ℕ
-before name = 0
-
-abbrev named : Named
-named = naming (codes "zp") (Some (codes "ext")) None
-
-rose_examples : RoseAt before (λ name. 1) (Some (codes "ext")) × (RoseAt before (λ name. 1) None → ⊥)
-    × (RoseAt before before (Some (codes "ext")) → ⊥)
-rose_examples = (omega arith, (λ rose. rose), λ rose. omega (arith, rose))
-
-refusal_causes : RefusalHasCause before (λ name. 1) named (refusals.Unread inputs.Extension)
-    × (RefusalHasCause before (λ name. 1) named (refusals.Unread inputs.CommandLine) → ⊥)
-refusal_causes = (omega arith, λ rose. rose)
-
-cause_examples : HasCause {X = ℕ} before before named (Ok 7) × (HasCause {X = ℕ} before before named
-    (Err (errors.Refused (refusals.Unread inputs.ZeroPage))) → ⊥)
-cause_examples = (tt, λ rose. omega (arith, rose))
-
-caused_examples : IsCaused {X = ℕ} 3 4 (Err (errors.Refused (refusals.Unread inputs.ZeroPage)))
-    × (IsCaused {X = ℕ} 3 3 (Err (errors.Refused (refusals.Unread inputs.ZeroPage))) → ⊥)
-caused_examples = (omega arith, λ rose. omega (arith, rose))

@@ -1,43 +1,44 @@
 -- What is said of a list of files, from what is said of its first and of those after it. The files ascend, so whatever the work
 -- after a file comes to, it came to that file.
 use Rattle.std.proofs.Common.{◌≡◌, ℕ, ◌<◌, ◌≤◌, nat_lt, List, [], ◌∷◌, Option, Some, None, Result, Ok, Err, ◌∙◌, arith}
-use Rattle.std.specs.Prelude.{IfSome, IsErrAnd, IsNone, IsOk, IsTrue}
+use Rattle.std.specs.Prelude.{IfErr, IfSome, IsErrAnd, IsNone, IsOk, IsTrue}
 use Rattle.std.proofs.lemmas.Bool.{and_parts, ltb-true}
 use Rattle.bm_base.specs.ResultSteps.{◌>>=◌}
 use Rattle.bm_io.specs.declared.reading.Files.{Ghosts as FilesOf}
 use Rattle.boot_model.specs.Boot.{Given}
 use Rattle.boot_inputs.specs.declared.fault.Fault.{Fault}
 use Rattle.boot_inputs.specs.declared.input.Input.{Input}
-use Rattle.boot_inputs.specs.declared.refusal.InputRefusal.{InputRefusal}
-use Rattle.boot_inputs.specs.declared.refusal.InputError.{InputError}
-use Rattle.boot_inputs.specs.Answers.{ComesTo, FitsAnswer, Gives, HasCause, IsOf}
+use Rattle.boot_inputs.specs.Reason.{NoInputs, Reason}
+use Rattle.program_end.specs.Causes.{IsOf, IsOfFile}
+use Rattle.program_end.specs.Fetches.{Fetches, FitsError, ReachesFile}
 use Rattle.boot_inputs.specs.File.{File}
 use Rattle.boot_inputs.specs.Input.{place}
-use Rattle.boot_inputs.specs.Inputs.{Held, Named, file_step, given_in, or_faulty, or_unread, step_if, within}
+use Rattle.boot_inputs.specs.Inputs.{Named, file_step, given_in, or_faulty, or_unread, step_if, within}
+use Rattle.program_end.specs.Program.{Held}
 use Rattle.boot_inputs.specs.Reading.{AreRead, are_behind, ascend}
 
 -- where the work still comes to a file, it comes to it in each step of a later file
-faulty_comes : (input other : Input) (x : Result Given Fault) → place input ≤ place other → ComesTo input (or_faulty other x)
+faulty_comes : (input other : Input) (x : Result Given Fault) → place input ≤ place other → ReachesFile place input (or_faulty other x)
 faulty_comes input other (Ok given) below = tt
 faulty_comes input other (Err fault) below = below
 
 read_comes : (input : Input) (file : File) (given : Given) (held : Option (List ℕ)) → place input ≤ place file.input
-    → ComesTo input (or_unread file.input held (λ bytes. or_faulty file.input (within file.limit bytes >>= λ read. file.says read given)))
+    → ReachesFile place input (or_unread file.input held (λ bytes. or_faulty file.input (within file.limit bytes >>= λ read. file.says read given)))
 read_comes input file given None below = below
 read_comes input file given (Some bytes) below = faulty_comes input file.input _ below
 
 step_comes : (input : Input) (held : Held) (file : File) (given : Given) (name : Option (List ℕ)) → place input ≤ place file.input
-    → ComesTo input (step_if held file given name)
+    → ReachesFile place input (step_if held file given name)
 step_comes input held file given None below = tt
 step_comes input held file given (Some name) below = read_comes input file given (held name) below
 
-then_comes : (input : Input) (x : Result Given InputRefusal) (f : Given → Result Given InputRefusal) → ComesTo input x
-    → ((a : Given) → ComesTo input (f a)) → ComesTo input (x >>= f)
+then_comes : (input : Input) (x : Result Given Reason) (f : Given → Result Given Reason) → ReachesFile place input x
+    → ((a : Given) → ReachesFile place input (f a)) → ReachesFile place input (x >>= f)
 then_comes input x f first rest = grind (arith, rest)
 
 -- and so in all work after that file
 later_comes : (input : Input) (held : Held) (named : Named) (files : List File) → IsTrue (are_behind input files) → (given : Given)
-    → ComesTo input (given_in held named files given)
+    → ReachesFile place input (given_in held named files given)
 later_comes input held named [] behind given = tt
 later_comes input held named (file ∷ files) behind given =
     let parts = and_parts (nat_lt (place input) (place file.input)) (are_behind input files) behind in
@@ -46,8 +47,8 @@ later_comes input held named (file ∷ files) behind given =
     (step_comes input held file given (named file.input) (omega (arith, below))) (later_comes input held named files parts.1)
 
 -- what fits the file's own step fits the whole
-first_fits : (error : InputError) (input : Input) (x : Result Given InputRefusal) (f : Given → Result Given InputRefusal)
-    → IsOf {X = Unit {0}} input (Err error) → FitsAnswer error x → ((a : Given) → ComesTo input (f a)) → FitsAnswer error (x >>= f)
+first_fits : (error : NoInputs) (input : Input) (x : Result Given Reason) (f : Given → Result Given Reason)
+    → IsOf input error → FitsError place error x → ((a : Given) → ReachesFile place input (f a)) → FitsError place error (x >>= f)
 first_fits error input x f own fits rest = grind (arith, rest)
 
 -- what is said where the files tell what they hold
@@ -62,41 +63,41 @@ pub error_is : {T E : Type 0} → (answer : Result T E) → (error : E) → IsEr
 error_is answer error told = grind arith
 
 -- a file is unread only where the faults of its name rose, before which none fell
-cause_behind : (before mid now : List ℕ → ℕ) (named : Named) (answer : Result (Unit {0}) InputError)
-    → ((any : List ℕ) → before any ≤ mid any) → HasCause mid now named answer → HasCause before now named answer
+cause_behind : (before mid now : List ℕ → ℕ) (named : Named) (answer : Result (Unit {0}) NoInputs)
+    → ((any : List ℕ) → before any ≤ mid any) → IfErr answer (IsOfFile mid now named) → IfErr answer (IsOfFile before now named)
 cause_behind before mid now named answer stay cause = grind arith
 
 -- what is said of one file
 pub record IsAdded {F : Type 0} (kind : FilesOf F) (names : Named) (file : File) (old new : F) (before after : Given)
-    (result : Result (Unit {0}) InputError) : Type 0 where
-  pub gives : IfSome (kind.holds old) (λ held. Gives (λ done. after) result (file_step held names file before))
-  pub cause : HasCause (kind.faults old) (kind.faults new) names result
-  pub own : IsOf file.input result
+    (result : Result (Unit {0}) NoInputs) : Type 0 where
+  pub fetches : IfSome (kind.holds old) (λ held. Fetches place (λ done. after) result (file_step held names file before))
+  pub cause : IfErr result (IsOfFile (kind.faults old) (kind.faults new) names)
+  pub own : IfErr result (IsOf file.input)
   pub unnamed : IsNone (names file.input) → IsOk result
   pub kept : kind.holds new ≡ kind.holds old
   pub faults_stay : (any : List ℕ) → kind.faults old any ≤ kind.faults new any
 
 module _ {F : Type 0} (kind : FilesOf F) (names : Named) (file : File) (files : List File) where
   -- the first file is refused, or memory ran out
-  pub stopped : (old new : F) (before after last : Given) (error : InputError) → IsTrue (ascend (file ∷ files))
+  pub stopped : (old new : F) (before after last : Given) (error : NoInputs) → IsTrue (ascend (file ∷ files))
       → IsAdded kind names file old new before after (Err error) → AreRead kind names (file ∷ files) old new before last (Err error)
   stopped old new before after last error ascends added =
       let parts = and_parts (are_behind file.input files) (ascend files) ascends in
       record {
-        gives = if_some (kind.holds old) _ _
+        fetches = if_some (kind.holds old) _ _
             (λ held fits. first_fits error file.input (file_step held names file before) (given_in held names files) added.own fits
-            (later_comes file.input held names files parts.0)) added.gives;
+            (later_comes file.input held names files parts.0)) added.fetches;
         cause = added.cause;
         unnamed = λ none. added.unnamed (none file.input);
         kept = added.kept;
       }
 
   -- the first file is read, and so are those after it
-  pub gone_on : (old mid new : F) (before between after : Given) (result : Result (Unit {0}) InputError)
+  pub gone_on : (old mid new : F) (before between after : Given) (result : Result (Unit {0}) NoInputs)
       → IsAdded kind names file old mid before between (Ok tt) → AreRead kind names files mid new between after result
       → AreRead kind names (file ∷ files) old new before after result
   gone_on old mid new before between after result added rest = record {
-    gives = if_both (kind.holds old) _ _ _ (λ held is gives. rw is gives) added.gives (rw added.kept at rest.gives);
+    fetches = if_both (kind.holds old) _ _ _ (λ held is fetches. rw is fetches) added.fetches (rw added.kept at rest.fetches);
     cause = cause_behind (kind.faults old) (kind.faults mid) (kind.faults new) names result added.faults_stay rest.cause;
     unnamed = rest.unnamed;
     kept = rest.kept ∙ added.kept;

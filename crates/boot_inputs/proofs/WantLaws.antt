@@ -6,11 +6,12 @@ use Rattle.bm_base.specs.ResultSteps.{◌>>=◌, with_error}
 use Rattle.boot_model.specs.Boot.{Given}
 use Rattle.boot_inputs.specs.declared.fault.Fault.{Fault}
 use Rattle.boot_inputs.specs.declared.input.Input.{Input}
-use Rattle.boot_inputs.specs.declared.refusal.InputRefusal.{InputRefusal}
-use Rattle.boot_inputs.specs.declared.refusal.InputRefusal.TheVariants as refusals
+use Rattle.boot_inputs.specs.Reason.{Reason}
+use Rattle.program_end.specs.declared.failure.Reason.TheVariants as reasons
 use Rattle.boot_inputs.specs.Faults.{IsOfBytes, SaysOfBytes}
 use Rattle.boot_inputs.specs.File.{File}
-use Rattle.boot_inputs.specs.Inputs.{Held, Named, file_step, given_in, input_files, inputs_of, step_if}
+use Rattle.boot_inputs.specs.Inputs.{Named, file_step, given_in, input_files, inputs_of, step_if}
+use Rattle.program_end.specs.Program.{Held}
 
 -- a step that has no such error, and steps behind it that have none
 pub then_other : {A B E : Type 0} {want : E} (x : Result A E) {f : A → Result B E} → ¬ IsErrOf x want → ((a : A) → ¬ IsErrOf (f a) want)
@@ -24,9 +25,9 @@ turned_other turn want (Ok a) other = λ is. cc is
 turned_other turn want (Err error) other = λ is. other error (cc is)
 
 -- what one of several files is refused for is of its bytes, where that is so of each
-abbrev RefusedOfBytes : InputRefusal → Type 0
-RefusedOfBytes (refusals.Unread input) = Unit {0}
-RefusedOfBytes (refusals.Faulty input fault) = IsOfBytes fault
+abbrev RefusedOfBytes : Reason → Type 0
+RefusedOfBytes (reasons.Faulty input fault) = IsOfBytes fault
+RefusedOfBytes other = Unit {0}
 
 then_if : {A B E : Type 0} (P : E → Type 0) (x : Result A E) (f : A → Result B E) → IfErr x P → ((a : A) → IfErr (f a) P)
     → IfErr (x >>= f) P
@@ -45,5 +46,5 @@ given_other held named (file ∷ files) say given =
     (given_other held named files (All-tail SaysOfBytes file files say))
 
 pub refused_other : All SaysOfBytes input_files → (held : Held) (named : Named) (begun : Given) (input : Input) (fault : Fault)
-    → inputs_of held named begun ≡ Err (refusals.Faulty input fault) → IsOfBytes fault
+    → inputs_of held named begun ≡ Err (reasons.Faulty input fault) → IsOfBytes fault
 refused_other say held named begun input fault is = rw is at (given_other held named input_files say begun)

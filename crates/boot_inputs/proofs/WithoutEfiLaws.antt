@@ -22,12 +22,13 @@ use Rattle.boot_inputs.specs.declared.fault.Fault.{Fault}
 use Rattle.boot_inputs.specs.declared.fault.Fault.TheVariants as faults
 use Rattle.boot_inputs.specs.declared.input.Input.{Input}
 use Rattle.boot_inputs.specs.declared.input.Input.TheVariants as inputs
-use Rattle.boot_inputs.specs.declared.refusal.InputRefusal.{InputRefusal}
+use Rattle.boot_inputs.specs.Reason.{Reason}
 use Rattle.boot_inputs.specs.CommandLine.{command_line, options_said, put_options}
 use Rattle.boot_inputs.specs.Efi.{efi_file, efi_given, efi_said, put_efi}
 use Rattle.boot_inputs.specs.Extension.{extension_file, entries_said, put_extension}
 use Rattle.boot_inputs.specs.File.{File, with_value}
-use Rattle.boot_inputs.specs.Inputs.{Held, Named, file_step, given_in, input_files, inputs_of, or_faulty, or_unread, step_if, within}
+use Rattle.boot_inputs.specs.Inputs.{Named, file_step, given_in, input_files, inputs_of, or_faulty, or_unread, step_if, within}
+use Rattle.program_end.specs.Program.{Held}
 use Rattle.boot_inputs.specs.Pages.{pages_file, pages_said, put_pages}
 use Rattle.boot_inputs.specs.Script.{lines_said, put_lines, script_file}
 use Rattle.boot_inputs.specs.Slit.{distances_said, put_distances, slit_file}

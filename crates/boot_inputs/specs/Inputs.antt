@@ -5,21 +5,18 @@ use Rattle.boot_model.specs.Boot.{Given}
 use Rattle.boot_inputs.specs.declared.fault.Fault.{Fault}
 use Rattle.boot_inputs.specs.declared.fault.Fault.TheVariants as faults
 use Rattle.boot_inputs.specs.declared.input.Input.{Input}
-use Rattle.boot_inputs.specs.declared.refusal.InputRefusal.{InputRefusal}
-use Rattle.boot_inputs.specs.declared.refusal.InputRefusal.TheVariants as refusals
+use Rattle.boot_inputs.specs.Reason.{Reason}
+use Rattle.program_end.specs.declared.failure.Reason.TheVariants as reasons
 use Rattle.boot_inputs.specs.CommandLine.{command_line}
 use Rattle.boot_inputs.specs.Efi.{efi_file}
 use Rattle.boot_inputs.specs.Extension.{extension_file}
+use Rattle.program_end.specs.Program.{Held}
 use Rattle.boot_inputs.specs.File.{File}
 use Rattle.boot_inputs.specs.Pages.{pages_file}
 use Rattle.boot_inputs.specs.Script.{script_file}
 use Rattle.boot_inputs.specs.Slit.{slit_file}
 use Rattle.boot_inputs.specs.Srat.{srat_file}
 use Rattle.boot_inputs.specs.ZeroPage.{zero_page}
-
--- what each name holds
-abbrev pub Held : Type 0
-Held = List ℕ → Option (List ℕ)
 
 -- the name of each input's file, where it has one
 abbrev pub Named : Type 0
@@ -30,29 +27,29 @@ abbrev pub within : ℕ → List ℕ → Result (List ℕ) Fault
 within limit bytes = if nat_lt limit (length bytes) then Err faults.TooLong else Ok bytes
 
 -- a fault is one of the input
-abbrev pub or_faulty : {A : Type 0} → Input → Result A Fault → Result A InputRefusal
-or_faulty input answer = with_error (refusals.Faulty input) answer
+abbrev pub or_faulty : {A : Type 0} → Input → Result A Fault → Result A Reason
+or_faulty input answer = with_error (reasons.Faulty input) answer
 
 -- a name that isn't held can't be read
-abbrev pub or_unread : {A : Type 0} → Input → Option (List ℕ) → (List ℕ → Result A InputRefusal) → Result A InputRefusal
-or_unread input None step = Err (refusals.Unread input)
+abbrev pub or_unread : {A : Type 0} → Input → Option (List ℕ) → (List ℕ → Result A Reason) → Result A Reason
+or_unread input None step = Err (reasons.Unread input)
 or_unread input (Some bytes) step = step bytes
 
 -- what the file of that name makes of what is given before it
-abbrev pub named_step : Held → File → Given → List ℕ → Result Given InputRefusal
+abbrev pub named_step : Held → File → Given → List ℕ → Result Given Reason
 named_step held file given name =
     or_unread file.input (held name) (λ bytes. or_faulty file.input (within file.limit bytes >>= λ read. file.says read given))
 
 -- the same where a file is named; without one nothing is added
-abbrev pub step_if : Held → File → Given → Option (List ℕ) → Result Given InputRefusal
+abbrev pub step_if : Held → File → Given → Option (List ℕ) → Result Given Reason
 step_if held file given None = Ok given
 step_if held file given (Some name) = named_step held file given name
 
-abbrev pub file_step : Held → Named → File → Given → Result Given InputRefusal
+abbrev pub file_step : Held → Named → File → Given → Result Given Reason
 file_step held named file given = step_if held file given (named file.input)
 
 -- files one after another, of which the first refusal is the answer
-abbrev pub given_in : Held → Named → List File → Given → Result Given InputRefusal
+abbrev pub given_in : Held → Named → List File → Given → Result Given Reason
 given_in held named [] given = Ok given
 given_in held named (file ∷ files) given = file_step held named file given >>= given_in held named files
 
@@ -61,5 +58,5 @@ abbrev pub input_files : List File
 input_files = zero_page ∷ extension_file ∷ command_line ∷ srat_file ∷ script_file ∷ pages_file ∷ slit_file ∷ efi_file ∷ []
 
 -- what they make of what is given by no file
-abbrev pub inputs_of : Held → Named → Given → Result Given InputRefusal
+abbrev pub inputs_of : Held → Named → Given → Result Given Reason
 inputs_of held named begun = given_in held named input_files begun

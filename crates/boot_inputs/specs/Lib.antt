@@ -1,4 +1,3 @@
-pub mod Answers
 pub mod CommandLine
 pub mod Diagnostic
 pub mod Extension
@@ -9,6 +8,7 @@ pub mod Input
 pub mod Inputs
 pub mod Pages
 pub mod Reading
+pub mod Reason
 pub mod Script
 pub mod Slit
 pub mod Srat

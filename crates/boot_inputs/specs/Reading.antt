@@ -1,10 +1,11 @@
 -- What is said of files that are read one after another, of any list of them.
-use Rattle.std.specs.Prelude.{◌≡◌, Bool, true, ◌&&◌, nat_lt, List, [], ◌∷◌, Result, IfSome, IsNone, IsOk}
+use Rattle.std.specs.Prelude.{◌≡◌, Bool, true, ◌&&◌, nat_lt, List, [], ◌∷◌, Result, IfErr, IfSome, IsNone, IsOk}
 use Rattle.bm_io.specs.declared.reading.Files.{Ghosts as FilesOf}
 use Rattle.boot_model.specs.Boot.{Given}
 use Rattle.boot_inputs.specs.declared.input.Input.{Input}
-use Rattle.boot_inputs.specs.declared.refusal.InputError.{InputError}
-use Rattle.boot_inputs.specs.Answers.{Gives, HasCause}
+use Rattle.boot_inputs.specs.Reason.{NoInputs}
+use Rattle.program_end.specs.Causes.{IsOfFile}
+use Rattle.program_end.specs.Fetches.{Fetches}
 use Rattle.boot_inputs.specs.File.{File}
 use Rattle.boot_inputs.specs.Input.{place}
 use Rattle.boot_inputs.specs.Inputs.{Named, given_in}
@@ -20,8 +21,8 @@ ascend (file ∷ files) = are_behind file.input files && ascend files
 
 -- the files were read, up to the first that is refused. `kind` is what the object tells that fetches them; it is seen before and now
 pub record AreRead {F : Type 0} (kind : FilesOf F) (named : Named) (files : List File) (old new : F) (before after : Given)
-    (result : Result (Unit {0}) InputError) : Type 0 where
-  pub gives : IfSome (kind.holds old) (λ held. Gives (λ done. after) result (given_in held named files before))
-  pub cause : HasCause (kind.faults old) (kind.faults new) named result
+    (result : Result (Unit {0}) NoInputs) : Type 0 where
+  pub fetches : IfSome (kind.holds old) (λ held. Fetches place (λ done. after) result (given_in held named files before))
+  pub cause : IfErr result (IsOfFile (kind.faults old) (kind.faults new) named)
   pub unnamed : ((input : Input) → IsNone (named input)) → IsOk result
   pub kept : kind.holds new ≡ kind.holds old

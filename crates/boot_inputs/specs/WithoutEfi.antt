@@ -7,7 +7,8 @@ use Rattle.boot_options.specs.Options.{name_value_of, option_words, raw_line}
 use Rattle.efi_map.specs.Map.{descriptors_of}
 use Rattle.boot_model.specs.Boot.{Given, claims, map_judged, no_options}
 use Rattle.boot_inputs.specs.declared.input.Input.TheVariants as inputs
-use Rattle.boot_inputs.specs.Inputs.{Held, Named, inputs_of}
+use Rattle.boot_inputs.specs.Inputs.{Named, inputs_of}
+use Rattle.program_end.specs.Program.{Held}
 
 -- the same names of files, but none for the EFI memory map
 abbrev pub without_efi : Named → Named

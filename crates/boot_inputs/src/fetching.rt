@@ -1,14 +1,17 @@
 //! One step for every file: look up the name, fetch, read.
 
-ghost use Rattle.std.specs.Prelude.{◌≡◌, ℕ, ◌≤◌, List, length, IfSome, IsNone, IsOk};
+ghost use Rattle.std.specs.Prelude.{◌≡◌, ℕ, ◌≤◌, List, length, Option, Some, IfErr, IfSome, IsNone, IsOk};
 ghost use Rattle.boot_model.specs.View.{inputs_view};
-ghost use Rattle.boot_inputs.specs.Answers.{Gives, HasCause, IsCaused, IsOf};
+ghost use Rattle.program_end.specs.Causes.{IsOf, IsOfFile};
+ghost use Rattle.program_end.specs.Fetches.{Fetches};
+ghost use Rattle.boot_inputs.specs.Input.{place};
+ghost use Rattle.boot_inputs.specs.declared.input.Input.{Input as AnyInput};
 ghost use Rattle.boot_inputs.specs.Inputs.{file_step, named_step, or_faulty};
 
 use crate::fault::{Fault, Misread};
 use crate::names::Names;
 use crate::reader::Reader;
-use crate::refusal::{InputError, InputRefusal};
+use crate::refusal::{NoInputs, Reason};
 use bm_io::{Fetch, Files};
 use boot_model::Inputs;
 use std::alloc::Global;
@@ -20,11 +23,11 @@ pub fn add_file<R: Reader, F: Files, N: Names>(
     files: &mut F,
     names: &N,
     inputs: &mut Inputs,
-) -> Result<(), InputError>
-    ensures gives { IfSome (F.holds files.old) (λ held. Gives (λ done. inputs_view inputs.new) result
+) -> Result<(), NoInputs>
+    ensures fetches { IfSome (F.holds files.old) (λ held. Fetches place (λ done. inputs_view inputs.new) result
         (file_step held (N.named names.now) R.file (inputs_view inputs.old))) }
-    ensures cause { HasCause (F.faults files.old) (F.faults files.new) (N.named names.now) result }
-    ensures own { IsOf R.file.input result }
+    ensures cause { IfErr result (IsOfFile (F.faults files.old) (F.faults files.new) (N.named names.now)) }
+    ensures own { IfErr result (IsOf R.file.input) }
     ensures unnamed { IsNone (N.named names.now R.file.input) → IsOk result }
     ensures unfetched { IsNone (N.named names.now R.file.input) → files.new ≡ files.old }
     ensures kept { F.holds files.new ≡ F.holds files.old }
@@ -42,38 +45,33 @@ fn fetch<R: Reader, F: Files>(
     files: &mut F,
     name: &str,
     inputs: &mut Inputs,
-) -> Result<(), InputError>
-    ensures gives { IfSome (F.holds files.old) (λ held. Gives (λ done. inputs_view inputs.new) result
+) -> Result<(), NoInputs>
+    ensures fetches { IfSome (F.holds files.old) (λ held. Fetches place (λ done. inputs_view inputs.new) result
         (named_step held R.file (inputs_view inputs.old) name.now)) }
-    ensures cause { IsCaused (F.faults files.old name.now) (F.faults files.new name.now) result }
-    ensures own { IsOf R.file.input result }
+    ensures cause { IfErr result (IsOfFile (F.faults files.old) (F.faults files.new) (λ input. Some name.now)) }
+    ensures own { IfErr result (IsOf R.file.input) }
     ensures kept { F.holds files.new ≡ F.holds files.old }
     ensures faults_stay { (any : List ℕ) → F.faults files.old any ≤ F.faults files.new any }
 {
     match files.fetch(alloc, name, R::limit()) {
         Ok(bytes) => read::<R>(alloc, &bytes, inputs),
-        Err(Fetch::Failed) => Err(InputError::Refused(InputRefusal::Unread(R::input()))),
-        Err(Fetch::TooLong) => Err(InputError::Refused(InputRefusal::Faulty(
-            R::input(),
-            Fault::TooLong,
-        ))),
-        Err(Fetch::Memory) => Err(InputError::Memory),
+        Err(Fetch::Failed) => Err(NoInputs::Reason(Reason::Unread(R::input()))),
+        Err(Fetch::TooLong) => Err(NoInputs::Reason(Reason::Faulty(R::input(), Fault::TooLong))),
+        Err(Fetch::Memory) => Err(NoInputs::Memory),
     }
 }
 
 /// Puts what the bytes of a file give into the inputs.
-fn read<R: Reader>(alloc: Global, bytes: &[u8], inputs: &mut Inputs) -> Result<(), InputError>
+fn read<R: Reader>(alloc: Global, bytes: &[u8], inputs: &mut Inputs) -> Result<(), NoInputs>
     requires { length bytes.now ≤ R.file.limit }
-    ensures gives { Gives (λ done. inputs_view inputs.new) result
+    ensures fetches { Fetches place (λ done. inputs_view inputs.new) result
         (or_faulty R.file.input (R.file.says bytes.now (inputs_view inputs.old))) }
-    ensures cause { (before now : ℕ) → IsCaused before now result }
-    ensures own { IsOf R.file.input result }
+    ensures cause { (before now : List ℕ → ℕ) (named : AnyInput → Option (List ℕ)) → IfErr result (IsOfFile before now named) }
+    ensures own { IfErr result (IsOf R.file.input) }
 {
     match R::read(alloc, bytes, inputs) {
         Ok(()) => Ok(()),
-        Err(Misread::Fault(fault)) => {
-            Err(InputError::Refused(InputRefusal::Faulty(R::input(), fault)))
-        }
-        Err(Misread::Memory) => Err(InputError::Memory),
+        Err(Misread::Fault(fault)) => { Err(NoInputs::Reason(Reason::Faulty(R::input(), fault))) }
+        Err(Misread::Memory) => Err(NoInputs::Memory),
     }
 }

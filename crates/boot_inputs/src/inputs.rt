@@ -1,8 +1,10 @@
 //! All files, in the order of work.
 
-ghost use Rattle.std.specs.Prelude.{IfSome, IsNone, IsOk};
+ghost use Rattle.std.specs.Prelude.{IfErr, IfSome, IsNone, IsOk};
 ghost use Rattle.boot_model.specs.View.{inputs_view};
-ghost use Rattle.boot_inputs.specs.Answers.{Gives, HasCause};
+ghost use Rattle.program_end.specs.Causes.{IsOfFile};
+ghost use Rattle.program_end.specs.Fetches.{Fetches};
+ghost use Rattle.boot_inputs.specs.Input.{place};
 ghost use Rattle.boot_inputs.specs.Inputs.{inputs_of};
 ghost use Rattle.boot_inputs.specs.declared.input.Input.{Input as AnyInput};
 
@@ -12,7 +14,7 @@ use crate::extension::Extensions;
 use crate::list::Readers;
 use crate::names::Names;
 use crate::pages::PageScripts;
-use crate::refusal::InputError;
+use crate::refusal::NoInputs;
 use crate::script::Scripts;
 use crate::slit::Slits;
 use crate::srat::Srats;
@@ -45,10 +47,10 @@ pub fn read_inputs<F: Files, N: Names>(
     files: &mut F,
     names: &N,
     begun: Inputs,
-) -> Result<Inputs, InputError>
-    ensures gives { IfSome (F.holds files.old) (λ held.
-        Gives inputs_view result (inputs_of held (N.named names.now) (inputs_view begun))) }
-    ensures cause { HasCause (F.faults files.old) (F.faults files.new) (N.named names.now) result }
+) -> Result<Inputs, NoInputs>
+    ensures fetches { IfSome (F.holds files.old) (λ held.
+        Fetches place inputs_view result (inputs_of held (N.named names.now) (inputs_view begun))) }
+    ensures cause { IfErr result (IsOfFile (F.faults files.old) (F.faults files.new) (N.named names.now)) }
     ensures unnamed { ((input : AnyInput) → IsNone (N.named names.now input)) → IsOk result }
 {
     let mut inputs = begun;

@@ -2,22 +2,23 @@
 
 ghost use Rattle.std.specs.Prelude.{◌≡◌, All, Ok, Err};
 ghost use Rattle.boot_inputs.specs.Faults.{IsOfBytes, SaysOfBytes};
-ghost use Rattle.boot_inputs.specs.Inputs.{Held, Named, input_files, inputs_of};
+ghost use Rattle.boot_inputs.specs.Inputs.{Named, input_files, inputs_of};
+ghost use Rattle.program_end.specs.Program.{Held};
 ghost use Rattle.boot_inputs.specs.WithoutEfi.{HasMapWithoutEfi, IsBeforeFiles, LacksDescriptors, LacksEfiWord};
 ghost use Rattle.boot_inputs.specs.declared.fault.Fault.{Fault as AnyFault};
 ghost use Rattle.boot_inputs.specs.declared.input.Input.{Input as AnyInput};
 ghost use Rattle.boot_model.specs.Boot.{Given};
+ghost use Rattle.program_end.specs.declared.failure.Reason.TheVariants as reasons;
 
 use crate::inputs::FromZeroPage;
 use crate::list::Readers;
-use crate::refusal::InputRefusal;
 
 /// A law: no bytes of an input file are judged to want memory, as each file says for itself (`Reader::wants_no_memory`). So no file is
 /// refused for it.
 pub fn bytes_want_no_memory()
     ensures files { All SaysOfBytes input_files }
     ensures refused { (held : Held) (named : Named) (begun : Given) (input : AnyInput) (fault : AnyFault) →
-        inputs_of held named begun ≡ Err (InputRefusal.Faulty input fault) → IsOfBytes fault }
+        inputs_of held named begun ≡ Err (reasons.Faulty input fault) → IsOfBytes fault }
 {
     FromZeroPage::want_no_memory();
 }

@@ -10,8 +10,8 @@
 //! The files in the order of work, zero page, extension, command line, SRAT, script, page script, SLIT, EFI map, are a list in the code
 //! (`src/inputs.rt`) and one in the definition (`input_files` of `specs/Inputs.antt`). [`Readers`] walks any list, and what
 //! is said of it (`AreRead` of `specs/Reading.antt`) is proved once. [`read_inputs`] walks this one: the first file
-//! that can't be read ([`InputRefusal::Unread`]) or is malformed ([`InputRefusal::Faulty`]) is the answer. A file that couldn't be
-//! read has its cause in the count of faults of its name; nothing else is free but want of memory, which [`InputError`]
+//! that can't be read ([`Reason::Unread`]) or is malformed ([`Reason::Faulty`]) is the answer. A file that couldn't be
+//! read has its cause in the count of faults of its name; nothing else is free but want of memory, which [`NoInputs`]
 //! keeps apart from what is wrong with the files.
 //!
 //! Where the names come from is another's business: [`Names`] is whatever knows the name of an input.
@@ -52,7 +52,7 @@ pub use list::Readers;
 pub use names::Names;
 pub use pages::pages_wants_no_memory;
 pub use reader::Reader;
-pub use refusal::{InputError, InputRefusal};
+pub use refusal::{NoInputs, Reason};
 pub use script::script_wants_no_memory;
 pub use slit::slit_wants_no_memory;
 pub use srat::srat_wants_no_memory;

@@ -10,7 +10,7 @@ ghost use Rattle.boot_inputs.specs.Reading.{AreRead, ascend};
 use crate::fetching::add_file;
 use crate::names::Names;
 use crate::reader::Reader;
-use crate::refusal::InputError;
+use crate::refusal::NoInputs;
 use bm_io::Files;
 use boot_model::Inputs;
 use std::alloc::Global;
@@ -26,7 +26,7 @@ pub trait Readers {
         files: &mut F,
         names: &N,
         inputs: &mut Inputs,
-    ) -> Result<(), InputError>
+    ) -> Result<(), NoInputs>
         requires { IsTrue (ascend list) }
         ensures { AreRead F.Files (N.named names.now) list files.old files.new (inputs_view inputs.old) (inputs_view inputs.new) result };
 
@@ -43,7 +43,7 @@ impl Readers for () {
         _files: &mut F,
         _names: &N,
         _inputs: &mut Inputs,
-    ) -> Result<(), InputError> {
+    ) -> Result<(), NoInputs> {
         Ok(())
     }
 
@@ -58,7 +58,7 @@ impl<R: Reader, L: Readers> Readers for (R, L) {
         files: &mut F,
         names: &N,
         inputs: &mut Inputs,
-    ) -> Result<(), InputError> {
+    ) -> Result<(), NoInputs> {
         add_file::<R, F, N>(alloc, files, names, inputs)?;
         L::add_files::<F, N>(alloc, files, names, inputs)
     }

@@ -1,22 +1,12 @@
-//! Why there are no inputs. That the words are refused isn't among it: whoever reads files has names.
+//! Why there are no inputs. The type is that of a program's reasons, so that a reason goes from the file to the exit status as it
+//! is. Of the reasons, files are unread or faulty alone (`IsOfFile`).
 
 use crate::fault::Fault;
 use crate::input::Input;
+use boot_model::Cause;
 
-/// What is wrong with the first of the files that isn't as it has to be.
-#[derive(Clone, Copy, Debug, PartialEq, Eq)]
-pub enum InputRefusal {
-    /// The file of this input couldn't be read.
-    Unread(Input),
-    /// The file of this input could be read and has that fault.
-    Faulty(Input, Fault),
-}
+/// Why words and files give no report.
+pub type Reason = program_end::Reason<Input, Fault, Cause>;
 
 /// Why there are no inputs.
-#[derive(Clone, Copy, Debug, PartialEq, Eq)]
-pub enum InputError {
-    /// A file isn't as it has to be, and those before it are.
-    Refused(InputRefusal),
-    /// The program's own memory ran out.
-    Memory,
-}
+pub type NoInputs = program_end::NoResult<Reason>;

@@ -1,11 +1,10 @@
 -- The boot of a call that hands over values, and how such a call fails.
 use Rattle.std.specs.Prelude.{◌≡◌, ℕ, List, Option, Some, Result, Ok, Err}
-use Rattle.boot_inputs.specs.Inputs.{Held}
+use Rattle.program_end.specs.Program.{Held}
 use Rattle.boot_model.specs.Boot.{Given, Told, told_boot}
 use Rattle.conservation.specs.Headline.{AllTouchedOrInOne, BlocksAreMaximal, BlocksAreWhole, NoOtherInABlock}
-use Rattle.program_run.specs.declared.failure.Failure.{Failure}
-use Rattle.program_run.specs.declared.failure.Failure.TheVariants as failures
-use Rattle.program_run.specs.declared.failure.Reason.{Reason}
+use Rattle.boot_inputs.specs.Reason.{NoInputs, Reason}
+use Rattle.program_end.specs.declared.failure.NoResult.TheVariants as errors
 use Rattle.program_run.specs.Outcome.{given_by}
 use Rattle.program_words.specs.Words.{Wanted}
 
@@ -22,8 +21,7 @@ pub record IsBoot (accepted : Option Wanted) (held : Held) (told : Told) : Type 
   pub whole : BlocksAreWhole given told
   pub maximal : BlocksAreMaximal given told
 
--- the failure is that of the outcome, or want of memory
-abbrev pub FailsAs : Failure → Result (List ℕ) Reason → Type 0
-FailsAs (failures.NoReport reason) said = said ≡ Err reason
-FailsAs failures.Unwritten said = ⊥
-FailsAs failures.Memory said = Unit {0}
+-- the reason is that of the outcome, or memory ran out
+abbrev pub FailsAs : NoInputs → Result (List ℕ) Reason → Type 0
+FailsAs (errors.Reason reason) said = said ≡ Err reason
+FailsAs errors.Memory said = Unit {0}

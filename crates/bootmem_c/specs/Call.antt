@@ -2,11 +2,12 @@
 use Rattle.std.specs.Prelude.{ℕ, Bool, true, if◌then◌else◌, ◌&&◌, List, [], ◌∷◌, Option, None, Result, Ok, Err}
 use Rattle.std.specs.Str.{is_utf8}
 use Rattle.bm_io.specs.HeldFiles.{bytes_of}
-use Rattle.program_run.specs.declared.failure.Failure.TheVariants as failures
-use Rattle.program_run.specs.declared.failure.Reason.{Reason}
+use Rattle.boot_inputs.specs.Reason.{Reason}
+use Rattle.program_end.specs.declared.failure.Failure.TheVariants as failures
+use Rattle.program_end.specs.declared.failure.NoResult.TheVariants as errors
 use Rattle.program_run.specs.Line.{failure_line}
 use Rattle.program_run.specs.Outcome.{outcome}
-use Rattle.program_run.specs.Status.{reason_status}
+use Rattle.program_end.specs.Status.{reason_status}
 use Rattle.program_words.specs.Words.{Wanted, accepted}
 use Rattle.bootmem_c.specs.declared.crossing.Bytes.{Bytes}
 use Rattle.bootmem_c.specs.declared.crossing.File.{File}
@@ -31,7 +32,7 @@ status_said (Err reason) = reason_status reason
 -- the line of an outcome, which a text has none of; nor do words that aren't UTF-8
 abbrev pub line_by : Option Wanted → Result (List ℕ) Reason → List ℕ
 line_by accepted (Ok text) = []
-line_by accepted (Err reason) = failure_line accepted (failures.NoReport reason)
+line_by accepted (Err reason) = failure_line accepted (failures.NoResult (errors.Reason reason))
 
 abbrev pub line_said : List Bytes → List File → List ℕ
 line_said words files =

@@ -15,25 +15,25 @@ use crate::lent_files::LentFiles;
 use crate::words::{NoTexts, words_in};
 use boot_model::Booted;
 use boot_stages::boot;
-use program_run::{Failure, Reason, read_given};
+use program_run::{NoReport, Reason, no_report, read_given};
 use program_words::{Wanted, WordError, read_words};
 use std::alloc::Global;
 
 /// What the boot makes of the words and files. It fails as the whole program does, or for want of memory.
-pub fn boot_lent(alloc: Global, words: &[Bytes<'_>], files: &[File<'_>]) -> Result<Booted, Failure>
+pub fn boot_lent(alloc: Global, words: &[Bytes<'_>], files: &[File<'_>]) -> Result<Booted, NoReport>
     ensures boots { IfOk result (λ booted.
         IsBoot (asked (lent_words words.now)) (bytes_of (lent_files files.now)) (booted_view booted)) }
     ensures fails { IfErr result (λ failure. FailsAs failure (outcome_of words.now files.now)) }
 {
     match words_in(alloc, words) {
         Ok(texts) => boot_texts(alloc, &texts, files),
-        Err(NoTexts::NotUtf8) => Err(Failure::NoReport(Reason::Usage)),
-        Err(NoTexts::Memory) => Err(Failure::Memory),
+        Err(NoTexts::NotUtf8) => Err(NoReport::Reason(Reason::Usage)),
+        Err(NoTexts::Memory) => Err(NoReport::Memory),
     }
 }
 
 /// The same over words that are texts.
-fn boot_texts(alloc: Global, words: &[String], files: &[File<'_>]) -> Result<Booted, Failure>
+fn boot_texts(alloc: Global, words: &[String], files: &[File<'_>]) -> Result<Booted, NoReport>
     ensures boots { IfOk result (λ booted.
         IsBoot (accepted (texts words.now)) (bytes_of (lent_files files.now)) (booted_view booted)) }
     ensures fails { IfErr result (λ failure.
@@ -41,18 +41,21 @@ fn boot_texts(alloc: Global, words: &[String], files: &[File<'_>]) -> Result<Boo
 {
     match read_words(alloc, words) {
         Ok(wanted) => boot_wanted(alloc, &wanted, files),
-        Err(WordError::Usage) => Err(Failure::NoReport(Reason::Usage)),
-        Err(WordError::Memory) => Err(Failure::Memory),
+        Err(WordError::Usage) => Err(NoReport::Reason(Reason::Usage)),
+        Err(WordError::Memory) => Err(NoReport::Memory),
     }
 }
 
 /// The same behind accepted words.
-fn boot_wanted(alloc: Global, wanted: &Wanted<'_>, files: &[File<'_>]) -> Result<Booted, Failure>
+fn boot_wanted(alloc: Global, wanted: &Wanted<'_>, files: &[File<'_>]) -> Result<Booted, NoReport>
     ensures boots { IfOk result (λ booted.
         IsBoot (Some (wanted_view wanted.now)) (bytes_of (lent_files files.now)) (booted_view booted)) }
     ensures fails { IfErr result (λ failure.
         FailsAs failure (outcome (Some (wanted_view wanted.now)) (bytes_of (lent_files files.now)))) }
 {
     let inputs = read_given(alloc, wanted, &mut LentFiles::new(files))?;
-    Ok(boot(alloc, inputs)?)
+    match boot(alloc, inputs) {
+        Ok(booted) => Ok(booted),
+        Err(stop) => Err(no_report(stop)),
+    }
 }

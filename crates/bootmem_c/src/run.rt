@@ -1,8 +1,7 @@
 //! The program as one call, over words and files that the caller lends.
 
-ghost use Rattle.std.specs.Prelude.{◌≡◌, ◌≢◌, ◌⊎◌, ℕ, List, [], false, Some};
+ghost use Rattle.std.specs.Prelude.{◌≡◌, ◌≢◌, ◌⊎◌, ℕ, IsOkAnd, List, [], false, Some};
 ghost use Rattle.bm_io.specs.HeldFiles.{bytes_of};
-ghost use Rattle.program_run.specs.Answers.{IsText};
 ghost use Rattle.program_run.specs.Headline.{IsReported};
 ghost use Rattle.bootmem_c.specs.Lent.{lent_files, lent_words};
 ghost use Rattle.bootmem_c.specs.Call.{asked, line_said, outcome_of, status_said};
@@ -30,7 +29,7 @@ pub extern "C" fn bootmem_run(
 
     // After status 0 `out` has the outcome's text, which is that of the boot, with the headline's four facts; after another
     // one it has none.
-    ensures written { result ≡ 0 → IsText (outcome_of words.now files.now) (λ text. IsTaken text out.old out.new) }
+    ensures written { result ≡ 0 → IsOkAnd (outcome_of words.now files.now) (λ text. IsTaken text out.old out.new) }
     ensures headline { result ≡ 0 → (text : List ℕ) × IsTaken text out.old out.new
         × IsReported (asked (lent_words words.now)) (bytes_of (lent_files files.now)) (Some []) (Some text) }
     ensures unwritten { result ≢ 0 → IsTaken [] out.old out.new }
@@ -60,7 +59,7 @@ fn run_lent(
     requires no_line { line.old.text ≡ [] }
     requires not_short { line.old.is_short ≡ false }
     ensures status { (result ≡ status_said (outcome_of words.now files.now)) ⊎ (result ≡ 7) }
-    ensures written { result ≡ 0 → IsText (outcome_of words.now files.now) (λ text. report.new.text ≡ text) }
+    ensures written { result ≡ 0 → IsOkAnd (outcome_of words.now files.now) (λ text. report.new.text ≡ text) }
     ensures headline { result ≡ 0 → IsReported
         (asked (lent_words words.now)) (bytes_of (lent_files files.now)) (Some []) (Some report.new.text) }
     ensures silent { result ≡ 0 → whole_text line.new ≡ [] }

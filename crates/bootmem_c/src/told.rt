@@ -15,7 +15,7 @@ use crate::crossing::{Bytes, File};
 use crate::values::{
     CrashArea, FreeBlock, FreeBlocks, MapRun, MapRuns, block_values, fill, map_values,
 };
-use program_run::Failure;
+use program_run::NoReport;
 use std::alloc::Global;
 
 /// The runs of the map, ascending.
@@ -97,7 +97,7 @@ pub extern "C" fn bootmem_blocks(
 }
 
 /// The runs of the map of the boot that words and files determine.
-fn map_lent(alloc: Global, words: &[Bytes<'_>], files: &[File<'_>]) -> Result<Vec<MapRun>, Failure>
+fn map_lent(alloc: Global, words: &[Bytes<'_>], files: &[File<'_>]) -> Result<Vec<MapRun>, NoReport>
     ensures runs { IfOk result (λ runs. (told : Told)
         × IsBoot (asked (lent_words words.now)) (bytes_of (lent_files files.now)) told
         × (runs.items ≡ map_values told)) }
@@ -112,7 +112,7 @@ fn blocks_lent(
     alloc: Global,
     words: &[Bytes<'_>],
     files: &[File<'_>],
-) -> Result<Vec<FreeBlock>, Failure>
+) -> Result<Vec<FreeBlock>, NoReport>
     ensures blocks { IfOk result (λ blocks. (told : Told)
         × IsBoot (asked (lent_words words.now)) (bytes_of (lent_files files.now)) told
         × (blocks.items ≡ block_values told)) }

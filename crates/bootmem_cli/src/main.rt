@@ -18,7 +18,7 @@
 use bm_io::{RealFiles, StdSink};
 pub use boot_model::{Booted, Inputs, Stop, map_gives_frames, map_gives_types};
 pub use boot_stages::boot;
-pub use program_run::{run, run_by_clauses};
+pub use program_run::run;
 use std::env;
 use std::io::ErrorKind;
 use std::process::ExitCode;

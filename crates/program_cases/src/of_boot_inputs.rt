@@ -7,7 +7,7 @@ ghost use Rattle.bm_io.specs.HeldFiles.{held_files, HaveOwnNames};
 use crate::common::{KERNEL, SMALLEST_SRAT, file};
 use bm_base::Width;
 use bm_io::{Fetch, Files, MemFile, MemFiles};
-use boot_inputs::{Fault, Input, InputError, InputRefusal, Names, read_inputs};
+use boot_inputs::{Fault, Input, Names, NoInputs, Reason, read_inputs};
 use boot_model::Inputs;
 use boot_options::OptionFault;
 use e820_table::{ExtFault, ZeroFault};
@@ -96,7 +96,7 @@ fn expect(
     alloc: Global,
     held: &Held<'_>,
     failing: &[u64],
-    want: Option<InputRefusal>,
+    want: Option<Reason>,
 ) -> Result<(), Fail> {
     let mut files = MemFiles::new(files_of(alloc, held)?, Vec::from_slice(alloc, failing)?);
     let answer = read_inputs(
@@ -106,7 +106,7 @@ fn expect(
         Inputs::begun(alloc, Width::Bits46, KERNEL),
     );
     assert!(rt;
-        answer.err() == want.map(InputError::Refused),
+        answer.err() == want.map(NoInputs::Reason),
         "fetch {failing:?}"
     );
     let further = files.fetch(alloc, "zp", 4096);
@@ -153,15 +153,15 @@ fn files_in_their_order(rt: HostRuntime) -> Result<(), Fail> {
     let mut zp = [0; 4096];
     zp[0x1e8] = 2;
     let held = Held { zp: &zp, ..HELD };
-    let rows: [(&[u64], Option<InputRefusal>); 9] = [
-        (&[1, 2], Some(InputRefusal::Unread(Input::ZeroPage))),
-        (&[2, 3], Some(InputRefusal::Unread(Input::Extension))),
-        (&[3, 4], Some(InputRefusal::Unread(Input::CommandLine))),
-        (&[4, 5], Some(InputRefusal::Unread(Input::Srat))),
-        (&[5, 6], Some(InputRefusal::Unread(Input::Script))),
-        (&[6, 7], Some(InputRefusal::Unread(Input::Pages))),
-        (&[7, 8], Some(InputRefusal::Unread(Input::Slit))),
-        (&[8, 9], Some(InputRefusal::Unread(Input::Efi))),
+    let rows: [(&[u64], Option<Reason>); 9] = [
+        (&[1, 2], Some(Reason::Unread(Input::ZeroPage))),
+        (&[2, 3], Some(Reason::Unread(Input::Extension))),
+        (&[3, 4], Some(Reason::Unread(Input::CommandLine))),
+        (&[4, 5], Some(Reason::Unread(Input::Srat))),
+        (&[5, 6], Some(Reason::Unread(Input::Script))),
+        (&[6, 7], Some(Reason::Unread(Input::Pages))),
+        (&[7, 8], Some(Reason::Unread(Input::Slit))),
+        (&[8, 9], Some(Reason::Unread(Input::Efi))),
         (&[9], None),
     ];
     for (failing, want) in &rows {
@@ -236,7 +236,7 @@ fn refused_file_is_the_last(rt: HostRuntime) -> Result<(), Fail> {
         ),
     ];
     for (held, input, fault, behind) in &rows {
-        let want = InputRefusal::Faulty(*input, *fault);
+        let want = Reason::Faulty(*input, *fault);
         expect(&rt, rt.alloc(), held, &[*behind], Some(want))?;
     }
     Ok(())
@@ -255,6 +255,6 @@ fn initrd_too_far(rt: HostRuntime) -> Result<(), Fail> {
     zp[0x21c] = 1;
     zp[0x21d] = 0x10;
     let held = Held { zp: &zp, ..HELD };
-    let want = InputRefusal::Faulty(Input::ZeroPage, Fault::ZeroPage(ZeroFault::InitrdTooFar));
+    let want = Reason::Faulty(Input::ZeroPage, Fault::ZeroPage(ZeroFault::InitrdTooFar));
     expect(&rt, rt.alloc(), &held, &[2], Some(want))
 }

@@ -7,7 +7,7 @@ ghost use Rattle.bm_io.specs.HeldFiles.{held_files, HaveOwnNames};
 use crate::common::{RAM, SMALLEST_SRAT, entry, file, page, put_entry};
 use bm_io::{Fetch, Files, MemFile, MemFiles, MemSink};
 use e820_model::Entry;
-use program_run::run_by_clauses;
+use program_run::run;
 use std::alloc::Global;
 use std::process::Abort;
 use std::test::Fail;
@@ -80,7 +80,7 @@ fn run_over(
     }
     let mut out = MemSink::new(Vec::from_slice(alloc, puts)?);
     let mut err = MemSink::new(Vec::from_slice(alloc, lines)?);
-    let status = run_by_clauses(alloc, &owned, files, &mut out, &mut err);
+    let status = run(alloc, &owned, files, &mut out, &mut err);
     Ok(Ended { status, out, err })
 }
 

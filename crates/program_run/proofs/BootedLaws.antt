@@ -14,16 +14,15 @@ use Rattle.debugfs_reports.specs.ReportList.{shown_list, text_of}
 use Rattle.debugfs_reports.specs.Stand.{TablesStand, records_at_heads}
 use Rattle.debugfs_reports.proofs.StandLaws.{HaveTables, tables_shown, tables_stand}
 use Rattle.memblock_model.specs.declared.which.Which.TheVariants as which
-use Rattle.program_run.specs.declared.failure.Failure.{Failure}
-use Rattle.program_run.specs.Answers.{Makes}
+use Rattle.program_end.specs.Fetches.{FitsError}
+use Rattle.boot_inputs.specs.Input.{place}
 use Rattle.program_run.specs.Outcome.{reported}
-use Rattle.program_run.specs.Status.{failure_of_stop}
+use Rattle.program_run.specs.Stops.{no_report}
 
 -- a stop of the boot has one cause
-pub boot_stopped : {X : Type 0} (view : X → List ℕ) (r : Result X Failure) (failure : Failure) (stop : Stop) (given : Given)
-    (reports : List Report) → r ≡ Err failure → failure ≡ failure_of_stop stop
-    → (stop ≢ stops.Memory → with_error stop_of (told_boot given) ≡ Err stop) → Makes view r (reported reports given)
-boot_stopped view r failure stop given reports is from stops_so = rw is (grind arith)
+pub boot_stopped : (stop : Stop) (given : Given) (reports : List Report)
+    → (stop ≢ stops.Memory → with_error stop_of (told_boot given) ≡ Err stop) → FitsError place (no_report stop) (reported reports given)
+boot_stopped stop given reports stops_so = grind arith
 
 pub told_is : (answer : Result Told Cause) (told : Told) → with_error stop_of answer ≡ Ok told → answer ≡ Ok told
 told_is answer told is = grind arith

@@ -30,7 +30,7 @@ use Rattle.program_words.specs.Kernel.{default_kernel}
 use Rattle.program_words.specs.Spelling.{AreSpellings, Spelling, apart, spelled_values, named}
 use Rattle.program_words.specs.Words.{Wanted, accepted, name_in}
 use Rattle.program_words.proofs.MatchedLaws.{accepted_as_given}
-use Rattle.boot_inputs.specs.Inputs.{Held}
+use Rattle.program_end.specs.Program.{Held}
 use Rattle.debugfs_reports.specs.declared.report.Report.TheVariants as reports
 use Rattle.program_run.specs.Outcome.{outcome}
 

@@ -1,32 +1,40 @@
 -- A text that is the outcome's is that of a boot.
-use Rattle.std.proofs.Common.{◌≡◌, ℕ, List, Option, Some, None, IfSome, Result, Ok, Err, refl, arith}
+use Rattle.std.proofs.Common.{◌≡◌, ◌≢◌, ℕ, List, Option, Some, None, IfSome, Result, Ok, Err, refl, arith}
 use Rattle.std.specs.Io.KnownBytes.{Appends}
-use Rattle.bm_base.specs.ResultSteps.{◌>>=◌, with_error}
-use Rattle.boot_inputs.specs.Inputs.{Held}
-use Rattle.boot_model.specs.Boot.{told_boot}
+use Rattle.std.specs.Prelude.{IsNone, IsOkAnd, ◌⊎◌}
+use Rattle.bm_base.specs.ResultSteps.{◌>>=◌}
+use Rattle.boot_inputs.specs.Reason.{Reason}
+use Rattle.boot_model.specs.declared.stop.Cause.{Cause}
+use Rattle.program_end.specs.Causes.{EndHasCause}
+use Rattle.program_end.specs.Ends.{MayEndWith, Writes}
+use Rattle.program_end.specs.Program.{Held}
+use Rattle.program_end.specs.Status.{End, status_of_end}
+use Rattle.boot_model.specs.Boot.{Told, told_boot}
 use Rattle.conservation.proofs.HeadlineLaws.{all_touched_or_in_one, blocks_maximal, blocks_whole, no_other_in_a_block}
 use Rattle.debugfs_reports.specs.ReportList.{text_of}
-use Rattle.program_run.specs.declared.failure.Reason.{Reason}
-use Rattle.program_run.specs.declared.failure.Reason.TheVariants as reasons
-use Rattle.program_run.specs.Answers.{IsText, Writes}
+use Rattle.program_run.specs.Bootmem.{bootmem}
 use Rattle.program_run.specs.Headline.{IsReported}
-use Rattle.program_run.specs.Outcome.{given_by, outcome, reported}
-use Rattle.program_run.specs.Status.{End, status_of_end}
+use Rattle.program_run.specs.Outcome.{given_by, or_stopped, outcome, reported}
 use Rattle.program_words.specs.Words.{Wanted}
 
--- a text behind an answer is that of its value
-text_behind : {A E : Type 0} (reason : E → Reason) (answer : Result A E) (next : A → Result (List ℕ) Reason) (P : List ℕ → Type 0)
-    → IsText (with_error reason answer >>= next) P → (a : A) × (answer ≡ Ok a) × IsText (next a) P
-text_behind reason (Ok a) next P is = (a, refl, is)
-text_behind reason (Err error) next P is = absurd is
+-- a text after an answer is that of its value
+text_after : {A E : Type 0} (answer : Result A E) (next : A → Result (List ℕ) E) (P : List ℕ → Type 0)
+    → IsOkAnd (answer >>= next) P → (a : A) × (answer ≡ Ok a) × IsOkAnd (next a) P
+text_after (Ok a) next P is = (a, refl, is)
+text_after (Err error) next P is = absurd is
+
+boot_after : (answer : Result Told Cause) (next : Told → Result (List ℕ) Reason) (P : List ℕ → Type 0)
+    → IsOkAnd (or_stopped answer >>= next) P → (told : Told) × (answer ≡ Ok told) × IsOkAnd (next told) P
+boot_after (Ok told) next P is = (told, refl, is)
+boot_after (Err cause) next P is = absurd is
 
 pub is_reported : (accepted : Option Wanted) (held : Held) (old new : Option (List ℕ))
-    → IsText (outcome accepted held) (λ text. Appends old new text) → IsReported accepted held old new
+    → IsOkAnd (outcome accepted held) (λ text. Appends old new text) → IsReported accepted held old new
 is_reported None held old new is = absurd is
 is_reported (Some wanted) held old new is =
     let P : List ℕ → Type 0 = λ text. Appends old new text in
-    let first = text_behind reasons.Refused (given_by held wanted) (reported wanted.reports) P is in
-    let last = text_behind reasons.Stopped (told_boot first.0) (λ told. Ok (text_of wanted.reports told)) P first.2 in
+    let first = text_after (given_by held wanted) (reported wanted.reports) P is in
+    let last = boot_after (told_boot first.0) (λ told. Ok (text_of wanted.reports told)) P first.2 in
     record {
       wanted = wanted;
       given = first.0;
@@ -41,10 +49,34 @@ is_reported (Some wanted) held old new is =
       maximal = blocks_maximal first.0 last.0 last.1;
     }
 
--- after status 0 that was written, for no failure has status 0
-pub ran_headline : (holds : Option Held) (accepted : Option Wanted) (end : End) (status : ℕ) (old new : Option (List ℕ))
-    → status ≡ status_of_end end → IfSome holds (λ held. Writes old new end (outcome accepted held)) → status ≡ 0
+text_written : (old new : Option (List ℕ)) (end : End Reason) (status : ℕ) (said : Result (List ℕ) Reason) → status ≡ status_of_end end
+    → Writes bootmem old new end said → status ≡ 0 → IsOkAnd said (λ text. Appends old new text)
+text_written old new end status said is writes zero = grind arith
+
+-- after status 0 that was written
+pub ran_headline : (old new : Option (List ℕ)) (accepted : Option Wanted) (end : End Reason) (status : ℕ) → status ≡ status_of_end end
+    → (holds : Option Held) → IfSome holds (λ held. Writes bootmem old new end (outcome accepted held)) → status ≡ 0
     → IfSome holds (λ held. IsReported accepted held old new)
-ran_headline None accepted end status old new is writes zero = tt
-ran_headline (Some held) accepted (Ok done) status old new is writes zero = is_reported accepted held old new writes
-ran_headline (Some held) accepted (Err failure) status old new is writes zero = absurd (grind arith)
+ran_headline old new accepted end status is None writes zero = tt
+ran_headline old new accepted end status is (Some held) writes zero =
+    is_reported accepted held old new (text_written old new end status (outcome accepted held) is writes zero)
+
+pub ran_written : (old new : Option (List ℕ)) (accepted : Option Wanted) (end : End Reason) (status : ℕ) → status ≡ status_of_end end
+    → (holds : Option Held) → IfSome holds (λ held. Writes bootmem old new end (outcome accepted held)) → status ≡ 0
+    → IfSome holds (λ held. IsOkAnd (outcome accepted held) (λ text. Appends old new text))
+ran_written old new accepted end status is None writes zero = tt
+ran_written old new accepted end status is (Some held) writes zero = text_written old new end status (outcome accepted held) is writes zero
+
+pub ran_answers : (old new : Option (List ℕ)) (accepted : Option Wanted) (end : End Reason) (status : ℕ) → status ≡ status_of_end end
+    → (holds : Option Held) → IfSome holds (λ held. Writes bootmem old new end (outcome accepted held))
+    → IfSome holds (λ held. MayEndWith bootmem (outcome accepted held) status)
+ran_answers old new accepted end status is holds writes = grind arith
+
+pub ran_refused : (before now : List ℕ → ℕ) (accepted : Option Wanted) (end : End Reason) (status : ℕ) → status ≡ status_of_end end
+    → EndHasCause bootmem before now accepted end → IsNone accepted → (status ≡ 2) ⊎ (status ≡ 7)
+ran_refused before now accepted end status is cause none = grind arith
+
+-- no end has the audit's second status
+pub never_eight : (before now : List ℕ → ℕ) (accepted : Option Wanted) (end : End Reason) (status : ℕ) → status ≡ status_of_end end
+    → EndHasCause bootmem before now accepted end → status ≢ 8
+never_eight before now accepted end status is cause = λ eight. grind arith

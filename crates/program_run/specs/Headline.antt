@@ -1,7 +1,7 @@
 -- What status 0 says, where the files tell what they hold and the output what was written.
 use Rattle.std.specs.Prelude.{◌≡◌, ℕ, List, Option, Some, Ok}
 use Rattle.std.specs.Io.KnownBytes.{Appends}
-use Rattle.boot_inputs.specs.Inputs.{Held}
+use Rattle.program_end.specs.Program.{Held}
 use Rattle.boot_model.specs.Boot.{Given, Told, told_boot}
 use Rattle.conservation.specs.Headline.{AllTouchedOrInOne, BlocksAreMaximal, BlocksAreWhole, NoOtherInABlock}
 use Rattle.debugfs_reports.specs.ReportList.{text_of}

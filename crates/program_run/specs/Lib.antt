@@ -1,6 +1,5 @@
-pub mod Answers
+pub mod Bootmem
 pub mod Headline
 pub mod Line
 pub mod Outcome
-pub mod Run
-pub mod Status
+pub mod Stops

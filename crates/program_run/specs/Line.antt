@@ -1,34 +1,24 @@
 -- The one line on the error output.
-use Rattle.std.specs.Prelude.{ℕ, List, [], ◌++◌, codes, decimal, Option, Some, None, ◌⊎◌, unwrap_or}
-use Rattle.std.specs.Io.KnownBytes.{Appends}
-use Rattle.bm_io.specs.Counts.{Rose}
-use Rattle.bm_io.specs.Told.{AppendsFront}
-use Rattle.bm_io.specs.declared.writing.Sink.{Ghosts as SinkOf}
+use Rattle.std.specs.Prelude.{ℕ, List, [], ◌++◌, codes, decimal, Option, Some, None, unwrap_or}
 use Rattle.boot_inputs.specs.declared.fault.Fault.{Fault}
 use Rattle.boot_inputs.specs.declared.input.Input.{Input}
-use Rattle.boot_inputs.specs.declared.refusal.InputRefusal.{InputRefusal}
-use Rattle.boot_inputs.specs.declared.refusal.InputRefusal.TheVariants as refusals
 use Rattle.boot_inputs.specs.Diagnostic.{Diagnostic}
 use Rattle.boot_inputs.specs.Faults.{diagnostic_of}
 use Rattle.boot_inputs.specs.Input.{word_for}
+use Rattle.boot_inputs.specs.Reason.{Reason}
+use Rattle.program_end.specs.declared.failure.Failure.{Failure}
+use Rattle.program_end.specs.Line.{failure_line as end_line, memory_line}
 use Rattle.memblock_model.specs.declared.which.Which.{Which}
 use Rattle.memblock_model.specs.declared.which.Which.TheVariants as which
 use Rattle.memblock_grow.specs.declared.stop.What.{What}
 use Rattle.memblock_grow.specs.declared.stop.What.TheVariants as what
 use Rattle.boot_model.specs.declared.stop.Cause.{Cause}
 use Rattle.boot_model.specs.declared.stop.Cause.TheVariants as causes
-use Rattle.program_run.specs.declared.failure.Reason.{Reason}
-use Rattle.program_run.specs.declared.failure.Reason.TheVariants as reasons
-use Rattle.program_run.specs.declared.failure.Failure.{Failure}
-use Rattle.program_run.specs.declared.failure.Failure.TheVariants as failures
 use Rattle.program_words.specs.Words.{Wanted}
-
-abbrev pub memory_line : List ℕ
-memory_line = codes "bootmem: out of memory\n"
 
 -- what is told of a fault of the file of that name, which is always something (`IsOfBytes`)
 abbrev pub diagnostic_line : List ℕ → Option Diagnostic → List ℕ
-diagnostic_line name None = memory_line
+diagnostic_line name None = memory_line (codes "bootmem")
 diagnostic_line name (Some (Diagnostic.Whole what)) = codes "bootmem: " ++ (name ++ (codes ": " ++ (what ++ codes "\n")))
 diagnostic_line name (Some (Diagnostic.Far thing index)) =
     codes "bootmem: " ++ (name ++ (codes ": " ++ (thing ++ (codes " " ++ (decimal index ++ codes " too far\n")))))
@@ -73,24 +63,12 @@ abbrev pub name_text : Option Wanted → Input → List ℕ
 name_text None input = []
 name_text (Some wanted) input = unwrap_or (wanted.named input) []
 
--- a file that couldn't be read is named so
-abbrev pub refusal_line : Option Wanted → InputRefusal → List ℕ
-refusal_line accepted (refusals.Unread input) = codes "bootmem: cannot read " ++ (name_text accepted input ++ codes "\n")
-refusal_line accepted (refusals.Faulty input fault) = fault_line (word_for input) fault
+-- the line of a fault of an input's file
+abbrev pub input_line : Input → Fault → List ℕ
+input_line input fault = fault_line (word_for input) fault
 
-abbrev pub reason_line : Option Wanted → Reason → List ℕ
-reason_line accepted reasons.Usage = codes "bootmem: usage\n"
-reason_line accepted (reasons.Refused refusal) = refusal_line accepted refusal
-reason_line accepted (reasons.Stopped cause) = cause_line cause
+abbrev pub program_name : List ℕ
+program_name = codes "bootmem"
 
-abbrev pub failure_line : Option Wanted → Failure → List ℕ
-failure_line accepted (failures.NoReport reason) = reason_line accepted reason
-failure_line accepted failures.Unwritten = codes "bootmem: cannot write\n"
-failure_line accepted failures.Memory = memory_line
-
--- the front of the line was appended to the output, and all of it unless the output itself failed; `sink` is what the
--- output's kind tells
-pub record PutsLine {S : Type 0} (sink : SinkOf S) (old new : S) (line : List ℕ) : Type 0 where
-  pub front : AppendsFront (sink.written old) (sink.written new) line
-  pub whole : Appends (sink.written old) (sink.written new) line ⊎ Rose (sink.faults old) (sink.faults new)
-      ⊎ Rose (sink.wants old) (sink.wants new)
+abbrev pub failure_line : Option Wanted → Failure Reason → List ℕ
+failure_line accepted failure = end_line program_name (name_text accepted) input_line cause_line failure

@@ -2,25 +2,18 @@
 use Rattle.std.specs.Prelude.{ℕ, List, drop, take, Option, Some, None, Result, Ok, Err}
 use Rattle.bm_base.specs.ResultSteps.{◌>>=◌, with_error}
 use Rattle.e820_table.specs.Made.{made_entries}
-use Rattle.boot_inputs.specs.declared.refusal.InputRefusal.{InputRefusal}
-use Rattle.boot_inputs.specs.Inputs.{Held, inputs_of}
+use Rattle.boot_inputs.specs.Reason.{Reason}
+use Rattle.boot_inputs.specs.Inputs.{inputs_of}
+use Rattle.program_end.specs.Program.{Held}
 use Rattle.boot_model.specs.declared.stop.Cause.{Cause}
 use Rattle.boot_model.specs.Boot.{Given, told_boot}
 use Rattle.debugfs_reports.specs.declared.report.Report.{Report}
 use Rattle.debugfs_reports.specs.ReportList.{text_of}
-use Rattle.program_run.specs.declared.failure.Reason.{Reason}
-use Rattle.program_run.specs.declared.failure.Reason.TheVariants as reasons
+use Rattle.program_end.specs.declared.failure.Reason.TheVariants as reasons
+use Rattle.program_end.specs.Fetches.{or_usage}
 use Rattle.program_words.specs.Words.{Wanted}
 
--- what the words ask for, where they are accepted
-abbrev pub or_usage : Option Wanted → Result Wanted Reason
-or_usage None = Err reasons.Usage
-or_usage (Some wanted) = Ok wanted
-
--- a file that is refused, and a boot that stops, are the reason
-abbrev pub or_refused : {A : Type 0} → Result A InputRefusal → Result A Reason
-or_refused answer = with_error reasons.Refused answer
-
+-- a boot that stops is the reason
 abbrev pub or_stopped : {A : Type 0} → Result A Cause → Result A Reason
 or_stopped answer = with_error reasons.Stopped answer
 
@@ -35,7 +28,7 @@ with_made (Some count) given = record given {
 }
 
 -- what the boot is given, by the words and by the files that they name
-abbrev pub given_by : Held → Wanted → Result Given InputRefusal
+abbrev pub given_by : Held → Wanted → Result Given Reason
 given_by held wanted = do
   given ← inputs_of held wanted.named wanted.begun
   Ok (with_made wanted.made given)
@@ -50,5 +43,5 @@ reported reports given = do
 abbrev pub outcome : Option Wanted → Held → Result (List ℕ) Reason
 outcome accepted held = do
   wanted ← or_usage accepted
-  given ← or_refused (given_by held wanted)
+  given ← given_by held wanted
   reported wanted.reports given

@@ -3,14 +3,17 @@
 
 ghost use Rattle.std.specs.Prelude.{◌≡◌, ◌<◌, IfErr, IfOk, IfSome, IsErr, IsSomeAnd, Some};
 ghost use Rattle.boot_model.specs.View.{inputs_view};
-ghost use Rattle.boot_inputs.specs.Answers.{Gives, HasCause};
+ghost use Rattle.program_end.specs.declared.failure.NoResult.TheVariants as errors;
+ghost use Rattle.program_end.specs.Causes.{IsOfFile};
+ghost use Rattle.program_end.specs.Fetches.{Fetches};
+ghost use Rattle.boot_inputs.specs.Input.{place};
 ghost use Rattle.program_words.specs.Entries.{AreEntries};
 ghost use Rattle.program_words.specs.View.{wanted_view};
 ghost use Rattle.program_run.specs.Outcome.{given_by, with_made};
 
 use bm_base::Memory;
 use bm_io::Files;
-use boot_inputs::{InputError, read_inputs};
+use boot_inputs::{NoInputs, read_inputs};
 use boot_model::Inputs;
 use e820_table::made;
 use program_words::Wanted;
@@ -21,27 +24,27 @@ pub fn read_given<F: Files>(
     alloc: Global,
     wanted: &Wanted<'_>,
     files: &mut F,
-) -> Result<Inputs, InputError>
-    ensures gives { IfSome (F.holds files.old) (λ held.
-        Gives inputs_view result (given_by held (wanted_view wanted.now))) }
-    ensures cause { HasCause (F.faults files.old) (F.faults files.new) (wanted_view wanted.now).named result }
+) -> Result<Inputs, NoInputs>
+    ensures fetches { IfSome (F.holds files.old) (λ held.
+        Fetches place inputs_view result (given_by held (wanted_view wanted.now))) }
+    ensures cause { IfErr result (IsOfFile (F.faults files.old) (F.faults files.new) (wanted_view wanted.now).named) }
 {
     let begun = begun_by(alloc, wanted)?;
     let inputs = read_inputs::<F, Wanted<'_>>(alloc, files, wanted, begun)?;
     match with_made(alloc, inputs, wanted.made) {
         Ok(inputs) => Ok(inputs),
-        Err(_) => Err(InputError::Memory),
+        Err(_) => Err(NoInputs::Memory),
     }
 }
 
 /// What the boot is given by the words themselves.
-fn begun_by(alloc: Global, wanted: &Wanted<'_>) -> Result<Inputs, InputError>
+fn begun_by(alloc: Global, wanted: &Wanted<'_>) -> Result<Inputs, NoInputs>
     ensures begun { IfOk result (λ inputs. inputs_view inputs ≡ (wanted_view wanted.now).begun) }
-    ensures only { IfErr result (λ error. error ≡ InputError.Memory) }
+    ensures only { IfErr result (λ error. error ≡ errors.Memory) }
 {
     match wanted.begun(alloc) {
         Ok(inputs) => Ok(inputs),
-        Err(_) => Err(InputError::Memory),
+        Err(_) => Err(NoInputs::Memory),
     }
 }
 

@@ -1,76 +1,53 @@
-//! The line of a failure, chunk by chunk: it takes no memory.
+//! The lines of the boot's failures.
 
-ghost use Rattle.std.specs.Prelude.{◌≡◌, Some, None, flat_map};
-ghost use Rattle.program_run.specs.declared.failure.Failure.TheVariants as failures;
-ghost use Rattle.program_run.specs.declared.failure.Reason.TheVariants as reasons;
-ghost use Rattle.program_run.specs.Line.{PutsLine, cause_line, diagnostic_line, failure_line, fault_line, memory_line, name_text, place_line, reason_line, refusal_line, table_line, table_name, thing_line};
+ghost use Rattle.std.specs.Prelude.{◌≡◌};
+ghost use Rattle.std.specs.Option.{option_map};
+ghost use Rattle.program_end.specs.Line.{PutsLine};
+ghost use Rattle.program_run.specs.Line.{cause_line, fault_line, input_line, name_text, place_line, program_name, table_line, table_name, thing_line};
 ghost use Rattle.program_words.specs.View.{wanted_view};
 
-use crate::failure::{Failure, Reason};
-use bm_io::{Sink, put_all};
-use boot_inputs::{Diagnostic, Fault, Input, InputRefusal, Names};
+use bm_io::Sink;
+use boot_inputs::{Diagnostic, Fault, Input, Names};
 use boot_model::Cause;
 use itoa::Buffer;
 use memblock_grow::What;
 use memblock_model::Which;
+use program_end::{Lines, put_line};
 use program_words::Wanted;
 
-/// Puts the line of refused words on the error output.
-pub fn tell_usage<E: Sink>(err: &mut E)
-    ensures { PutsLine E.Sink err.old err.new (failure_line None (failures.NoReport reasons.Usage)) }
-{
-    put_line(err, &["bootmem: usage\n"])
+/// The lines of the boot that the words ask for, where they are accepted.
+#[derive(Clone, Copy)]
+pub struct BootmemLines<'a, 'w> {
+    pub wanted: Option<&'a Wanted<'w>>,
 }
 
-/// Puts the line of want of memory on the error output.
-pub fn tell_memory<E: Sink>(err: &mut E)
-    ensures { PutsLine E.Sink err.old err.new memory_line }
-{
-    put_line(err, &["bootmem: out of memory\n"])
-}
+impl<'a, 'w> Lines<Input, Fault, Cause> for BootmemLines<'a, 'w> {
+    ghost program_name = { program_name };
 
-/// Puts the line of a failure on the error output. What the output answers changes nothing: the line goes out
-/// chunk by chunk, up to the first that is refused.
-pub fn tell<E: Sink>(err: &mut E, wanted: &Wanted<'_>, failure: Failure)
-    ensures { PutsLine E.Sink err.old err.new (failure_line (Some (wanted_view wanted.now)) failure) }
-{
-    match failure {
-        Failure::NoReport(reason) => tell_reason(err, wanted, reason),
-        Failure::Unwritten => put_line(err, &["bootmem: cannot write\n"]),
-        Failure::Memory => tell_memory(err),
+    ghost file_name = { λ lines input. name_text (option_map (λ wanted. wanted_view wanted.now) lines.wanted) input };
+
+    ghost fault_line = { input_line };
+
+    ghost cause_line = { cause_line };
+
+    fn program() -> &'static str {
+        "bootmem"
     }
-}
 
-fn tell_reason<E: Sink>(err: &mut E, wanted: &Wanted<'_>, reason: Reason)
-    ensures { PutsLine E.Sink err.old err.new (reason_line (Some (wanted_view wanted.now)) reason) }
-{
-    match reason {
-        Reason::Usage => tell_usage(err),
-        Reason::Refused(refusal) => tell_refusal(err, wanted, refusal),
-        Reason::Stopped(cause) => tell_cause(err, cause),
-    }
-}
-
-fn tell_refusal<E: Sink>(err: &mut E, wanted: &Wanted<'_>, refusal: InputRefusal)
-    ensures { PutsLine E.Sink err.old err.new
-        (refusal_line (Some (wanted_view wanted.now)) refusal) }
-{
-    match refusal {
-        InputRefusal::Unread(input) => {
-            put_line(
-                err,
-                &["bootmem: cannot read ", name_text(wanted, input), "\n"],
-            )
+    fn file(&self, input: Input) -> &str {
+        match self.wanted {
+            Some(wanted) => wanted.of(input).unwrap_or(""),
+            None => "",
         }
-        InputRefusal::Faulty(input, fault) => tell_fault(err, input.word(), fault),
     }
-}
 
-/// The name of an input's file, empty where there is none.
-fn name_text<'a>(wanted: &'a Wanted<'_>, input: Input) -> &'a str
-    ensures { result.now ≡ name_text (Some (wanted_view wanted.now)) input }
-{
-    wanted.of(input).unwrap_or("")
+    fn tell_fault<E: Sink>(err: &mut E, input: Input, fault: Fault) {
+        tell_fault(err, input.word(), fault)
+    }
+
+    fn tell_cause<E: Sink>(err: &mut E, cause: Cause) {
+        tell_cause(err, cause)
+    }
 }
 
 /// The line of a fault of the input of that name. A reader's want of memory is none (`bytes_want_no_memory`), so it never comes.
@@ -99,7 +76,7 @@ fn tell_fault<E: Sink>(err: &mut E, name: &'static str, fault: Fault)
             let offset = buffer.format(offset);
             put_line(err, &["bootmem: ", name, ": ", what, " at ", offset, "\n"])
         }
-        None => tell_memory(err),
+        None => put_line(err, &["bootmem: out of memory\n"]),
     }
 }
 
@@ -174,11 +151,4 @@ fn tell_table<'a, E: Sink>(err: &mut E, name: &'a str, room: u64)
             "\n",
         ],
     )
-}
-
-/// Puts the chunks of a line, up to the first that is refused.
-fn put_line<E: Sink>(err: &mut E, chunks: &[&str])
-    ensures { PutsLine E.Sink err.old err.new (flat_map (λ chunk. chunk.now) chunks.now) }
-{
-    let _put = put_all(err, chunks);
 }

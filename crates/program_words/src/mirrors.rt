@@ -4,7 +4,8 @@
 ghost use Rattle.std.specs.Prelude.{◌≡◌, IfOk, IfSome, IsErrOf, IsSome};
 ghost use Rattle.std.specs.List.{All};
 ghost use Rattle.std.specs.Option.{option_copied};
-ghost use Rattle.program_words.specs.Answers.{Reads};
+ghost use Rattle.bm_base.specs.Answers.{Answers};
+ghost use Rattle.program_words.specs.Answers.{or_refused};
 ghost use Rattle.boot_model.specs.Mirrors.{IsMirror};
 ghost use Rattle.program_words.specs.Mirrors.{are_pieces, frames_by, mirrors_in, mirrors_of};
 
@@ -24,7 +25,8 @@ const MOST_RANGES: usize = 64;
 ///
 /// [`WordError::Usage`] exactly where the value is refused, and [`WordError::Memory`] only where it isn't.
 pub fn mirrors_of(alloc: Global, value: Option<&str>) -> Result<Vec<Range>, WordError>
-    ensures value { Reads (λ ranges. ranges.items) result (mirrors_of (option_copied value.entry)) }
+    ensures value { Answers WordError.Memory (λ ranges. ranges.items) result
+        (or_refused (mirrors_of (option_copied value.entry))) }
     ensures facts { IfOk result (λ ranges. All IsMirror ranges.items) }
     ensures memory { IsErrOf result WordError.Memory → IsSome (mirrors_of (option_copied value.entry)) }
 {

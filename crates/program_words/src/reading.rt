@@ -4,7 +4,8 @@
 ghost use Rattle.std.specs.Prelude.{◌≡◌, IsErrOf, IsSome};
 ghost use Rattle.std.specs.Option.{option_copied, option_map};
 ghost use Rattle.clap.specs.Words.{found_of, rows_of};
-ghost use Rattle.program_words.specs.Answers.{Reads};
+ghost use Rattle.bm_base.specs.Answers.{Answers};
+ghost use Rattle.program_words.specs.Answers.{or_refused};
 ghost use Rattle.program_words.specs.View.{wanted_view};
 ghost use Rattle.program_words.specs.Words.{accepted, asked_by, has_source, list_in, texts, value_in, width_in};
 
@@ -33,7 +34,7 @@ const DEFAULT_LIST: &str = "buddyinfo";
 /// [`WordError::Usage`] exactly where the words aren't accepted, and [`WordError::Memory`] where memory
 /// is wanting, which may come whatever the words are.
 pub fn read_words<'w>(alloc: Global, words: &'w [String]) -> Result<Wanted<'w>, WordError>
-    ensures { Reads wanted_view result (accepted (texts words.entry.now)) }
+    ensures { Answers WordError.Memory wanted_view result (or_refused (accepted (texts words.entry.now))) }
 {
     asked_by(alloc, match_words(alloc, words)?)
 }
@@ -65,7 +66,8 @@ fn width_in(matches: &ArgMatches<'_>) -> Width
 
 /// What the values that were found ask for. Memory is wanting only for mirrored ranges, where nothing is refused.
 fn asked_by<'w>(alloc: Global, matches: ArgMatches<'w>) -> Result<Wanted<'w>, WordError>
-    ensures value { Reads wanted_view result (asked_by (value_in (rows_of (found_of matches.entry)))) }
+    ensures value { Answers WordError.Memory wanted_view result
+        (or_refused (asked_by (value_in (rows_of (found_of matches.entry))))) }
     ensures memory { IsErrOf result WordError.Memory → IsSome (asked_by (value_in (rows_of (found_of matches.entry)))) }
 {
     if !has_source(&matches) {

@@ -1,28 +1,30 @@
--- The clauses that speak of the headline, of the outcome's statuses and of the line, from the record.
-use Rattle.std.specs.Prelude.{map, string_bytes}
-use Rattle.boot_audit.specs.Words.{accepted}
-use Rattle.boot_audit.proofs.RunLaws.{ran_answers, ran_conserved, ran_headline, ran_line}
+-- The clauses that speak of the headline and of the line, from what is known of the end.
+use Rattle.std.specs.Option.{option_map}
+use Rattle.program_end.proofs.EndLaws.{ends_told}
+use Rattle.boot_audit.specs.Audit.{bootaudit}
+use Rattle.boot_audit.specs.Line.{failure_line}
+use Rattle.boot_audit.specs.Outcome.{outcome}
+use Rattle.boot_audit.specs.View.{wanted_view}
+use Rattle.boot_audit.proofs.RunLaws.{ran_conserved, ran_headline}
 use Rattle.boot_audit.proofs.program.audit.Goals as goal
 
 pub returns-clause-headline : goal.returns-clause-headline
 returns-clause-headline g c =
-    ran_headline _ _ c.run_audit.ensures.0 _ _ _ c.run_audit.ensures.1 c.run_audit.ensures.2.said
+    let end = c.write_verdict-end in
+    rw (← c.read_names-names.ensures)
+    (ran_headline (option_map wanted_view c.read_names-names.result) end.result _ c.exit_status.ensures _ _ _ end.ensures.writes)
 
 pub returns-clause-conserved : goal.returns-clause-conserved
 returns-clause-conserved g c =
-    let ran = c.run_audit.ensures.2 in
-    ran_conserved g.S.Sink.faults g.S.Sink.wants c.args.out.now c.run_audit.new.out _ (accepted (map string_bytes c.args.words.now))
-    (g.F.Files.faults c.args.files.now) (g.F.Files.faults c.run_audit.new.files) c.run_audit.ensures.0 _ _ _
-    c.run_audit.ensures.1 ran.cause ran.output ran.said
-
-pub returns-clause-answers : goal.returns-clause-answers
-returns-clause-answers g c =
-    let ran = c.run_audit.ensures.2 in
-    ran_answers _ (accepted (map string_bytes c.args.words.now)) (g.F.Files.faults c.args.files.now)
-    (g.F.Files.faults c.run_audit.new.files) c.run_audit.ensures.0 _ _ _ c.run_audit.ensures.1 ran.cause ran.said
+    let end = c.write_verdict-end in
+    rw (← c.read_names-names.ensures)
+    (ran_conserved (option_map wanted_view c.read_names-names.result) end.result _ c.exit_status.ensures g.S.Sink _ _
+    (g.F.Files.faults c.args.files.now) (g.F.Files.faults end.new.files) end.ensures.cause end.ensures.output _ end.ensures.writes)
 
 pub returns-clause-line : goal.returns-clause-line
 returns-clause-line g c =
-    let ran = c.run_audit.ensures.2 in
-    ran_line g.E.Sink _ (g.F.Files.faults c.args.files.now) (g.F.Files.faults c.run_audit.new.files) _ c.run_audit.ensures.0 _ _ _ _ _
-    c.run_audit.ensures.1 ran.cause c.run_audit.ensures.3 ran.said
+    let end = c.write_verdict-end in
+    let wanted = option_map wanted_view c.read_names-names.result in
+    rw (← c.read_names-names.ensures)
+    (ends_told bootaudit g.E.Sink (failure_line wanted) (g.F.Files.faults c.args.files.now) (g.F.Files.faults end.new.files) wanted _ _ _ _
+    end.result _ c.exit_status.ensures end.ensures.cause c.tell_end.ensures _ (outcome wanted) end.ensures.writes)

@@ -2,7 +2,7 @@
 use Rattle.std.proofs.Common.{◌≡◌, ◌∙◌, ℕ, List, [], Some, Option, Result, Err, ap, inl, map, string_bytes, subst, sym}
 use Rattle.std.specs.Prelude.{◌⊎◌}
 use Rattle.bm_io.specs.HeldFiles.{HeldFile, bytes_of}
-use Rattle.program_run.specs.declared.failure.Reason.{Reason}
+use Rattle.boot_inputs.specs.Reason.{Reason}
 use Rattle.program_run.specs.Headline.{IsReported}
 use Rattle.program_run.specs.Outcome.{outcome}
 use Rattle.program_words.specs.Words.{Wanted, accepted, texts}
@@ -25,17 +25,15 @@ is_outcome c = same_outcome _ _ _ _ (asks c) c.new.ensures.files
 
 pub returns-in-Ok-clause-status : goal.returns-in-Ok-clause-status
 returns-in-Ok-clause-status c =
-    let ran = c.run.ensures.ran.2 in
     subst (λ (said : Result (List ℕ) Reason). (c.run.result ≡ status_said said) ⊎ (c.run.result ≡ 7)) (is_outcome c)
-    (ran_status c.new.result c.run.new.files (accepted (texts c.deref.result.now)) c.args.report.now c.run.new.out c.run.ensures.ran.0
-    c.run.result c.run.ensures.ran.1 ran.cause ran.output ran.said)
+    (ran_status c.new.result c.run.new.files (accepted (texts c.deref.result.now)) _ _ c.run.result c.run.ensures.unwritten
+    c.run.ensures.written c.run.ensures.line)
 
 pub returns-in-Ok-clause-headline : goal.returns-in-Ok-clause-headline
 returns-in-Ok-clause-headline c = λ zero.
-    let ran = c.run.ensures.ran.2 in
     let text = c.run.new.out.text in
     let reported = ran_reported (accepted (texts c.deref.result.now)) (bytes_of c.new.result.files) c.args.report.now.text text
-    c.run.ensures.ran.0 c.run.result c.run.ensures.ran.1 c.requires.empty ran.said zero in
+    c.requires.empty (c.run.ensures.headline zero) in
     subst (λ (a : Option Wanted). IsReported a (bytes_of (lent_files c.args.files.now)) (Some []) (Some text)) (asks c)
     (subst (λ (f : List HeldFile). IsReported (accepted (texts c.deref.result.now)) (bytes_of f) (Some []) (Some text)) c.new.ensures.files
     reported)
@@ -47,12 +45,10 @@ returns-in-Ok-clause-written c = λ zero.
 
 pub returns-in-Ok-clause-line : goal.returns-in-Ok-clause-line
 returns-in-Ok-clause-line c = λ some other.
-    let ran = c.run.ensures.ran.2 in
     let was = accepted (texts c.deref.result.now) in
     let said = outcome was (bytes_of c.new.result.files) in
-    let told = ran_line c.new.result c.run.new.files was c.args.report.now c.run.new.out c.args.line.now c.run.new.err
-    c.run.ensures.ran.0 c.run.result c.run.ensures.ran.1 ran.cause ran.output ran.said c.requires.no_line c.requires.not_short
-    c.run.ensures.ran.3 some other in
+    let told = ran_line c.new.result c.run.new.files was c.args.line.now c.run.new.err c.run.result c.run.ensures.unwritten
+    c.requires.no_line c.requires.not_short c.run.ensures.line some other in
     let same : line_by was said ≡ line_said c.args.words.now c.args.files.now =
     ap (λ (a : Option Wanted). line_by a said) (asks c) ∙ ap (line_by (asked (lent_words c.args.words.now))) (is_outcome c)
     ∙ sym (line_asked (lent_words c.args.words.now) _ c.in-Ok.ensures.utf8) in

@@ -1,10 +1,13 @@
 -- Inputs that are refused are the reason for no report, and else the boot of the inputs is reported.
-use Rattle.std.proofs.Common.{refl}
 use Rattle.program_words.specs.View.{wanted_view}
-use Rattle.program_run.proofs.RunLaws.{makes_none}
+use Rattle.program_run.proofs.RunLaws.{fetches_none}
 use Rattle.program_run.proofs.program.make_texts.Goals as goal
 
-pub returns-in_err-inputs-clause-makes : goal.returns-in_err-inputs-clause-makes
-returns-in_err-inputs-clause-makes g c =
-    makes_none _ c.from_residual.result (g.F.Files.holds c.args.files.now) _ (wanted_view c.args.wanted.now) c.in_err-inputs.field-0.0
-    c.from_residual.ensures.1 refl c.in_err-inputs.ensures.gives
+pub returns-in_err-inputs-clause-fetches : goal.returns-in_err-inputs-clause-fetches
+returns-in_err-inputs-clause-fetches g c =
+    fetches_none _ c.from_residual.result (g.F.Files.holds c.args.files.now) (wanted_view c.args.wanted.now) c.in_err-inputs.field-0.0
+    c.from_residual.ensures.1 c.in_err-inputs.ensures.fetches
+
+pub returns-clause-cause : goal.returns-clause-cause
+returns-clause-cause g c =
+    c.boot_texts.ensures.cause (g.F.Files.faults c.args.files.now) (g.F.Files.faults c.read_given.new.files) (wanted_view c.args.wanted.now)

@@ -1,43 +1,38 @@
--- Refused words, and want of memory to read them, are told before anything is fetched or put; else it is the run of what they ask for.
-use Rattle.std.proofs.Common.{◌≡◌, None, Err, refl, inl, arith}
+-- The clauses on refused words, the headline, the outcome and the line, from what is known of the end.
+use Rattle.program_end.proofs.EndLaws.{ends_told}
 use Rattle.program_words.specs.Words.{accepted, texts}
-use Rattle.program_run.specs.declared.failure.Failure.TheVariants as failures
-use Rattle.program_run.specs.declared.failure.Reason.TheVariants as reasons
-use Rattle.program_run.proofs.HeadlineLaws.{ran_headline}
+use Rattle.program_run.specs.Bootmem.{bootmem}
+use Rattle.program_run.specs.Line.{failure_line}
+use Rattle.program_run.specs.Outcome.{outcome}
+use Rattle.program_run.proofs.HeadlineLaws.{never_eight, ran_answers, ran_headline, ran_refused, ran_written}
 use Rattle.program_run.proofs.program.run.Goals as goal
 
-pub returns-in-Ok-clause-ran : goal.returns-in-Ok-clause-ran
-returns-in-Ok-clause-ran g c = rw c.in-Ok.ensures c.run_wanted.ensures
+pub returns-clause-headline : goal.returns-clause-headline
+returns-clause-headline g c =
+    let end = c.run_to_end-end in
+    ran_headline _ _ (accepted (texts c.args.words.now)) end.result _ c.exit_status.ensures _ end.ensures.writes
 
-pub returns-in-Err-Usage-clause-ran : goal.returns-in-Err-Usage-clause-ran
-returns-in-Err-Usage-clause-ran g c =
-    let none : accepted (texts c.args.words.now) ≡ None = rw c.in-Err-Usage.field-0-is at c.in-Err-Usage.ensures in (
-      Err (failures.NoReport reasons.Usage),
-      c.status.ensures,
-      record {
-        cause = rw none refl;
-        unfetched = λ none. refl;
-        unput = λ none. refl;
-        output = refl;
-        said = grind (arith, none);
-      },
-      c.tell_usage.ensures,
-    )
+pub returns-clause-line : goal.returns-clause-line
+returns-clause-line g c = λ some.
+    let end = c.run_to_end-end in
+    let wanted = accepted (texts c.args.words.now) in
+    let before = g.F.Files.faults c.args.files.now in
+    let now = g.F.Files.faults end.new.files in
+    ends_told bootmem g.E.Sink (failure_line wanted) before now wanted _ _ _ _ end.result _ c.exit_status.ensures end.ensures.cause
+    end.ensures.told _ (outcome wanted) end.ensures.writes some
+    (never_eight before now wanted end.result _ c.exit_status.ensures end.ensures.cause)
 
-pub returns-in-Err-Memory-clause-ran : goal.returns-in-Err-Memory-clause-ran
-returns-in-Err-Memory-clause-ran g c = (
-  Err failures.Memory,
-  c.status-in-Err-Memory.ensures,
-  record {
-    cause = tt;
-    unfetched = λ none. refl;
-    unput = λ none. refl;
-    output = inl refl;
-    said = grind arith;
-  },
-  c.tell_memory.ensures,
-)
+pub returns-clause-refused : goal.returns-clause-refused
+returns-clause-refused g c =
+    let end = c.run_to_end-end in
+    ran_refused (g.F.Files.faults c.args.files.now) (g.F.Files.faults end.new.files) _ end.result _ c.exit_status.ensures end.ensures.cause
 
-pub returns-in-Ok-clause-headline : goal.returns-in-Ok-clause-headline
-returns-in-Ok-clause-headline g c =
-    let ran = returns-in-Ok-clause-ran g c in ran_headline _ _ ran.0 _ _ _ ran.1 ran.2.said
+pub returns-clause-answers : goal.returns-clause-answers
+returns-clause-answers g c =
+    let end = c.run_to_end-end in
+    ran_answers _ _ (accepted (texts c.args.words.now)) end.result _ c.exit_status.ensures _ end.ensures.writes
+
+pub returns-clause-written : goal.returns-clause-written
+returns-clause-written g c =
+    let end = c.run_to_end-end in
+    ran_written _ _ (accepted (texts c.args.words.now)) end.result _ c.exit_status.ensures _ end.ensures.writes

@@ -1,0 +1,14 @@
+-- Why words and files give no report.
+use Rattle.boot_model.specs.declared.stop.Cause.{Cause}
+use Rattle.program_end.specs.declared.failure.NoResult.{NoResult}
+use Rattle.program_end.specs.declared.failure.Reason.{Reason as ReasonOf}
+use Rattle.boot_inputs.specs.declared.fault.Fault.{Fault}
+use Rattle.boot_inputs.specs.declared.input.Input.{Input}
+
+-- the words, a file, or a cause for which the boot stops
+abbrev pub Reason : Type 0
+Reason = ReasonOf Input Fault Cause
+
+-- or want of memory
+abbrev pub NoInputs : Type 0
+NoInputs = NoResult Reason

@@ -1,0 +1,86 @@
+-- What a program's end says by its exit status.
+use Rattle.std.proofs.Common.{◌≡◌, ◌≢◌, ℕ, List, Option, Some, None, Result, Ok, Err, refl, inl, inr, ap, arith}
+use Rattle.std.specs.Prelude.{IfSome, IsNone, IsOkAnd, ◌⊎◌}
+use Rattle.std.specs.Io.KnownBytes.{Appends}
+use Rattle.bm_io.specs.Counts.{Rose}
+use Rattle.bm_io.specs.Told.{AppendsFront}
+use Rattle.bm_io.specs.declared.writing.Put.TheVariants as put
+use Rattle.bm_io.specs.declared.writing.Sink.{Ghosts as SinkOf}
+use Rattle.program_end.specs.declared.failure.Failure.{Failure}
+use Rattle.program_end.specs.declared.failure.Failure.TheVariants as failures
+use Rattle.program_end.specs.declared.failure.NoResult.TheVariants as errors
+use Rattle.program_end.specs.declared.failure.Reason.{Reason}
+use Rattle.program_end.specs.declared.failure.Reason.TheVariants as reasons
+use Rattle.program_end.specs.Causes.{EndHasCause, FailureHasCause, RoseFor}
+use Rattle.program_end.specs.Ends.{EndFits, IsFaulty, IsStopped, IsTold, MayEndWith, Writes, WritingHasCause}
+use Rattle.program_end.specs.Line.{PutsLine}
+use Rattle.program_end.specs.Program.{Held, Program}
+use Rattle.program_end.specs.Status.{End, status_of, status_of_end}
+
+-- `is` tells the status of the end, `cause` its cause and `output` what became of the output, whatever the files tell
+module _ {W I A F C S : Type 0} (program : Program W I A) (sink : SinkOf S) (before now : List ℕ → ℕ) (accepted : Option W) (old new : S)
+    (end : End (Reason I F C)) (status : ℕ) (is : status ≡ status_of_end end) (cause : EndHasCause program before now accepted end)
+    (output : WritingHasCause sink old new end) where
+  pub ends_refused : status ≡ 2 → IsNone accepted
+  ends_refused two = grind (arith, program.statuses)
+
+  pub refused_ends : IsNone accepted → (status ≡ 2) ⊎ (status ≡ 7)
+  refused_ends none = grind arith
+
+  pub ends_unwritten : status ≡ 4 → Rose (sink.faults old) (sink.faults new)
+  ends_unwritten four = grind (arith, program.statuses)
+
+  pub ends_early : (status ≡ 2) ⊎ (status ≡ 3) ⊎ (status ≡ 5) ⊎ (status ≡ 6) → new ≡ old
+  ends_early early = grind (arith, program.statuses)
+
+  pub ends_wanting : status ≡ 7 → (new ≡ old) ⊎ Rose (sink.wants old) (sink.wants new)
+  ends_wanting seven = grind (arith, program.statuses)
+
+  -- where the outcome of what the files hold is known
+  module _ (said : Result A (Reason I F C)) (writes : Writes program (sink.written old) (sink.written new) end said) where
+    pub ends_said : MayEndWith program said status
+    ends_said = grind arith
+
+    pub ends_written : (status ≡ 0) ⊎ (status ≡ 8)
+        → IsOkAnd said (λ result. (status ≡ program.status result) × Appends (sink.written old) (sink.written new) (program.text result))
+    ends_written some = grind arith
+
+    pub ends_part : status ≡ 4 → IsOkAnd said (λ result. AppendsFront (sink.written old) (sink.written new) (program.text result))
+    ends_part four = grind (arith, program.statuses)
+
+    pub ends_wanted : status ≡ 7 → (sink.written new ≡ sink.written old)
+        ⊎ IsOkAnd said (λ result. AppendsFront (sink.written old) (sink.written new) (program.text result))
+    ends_wanted seven = grind (arith, program.statuses)
+
+    pub ends_faulty : status ≡ 5 → IsFaulty said
+    ends_faulty five = grind (arith, program.statuses)
+
+    pub ends_stopped : status ≡ 6 → IsStopped said
+    ends_stopped six = grind (arith, program.statuses)
+
+    -- nothing but the outside stands between a result and its writing
+    pub ends_complete : (result : A) → said ≡ Ok result → ¬ Rose (sink.faults old) (sink.faults new)
+        → ((input : I) → ¬ RoseFor program before now accepted input) → (status ≡ program.status result) ⊎ (status ≡ 7)
+    ends_complete result is_said written read = grind (arith, program.statuses, read)
+
+  pub ends_unread : status ≡ 3 → (input : I) × RoseFor program before now accepted input
+  ends_unread three = grind (arith, program.statuses)
+
+-- after a status that no result has the line is that of a failure that has the status and its cause, and fits the outcome
+pub ends_told : {W I A F C E : Type 0} (program : Program W I A) (errors : SinkOf E) (line : Failure (Reason I F C) → List ℕ)
+    (before now : List ℕ → ℕ) (accepted : Option W) (old new : Option (List ℕ)) (err_old err_new : E) (end : End (Reason I F C)) (status : ℕ)
+    → status ≡ status_of_end end → EndHasCause program before now accepted end → IsTold errors line err_old err_new end
+    → (holds : Option Held) (outcome : Held → Result A (Reason I F C)) → IfSome holds (λ held. Writes program old new end (outcome held))
+    → status ≢ 0 → status ≢ 8
+    → (failure : Failure (Reason I F C)) × (status ≡ status_of failure) × PutsLine errors err_old err_new (line failure)
+    × FailureHasCause program before now accepted failure × IfSome holds (λ held. EndFits program failure (outcome held))
+ends_told program errors line before now accepted old new err_old err_new (Ok result) status is cause told holds outcome writes zero eight =
+    absurd (grind (arith, program.statuses))
+ends_told program errors line before now accepted old new err_old err_new (Err failure) status is cause told holds outcome writes zero
+    eight =
+    (failure, is, told, cause, grind (arith, writes))
+
+pub ends_silent : {W I A F C E : Type 0} (program : Program W I A) (errors : SinkOf E) (line : Failure (Reason I F C) → List ℕ)
+    (err_old err_new : E) (end : End (Reason I F C)) (status : ℕ) → status ≡ status_of_end end → IsTold errors line err_old err_new end
+    → (status ≡ 0) ⊎ (status ≡ 8) → err_new ≡ err_old
+ends_silent program errors line err_old err_new end status is told some = grind arith

@@ -1,0 +1,119 @@
+-- How programs end, on small inputs: files are numbered in the order in which they are read, and so are faults and causes.
+use Rattle.std.proofs.Common.{◌≡◌, ℕ, zero, suc, List, [], codes, Option, Some, None, Ok, Err, refl, inl, inr, arith}
+use Rattle.std.specs.Prelude.{Result}
+use Rattle.bm_io.specs.declared.writing.Put.TheVariants as put
+use Rattle.bm_io.specs.declared.writing.Sink.{Ghosts as SinkOf}
+use Rattle.program_end.specs.declared.failure.Failure.{Failure}
+use Rattle.program_end.specs.declared.failure.Failure.TheVariants as failures
+use Rattle.program_end.specs.declared.failure.NoResult.TheVariants as errors
+use Rattle.program_end.specs.declared.failure.Reason.{Reason}
+use Rattle.program_end.specs.declared.failure.Reason.TheVariants as reasons
+use Rattle.program_end.specs.Causes.{EndHasCause, FailureHasCause, IsOf, IsOfFile, ReasonHasCause, RoseAt, RoseFor}
+use Rattle.program_end.specs.Ends.{EndFits, IsFaulty, IsStopped, IsTold, MayEndWith, Writes, WritingHasCause}
+use Rattle.program_end.specs.Fetches.{Fetches, FitsError, FitsReason, ReachesFile}
+use Rattle.program_end.specs.Line.{failure_line}
+use Rattle.program_end.specs.Program.{Program}
+use Rattle.program_end.specs.Status.{status_of, status_of_end}
+
+abbrev Why : Type 0
+Why = Reason ℕ ℕ ℕ
+
+-- words name one file
+abbrev named : ℕ → ℕ → Option (List ℕ)
+named wanted zero = Some (codes "zp")
+named wanted (suc other) = None
+
+abbrev program : Program ℕ ℕ (List ℕ)
+program = record { place = λ input. input; named = named; text = λ text. text; status = λ text. 0; statuses = λ text. inl refl }
+
+abbrev text : Result (List ℕ) Why
+text = Ok (codes "ab")
+
+abbrev faulty : Result (List ℕ) Why
+faulty = Err (reasons.Faulty 0 7)
+
+-- the work comes to the second file where nothing is at fault, or a later file is; not where the first is, or the words are
+reaches_examples : ReachesFile (λ (n : ℕ). n) 1 text × ReachesFile {F = ℕ} {C = ℕ} {A = ℕ} (λ (n : ℕ). n) 1 (Err (reasons.Unread 2))
+    × (ReachesFile (λ (n : ℕ). n) 1 faulty → ⊥)
+    × (ReachesFile {F = ℕ} {C = ℕ} {A = ℕ} (λ (n : ℕ). n) 1 (Err reasons.Usage) → ⊥)
+reaches_examples = (tt, omega arith, (λ comes. omega (arith, comes)), λ comes. comes)
+
+reason_fits : FitsReason (λ (n : ℕ). n) (reasons.Faulty 0 7) faulty × FitsReason (λ (n : ℕ). n) (reasons.Unread 1) text
+    × (FitsReason (λ (n : ℕ). n) reasons.Usage text → ⊥) × (FitsReason (λ (n : ℕ). n) (reasons.Unread 1) faulty → ⊥)
+reason_fits = (refl, tt, (λ same. cc same), λ comes. omega (arith, comes))
+
+-- want of memory fits everything
+fetches_examples : FitsError (λ (n : ℕ). n) errors.Memory text × Fetches (λ (n : ℕ). n) (λ (n : ℕ). codes "ab") (Ok 7) text
+    × (Fetches (λ (n : ℕ). n) (λ (n : ℕ). codes "ab") (Err (errors.Reason reasons.Usage)) text → ⊥)
+fetches_examples = (tt, refl, λ same. cc same)
+
+-- before the call no fault of any name was counted; after it one of each was
+abbrev before : List ℕ → ℕ
+before name = 0
+
+abbrev now : List ℕ → ℕ
+now name = 1
+
+rose_examples : RoseAt before now (Some (codes "zp")) × (RoseAt before now None → ⊥) × RoseFor program before now (Some 3) 0
+    × (RoseFor program before now (Some 3) 1 → ⊥) × (RoseFor program before now None 0 → ⊥)
+rose_examples = (omega arith, (λ rose. rose), omega arith, (λ rose. rose), λ rose. rose)
+
+own_examples : IsOf {I = ℕ} {F = ℕ} {C = ℕ} 1 (errors.Reason (reasons.Unread 1)) × (IsOf {I = ℕ} {F = ℕ} {C = ℕ} 1 (errors.Reason (reasons.Unread 0)) → ⊥)
+    × IsOfFile {I = ℕ} {F = ℕ} {C = ℕ} before now (named 3) (errors.Reason (reasons.Unread 0))
+    × (IsOfFile {I = ℕ} {F = ℕ} {C = ℕ} before before (named 3) (errors.Reason (reasons.Unread 0)) → ⊥)
+own_examples = (refl, (λ same. cc same), omega arith, λ rose. omega (arith, rose))
+
+-- refused words are the cause of one reason alone; memory may run out while they are read
+cause_examples : ReasonHasCause {F = ℕ} {C = ℕ} program before before None reasons.Usage
+    × (ReasonHasCause {F = ℕ} {C = ℕ} program before before None (reasons.Faulty 0 7) → ⊥)
+    × FailureHasCause {F = ℕ} {C = ℕ} program before before None (failures.NoResult errors.Memory)
+    × (FailureHasCause {F = ℕ} {C = ℕ} program before before None (failures.Output put.Failed) → ⊥)
+    × (EndHasCause {F = ℕ} {C = ℕ} program before before None (Ok 0) → ⊥)
+cause_examples = (refl, (λ some. cc some), tt, (λ some. cc some), λ some. cc some.0)
+
+-- the status of each way to end
+abbrev why : Why → Failure Why
+why reason = failures.NoResult (errors.Reason reason)
+
+status_examples : (status_of (why reasons.Usage) ≡ 2) × (status_of (why (reasons.Unread 1)) ≡ 3) × (status_of (why (reasons.Faulty 0 7)) ≡ 5)
+    × (status_of (why (reasons.Stopped 4)) ≡ 6) × (status_of {I = ℕ} {F = ℕ} {C = ℕ} (failures.Output put.Failed) ≡ 4)
+    × (status_of {I = ℕ} {F = ℕ} {C = ℕ} (failures.Output put.Memory) ≡ 7) × (status_of {I = ℕ} {F = ℕ} {C = ℕ} (failures.NoResult errors.Memory) ≡ 7)
+    × (status_of_end {I = ℕ} {F = ℕ} {C = ℕ} (Ok 8) ≡ 8)
+status_examples = (refl, refl, refl, refl, refl, refl, refl, refl)
+
+-- the line of each
+abbrev line : Failure Why → List ℕ
+line = failure_line (codes "p") (λ input. codes "zp") (λ input fault. codes "p: zp: short\n") (λ cause. codes "p: stopped\n")
+
+line_examples : (line (why reasons.Usage) ≡ codes "p: usage\n") × (line (why (reasons.Unread 0)) ≡ codes "p: cannot read zp\n")
+    × (line (why (reasons.Faulty 0 7)) ≡ codes "p: zp: short\n") × (line (why (reasons.Stopped 4)) ≡ codes "p: stopped\n")
+    × (line (failures.Output put.Failed) ≡ codes "p: cannot write\n") × (line (failures.Output put.Memory) ≡ codes "p: out of memory\n")
+    × (line (failures.NoResult errors.Memory) ≡ codes "p: out of memory\n")
+line_examples = (refl, refl, refl, refl, refl, refl, refl)
+
+-- written whole, in part, and not at all
+writes_examples : Writes program (Some []) (Some (codes "ab")) (Ok 0) text
+    × Writes program (Some []) (Some (codes "a")) (Err (failures.Output put.Failed)) text
+    × Writes program (Some []) (Some []) (Err (failures.NoResult errors.Memory)) text
+    × (Writes program (Some []) (Some (codes "a")) (Ok 0) text → ⊥)
+writes_examples = ((refl, refl), (1, omega arith, refl), tt, λ is. cc is.1)
+
+-- an output that failed did so with a text to write
+end_fits_examples : EndFits program (failures.Output put.Failed) text × (EndFits program (failures.Output put.Failed) faulty → ⊥)
+end_fits_examples = (tt, λ is. is)
+
+-- after a result the error output and, without one, the output are as they were
+unchanged_examples : (sink : SinkOf ℕ) → IsTold sink line 3 3 (Ok 0) × (IsTold sink line 3 4 (Ok 0) → ⊥)
+    × WritingHasCause sink 3 3 (Err (why reasons.Usage)) × (WritingHasCause sink 3 4 (Err (why reasons.Usage)) → ⊥)
+unchanged_examples sink = (refl, (λ same. omega (arith, same)), refl, λ same. omega (arith, same))
+
+-- an outcome is a result, a fault or a stop
+outcome_examples : IsFaulty faulty × (IsFaulty text → ⊥) × IsStopped {I = ℕ} {F = ℕ} {C = ℕ} {A = ℕ} (Err (reasons.Stopped 4)) × (IsStopped faulty → ⊥)
+outcome_examples = ((0, (7, refl)), (λ is. cc is.1.1), (4, refl), λ is. cc is.1)
+
+-- a text ends with 0, 3, 4 or 7, and refused words with 2 or 7
+may_end_examples : MayEndWith program text 0 × MayEndWith program text 3 × (MayEndWith program text 5 → ⊥)
+    × MayEndWith {F = ℕ} {C = ℕ} program (Err reasons.Usage) 2 × (MayEndWith {F = ℕ} {C = ℕ} program (Err reasons.Usage) 3 → ⊥)
+    × MayEndWith program faulty 5 × (MayEndWith program faulty 6 → ⊥)
+may_end_examples =
+    (inl refl, inr (inl refl), (λ ends. grind arith), inl refl, (λ ends. grind arith), inl refl, λ ends. grind arith)

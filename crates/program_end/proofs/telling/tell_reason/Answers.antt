@@ -1,0 +1,5 @@
+-- The chunks of the line are the line.
+use Rattle.program_end.proofs.telling.tell_reason.Goals as goal
+
+pub returns-in-Unread : goal.returns-in-Unread
+returns-in-Unread g c = rw (c.in-Unread.is, ← c.program-in-Unread.ensures, ← c.file.ensures) c.tell_unread.ensures

@@ -1,0 +1,54 @@
+-- How a program ends: what stands in its output, and on the error output.
+use Rattle.std.specs.Prelude.{◌≡◌, ℕ, List, Option, Result, Ok, Err, IsOkAnd, ◌⊎◌}
+use Rattle.std.specs.Io.KnownBytes.{Appends}
+use Rattle.bm_io.specs.Counts.{Rose}
+use Rattle.bm_io.specs.Told.{AppendsFront}
+use Rattle.bm_io.specs.declared.writing.Put.TheVariants as put
+use Rattle.bm_io.specs.declared.writing.Sink.{Ghosts as SinkOf}
+use Rattle.program_end.specs.Fetches.{FitsError}
+use Rattle.program_end.specs.Line.{PutsLine}
+use Rattle.program_end.specs.Program.{Program}
+use Rattle.program_end.specs.Status.{End}
+use Rattle.program_end.specs.declared.failure.Failure.{Failure}
+use Rattle.program_end.specs.declared.failure.Failure.TheVariants as failures
+use Rattle.program_end.specs.declared.failure.Reason.{Reason}
+use Rattle.program_end.specs.declared.failure.Reason.TheVariants as reasons
+
+-- what stands in the output, by what the definition comes to: the result's text, a front of it if the output failed, and else nothing
+abbrev pub Writes : {W I A F C : Type 0} → Program W I A → (old new : Option (List ℕ)) → End (Reason I F C) → Result A (Reason I F C) → Type 0
+Writes program old new (Ok status) said =
+    IsOkAnd said (λ result. (status ≡ program.status result) × Appends old new (program.text result))
+Writes program old new (Err (failures.NoResult error)) said = FitsError program.place error said
+Writes program old new (Err (failures.Output refusal)) said = IsOkAnd said (λ result. AppendsFront old new (program.text result))
+
+-- whatever the files tell: without a result the output is as it was, and a refusal of the output has its cause
+abbrev pub WritingHasCause : {S R : Type 0} → SinkOf S → (old new : S) → End R → Type 0
+WritingHasCause sink old new (Ok status) = Unit {0}
+WritingHasCause sink old new (Err (failures.NoResult error)) = new ≡ old
+WritingHasCause sink old new (Err (failures.Output put.Failed)) = Rose (sink.faults old) (sink.faults new)
+WritingHasCause sink old new (Err (failures.Output put.Memory)) = Rose (sink.wants old) (sink.wants new)
+
+-- with a result nothing stands on the error output; else a front of the failure's line, and all of it unless the error output itself failed
+abbrev pub IsTold : {E R : Type 0} → SinkOf E → (Failure R → List ℕ) → (old new : E) → End R → Type 0
+IsTold errors line old new (Ok status) = new ≡ old
+IsTold errors line old new (Err failure) = PutsLine errors old new (line failure)
+
+-- what a failure says of the outcome: if the output failed, there was a result to write
+abbrev pub EndFits : {W I A F C : Type 0} → Program W I A → Failure (Reason I F C) → Result A (Reason I F C) → Type 0
+EndFits program (failures.NoResult error) said = FitsError program.place error said
+EndFits program (failures.Output refusal) said = IsOkAnd said (λ result. Unit {0})
+
+-- the outcome is the fault of a file, or a stop
+abbrev pub IsFaulty : {I F C A : Type 0} → Result A (Reason I F C) → Type 0
+IsFaulty {I} {F} said = (input : I) × ((fault : F) × (said ≡ Err (reasons.Faulty input fault)))
+
+abbrev pub IsStopped : {I F C A : Type 0} → Result A (Reason I F C) → Type 0
+IsStopped {I} {F} {C} said = (cause : C) × (said ≡ Err (reasons.Stopped cause))
+
+-- the statuses that an outcome may end with: its own, 3 or 4 if the outside fails, or 7
+abbrev pub MayEndWith : {W I A F C : Type 0} → Program W I A → Result A (Reason I F C) → ℕ → Type 0
+MayEndWith program (Ok result) status = (status ≡ program.status result) ⊎ (status ≡ 3) ⊎ (status ≡ 4) ⊎ (status ≡ 7)
+MayEndWith program (Err reasons.Usage) status = (status ≡ 2) ⊎ (status ≡ 7)
+MayEndWith program (Err (reasons.Unread input)) status = (status ≡ 3) ⊎ (status ≡ 7)
+MayEndWith program (Err (reasons.Faulty input fault)) status = (status ≡ 5) ⊎ (status ≡ 3) ⊎ (status ≡ 7)
+MayEndWith program (Err (reasons.Stopped cause)) status = (status ≡ 6) ⊎ (status ≡ 3) ⊎ (status ≡ 7)

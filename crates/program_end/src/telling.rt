@@ -1,0 +1,104 @@
+//! The line of a failure on the error output. It is put in chunks, so it needs no memory. What the output answers changes nothing:
+//! the chunks go out up to the first that is refused.
+
+ghost use Rattle.std.specs.Prelude.{◌≡◌, ℕ, List, flat_map};
+ghost use Rattle.program_end.specs.Ends.{IsTold};
+ghost use Rattle.program_end.specs.Line.{PutsLine, failure_line, reason_line, refusal_line, unread_line};
+
+use crate::failure::{Failure, NoResult, Reason};
+use bm_io::{Put, Sink, put_all};
+
+/// The lines of a program's failures: what they say of its own inputs, faults and causes.
+pub trait Lines<I, F, C> {
+    // The program's name; the name of an input's file, empty if there is none; the line of a fault of an input's file, and that of a cause.
+    ghost program_name: { List ℕ };
+
+    ghost file_name: { Self → I → List ℕ };
+
+    ghost fault_line: { I → F → List ℕ };
+
+    ghost cause_line: { C → List ℕ };
+
+    /// The program's name.
+    fn program() -> &'static str
+        ensures { result.now ≡ program_name };
+
+    /// The name of the input's file, empty if there is none.
+    fn file(&self, input: I) -> &str
+        ensures { result.now ≡ file_name self.now input };
+
+    /// Puts the line of a fault of the input's file.
+    fn tell_fault<E: Sink>(err: &mut E, input: I, fault: F)
+        ensures { PutsLine E.Sink err.old err.new (fault_line input fault) };
+
+    /// Puts the line of a cause.
+    fn tell_cause<E: Sink>(err: &mut E, cause: C)
+        ensures { PutsLine E.Sink err.old err.new (cause_line cause) };
+}
+
+/// Puts the line of a program's end. A result has none.
+pub fn tell_end<E: Sink, I: Copy, F: Copy, C: Copy, L: Lines<I, F, C>>(
+    err: &mut E,
+    lines: &L,
+    end: Result<u8, Failure<Reason<I, F, C>>>,
+)
+    ensures { IsTold E.Sink (failure_line L.program_name (L.file_name lines.now) L.fault_line L.cause_line) err.old err.new end }
+{
+    if let Err(failure) = end {
+        tell(err, lines, failure);
+    }
+}
+
+/// Puts the line of a failure.
+fn tell<E: Sink, I: Copy, F: Copy, C: Copy, L: Lines<I, F, C>>(
+    err: &mut E,
+    lines: &L,
+    failure: Failure<Reason<I, F, C>>,
+)
+    ensures { PutsLine E.Sink err.old err.new (failure_line L.program_name (L.file_name lines.now) L.fault_line L.cause_line failure) }
+{
+    match failure {
+        Failure::NoResult(NoResult::Reason(reason)) => tell_reason(err, lines, reason),
+        Failure::NoResult(NoResult::Memory) => put_line(err, &[L::program(), ": out of memory\n"]),
+        Failure::Output(refusal) => tell_refusal(err, L::program(), refusal),
+    }
+}
+
+fn tell_reason<E: Sink, I: Copy, F: Copy, C: Copy, L: Lines<I, F, C>>(
+    err: &mut E,
+    lines: &L,
+    reason: Reason<I, F, C>,
+)
+    ensures { PutsLine E.Sink err.old err.new (reason_line L.program_name (L.file_name lines.now) L.fault_line L.cause_line reason) }
+{
+    match reason {
+        Reason::Usage => put_line(err, &[L::program(), ": usage\n"]),
+        Reason::Unread(input) => tell_unread(err, L::program(), lines.file(input)),
+        Reason::Faulty(input, fault) => L::tell_fault(err, input, fault),
+        Reason::Stopped(cause) => L::tell_cause(err, cause),
+    }
+}
+
+/// Puts the line of a file that couldn't be read.
+fn tell_unread<'a, E: Sink>(err: &mut E, program: &'a str, file: &'a str)
+    ensures { PutsLine E.Sink err.old err.new (unread_line program.now file.now) }
+{
+    put_line(err, &[program, ": cannot read ", file, "\n"])
+}
+
+/// Puts the line of an output that refused the text.
+fn tell_refusal<'a, E: Sink>(err: &mut E, program: &'a str, refusal: Put)
+    ensures { PutsLine E.Sink err.old err.new (refusal_line program.now refusal) }
+{
+    match refusal {
+        Put::Failed => put_line(err, &[program, ": cannot write\n"]),
+        Put::Memory => put_line(err, &[program, ": out of memory\n"]),
+    }
+}
+
+/// Puts the chunks of a line, up to the first that is refused.
+pub fn put_line<E: Sink>(err: &mut E, chunks: &[&str])
+    ensures { PutsLine E.Sink err.old err.new (flat_map (λ chunk. chunk.now) chunks.now) }
+{
+    let _put = put_all(err, chunks);
+}

@@ -1,0 +1,16 @@
+-- The boot as a program over files: what is written is the text of its reports.
+use Rattle.std.specs.Prelude.{ℕ, List}
+use Rattle.std.proofs.Common.{refl, inl}
+use Rattle.boot_inputs.specs.declared.input.Input.{Input}
+use Rattle.boot_inputs.specs.Input.{place}
+use Rattle.program_end.specs.Program.{Program}
+use Rattle.program_words.specs.Words.{Wanted}
+
+abbrev pub bootmem : Program Wanted Input (List ℕ)
+bootmem = record {
+  place = place;
+  named = λ wanted. wanted.named;
+  text = λ text. text;
+  status = λ text. 0;
+  statuses = λ text. inl refl;
+}
