@@ -1,10 +1,10 @@
 -- Small edits, computed: what each makes of one address.
 use Rattle.std.proofs.Common.{◌≡◌, ℕ, ◌+◌, ◌==◌, true, false, if◌then◌else◌, Option, Some, None, refl, arith}
 use Rattle.std.proofs.lemmas.Bool.Decides.{nat_tests}
-use Rattle.bm_base.specs.Extent.{Extent}
+use Rattle.bm_base.specs.Range.{RangeView}
 use Rattle.address_runs.specs.Edits.{amended, bare, covered, uncovered, relabelled, replaced, agree, NothingFrom}
 
-abbrev bytes : ℕ → ℕ → Extent
+abbrev bytes : ℕ → ℕ → RangeView
 bytes base size = record { base = base; size = size }
 
 -- address 3 carries 7, and no other carries anything; the edits go over the addresses 2 and 3

@@ -2,12 +2,12 @@
 use Rattle.std.proofs.Common.{◌≡◌, ℕ, ◌+◌, ◌≤◌, Bool, true, false, Option, Some, None, refl, sym, ◌∙◌, ap, inl, inr, arith}
 use Rattle.std.proofs.lemmas.Bool.Decides.{nat_tests}
 use Rattle.std.proofs.lemmas.Bool.{cases_Bool}
-use Rattle.bm_base.specs.Extent.{Extent, covers}
+use Rattle.bm_base.specs.Range.{RangeView, covers}
 use Rattle.address_runs.specs.Runs.{Tells}
 use Rattle.address_runs.specs.Edits.{covered, uncovered, relabelled, replaced, agree, NothingFrom}
 
 -- an address behind the range isn't in it
-pub not_covered : (r : Extent) (x : ℕ) → r.base + r.size ≤ x → covers r x ≡ false
+pub not_covered : (r : RangeView) (x : ℕ) → r.base + r.size ≤ x → covers r x ≡ false
 not_covered r x past = grind (arith, nat_tests)
 
 module _ {X : Type 0} where
@@ -26,20 +26,20 @@ module _ {X : Type 0} where
   agree-same same tells a b e = ap (λ o. agree same a o) (sym e) ∙ agree-self same tells a
 
   -- where nothing stands from an address on, an edit whose range ends by it leaves nothing there
-  pub nothing-covered : (at : ℕ) (r : Extent) (v : X) (f : ℕ → Option X) → r.base + r.size ≤ at → NothingFrom at f
+  pub nothing-covered : (at : ℕ) (r : RangeView) (v : X) (f : ℕ → Option X) → r.base + r.size ≤ at → NothingFrom at f
       → NothingFrom at (covered r v f)
   nothing-covered at r v f ends none x le = let past : r.base + r.size ≤ x = omega arith in rw (not_covered r x past) (none x le)
 
-  pub nothing-replaced : (at : ℕ) (r : Extent) (v : X) (f : ℕ → Option X) → r.base + r.size ≤ at → NothingFrom at f
+  pub nothing-replaced : (at : ℕ) (r : RangeView) (v : X) (f : ℕ → Option X) → r.base + r.size ≤ at → NothingFrom at f
       → NothingFrom at (replaced r v f)
   nothing-replaced at r v f ends none x le = let past : r.base + r.size ≤ x = omega arith in rw (not_covered r x past) (none x le)
 
   -- and one that gives nothing to what carries nothing leaves none wherever it ends
-  pub nothing-uncovered : (at : ℕ) (r : Extent) (f : ℕ → Option X) → NothingFrom at f → NothingFrom at (uncovered r f)
+  pub nothing-uncovered : (at : ℕ) (r : RangeView) (f : ℕ → Option X) → NothingFrom at f → NothingFrom at (uncovered r f)
   nothing-uncovered at r f none x le =
       elim (cases_Bool (covers r x)) as (λ _. uncovered r f x ≡ None) [ inl inside ↦ rw inside refl | inr outside ↦ rw outside (none x le) ]
 
-  pub nothing-relabelled : (at : ℕ) (r : Extent) (change : X → X) (f : ℕ → Option X) → NothingFrom at f
+  pub nothing-relabelled : (at : ℕ) (r : RangeView) (change : X → X) (f : ℕ → Option X) → NothingFrom at f
       → NothingFrom at (relabelled r change f)
   nothing-relabelled at r change f none x le =
       let here : f x ≡ None = none x le in

@@ -2,7 +2,7 @@
 -- A run is a maximal set of consecutive addresses at which the function gives one value
 -- (what `e820__update_table` and `memblock_merge_regions` keep their tables in).
 use Rattle.std.specs.Prelude.{◌≡◌, ◌≢◌, ℕ, zero, suc, ◌+◌, ◌^◌, ◌<◌, ◌≤◌, ◌==◌, Bool, true, ◌&&◌, if◌then◌else◌, Option, Some, None, List, [], ◌∷◌}
-use Rattle.bm_base.specs.Extent.{Extent, covers}
+use Rattle.bm_base.specs.Range.{RangeView, covers}
 
 -- a run: its first address, its number of addresses, and its value
 pub record RunOf (X : Type 0) : Type 0 where
@@ -21,7 +21,7 @@ module _ {X : Type 0} where
   run_end r = r.base + r.size
 
   -- its addresses
-  abbrev pub extent_of : RunOf X → Extent
+  abbrev pub extent_of : RunOf X → RangeView
   extent_of r = record { base = r.base; size = r.size }
 
   -- whether the address lies in the run

@@ -4,7 +4,7 @@ use Rattle.std.proofs.Math.Bool.{and_comm}
 use Rattle.std.proofs.lemmas.Bool.{and_from, and_parts, cases_Bool}
 use Rattle.std.proofs.lemmas.Bool.Decides.{nat_tests}
 use Rattle.std.proofs.lemmas.List.Sums.{sum_by-cons}
-use Rattle.bm_base.specs.Extent.{Extent, covers}
+use Rattle.bm_base.specs.Range.{RangeView, covers}
 use Rattle.bm_base.specs.Frames.{bytes_of_frame}
 use Rattle.bm_base.proofs.EachLaws.{each_in-all, each_in-each, each_in-fails}
 use Rattle.address_runs.specs.Runs.{IsRunsOf, RunOf, extent_of, lies_in, value_at}
@@ -88,10 +88,10 @@ at_first : (first : ℕ) → (4096 * first) / 4096 ≡ first
 at_first first = omega arith
 
 pub frames_told : (b : Block) → frames_of_block (told_block b) ≡ record { base = b.first; size = 2 ^ b.order }
-frames_told b = ap (λ (n : ℕ). let e : Extent = record { base = n; size = 2 ^ b.order } in e) (at_first b.first)
+frames_told b = ap (λ (n : ℕ). let e : RangeView = record { base = n; size = 2 ^ b.order } in e) (at_first b.first)
 
 pub frame_told : (b : Block) (frame : ℕ) → covers (frames_of_block (told_block b)) frame ≡ has_frame b frame
-frame_told b frame = ap (λ (e : Extent). covers e frame) (frames_told b)
+frame_told b frame = ap (λ (e : RangeView). covers e frame) (frames_told b)
 
 -- so as many have it
 pub counted_told : (bs : List Block) (frame : ℕ) → blocks_with (map told_block bs) frame ≡ blocks_of_told bs frame

@@ -5,7 +5,7 @@ use Rattle.std.proofs.lemmas.Bool.{cases_lt}
 use Rattle.std.proofs.lemmas.Bool.Decides.{nat_tests}
 use Rattle.std.proofs.lemmas.List.Elements.{All-cons, All-head, All-nil, All-tail}
 use Rattle.std.proofs.lemmas.Nat.{pow_pos}
-use Rattle.bm_base.specs.Extent.{Extent, end_of}
+use Rattle.bm_base.specs.Range.{RangeView, end_of}
 use Rattle.address_runs.specs.Edits.{NothingFrom}
 use Rattle.address_runs.specs.Runs.{AreRuns, RunOf, extent_of}
 use Rattle.audit_lines.specs.Blocks.{bytes_of_block}
@@ -44,7 +44,7 @@ few_from end at (r ∷ rs) low start order all =
     (All-tail (λ s. (0 < s.size) × (end_of (extent_of s) ≤ end)) r rs all) in
     omega (arith, start, some, rest)
 
-start_at : (es : List Extent) → StartFrom 0 es
+start_at : (es : List RangeView) → StartFrom 0 es
 start_at [] = tt
 start_at (e ∷ es) = omega arith
 

@@ -1,7 +1,7 @@
 -- Three reports of a boot are read as what it tells, and audit as sound.
 use Rattle.std.proofs.Common.{◌≡◌, ℕ, nat_lt, false, List, length, map, Option, Some, Ok, refl, sym, subst, arith}
 use Rattle.std.proofs.lemmas.Bool.Decides.{nat_tests}
-use Rattle.bm_base.specs.Extent.{Extent}
+use Rattle.bm_base.specs.Range.{RangeView}
 use Rattle.bm_base.specs.Width.{reach_of}
 use Rattle.bm_base.specs.declared.width.Width.{Width}
 use Rattle.address_runs.specs.Runs.{AreRuns, RunOf, extent_of}
@@ -33,7 +33,7 @@ use Rattle.audit_laws.proofs.OrderLaws.{blocks_ascend, blocks_few, blocks_told, 
 use Rattle.audit_laws.proofs.ValueLaws.{lines_conserved, owner_runs}
 
 -- a text that is held whole is read
-read_saved : {L : Type 0} (form : ℕ → List ℕ → Option L) (extent : L → Extent) (report : Saved) (held : Option (List ℕ)) (text : List ℕ)
+read_saved : {L : Type 0} (form : ℕ → List ℕ → Option L) (extent : L → RangeView) (report : Saved) (held : Option (List ℕ)) (text : List ℕ)
     (lines : List L) → IsSaved held text → report_of form extent text ≡ Ok lines → lines_by form extent report held ≡ Ok lines
 read_saved form extent report held text lines is read =
     let short : nat_lt 536870912 (length text) ≡ false = (let few = is.short in grind (arith, nat_tests)) in

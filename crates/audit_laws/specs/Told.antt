@@ -1,7 +1,7 @@
 -- Of which boots the lines of three reports can tell.
 use Rattle.std.specs.Prelude.{◌<◌, ◌^◌}
 use Rattle.std.specs.List.{All}
-use Rattle.bm_base.specs.Extent.{end_of}
+use Rattle.bm_base.specs.Range.{end_of}
 use Rattle.address_runs.specs.Edits.{NothingFrom}
 use Rattle.address_runs.specs.Runs.{RunOf, extent_of}
 use Rattle.audit_texts.specs.Told.{IsToldName, IsToldOwner, IsToldRun}

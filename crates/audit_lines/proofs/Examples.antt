@@ -1,6 +1,6 @@
 -- Worked examples of the definitions.
 use Rattle.std.proofs.Common.{◌≡◌, ℕ, ◌≤◌, true, false, List, [], ◌∷◌, codes, Some, None, Ok, Err, Option, refl, arith}
-use Rattle.bm_base.specs.Extent.{Extent}
+use Rattle.bm_base.specs.Range.{RangeView}
 use Rattle.bm_base.specs.declared.zone.Zone.TheVariants as zones
 use Rattle.audit_lines.specs.Blocks.{Block, bytes_of_block}
 use Rattle.audit_lines.specs.Fields.{behind, is_lower_hex, number_in, range_of}
@@ -81,7 +81,7 @@ unfolding split_lines
 two_lines = refl
 
 -- lines of one byte, which is their address; the second line of "ba" begins below the first
-abbrev letter : ℕ → List ℕ → Option Extent
+abbrev letter : ℕ → List ℕ → Option RangeView
 letter index [] = None
 letter index (b ∷ []) = Some (record { base = b; size = 1 })
 letter index (b ∷ c ∷ cs) = None

@@ -2,7 +2,7 @@
 use Rattle.std.proofs.Common.{◌≡◌, ℕ, ◌+◌, ◌<◌, ◌≤◌, nat_lt, List, [], ◌∷◌, ◌++◌, length, map, Option, Some, None, Result, Ok, Err, refl, sym, ap, ◌∙◌, inl, inr, arith, append_assoc, append-nil}
 use Rattle.std.proofs.lemmas.Bool.{cases_Bool}
 use Rattle.std.proofs.lemmas.Bool.Decides.{nat_tests}
-use Rattle.bm_base.specs.Extent.{Extent, end_of}
+use Rattle.bm_base.specs.Range.{RangeView, end_of}
 use Rattle.bm_base.specs.ResultSteps.{◌>>=◌}
 use Rattle.audit_lines.specs.Lines.{StartFrom, AscendApart}
 use Rattle.audit_lines.specs.declared.report.LineFault.{LineFault}
@@ -13,7 +13,7 @@ abbrev pub in_front : {L : Type 0} → List L → Result (List L) LineFault → 
 in_front front (Ok lines) = Ok (front ++ lines)
 in_front front (Err fault) = Err fault
 
-module _ {L : Type 0} (form : ℕ → List ℕ → Option L) (extent : L → Extent) where
+module _ {L : Type 0} (form : ℕ → List ℕ → Option L) (extent : L → RangeView) where
   -- no line has been read yet
   pub none_read : (answer : Result (List L) LineFault) → in_front [] answer ≡ answer
   none_read (Ok lines) = refl

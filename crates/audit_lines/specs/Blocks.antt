@@ -1,8 +1,8 @@
 -- Free blocks of the page allocator, as lines of the report `blocks` have them.
 use Rattle.std.specs.Prelude.{ℕ, ◌*◌, ◌^◌, ◌≤◌}
 use Rattle.bm_base.specs.declared.zone.Zone.{Zone}
-use Rattle.bm_base.specs.Extent.{Extent, end_of}
-use Rattle.bm_base.specs.declared.frame.TheConstants.{FRAME_SIZE}
+use Rattle.bm_base.specs.Range.{RangeView, end_of}
+use Rattle.bm_base.specs.declared.range.TheConstants.{FRAME_SIZE}
 
 -- a block of 2^order frames from the address on, with the node and the zone that the line states
 pub record Block : Type 0 where
@@ -12,7 +12,7 @@ pub record Block : Type 0 where
   pub at : ℕ
 
 -- the bytes of a block
-abbrev pub bytes_of_block : Block → Extent
+abbrev pub bytes_of_block : Block → RangeView
 bytes_of_block b = record { base = b.at; size = FRAME_SIZE * 2 ^ b.order }
 
 -- the order of the block is at most 10 (`MAX_ORDER` is 11), and it ends at or below 2^52

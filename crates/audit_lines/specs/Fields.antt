@@ -2,7 +2,7 @@
 -- the rest of the text.
 use Rattle.std.specs.Prelude.{ℕ, ◌+◌, ◌-◌, ◌^◌, ◌==◌, ◌&&◌, ◌||◌, Bool, false, nat_le, nat_lt, if◌then◌else◌, List, [], ◌∷◌, length, take, drop, codes, Option, Some, None, Result, Ok, Err}
 use Rattle.std.specs.List.{list_all}
-use Rattle.bm_base.specs.Extent.{Extent}
+use Rattle.bm_base.specs.Range.{RangeView}
 use Rattle.bm_base.specs.OptionSteps.{◌>>=◌}
 use Rattle.bm_base.specs.Size.{begins_with_zero, number_of}
 use Rattle.bm_base.specs.declared.size.NumFault.{NumFault}
@@ -51,7 +51,7 @@ address_in text = if is_address (take 18 text) then value_in (drop 18 text) (num
 
 -- the range with this first and this last byte, if the last is below 2^64 - 1 and not below the
 -- first
-abbrev pub range_of : ℕ → ℕ → Option Extent
+abbrev pub range_of : ℕ → ℕ → Option RangeView
 range_of first last =
     if nat_le first last && nat_lt last (2 ^ 64 - 1)
     then Some (record { base = first; size = last + 1 - first })
@@ -59,7 +59,7 @@ range_of first last =
 
 -- a range at the start of the text: the addresses of its first and its last byte, with `..`
 -- between them
-unfoldable pub range_in : List ℕ → Option (Extent × List ℕ)
+unfoldable pub range_in : List ℕ → Option (RangeView × List ℕ)
 range_in text = do
   first ← address_in text
   dots ← behind (codes "..") first.1

@@ -1,7 +1,7 @@
 -- The lines of the three reports, each without its newline.
 use Rattle.std.specs.Prelude.{ℕ, ◌-◌, ◌^◌, ◌==◌, ◌&&◌, ◌||◌, Bool, true, false, nat_le, nat_lt, if◌then◌else◌, List, [], ◌∷◌, codes, Option, Some, None}
 use Rattle.std.specs.Option.{option_map}
-use Rattle.bm_base.specs.Extent.{Extent, end_of}
+use Rattle.bm_base.specs.Range.{RangeView, end_of}
 use Rattle.bm_base.specs.OptionSteps.{◌>>=◌}
 use Rattle.bm_base.specs.Text.{padded_decimal}
 use Rattle.bm_base.specs.declared.zone.Zone.{Zone}
@@ -78,7 +78,7 @@ unfoldable pub is_owner : List ℕ → Bool
 is_owner text = is_first_owner text || is_later_owner text || is_numbered_owner text
 
 -- `INDEX: A..A OWNER`: the index of the line in four columns, a range, and the name of its owner
-unfoldable pub owner_in : ℕ → List ℕ → Option Extent
+unfoldable pub owner_in : ℕ → List ℕ → Option RangeView
 owner_in index text = do
   colon ← behind (padded_decimal 4 index) text
   range_text ← behind (codes ": ") colon

@@ -1,13 +1,13 @@
 -- Ascending and disjoint lines, as contracts require them.
 use Rattle.std.specs.Prelude.{ℕ, ◌≤◌, List, [], ◌∷◌}
-use Rattle.bm_base.specs.Extent.{Extent, end_of}
+use Rattle.bm_base.specs.Range.{RangeView, end_of}
 
 -- the ranges in the list begin at or above the address
-abbrev pub StartFrom : ℕ → List Extent → Type 0
+abbrev pub StartFrom : ℕ → List RangeView → Type 0
 StartFrom at [] = Unit {0}
 StartFrom at (r ∷ rs) = at ≤ r.base
 
 -- the list is ascending and disjoint: each range begins at or above the end of the one before it
-abbrev pub AscendApart : List Extent → Type 0
+abbrev pub AscendApart : List RangeView → Type 0
 AscendApart [] = Unit {0}
 AscendApart (r ∷ rs) = StartFrom (end_of r) rs × AscendApart rs

@@ -1,6 +1,6 @@
 -- Reports: texts of lines that are ascending and disjoint.
 use Rattle.std.specs.Prelude.{ℕ, ◌+◌, ◌==◌, nat_lt, if◌then◌else◌, List, [], ◌∷◌, Option, Some, None, Result, Ok, Err}
-use Rattle.bm_base.specs.Extent.{Extent, end_of}
+use Rattle.bm_base.specs.Range.{RangeView, end_of}
 use Rattle.bm_base.specs.ResultSteps.{◌>>=◌}
 use Rattle.audit_lines.specs.declared.report.LineFault.{LineFault}
 use Rattle.audit_lines.specs.declared.report.LineFault.TheVariants as faults
@@ -21,7 +21,7 @@ unfoldable pub split_lines : List ℕ → Split
 split_lines [] = ([], [])
 split_lines (b ∷ bs) = if b == 10 then with_newline (split_lines bs) else with_byte b (split_lines bs)
 
-module _ {L : Type 0} (form : ℕ → List ℕ → Option L) (extent : L → Extent) where
+module _ {L : Type 0} (form : ℕ → List ℕ → Option L) (extent : L → RangeView) where
   -- the line that the text spells at this index, from 0 on; faults number lines from 1
   abbrev pub line_in : ℕ → Option L → Result L LineFault
   line_in index None = Err (faults.Form (index + 1))

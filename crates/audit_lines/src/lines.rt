@@ -2,7 +2,7 @@
 
 ghost use Rattle.std.specs.Prelude.{◌≡◌};
 ghost use Rattle.audit_lines.specs.Blocks.{bytes_of_block};
-ghost use Rattle.bm_base.specs.Extent.{end_of};
+ghost use Rattle.bm_base.specs.Range.{end_of};
 
 use bm_base::{FRAME_SIZE, Range, Zone};
 use std::marker::Model;

@@ -4,7 +4,7 @@ ghost use Rattle.std.specs.Prelude.{◌≡◌, ◌+◌, ◌<◌, ◌≤◌, ◌^
 ghost use Rattle.audit_lines.specs.Lines.{AscendApart};
 ghost use Rattle.audit_lines.specs.Reports.{line_at, report_of};
 ghost use Rattle.bm_base.specs.Answers.{Answers};
-ghost use Rattle.bm_base.specs.Extent.{Extent, end_of};
+ghost use Rattle.bm_base.specs.Range.{RangeView, end_of};
 ghost use Rattle.bm_base.specs.ResultSteps.{with_error};
 
 use crate::split::cut_line;
@@ -45,7 +45,7 @@ pub trait ReportLine: Copy + Drop {
     ghost form: { ℕ → List ℕ → Option Self };
 
     // the addresses of the line
-    ghost extent: { Self → Extent };
+    ghost extent: { Self → RangeView };
 
     /// Returns the line that the text spells, or `None` if it spells none. The text has no
     /// newline; `index` is the index of the line in the report, from 0 on.

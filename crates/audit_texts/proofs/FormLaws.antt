@@ -2,7 +2,7 @@
 use Rattle.std.proofs.Common.{◌≡◌, ℕ, ◌-◌, ◌^◌, ◌<◌, ◌==◌, Bool, true, false, nat_le, nat_lt, if◌then◌else◌, List, [], ◌∷◌, ◌++◌, codes, Some, refl, ap, ◌∙◌, sym, arith, append_assoc, append-nil}
 use Rattle.std.specs.Fmt.{decimal}
 use Rattle.std.proofs.lemmas.Bool.Decides.{nat_tests}
-use Rattle.bm_base.specs.Extent.{Extent, end_of}
+use Rattle.bm_base.specs.Range.{RangeView, end_of}
 use Rattle.bm_base.specs.Text.{hex_text, padded_decimal}
 use Rattle.bm_base.specs.declared.zone.Zone.{Zone}
 use Rattle.bm_base.specs.declared.zone.Zone.TheVariants as zones
@@ -160,7 +160,7 @@ map_one l some near small =
     (refl, tt) (kind_line l.kind)
 
 -- a line of the owners
-owner_by : (r : Extent) (name : List ℕ) (index : ℕ) → 0 < r.size → end_of r < 2 ^ 64 → is_owner name ≡ true
+owner_by : (r : RangeView) (name : List ℕ) (index : ℕ) → 0 < r.size → end_of r < 2 ^ 64 → is_owner name ≡ true
     → owner_in index (padded_decimal 4 index ++ (codes ": " ++ (range_text r ++ (codes " " ++ name)))) ≡ Some r
 unfolding owner_in
 owner_by r name index some near known =
@@ -172,16 +172,16 @@ owner_by r name index some near known =
       known,
     ) refl
 
-abbrev pub owner_words : ℕ → Extent → List ℕ → List ℕ
+abbrev pub owner_words : ℕ → RangeView → List ℕ → List ℕ
 owner_words index r name = index_text index ++ range_text r ++ codes " " ++ name
 
-pub owner_read : (r : Extent) (name : List ℕ) (index : ℕ) → 0 < r.size → end_of r < 2 ^ 64 → is_owner name ≡ true
+pub owner_read : (r : RangeView) (name : List ℕ) (index : ℕ) → 0 < r.size → end_of r < 2 ^ 64 → is_owner name ≡ true
     → owner_in index (owner_words index r name) ≡ Some r
 owner_read r name index some near known =
     ap (owner_in index) (apart_five (padded_decimal 4 index) (codes ": ") (range_text r) (codes " ") name)
     ∙ owner_by r name index some near known
 
-pub owner_one : (r : Extent) (name : List ℕ) (index : ℕ) → index < 2 ^ 64 → 0 < r.size → end_of r < 2 ^ 64 → IsOneLine name
+pub owner_one : (r : RangeView) (name : List ℕ) (index : ℕ) → index < 2 ^ 64 → 0 < r.size → end_of r < 2 ^ 64 → IsOneLine name
     → IsOneLine (owner_words index r name)
 owner_one r name index small some near one =
     one_line-more (index_text index ++ range_text r) (codes " ") name

@@ -1,7 +1,7 @@
 -- Lemmas: a line that was accepted is the line of the result, and so is a whole report.
 use Rattle.std.proofs.Common.{◌≡◌, ℕ, ◌-◌, ◌^◌, ◌&&◌, Bool, true, false, nat_le, nat_lt, if◌then◌else◌, List, [], ◌∷◌, ◌++◌, codes, Option, Some, None, refl, ap, ◌∙◌, sym, inl, inr, append-nil, ◌⊎◌}
 use Rattle.std.specs.Fmt.{decimal}
-use Rattle.bm_base.specs.Extent.{Extent, end_of}
+use Rattle.bm_base.specs.Range.{RangeView, end_of}
 use Rattle.bm_base.specs.Text.{hex_text}
 use Rattle.bm_base.specs.declared.zone.Zone.{Zone}
 use Rattle.bm_base.specs.declared.zone.Zone.TheVariants as zones
@@ -19,7 +19,7 @@ none_left [] u is = refl
 none_left (b ∷ bs) u is = cc
 
 -- a line of the map
-map_parts : (l : MapLine) (range : Extent) (kind : ℕ) (text one two three four five : List ℕ)
+map_parts : (l : MapLine) (range : RangeView) (kind : ℕ) (text one two three four five : List ℕ)
     → ◌≡◌ {A = MapLine} (record { range = range; kind = kind }) l
     → text ≡ range_text range ++ one → one ≡ codes " " ++ two → two ≡ decimal kind ++ three → three ≡ codes " " ++ four
     → four ≡ kind_name kind ++ five → five ≡ [] → text ≡ map_words l
@@ -44,7 +44,7 @@ map_is index text l found =
     (number_is (2 ^ 32 - 1) three.0.0 two.0 three.0.1 three.1.0) (behind_is (codes " ") three.0.1 five.0 five.1.0)
     (behind_is (kind_name three.0.0) five.0 six.0 six.1.0) (none_left six.0 seven.0 seven.1.0)
   where
-    line_is : (range : Extent) (kind : ℕ) → ◌≡◌ {A = Option MapLine} (Some (record { range = range; kind = kind })) (Some l)
+    line_is : (range : RangeView) (kind : ℕ) → ◌≡◌ {A = Option MapLine} (Some (record { range = range; kind = kind })) (Some l)
         → ◌≡◌ {A = MapLine} (record { range = range; kind = kind }) l
     line_is range kind is = cc
 

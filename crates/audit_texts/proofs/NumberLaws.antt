@@ -10,9 +10,9 @@ use Rattle.std.proofs.lemmas.Bool.Decides.{nat_tests}
 use Rattle.std.proofs.lemmas.Fmt.{decimal_is_IsNumeral, digits_is_IsNumeral, first_decimal, decimal_digit}
 use Rattle.bm_base.specs.declared.size.NumFault.{NumFault}
 use Rattle.bm_base.specs.declared.size.NumFault.TheVariants.{NoDigits}
-use Rattle.bm_base.specs.Extent.{Extent, end_of}
-use Rattle.bm_base.specs.Size.{begins_with_digit, begins_with_zero, fitting, front_digits, is_hexadecimal, number_of, prefix_of, radix_of, value_of}
-use Rattle.bm_base.specs.Text.{hex_text, hexadecimal, padded_decimal}
+use Rattle.bm_base.specs.Range.{RangeView, end_of}
+use Rattle.bm_base.specs.Size.{begins_with_digit, begins_with_zero, fit_in_u64, front_digits, is_hexadecimal, number_of, prefix_of, radix_of, front_digits_value}
+use Rattle.bm_base.specs.Text.{hex_text, hex_digits, padded_decimal}
 use Rattle.bm_base.proofs.SizeLaws.{front_digits-all, is_hexadecimal-other, number_of-mark}
 use Rattle.bm_base.proofs.TextLaws.{hex_onto, hex_sixteen}
 use Rattle.audit_lines.specs.Fields.{address_in, at_most, behind, is_address, is_lower_hex, number_in, range_in}
@@ -61,7 +61,7 @@ zeros_value (suc z) ds = zeros_value z ds
 
 -- the sixteen digits of an address
 abbrev pub address_digits : ℕ → List ℕ
-address_digits n = replicate (16 - length (hexadecimal n)) 48 ++ hexadecimal n
+address_digits n = replicate (16 - length (hex_digits n)) 48 ++ hex_digits n
 
 digits_are : (n : ℕ) → n < 2 ^ 64 → hex_onto 16 n [] ≡ address_digits n
 digits_are n small = ap (drop 2) (hex_sixteen n small)
@@ -74,11 +74,11 @@ digits_length n small = rw (← digits_are n small) (hex_length 16 n [])
 
 digits_number : (n : ℕ) → n < 2 ^ 64 → digits_value 16 (address_digits n) ≡ n
 digits_number n small =
-    zeros_value (16 - length (hexadecimal n)) (hexadecimal n)
+    zeros_value (16 - length (hex_digits n)) (hex_digits n)
     ∙ (digits_is_IsNumeral 16 false (omega arith) (omega arith) n (omega arith)).1
 
 -- digits after `0x` are read as the number that they spell
-pub hex_number : (ds : List ℕ) → AreGlyphs ds → 0 < length ds → number_of (48 ∷ 120 ∷ ds) ≡ fitting (digits_value 16 ds) (2 + length ds)
+pub hex_number : (ds : List ℕ) → AreGlyphs ds → 0 < length ds → number_of (48 ∷ 120 ∷ ds) ≡ fit_in_u64 (digits_value 16 ds) (2 + length ds)
 hex_number [] glyphs some = absurd (omega arith)
 hex_number (d ∷ ds) glyphs some =
     let hexa : is_hexadecimal (48 ∷ 120 ∷ d ∷ ds) ≡ true = rw (glyphs.0.1.0) refl in
@@ -88,8 +88,8 @@ hex_number (d ∷ ds) glyphs some =
     (front_glyphs (d ∷ ds) glyphs)
   where
     spelled : (radix prefix : ℕ) (text digits : List ℕ) → radix ≡ 16 → prefix ≡ 2 → drop 2 text ≡ digits → front_digits 16 digits ≡ digits
-        → fitting (value_of radix (drop prefix text)) (prefix + length (front_digits radix (drop prefix text)))
-        ≡ fitting (digits_value 16 digits) (2 + length digits)
+        → fit_in_u64 (front_digits_value radix (drop prefix text)) (prefix + length (front_digits radix (drop prefix text)))
+        ≡ fit_in_u64 (digits_value 16 digits) (2 + length digits)
     spelled radix prefix text digits base two behind whole = rw (base, two, behind, whole) refl
 
 hex_read : (ds : List ℕ) (n : ℕ) → AreGlyphs ds → 0 < length ds → digits_value 16 ds ≡ n → n < 2 ^ 64
@@ -142,7 +142,7 @@ digits_read d ds n all above value small =
     spelled : (begins : Bool) (radix prefix : ℕ) (text : List ℕ) → begins ≡ true → radix ≡ 10 → prefix ≡ 0
         → front_digits 10 text ≡ text → digits_value 10 text ≡ n
         → (if begins
-        then fitting (value_of radix (drop prefix text)) (prefix + length (front_digits radix (drop prefix text)))
+        then fit_in_u64 (front_digits_value radix (drop prefix text)) (prefix + length (front_digits radix (drop prefix text)))
         else Err NoDigits)
         ≡ Ok (n, length text)
     spelled begins radix prefix text is base none whole value =
@@ -194,7 +194,7 @@ range_by first last rest up below =
     let short : nat_lt last (2 ^ 64 - 1) ≡ true = grind (arith, nat_tests, below) in
     rw (begins, dots, ends, rising, short) refl
 
-pub range_read : (r : Extent) (rest : List ℕ) → 0 < r.size → end_of r < 2 ^ 64 → range_in (range_text r ++ rest) ≡ Some (r, rest)
+pub range_read : (r : RangeView) (rest : List ℕ) → 0 < r.size → end_of r < 2 ^ 64 → range_in (range_text r ++ rest) ≡ Some (r, rest)
 range_read r rest some small =
     let parts : range_text r ++ rest ≡ hex_text r.base ++ (codes ".." ++ (hex_text (end_of r - 1) ++ rest)) =
     append_assoc (hex_text r.base ++ codes "..") (hex_text (end_of r - 1)) rest
@@ -231,7 +231,7 @@ spaces_line (suc k) = (refl, spaces_line k)
 pub index_line : (n : ℕ) → n < 2 ^ 64 → IsOneLine (padded_decimal 4 n)
 index_line n small = one_line-append (replicate (4 - length (decimal n)) 32) (decimal n) (spaces_line _) (number_line n small)
 
-pub range_line : (r : Extent) → 0 < r.size → end_of r < 2 ^ 64 → IsOneLine (range_text r)
+pub range_line : (r : RangeView) → 0 < r.size → end_of r < 2 ^ 64 → IsOneLine (range_text r)
 range_line r some small =
     one_line-append (hex_text r.base ++ codes "..") (hex_text (end_of r - 1))
     (one_line-append (hex_text r.base) (codes "..") (address_line r.base (omega arith)) (refl, (refl, tt)))

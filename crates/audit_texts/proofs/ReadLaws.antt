@@ -11,9 +11,9 @@ use Rattle.std.proofs.lemmas.Fmt.{decimal_digit, decimal-digits_value}
 use Rattle.std.proofs.lemmas.Str.Parse.{IsNumeralModel}
 use Rattle.bm_base.specs.declared.size.NumFault.{NumFault}
 use Rattle.bm_base.specs.declared.size.NumFault.TheVariants.{NoDigits, TooLarge}
-use Rattle.bm_base.specs.Extent.{Extent, end_of}
+use Rattle.bm_base.specs.Range.{RangeView, end_of}
 use Rattle.bm_base.specs.OptionSteps.{◌>>=◌}
-use Rattle.bm_base.specs.Size.{begins_with_digit, fitting, front_digits, number_of, prefix_of, radix_of, value_of}
+use Rattle.bm_base.specs.Size.{begins_with_digit, fit_in_u64, front_digits, number_of, prefix_of, radix_of, front_digits_value}
 use Rattle.bm_base.specs.Text.{hex_text}
 use Rattle.bm_base.proofs.SizeLaws.{is_hexadecimal-other}
 use Rattle.bm_base.proofs.TextLaws.{hex_onto, hex_sixteen}
@@ -63,7 +63,7 @@ left_of_found a b xs ys is = let both : ◌≡◌ {A = _ × List ℕ} (a, xs) (b
 -- the number that was found is the one at the start of the text
 found_is : (text rest : List ℕ) (most n : ℕ) (front : List ℕ) → front ≡ front_digits 10 text
     → (nat_lt (digits_value 10 front) (2 ^ 64) ≡ true → decimal (digits_value 10 front) ≡ front)
-    → at_most most text (fitting (digits_value 10 front) (length front)) ≡ Some (n, rest) → text ≡ decimal n ++ rest
+    → at_most most text (fit_in_u64 (digits_value 10 front) (length front)) ≡ Some (n, rest) → text ≡ decimal n ++ rest
 found_is text rest most n front is same found = by_size (nat_lt (digits_value 10 front) (2 ^ 64)) refl found
   where
     by_most : (small : Bool) → decimal (digits_value 10 front) ≡ front
@@ -93,13 +93,13 @@ number_is most n (b ∷ bs) rest found =
     spelled : (begins : Bool) (radix prefix : ℕ) → is_digit b 10 ≡ begins → b == 48 ≡ false → radix ≡ 10 → prefix ≡ 0
         → ◌≡◌ {A = Option (ℕ × List ℕ)} (at_most most (b ∷ bs)
         (if begins
-        then fitting (value_of radix (drop prefix (b ∷ bs))) (prefix + length (front_digits radix (drop prefix (b ∷ bs))))
+        then fit_in_u64 (front_digits_value radix (drop prefix (b ∷ bs))) (prefix + length (front_digits radix (drop prefix (b ∷ bs))))
         else Err NoDigits))
         (Some (n, rest)) → b ∷ bs ≡ decimal n ++ rest
     spelled false radix prefix digit other base none found = cc
     spelled true radix prefix digit other base none found =
         let front : front_digits 10 (b ∷ bs) ≡ b ∷ front_digits 10 bs = rw digit refl in
-        let read : at_most most (b ∷ bs) (fitting (digits_value 10 (front_digits 10 (b ∷ bs))) (length (front_digits 10 (b ∷ bs))))
+        let read : at_most most (b ∷ bs) (fit_in_u64 (digits_value 10 (front_digits 10 (b ∷ bs))) (length (front_digits 10 (b ∷ bs))))
         ≡ Some (n, rest) =
         rw (base, none, zero-add (length (front_digits 10 (b ∷ bs)))) at found in
         let digits : AllDigits 10 (front_digits 10 (b ∷ bs)) = front_all (b ∷ bs) in
@@ -194,7 +194,7 @@ address_is n text rest found = by_front (behind (codes "0x") (take 18 text)) ref
         let front : take 18 text ≡ codes "0x" ++ ds = behind_is (codes "0x") (take 18 text) ds is in
         let parts = and_parts (length ds == 16) (list_all is_lower_hex ds) test in
         let long : length ds ≡ 16 = (Decides-eqb (length ds) 16).0 parts.0 in
-        let read : number_of (take 18 text) ≡ fitting (digits_value 16 ds) (2 + length ds) =
+        let read : number_of (take 18 text) ≡ fit_in_u64 (digits_value 16 ds) (2 + length ds) =
         ap number_of front ∙ hex_number ds (glyphs_from ds parts.1) (omega (arith, long)) in
         by_value ds front long parts.1 (nat_lt (digits_value 16 ds) (2 ^ 64)) refl (sym (ap (value_in (drop 18 text)) read) ∙ found)
 
@@ -211,19 +211,19 @@ pub chain : {A B : Type 0} (first : Option A) (next : A → Option B) (b : B) �
 chain None next b is = cc
 chain (Some a) next b is = (a, (refl, is))
 
-range_found : (first last : ℕ) (r : Extent) → range_of first last ≡ Some r → (r.base ≡ first) × (end_of r - 1 ≡ last)
+range_found : (first last : ℕ) (r : RangeView) → range_of first last ≡ Some r → (r.base ≡ first) × (end_of r - 1 ≡ last)
 range_found first last r found = by_test (nat_le first last && nat_lt last (2 ^ 64 - 1)) refl found
   where
     by_test : (test : Bool) → nat_le first last && nat_lt last (2 ^ 64 - 1) ≡ test
-        → ◌≡◌ {A = Option Extent} (if test then Some (record { base = first; size = last + 1 - first }) else None) (Some r)
+        → ◌≡◌ {A = Option RangeView} (if test then Some (record { base = first; size = last + 1 - first }) else None) (Some r)
         → (r.base ≡ first) × (end_of r - 1 ≡ last)
     by_test false test found = cc
     by_test true test found =
-        let is : ◌≡◌ {A = Extent} (record { base = first; size = last + 1 - first }) r = cc in
+        let is : ◌≡◌ {A = RangeView} (record { base = first; size = last + 1 - first }) r = cc in
         let up : first ≤ last = grind (arith, nat_tests, (and_parts (nat_le first last) (nat_lt last (2 ^ 64 - 1)) test).0) in
         rw (← is) (refl, omega (arith, up))
 
-range_parts : (r : Extent) (first last : ℕ) (text one two rest : List ℕ) → r.base ≡ first → end_of r - 1 ≡ last
+range_parts : (r : RangeView) (first last : ℕ) (text one two rest : List ℕ) → r.base ≡ first → end_of r - 1 ≡ last
     → text ≡ hex_text first ++ one → one ≡ codes ".." ++ two → two ≡ hex_text last ++ rest → text ≡ range_text r ++ rest
 range_parts r first last text one two rest base top begins dots ends =
     begins ∙ ap (λ (xs : List ℕ). hex_text first ++ xs) (dots ∙ ap (λ (xs : List ℕ). codes ".." ++ xs) ends)
@@ -232,7 +232,7 @@ range_parts r first last text one two rest base top begins dots ends =
     ∙ ap (λ (f : ℕ). (hex_text f ++ codes ".." ++ hex_text last) ++ rest) (sym base)
     ∙ ap (λ (l : ℕ). (hex_text r.base ++ codes ".." ++ hex_text l) ++ rest) (sym top)
 
-pub range_is : (r : Extent) (text rest : List ℕ) → range_in text ≡ Some (r, rest) → text ≡ range_text r ++ rest
+pub range_is : (r : RangeView) (text rest : List ℕ) → range_in text ≡ Some (r, rest) → text ≡ range_text r ++ rest
 unfolding range_in
 range_is r text rest found =
     let one = chain (address_in text) _ (r, rest) found in
@@ -241,7 +241,7 @@ range_is r text rest found =
     let four = chain (range_of one.0.0 three.0.0) _ (r, rest) three.1.1 in
     let value : four.0 ≡ r = value_of_found four.0 r three.0.1 rest four.1.1 in
     let left : three.0.1 ≡ rest = left_of_found four.0 r three.0.1 rest four.1.1 in
-    let ends = range_found one.0.0 three.0.0 r (four.1.0 ∙ ap (λ (e : Extent). Some e) value) in
+    let ends = range_found one.0.0 three.0.0 r (four.1.0 ∙ ap (λ (e : RangeView). Some e) value) in
     range_parts r one.0.0 three.0.0 text one.0.1 two.0 rest ends.0 ends.1 (address_is one.0.0 text one.0.1 one.1.0)
     (behind_is (codes "..") one.0.1 two.0 two.1.0)
     (address_is three.0.0 two.0 three.0.1 three.1.0 ∙ ap (λ (xs : List ℕ). hex_text three.0.0 ++ xs) left)

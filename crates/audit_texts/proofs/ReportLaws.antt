@@ -1,13 +1,13 @@
 -- Lemmas: a report is read if its lines are read one by one.
 use Rattle.std.proofs.Common.{◌≡◌, ℕ, ◌+◌, ◌^◌, ◌<◌, ◌≤◌, nat_lt, false, List, [], ◌∷◌, ◌++◌, length, map, Option, Some, Ok, refl, ap, ◌∙◌, arith, append_assoc}
 use Rattle.std.proofs.lemmas.Bool.Decides.{nat_tests}
-use Rattle.bm_base.specs.Extent.{Extent, end_of}
+use Rattle.bm_base.specs.Range.{RangeView, end_of}
 use Rattle.audit_lines.specs.Lines.{StartFrom, AscendApart}
 use Rattle.audit_lines.specs.Reports.{line_at, report_from, split_lines}
 use Rattle.report_texts.specs.Lines.{lines_from}
 use Rattle.audit_texts.proofs.SplitLaws.{IsOneLine, split_first}
 
-module _ {L X : Type 0} (form : ℕ → List ℕ → Option L) (extent : L → Extent) (line text : ℕ → X → List ℕ) (seen : X → L) where
+module _ {L X : Type 0} (form : ℕ → List ℕ → Option L) (extent : L → RangeView) (line text : ℕ → X → List ℕ) (seen : X → L) where
   -- at each index, the line is one line of text and its newline, and is read as this value
   pub record IsReadBack (x : X) : Type 0 where
     pub ended : (n : ℕ) → line n x ≡ text n x ++ (10 ∷ [])

@@ -4,7 +4,7 @@ use Rattle.std.specs.List.{All}
 use Rattle.std.proofs.lemmas.Bool.{cases_Bool}
 use Rattle.std.proofs.lemmas.Bool.Decides.{Decides-eqb}
 use Rattle.std.proofs.lemmas.List.Elements.{All-head, All-tail}
-use Rattle.bm_base.specs.Extent.{Extent, end_of}
+use Rattle.bm_base.specs.Range.{RangeView, end_of}
 use Rattle.bm_base.specs.ResultSteps.{◌>>=◌}
 use Rattle.audit_lines.specs.Reports.{Split, in_order, line_at, line_in, report_from, report_of, split_lines, with_byte, with_newline}
 use Rattle.audit_lines.specs.declared.report.LineFault.{LineFault}
@@ -37,7 +37,7 @@ bytes_joined (b ∷ bs) =
       | inr other ↦ rw other (joined_byte b (split_lines bs) ∙ ap (λ (xs : List ℕ). b ∷ xs) (bytes_joined bs))
     ]
 
-module _ {L X : Type 0} (form : ℕ → List ℕ → Option L) (extent : L → Extent) (words : L → List ℕ) (line : ℕ → X → List ℕ) (back : L → X)
+module _ {L X : Type 0} (form : ℕ → List ℕ → Option L) (extent : L → RangeView) (words : L → List ℕ) (line : ℕ → X → List ℕ) (back : L → X)
     (P : L → Type 0) (read : (index : ℕ) (text : List ℕ) (l : L) → form index text ≡ Some l → text ≡ words l)
     (lined : (n : ℕ) (l : L) → P l → line n (back l) ≡ words l ++ (10 ∷ [])) where
   ordered : (index : ℕ) (below : Bool) (other l : L)

@@ -3,7 +3,7 @@ use Rattle.std.proofs.Common.{◌≡◌, ℕ, ◌<◌, ◌^◌, List, [], ◌∷
 use Rattle.std.specs.List.{All}
 use Rattle.std.proofs.lemmas.List.Elements.{All-head, All-tail}
 use Rattle.address_runs.specs.Runs.{RunOf, extent_of}
-use Rattle.bm_base.specs.Extent.{Extent}
+use Rattle.bm_base.specs.Range.{RangeView}
 use Rattle.bm_base.specs.declared.zone.Zone.{Zone}
 use Rattle.bm_base.specs.declared.zone.Zone.TheVariants as zones
 use Rattle.audit_lines.specs.Blocks.{bytes_of_block}
@@ -25,7 +25,7 @@ use Rattle.audit_texts.proofs.FormLaws.{block_one, block_read, block_words, map_
 use Rattle.audit_texts.proofs.ReportLaws.{AreReadBack, IsReadBack, lines_read}
 use Rattle.audit_texts.proofs.SplitLaws.{IsOneLine}
 
-module _ {L X : Type 0} (form : ℕ → List ℕ → Option L) (extent : L → Extent) (line text : ℕ → X → List ℕ) (seen : X → L) (P : X → Type 0)
+module _ {L X : Type 0} (form : ℕ → List ℕ → Option L) (extent : L → RangeView) (line text : ℕ → X → List ℕ) (seen : X → L) (P : X → Type 0)
     (each : (x : X) → P x → IsReadBack form extent line text seen x) where
   all_back : (xs : List X) → All P xs → AreReadBack form extent line text seen xs
   all_back [] all = tt
@@ -101,13 +101,13 @@ block_back b told = record {
 }
 
 -- addresses begin at 0
-from_first : (rs : List Extent) → StartFrom 0 rs
+from_first : (rs : List RangeView) → StartFrom 0 rs
 from_first [] = tt
 from_first (r ∷ rs) = omega arith
 
 ranges_told : (runs : List (RunOf ℕ)) → map (λ l. l.range) (map told_run runs) ≡ map extent_of runs
 ranges_told [] = refl
-ranges_told (r ∷ rs) = ap (λ (es : List Extent). extent_of r ∷ es) (ranges_told rs)
+ranges_told (r ∷ rs) = ap (λ (es : List RangeView). extent_of r ∷ es) (ranges_told rs)
 
 pub map_back : (runs : List (RunOf ℕ)) → length runs < 2 ^ 64 → All IsToldRun runs → AscendApart (map extent_of runs)
     → report_of map_in (λ l. l.range) (map_text runs) ≡ Ok (map told_run runs)
@@ -116,9 +116,9 @@ map_back runs few told order =
     (all_back map_in (λ l. l.range) map_line (λ n x. map_words (told_run x)) told_run IsToldRun run_back runs told)
     (from_first (map (λ l. l.range) (map told_run runs))) (rw (ranges_told runs) order)
 
-same_ranges : (es : List Extent) → map (λ e. e) es ≡ es
+same_ranges : (es : List RangeView) → map (λ e. e) es ≡ es
 same_ranges [] = refl
-same_ranges (e ∷ es) = ap (λ (others : List Extent). e ∷ others) (same_ranges es)
+same_ranges (e ∷ es) = ap (λ (others : List RangeView). e ∷ others) (same_ranges es)
 
 pub owners_back : (runs : List (RunOf Owner)) → length runs < 2 ^ 64 → All IsToldOwner runs → AscendApart (map extent_of runs)
     → report_of owner_in (λ r. r) (owners_text runs) ≡ Ok (map extent_of runs)

@@ -2,9 +2,9 @@
 -- that.
 use Rattle.std.specs.Prelude.{◌≡◌, ℕ, ◌/◌, ◌%◌, ◌<◌, ◌^◌}
 use Rattle.address_runs.specs.Runs.{RunOf, extent_of}
-use Rattle.bm_base.specs.Extent.{end_of}
+use Rattle.bm_base.specs.Range.{end_of}
 use Rattle.bm_base.specs.Frames.{bytes_of_frame}
-use Rattle.bm_base.specs.declared.frame.TheConstants.{FRAME_SIZE}
+use Rattle.bm_base.specs.declared.range.TheConstants.{FRAME_SIZE}
 use Rattle.audit_lines.specs.Blocks.{Block as BlockLine, IsBlock}
 use Rattle.audit_lines.specs.declared.lines.MapLine.{MapLine}
 use Rattle.frame_blocks.specs.declared.block.Block.{Block}

@@ -1,7 +1,7 @@
 -- Tests over several numbers that follow one another, and over the addresses of a range.
 use Rattle.std.proofs.Common.{◌≡◌, ℕ, zero, suc, ◌+◌, ◌<◌, ◌≤◌, Bool, true, false, refl, sym, ◌∙◌, subst, inl, inr, arith}
 use Rattle.std.proofs.lemmas.Bool.{cases_Bool, cases_lt, false_from_ne_true, true≢false, and_from, and_parts}
-use Rattle.bm_base.specs.Extent.{Extent}
+use Rattle.bm_base.specs.Range.{RangeView}
 use Rattle.bm_base.specs.Each.{each_from, each_in}
 
 -- what passes at each address passes
@@ -42,20 +42,20 @@ failing_from p x (suc n) not_all =
       | inr fails ↦ record { at = x; above = omega arith; below = omega arith; fails = fails }
     ]
 
-pub failing_in : (r : Extent) (p : ℕ → Bool) → each_in r p ≡ false → IsFailing p r.base r.size
+pub failing_in : (r : RangeView) (p : ℕ → Bool) → each_in r p ≡ false → IsFailing p r.base r.size
 unfolding each_in
 failing_in r p not_all = failing_from p r.base r.size not_all
 
-pub each_in-all : (r : Extent) (p : ℕ → Bool) → ((y : ℕ) → r.base ≤ y → y < r.base + r.size → p y ≡ true) → each_in r p ≡ true
+pub each_in-all : (r : RangeView) (p : ℕ → Bool) → ((y : ℕ) → r.base ≤ y → y < r.base + r.size → p y ≡ true) → each_in r p ≡ true
 unfolding each_in
 each_in-all r p all = each_from-all p r.base r.size all
 
-pub each_in-each : (r : Extent) (p : ℕ → Bool) → each_in r p ≡ true → (y : ℕ) → r.base ≤ y → y < r.base + r.size → p y ≡ true
+pub each_in-each : (r : RangeView) (p : ℕ → Bool) → each_in r p ≡ true → (y : ℕ) → r.base ≤ y → y < r.base + r.size → p y ≡ true
 unfolding each_in
 each_in-each r p h = each_from-each p r.base r.size h
 
 -- one address that fails
-pub each_in-fails : (r : Extent) (p : ℕ → Bool) (y : ℕ) → r.base ≤ y → y < r.base + r.size → p y ≡ false → each_in r p ≡ false
+pub each_in-fails : (r : RangeView) (p : ℕ → Bool) (y : ℕ) → r.base ≤ y → y < r.base + r.size → p y ≡ false → each_in r p ≡ false
 each_in-fails r p y above below fails =
     false_from_ne_true (each_in r p) (λ holds. true≢false (sym (each_in-each r p holds y above below) ∙ fails))
 
@@ -69,6 +69,6 @@ each_from-same p q x (suc n) same =
     each_from-same p q (x + 1) n (λ y above below. same y (omega arith) (omega arith)) in
     rw (here, rest) refl
 
-pub each_in-same : (r : Extent) (p q : ℕ → Bool) → ((y : ℕ) → r.base ≤ y → y < r.base + r.size → p y ≡ q y) → each_in r p ≡ each_in r q
+pub each_in-same : (r : RangeView) (p q : ℕ → Bool) → ((y : ℕ) → r.base ≤ y → y < r.base + r.size → p y ≡ q y) → each_in r p ≡ each_in r q
 unfolding each_in
 each_in-same r p q same = each_from-same p q r.base r.size same

@@ -4,28 +4,28 @@ use Rattle.std.proofs.lemmas.Bool.Decides.{nat_tests}
 use Rattle.std.specs.Fmt.{digits}
 use Rattle.bm_base.specs.Answers.{Answers}
 use Rattle.bm_base.specs.Each.{each_from, each_in}
-use Rattle.bm_base.specs.Extent.{Extent, end_of, covers, Meet}
-use Rattle.bm_base.specs.Frames.{bytes_of_frame, frame_around, stretch_of, frames_within}
+use Rattle.bm_base.specs.Range.{RangeView, end_of, covers, Meet}
+use Rattle.bm_base.specs.Frames.{bytes_of_frame, frame_around, range_between, frames_within}
 use Rattle.std.specs.Prelude.{Result}
 use Rattle.bm_base.specs.OptionSteps as option
 use Rattle.bm_base.specs.ResultSteps.{◌>>=◌, with_error}
-use Rattle.bm_base.specs.Text.{hexadecimal, hex_text, padded_decimal}
-use Rattle.bm_base.specs.Size.{front_digits, value_of, is_hexadecimal, begins_with_zero, begins_with_digit, prefix_of, radix_of, number_value, number_end, suffix_at, suffix_of, fitting, with_suffix, number_of, size_of, IsSize, IsNumber}
+use Rattle.bm_base.specs.Text.{hex_digits, hex_text, padded_decimal}
+use Rattle.bm_base.specs.Size.{front_digits, front_digits_value, is_hexadecimal, begins_with_zero, begins_with_digit, prefix_of, radix_of, number_value, number_end, suffix_at, suffix_of, fit_in_u64, with_suffix, number_of, size_of, IsSize, IsNumber}
 use Rattle.bm_base.specs.declared.size.NumFault.TheVariants.{NoDigits, TooLarge}
-use Rattle.bm_base.specs.Spelling.{SpellsIn, hexadecimal as in_hexadecimal, octal, decimal, SpellsNumber, SpellsSize, bare, suffixed}
+use Rattle.bm_base.specs.Spelling.{SpellsIn, hexadecimal as in_hexadecimal, octal, decimal, SpellsNumber, SpellsSize, number_alone, number_with_suffix}
 use Rattle.bm_base.proofs.SpellingLaws.{size-read}
 use Rattle.bm_base.specs.Width.{reach_of, root_table_of}
 use Rattle.bm_base.specs.declared.width.Width.TheVariants.{Bits46, Bits52}
 use Rattle.bm_base.specs.Zones.{zone_of}
-use Rattle.bm_base.specs.declared.frame.TheConstants.{FRAME_SIZE}
+use Rattle.bm_base.specs.declared.range.TheConstants.{FRAME_SIZE}
 use Rattle.bm_base.specs.declared.zone.TheConstants.{MAX_DMA_FRAME, MAX_DMA32_FRAME}
 use Rattle.bm_base.specs.declared.zone.Zone.TheVariants.{Dma, Dma32, Normal}
 
 -- the second page of memory, and the page behind it
-abbrev second_page : Extent
+abbrev second_page : RangeView
 second_page = record { base = 0x1000; size = 0x1000 }
 
-abbrev third_page : Extent
+abbrev third_page : RangeView
 third_page = record { base = 0x2000; size = 0x1000 }
 
 -- its end is the address behind its last byte
@@ -63,7 +63,7 @@ each_in_examples = (refl, refl)
 
 -- digits as far as there are some, in that base; the rest is left
 digits_examples : (front_digits 10 (codes "640K") ≡ codes "640") × (front_digits 8 (codes "0178") ≡ codes "017")
-    × (value_of 16 (codes "fFg") ≡ 255) × (value_of 8 (codes "0178") ≡ 15)
+    × (front_digits_value 16 (codes "fFg") ≡ 255) × (front_digits_value 8 (codes "0178") ≡ 15)
 digits_examples = (refl, refl, refl, refl)
 
 -- `0x` begins a hexadecimal number where a digit follows; otherwise a first `0` is an octal one
@@ -87,7 +87,7 @@ suffix_at_examples : (suffix_at 77 ≡ (2 ^ 20, 1)) × (suffix_at 109 ≡ (2 ^ 2
 suffix_at_examples = (refl, refl, refl)
 
 -- 2^64 - 1 is a u64, 2^64 isn't
-fitting_examples : (fitting (2 ^ 64 - 1) 20 ≡ Ok (2 ^ 64 - 1, 20)) × (fitting (2 ^ 64) 20 ≡ Err TooLarge)
+fitting_examples : (fit_in_u64 (2 ^ 64 - 1) 20 ≡ Ok (2 ^ 64 - 1, 20)) × (fit_in_u64 (2 ^ 64) 20 ≡ Err TooLarge)
     × (with_suffix 3 1 (2 ^ 10, 1) ≡ Ok (3072, 2)) × (with_suffix 16 2 (2 ^ 60, 1) ≡ Err TooLarge)
 fitting_examples = (refl, refl, refl, refl)
 
@@ -110,7 +110,7 @@ whole_examples : IsSize (codes "1G") 0x40000000 × IsSize (codes "0x10k") 16384 
 whole_examples = (refl, refl, refl, refl)
 
 -- an address has 16 digits in lower case, a decimal stands at the right end of its places, or beyond them
-hex_examples : (hexadecimal 0x9FC00 ≡ codes "9fc00") × (hex_text 0 ≡ codes "0x0000000000000000")
+hex_examples : (hex_digits 0x9FC00 ≡ codes "9fc00") × (hex_text 0 ≡ codes "0x0000000000000000")
     × (hex_text 0xFEC00000 ≡ codes "0x00000000fec00000")
 unfolding digits
 hex_examples = (refl, refl, refl)
@@ -156,7 +156,7 @@ frame_numbers = (refl, refl, refl)
 -- of a range from the middle of a frame to the middle of another the frames between; of one frame all, and less than a frame has none
 whole_frames_examples : (frames_within (record { base = 0x0FFF; size = 0x2002 }) ≡ Some (record { base = 0x1000; size = 0x2000 }))
     × (frames_within second_page ≡ Some second_page) × (frames_within (record { base = 0x1001; size = 0x1FFE }) ≡ None)
-    × (stretch_of 5 5 ≡ None)
+    × (range_between 5 5 ≡ None)
 whole_frames_examples = (refl, refl, refl, refl)
 
 -- a number in each base; sizes with a suffix and without, where `E` is a digit in base 16; and too large a number
@@ -170,7 +170,7 @@ spelled_numbers = (
 
 spelled_sizes : SpellsSize (codes "640K") 655360 × SpellsSize (codes "0x1E") 30 × (SpellsSize (codes "16E") (2 ^ 64) → ⊥)
 spelled_sizes = (
-  suffixed 10 640 1024 75 (codes "640") spelled_numbers.2 refl refl (omega arith),
-  bare (codes "0x1E") 30 (record { radix = 16; number = spelled_numbers.0; fits = omega arith }),
+  number_with_suffix 10 640 1024 75 (codes "640") spelled_numbers.2 refl refl (omega arith),
+  number_alone (codes "0x1E") 30 (record { radix = 16; number = spelled_numbers.0; fits = omega arith }),
   λ spells. let is : size_of (codes "16E") ≡ Ok (2 ^ 64, 3) = size-read (codes "16E") (2 ^ 64) spells in cc is,
 )

@@ -11,7 +11,7 @@ use Rattle.std.proofs.lemmas.List.{drop-append-le}
 use Rattle.std.proofs.lemmas.Fmt.{decimal_is_IsNumeral, first_decimal, decimal_digit}
 use Rattle.std.specs.Fmt.{decimal}
 use Rattle.std.specs.Str.Parse.{digits_value, digits_value_after, AllDigits}
-use Rattle.bm_base.specs.Size.{front_digits, value_of, is_hexadecimal, begins_with_zero, begins_with_digit, prefix_of, radix_of, number_value, number_end, suffix_of, with_suffix, number_of, size_of}
+use Rattle.bm_base.specs.Size.{front_digits, front_digits_value, is_hexadecimal, begins_with_zero, begins_with_digit, prefix_of, radix_of, number_value, number_end, suffix_of, with_suffix, number_of, size_of}
 
 -- further digits make a number no smaller, in any base above 0
 pub digits_value-grows : (radix n : ℕ) (ds : List ℕ) → 1 ≤ radix → n ≤ digits_value_after radix n ds
@@ -195,7 +195,7 @@ size_of-digits d ds all above small =
     spelled : (begins : Bool) (radix prefix : ℕ) (text : List ℕ) → begins ≡ true → radix ≡ 10 → prefix ≡ 0
         → front_digits 10 text ≡ text → digits_value 10 text < 2 ^ 64
         → (if begins
-        then with_suffix (value_of radix (drop prefix text)) (prefix + length (front_digits radix (drop prefix text)))
+        then with_suffix (front_digits_value radix (drop prefix text)) (prefix + length (front_digits radix (drop prefix text)))
         (suffix_of (drop (prefix + length (front_digits radix (drop prefix text))) text))
         else Err NoDigits) ≡ Ok (digits_value 10 text, length text)
     spelled begins radix prefix text is base none whole small =

@@ -8,9 +8,9 @@ use Rattle.std.specs.Char.{digit_value, is_digit}
 use Rattle.std.specs.Str.Parse.{AllDigits}
 use Rattle.bm_base.specs.declared.size.NumFault.{NumFault}
 use Rattle.bm_base.specs.declared.size.NumFault.TheVariants.{NoDigits, TooLarge}
-use Rattle.bm_base.specs.Size.{front_digits, value_of, is_hexadecimal, begins_with_digit, prefix_of, radix_of, number_value, number_end, suffix_at, suffix_of, fitting, with_suffix, number_of, size_of, IsSize, IsNumber}
+use Rattle.bm_base.specs.Size.{front_digits, front_digits_value, is_hexadecimal, begins_with_digit, prefix_of, radix_of, number_value, number_end, suffix_at, suffix_of, fit_in_u64, with_suffix, number_of, size_of, IsSize, IsNumber}
 use Rattle.bm_base.proofs.SizeLaws.{is_hexadecimal-short, is_hexadecimal-other}
-use Rattle.bm_base.specs.Spelling.{SpellsIn, hexadecimal, octal, decimal, SpellsNumber, SpellsSize, bare, suffixed}
+use Rattle.bm_base.specs.Spelling.{SpellsIn, hexadecimal, octal, decimal, SpellsNumber, SpellsSize, number_alone, number_with_suffix}
 
 -- the digits at the front are digits, the rest follows them, and no digit stands at its front
 record SplitDigits (radix : ℕ) (text digits : List ℕ) : Type 0 where
@@ -42,8 +42,8 @@ record SpelledFront (text : List ℕ) (radix value end : ℕ) : Type 0 where
   stops : (b : ℕ) (bs : List ℕ) → drop end text ≡ b ∷ bs → is_digit b radix ≡ false
 
 -- digits without a prefix
-by_radix : (text : List ℕ) (radix : ℕ) → SpellsIn radix (front_digits radix text) (value_of radix text)
-    → SpelledFront text radix (value_of radix text) (0 + length (front_digits radix text))
+by_radix : (text : List ℕ) (radix : ℕ) → SpellsIn radix (front_digits radix text) (front_digits_value radix text)
+    → SpelledFront text radix (front_digits_value radix text) (0 + length (front_digits radix text))
 by_radix text radix number =
     let digits = split_digits radix text in
     let end : 0 + length (front_digits radix text) ≡ length (front_digits radix text) = omega arith in
@@ -55,18 +55,18 @@ by_radix text radix number =
       stops = digits.stops;
     })
 
-octal_front : (rest : List ℕ) → SpelledFront (48 ∷ rest) 8 (value_of 8 (48 ∷ rest)) (0 + length (front_digits 8 (48 ∷ rest)))
+octal_front : (rest : List ℕ) → SpelledFront (48 ∷ rest) 8 (front_digits_value 8 (48 ∷ rest)) (0 + length (front_digits 8 (48 ∷ rest)))
 octal_front rest = by_radix (48 ∷ rest) 8 (octal (front_digits 8 rest) (split_digits 8 rest).all)
 
 decimal_front : (z : ℕ) (rest : List ℕ) → is_digit z 10 ≡ true → z == 48 ≡ false
-    → SpelledFront (z ∷ rest) 10 (value_of 10 (z ∷ rest)) (0 + length (front_digits 10 (z ∷ rest)))
+    → SpelledFront (z ∷ rest) 10 (front_digits_value 10 (z ∷ rest)) (0 + length (front_digits 10 (z ∷ rest)))
 decimal_front z rest digit other =
     let digits = split_digits 10 (z ∷ rest) in
     let other_byte : z ∷ [] ≢ codes "0" = λ same. let zero : z ≡ 48 = cc in absurd (grind (arith, nat_tests)) in
     by_radix (z ∷ rest) 10 (rw digit (decimal z (front_digits 10 rest) (rw digit at digits.all) other_byte))
 
 hexadecimal_front : (x d : ℕ) (rest : List ℕ) → (x ∷ [] ≡ codes "x") ⊎ (x ∷ [] ≡ codes "X") → is_digit d 16 ≡ true
-    → SpelledFront (48 ∷ x ∷ d ∷ rest) 16 (value_of 16 (d ∷ rest)) (2 + length (front_digits 16 (d ∷ rest)))
+    → SpelledFront (48 ∷ x ∷ d ∷ rest) 16 (front_digits_value 16 (d ∷ rest)) (2 + length (front_digits 16 (d ∷ rest)))
 hexadecimal_front x d rest is digit =
     let digits = split_digits 16 (d ∷ rest) in
     let more : front_digits 16 (d ∷ rest) ≡ d ∷ front_digits 16 rest = rw digit refl in
@@ -97,7 +97,7 @@ without_prefix : (z : ℕ) (rest : List ℕ) → is_digit z 10 ≡ true → is_h
 without_prefix z rest digit hex = rw hex (by_test (z == 48) refl)
   where
     by_test : (t : Bool) → z == 48 ≡ t
-        → SpelledFront (z ∷ rest) (if t then 8 else 10) (value_of (if t then 8 else 10) (z ∷ rest))
+        → SpelledFront (z ∷ rest) (if t then 8 else 10) (front_digits_value (if t then 8 else 10) (z ∷ rest))
         (0 + length (front_digits (if t then 8 else 10) (z ∷ rest)))
     by_test true is = let zero : z ≡ 48 = eqb-true z 48 is in rw zero (octal_front rest)
     by_test false is = decimal_front z rest digit is
@@ -113,7 +113,7 @@ spelled_front (z ∷ x ∷ d ∷ rest) begins = by_test (is_hexadecimal (z ∷ x
         → SpelledFront (z ∷ x ∷ d ∷ rest) (radix_of (z ∷ x ∷ d ∷ rest)) (number_value (z ∷ x ∷ d ∷ rest)) (number_end (z ∷ x ∷ d ∷ rest))
     by_test true hex =
         let bytes = prefix_bytes z x d hex in
-        rw hex (subst (λ n. SpelledFront (n ∷ x ∷ d ∷ rest) 16 (value_of 16 (d ∷ rest)) (2 + length (front_digits 16 (d ∷ rest))))
+        rw hex (subst (λ n. SpelledFront (n ∷ x ∷ d ∷ rest) 16 (front_digits_value 16 (d ∷ rest)) (2 + length (front_digits 16 (d ∷ rest))))
         (sym bytes.0) (hexadecimal_front x d rest bytes.1 bytes.2))
     by_test false hex = without_prefix z (x ∷ d ∷ rest) begins hex
 
@@ -172,8 +172,8 @@ number_read radix front n rest (decimal d ds all other) short stops =
 abbrev if_fits : Bool → ℕ → ℕ → Result (ℕ × ℕ) NumFault
 if_fits t value taken = if t then Ok (value, taken) else Err TooLarge
 
-fitting-ok : (value taken n end : ℕ) → fitting value taken ≡ Ok (n, end) → (value ≡ n) × (taken ≡ end) × (value < 2 ^ 64)
-fitting-ok value taken n end = by_test (nat_lt value (2 ^ 64)) refl
+fit_in_u64-ok : (value taken n end : ℕ) → fit_in_u64 value taken ≡ Ok (n, end) → (value ≡ n) × (taken ≡ end) × (value < 2 ^ 64)
+fit_in_u64-ok value taken n end = by_test (nat_lt value (2 ^ 64)) refl
   where
     by_test : (t : Bool) → nat_lt value (2 ^ 64) ≡ t → if_fits t value taken ≡ Ok (n, end)
         → (value ≡ n) × (taken ≡ end) × (value < 2 ^ 64)
@@ -187,9 +187,9 @@ abbrev pub IsSpelledTo : List ℕ → ℕ → (List ℕ → Type 0) → Type 0
 IsSpelledTo text end Spells = (front : List ℕ) × Spells front × (text ≡ front ++ drop end text) × (length front ≡ end)
 
 number-spelled_front : (text : List ℕ) (radix value end : ℕ) → SpelledFront text radix value end → (n taken : ℕ)
-    → fitting value end ≡ Ok (n, taken) → IsSpelledTo text taken (λ front. SpellsNumber front n)
+    → fit_in_u64 value end ≡ Ok (n, taken) → IsSpelledTo text taken (λ front. SpellsNumber front n)
 number-spelled_front text radix value end spelled n taken is =
-    let read = fitting-ok value end n taken is in
+    let read = fit_in_u64-ok value end n taken is in
     subst (λ k. IsSpelledTo text k (λ front. SpellsNumber front n)) read.1
     (subst (λ v. IsSpelledTo text end (λ front. SpellsNumber front v)) read.0 (
       spelled.front,
@@ -214,24 +214,24 @@ size-spelled_front : (text : List ℕ) (radix value end : ℕ) → SpelledFront 
     → (n taken : ℕ) → with_suffix value end (suffix_of rest) ≡ Ok (n, taken) → IsSpelledTo text taken (λ front. SpellsSize front n)
 size-spelled_front text radix value end spelled rest behind n taken is = by_rest rest behind is
   where
-    alone : fitting (value * 1) (end + 0) ≡ Ok (n, taken) → IsSpelledTo text taken (λ front. SpellsSize front n)
+    alone : fit_in_u64 (value * 1) (end + 0) ≡ Ok (n, taken) → IsSpelledTo text taken (λ front. SpellsSize front n)
     alone is =
         let once : value * 1 ≡ value = omega arith in
         let same : end + 0 ≡ end = omega arith in
         let number = number-spelled_front text radix value end spelled n taken (rw (once, same) at is) in
-        (number.0, bare number.0 n number.1, number.2, number.3)
+        (number.0, number_alone number.0 n number.1, number.2, number.3)
 
     with_letter : (b : ℕ) (bs : List ℕ) → drop end text ≡ b ∷ bs → (factor : ℕ) → suffix_at b ≡ (factor, 1)
-        → fitting (value * factor) (end + 1) ≡ Ok (n, taken) → IsSpelledTo text taken (λ front. SpellsSize front n)
+        → fit_in_u64 (value * factor) (end + 1) ≡ Ok (n, taken) → IsSpelledTo text taken (λ front. SpellsSize front n)
     with_letter b bs behind factor suffix is =
-        let read = fitting-ok (value * factor) (end + 1) n taken is in
+        let read = fit_in_u64-ok (value * factor) (end + 1) n taken is in
         let next : drop (end + 1) text ≡ bs = sym (drop-drop 1 end text) ∙ ap (drop 1) behind in
         let whole : text ≡ (spelled.front ++ (b ∷ [])) ++ drop (end + 1) text =
         rw (next, append_assoc) (spelled.whole ∙ ap (λ (rest : List ℕ). spelled.front ++ rest) behind) in
         subst (λ k. IsSpelledTo text k (λ front. SpellsSize front n)) read.1
         (subst (λ v. IsSpelledTo text (end + 1) (λ front. SpellsSize front v)) read.0 (
           spelled.front ++ (b ∷ []),
-          suffixed radix value factor b spelled.front spelled.number suffix (spelled.stops b bs behind) read.2,
+          number_with_suffix radix value factor b spelled.front spelled.number suffix (spelled.stops b bs behind) read.2,
           whole,
           length_push spelled.front b ∙ ap (λ (k : ℕ). k + 1) spelled.taken,
         ))
@@ -253,7 +253,7 @@ pub number-spelled : (text : List ℕ) (n end : ℕ) → number_of text ≡ Ok (
 number-spelled text n end = by_test (begins_with_digit text) refl
   where
     by_test : (t : Bool) → begins_with_digit text ≡ t
-        → (if t then fitting (number_value text) (number_end text) else Err NoDigits) ≡ Ok (n, end)
+        → (if t then fit_in_u64 (number_value text) (number_end text) else Err NoDigits) ≡ Ok (n, end)
         → IsSpelledTo text end (λ front. SpellsNumber front n)
     by_test false begins is = cc
     by_test true begins is =
@@ -272,31 +272,31 @@ size-spelled text n end = by_test (begins_with_digit text) refl
         (drop (number_end text) text) refl n end is
 
 -- what is spelled is read
-number_of-front : (text : List ℕ) (n end : ℕ) → ReadsFront text n end → number_of text ≡ fitting n end
+number_of-front : (text : List ℕ) (n end : ℕ) → ReadsFront text n end → number_of text ≡ fit_in_u64 n end
 number_of-front text n end reads = rw (reads.begins, reads.value, reads.taken) refl
 
 size_of-front : (text : List ℕ) (n end : ℕ) → ReadsFront text n end → size_of text ≡ with_suffix n end (suffix_of (drop end text))
 size_of-front text n end reads = rw (reads.begins, reads.value, reads.taken) refl
 
-fitting-small : (n end : ℕ) → n < 2 ^ 64 → fitting n end ≡ Ok (n, end)
-fitting-small n end small = rw (lt-ltb n (2 ^ 64) small) refl
+fit_in_u64-small : (n end : ℕ) → n < 2 ^ 64 → fit_in_u64 n end ≡ Ok (n, end)
+fit_in_u64-small n end small = rw (lt-ltb n (2 ^ 64) small) refl
 
 reads_whole : (text : List ℕ) (n : ℕ) → SpellsNumber text n → ReadsFront text n (length text)
 reads_whole text n spells = rw append-nil at (number_read spells.radix text n [] spells.number (omega arith) refl)
 
 pub number-read : (text : List ℕ) (n : ℕ) → SpellsNumber text n → IsNumber text n
-number-read text n spells = number_of-front text n (length text) (reads_whole text n spells) ∙ fitting-small n (length text) spells.fits
+number-read text n spells = number_of-front text n (length text) (reads_whole text n spells) ∙ fit_in_u64-small n (length text) spells.fits
 
 pub size-read : (text : List ℕ) (n : ℕ) → SpellsSize text n → IsSize text n
-size-read text n (bare _ _ spells) =
+size-read text n (number_alone _ _ spells) =
     let value : n * 1 ≡ n = omega arith in
     let end : length text + 0 ≡ length text = omega arith in
     size_of-front text n (length text) (reads_whole text n spells)
-    ∙ rw (drop-length text, value, end) (fitting-small n (length text) spells.fits)
-size-read text n (suffixed radix m factor b front spells suffix other fits) =
+    ∙ rw (drop-length text, value, end) (fit_in_u64-small n (length text) spells.fits)
+size-read text n (number_with_suffix radix m factor b front spells suffix other fits) =
     let reads : ReadsFront (front ++ (b ∷ [])) m (length front) = number_read radix front m (b ∷ []) spells (omega arith) (rw other refl) in
     size_of-front (front ++ (b ∷ [])) m (length front) reads
-    ∙ rw (drop-append_seam front (b ∷ []), suffix, length_push front b) (fitting-small (m * factor) (length front + 1) fits)
+    ∙ rw (drop-append_seam front (b ∷ []), suffix, length_push front b) (fit_in_u64-small (m * factor) (length front + 1) fits)
 
 -- the whole text, where nothing is left of it
 whole-spelled : (Spells : List ℕ → Type 0) (text : List ℕ) → IsSpelledTo text (length text) Spells → Spells text

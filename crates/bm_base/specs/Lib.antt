@@ -1,6 +1,6 @@
 pub mod Answers
 pub mod Each
-pub mod Extent
+pub mod Range
 pub mod Frames
 pub mod OptionSteps
 pub mod PutsText

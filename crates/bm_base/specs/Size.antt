@@ -13,8 +13,8 @@ front_digits radix [] = []
 front_digits radix (b ∷ bs) = if is_digit b radix then b ∷ front_digits radix bs else []
 
 -- what they write in that base
-abbrev pub value_of : ℕ → List ℕ → ℕ
-value_of radix text = digits_value radix (front_digits radix text)
+abbrev pub front_digits_value : ℕ → List ℕ → ℕ
+front_digits_value radix text = digits_value radix (front_digits radix text)
 
 -- `0x` or `0X` before a hexadecimal digit begins a hexadecimal number
 abbrev pub is_hexadecimal : List ℕ → Bool
@@ -43,7 +43,7 @@ radix_of text = if is_hexadecimal text then 16 else (if begins_with_zero text th
 
 -- the number at the front, and the number of bytes that it takes
 abbrev pub number_value : List ℕ → ℕ
-number_value text = value_of (radix_of text) (drop (prefix_of text) text)
+number_value text = front_digits_value (radix_of text) (drop (prefix_of text) text)
 
 abbrev pub number_end : List ℕ → ℕ
 number_end text = prefix_of text + length (front_digits (radix_of text) (drop (prefix_of text) text))
@@ -64,15 +64,15 @@ suffix_of [] = (1, 0)
 suffix_of (b ∷ bs) = suffix_at b
 
 -- the value and the bytes that it took, where the value is a u64
-abbrev pub fitting : ℕ → ℕ → Result (ℕ × ℕ) NumFault
-fitting value taken = if nat_lt value (2 ^ 64) then Ok (value, taken) else Err TooLarge
+abbrev pub fit_in_u64 : ℕ → ℕ → Result (ℕ × ℕ) NumFault
+fit_in_u64 value taken = if nat_lt value (2 ^ 64) then Ok (value, taken) else Err TooLarge
 
 abbrev pub with_suffix : ℕ → ℕ → ℕ × ℕ → Result (ℕ × ℕ) NumFault
-with_suffix value end suffix = fitting (value * suffix.0) (end + suffix.1)
+with_suffix value end suffix = fit_in_u64 (value * suffix.0) (end + suffix.1)
 
 -- the number at the front of the text, without a suffix
 abbrev pub number_of : List ℕ → Result (ℕ × ℕ) NumFault
-number_of text = if begins_with_digit text then fitting (number_value text) (number_end text) else Err NoDigits
+number_of text = if begins_with_digit text then fit_in_u64 (number_value text) (number_end text) else Err NoDigits
 
 -- the size at the front of the text: the number with the one suffix that may follow
 abbrev pub size_of : List ℕ → Result (ℕ × ℕ) NumFault

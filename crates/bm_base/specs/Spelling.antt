@@ -20,6 +20,6 @@ pub record SpellsNumber (text : List ℕ) (n : ℕ) : Type 0 where
 
 -- a size: a number, or a number with a suffix, which is no digit of the number's base (`E` is one in base 16)
 pub data SpellsSize : List ℕ → ℕ → Type 0 where
-  bare : (text : List ℕ) (n : ℕ) → SpellsNumber text n → SpellsSize text n
-  suffixed : (radix n factor b : ℕ) (text : List ℕ) → SpellsIn radix text n → suffix_at b ≡ (factor, 1) → is_digit b radix ≡ false
+  number_alone : (text : List ℕ) (n : ℕ) → SpellsNumber text n → SpellsSize text n
+  number_with_suffix : (radix n factor b : ℕ) (text : List ℕ) → SpellsIn radix text n → suffix_at b ≡ (factor, 1) → is_digit b radix ≡ false
       → n * factor < 2 ^ 64 → SpellsSize (text ++ (b ∷ [])) (n * factor)

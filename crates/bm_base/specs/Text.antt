@@ -3,12 +3,12 @@ use Rattle.std.specs.Prelude.{ℕ, ◌-◌, List, ◌++◌, length, replicate, c
 use Rattle.std.specs.Fmt.{digits}
 
 -- the digits of n in base 16, lower case, without leading zeros
-abbrev pub hexadecimal : ℕ → List ℕ
-hexadecimal n = digits 16 false n
+abbrev pub hex_digits : ℕ → List ℕ
+hex_digits n = digits 16 false n
 
 -- an address: `0x` and 16 digits (`%#018llx` of the kernel's log)
 abbrev pub hex_text : ℕ → List ℕ
-hex_text n = codes "0x" ++ replicate (16 - length (hexadecimal n)) 48 ++ hexadecimal n
+hex_text n = codes "0x" ++ replicate (16 - length (hex_digits n)) 48 ++ hex_digits n
 
 -- a decimal, right-aligned with spaces in that many places (`%*llu`)
 abbrev pub padded_decimal : ℕ → ℕ → List ℕ

@@ -2,7 +2,7 @@
 //!
 //! Everything in the boot speaks of ranges of physical addresses. A [`Range`] is a base and a size
 //! in bytes whose sum is at most 2^64 - 1, as `struct range` and the firmware's entries have them;
-//! contracts see it as an `Extent`, a base and a size, wherever it stands.
+//! contracts see it as a `RangeView`, a base and a size, wherever it stands.
 //!
 //! Memory is handed out by frames of [`FRAME_SIZE`] bytes (`specs/Frames.antt`); that something holds of
 //! each address of a range, or of each of several frames, is said by `each_in` and `each_from`
@@ -24,20 +24,16 @@
 //! those of frames and of an alignment. How far physical addresses go is a [`Width`].
 #![tactic(auto)]
 
-mod frame;
 mod memory;
 mod range;
-mod rounding;
 mod size;
 mod text;
 mod width;
 mod zone;
 
-pub use frame::FRAME_SIZE;
 pub use memory::{Memory, push_within_capacity};
-pub use range::Range;
-pub use rounding::{round_down, round_up};
-pub use size::{NumFault, read_number, read_size, sizes_are_spelled, sizes_of_spelling};
+pub use range::{FRAME_SIZE, Range, round_down, round_up};
+pub use size::{NumFault, read_number, read_size, sizes_are_spelled, spelled_sizes_are_read};
 pub use text::{put_dec, put_hex, put_text};
 pub use width::Width;
 pub use zone::{MAX_DMA_FRAME, MAX_DMA32_FRAME, Zone, zone_of};

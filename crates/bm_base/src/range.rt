@@ -1,13 +1,15 @@
 //! Ranges of physical addresses, as the firmware's entries and `struct range` have them. That base and size add up to
 //! a `u64` is kept by the type, so that no layer above has to look whether an end wraps.
 
-ghost use Rattle.std.specs.Prelude.{◌≡◌, ℕ, ◌+◌, ◌-◌, ◌^◌, ◌<◌, ◌↔◌, SomeIff, IsTrue};
-ghost use Rattle.bm_base.specs.Extent.{covers, end_of, Meet};
+ghost use Rattle.std.specs.Prelude.{◌≡◌, ℕ, ◌+◌, ◌-◌, ◌%◌, ◌^◌, ◌<◌, ◌↔◌, SomeIff, IsTrue};
+ghost use Rattle.std.specs.Int.{next_multiple_of};
+ghost use Rattle.bm_base.specs.Range.{covers, end_of, Meet};
 ghost use Rattle.bm_base.specs.Frames.{frames_within};
 
-use crate::frame::FRAME_SIZE;
-use crate::rounding::{round_down, round_up};
 use std::marker::Model;
+
+/// The bytes of a frame (`PAGE_SIZE` of x86-64). Frame n begins at address n times this (`PFN_PHYS`).
+pub const FRAME_SIZE: u64 = 4096;
 
 /// The addresses from `base` on, `size` bytes of them. The sum of both is at most 2^64 - 1, so the
 /// address behind the last byte is a `u64` too. A range of size 0 holds no address.
@@ -21,9 +23,9 @@ pub struct Range {
 
 impl Model for Range {
     ghost use Rattle.std.specs.Prelude.{◌+◌, ◌^◌, ◌<◌};
-    ghost use Rattle.bm_base.specs.Extent.{Extent};
+    ghost use Rattle.bm_base.specs.Range.{RangeView};
 
-    ghost Value = { Extent };
+    ghost Value = { RangeView };
 
     ghost view = { λ r. record { base = r.base; size = r.size } };
 
@@ -86,4 +88,22 @@ impl Range {
         let behind = self.end().min(other.end());
         first < behind
     }
+}
+
+/// The least multiple of `to` at or above `x`; `None` exactly where it exceeds 2^64 - 1, at which the
+/// kernel's `round_up` (include/linux/math.h) wraps. `to` is above 0; the kernel's is a power of two.
+pub fn round_up(x: u64, to: u64) -> Option<u64>
+    requires { 0 < to }
+    ensures { SomeIff result (next_multiple_of x to < 2 ^ 64) (next_multiple_of x to) }
+{
+    x.checked_next_multiple_of(to)
+}
+
+/// The greatest multiple of `to` at or below `x` (`round_down` of include/linux/math.h). `to` is above 0;
+/// the kernel's is a power of two.
+pub fn round_down(x: u64, to: u64) -> u64
+    requires { 0 < to }
+    ensures { result ≡ x - x % to }
+{
+    x - x % to
 }

@@ -4,7 +4,7 @@
 ghost use Rattle.std.specs.Prelude.{◌≡◌, ◌↔◌, ℕ, Bool, false, List, ◌∷◌, ◌++◌, Ok, ◌+◌, ◌*◌, ◌^◌, ◌<◌, ◌≤◌, length, drop, IfSome, IfNone, IfOk, IsTrue, SomeIff};
 ghost use Rattle.std.specs.Char.{is_digit};
 ghost use Rattle.std.specs.Fmt.{decimal};
-ghost use Rattle.bm_base.specs.Size.{front_digits, value_of, is_hexadecimal, begins_with_digit, radix_of, suffix_of, number_of, size_of, IsSize, IsNumber};
+ghost use Rattle.bm_base.specs.Size.{front_digits, front_digits_value, is_hexadecimal, begins_with_digit, radix_of, suffix_of, number_of, size_of, IsSize, IsNumber};
 ghost use Rattle.bm_base.specs.Spelling.{SpellsNumber, SpellsSize};
 
 /// Why a text doesn't begin with a number.
@@ -26,7 +26,7 @@ pub fn read_size(text: &[u8]) -> Result<(u64, usize), NumFault>
     ensures bound { IfOk result (λ found. found.1 ≤ length text.now) }
 {
     let (number, end) = read_number(text)?;
-    let (factor, taken) = suffix_behind(text, end);
+    let (factor, taken) = read_suffix(text, end);
     let value = number.checked_mul(factor).ok_or(NumFault::TooLarge)?;
     Ok((value, end + taken))
 }
@@ -49,7 +49,7 @@ pub fn read_number(text: &[u8]) -> Result<(u64, usize), NumFault>
 
 /// A law: what is spelled as a number is read as that number. A size goes as far as the next byte that
 /// is no digit and no letter, and the decimal digits of a `u64` are read as it.
-pub fn sizes_of_spelling()
+pub fn spelled_sizes_are_read()
     ensures size { (text rest : List ℕ) (mark : ℕ) → is_digit mark 36 ≡ false →
         size_of (text ++ (mark ∷ rest)) ≡ size_of text }
     ensures number { (text rest : List ℕ) (mark : ℕ) → is_digit mark 36 ≡ false →
@@ -111,9 +111,9 @@ fn read_digits(text: &[u8], radix: u32) -> Option<(u64, usize)>
     requires lower_bound { 2 ≤ radix }
     requires upper_bound { radix ≤ 36 }
     ensures found { IfSome result (λ found.
-        (found.0 ≡ value_of radix text.now) × (found.1 ≡ length (front_digits radix text.now))) }
+        (found.0 ≡ front_digits_value radix text.now) × (found.1 ≡ length (front_digits radix text.now))) }
     ensures bound { IfSome result (λ found. found.1 ≤ length text.now) }
-    ensures none { IfNone result (2 ^ 64 ≤ value_of radix text.now) }
+    ensures none { IfNone result (2 ^ 64 ≤ front_digits_value radix text.now) }
 {
     let mut value: u64 = 0;
     for (count, byte) in text.iter().enumerate() {
@@ -133,7 +133,7 @@ fn with_digit(value: u64, radix: u64, digit: u64) -> Option<u64>
 }
 
 /// The factor of the suffix that stands at `end`, and the bytes that it takes.
-fn suffix_behind(text: &[u8], end: usize) -> (u64, usize)
+fn read_suffix(text: &[u8], end: usize) -> (u64, usize)
     requires { end ≤ length text.now }
     ensures value { result ≡ suffix_of (drop end text.now) }
     ensures bound { end + result.1 ≤ length text.now }

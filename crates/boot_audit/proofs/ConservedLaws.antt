@@ -3,7 +3,7 @@ use Rattle.std.proofs.Common.{◌≡◌, ℕ, zero, suc, ◌+◌, ◌*◌, ◌/�
 use Rattle.std.proofs.Math.Bool.{and-false}
 use Rattle.std.proofs.lemmas.Bool.{cases_Bool, cases_lt, and_parts}
 use Rattle.std.proofs.lemmas.Bool.Decides.{nat_tests}
-use Rattle.bm_base.specs.Extent.{Extent, covers, end_of}
+use Rattle.bm_base.specs.Range.{RangeView, covers, end_of}
 use Rattle.bm_base.specs.Frames.{bytes_of_frame}
 use Rattle.bm_base.specs.Width.{reach_of}
 use Rattle.bm_base.specs.declared.width.Width.{Width}
@@ -130,7 +130,7 @@ not_false : (b : Bool) → not b ≡ false → b ≡ true
 not_false true is = refl
 not_false false is = cc
 
-module _ (limit : ℕ) (lines : List MapLine) (owners : List Extent) (bs : List Block) (near : limit ≤ 2 ^ 52)
+module _ (limit : ℕ) (lines : List MapLine) (owners : List RangeView) (bs : List Block) (near : limit ≤ 2 ^ 52)
     (order : AscendApart (map frames_of_block bs)) (fit : (k : ℕ) (d : Block) → k < length bs → IsBlock (get_or bs k d)) where
   -- a usable frame where none is lost, and none in a block isn't free
   touched_or_one : (f : ℕ) (untouched in_it : Bool) → is_untouched owners f ≡ untouched → in_a_block bs f ≡ in_it

@@ -4,7 +4,7 @@ use Rattle.std.proofs.Math.Bool.{and-false}
 use Rattle.std.proofs.Math.Nat.{mul_assoc, div-add-mod}
 use Rattle.std.proofs.lemmas.Bool.{and_from, and_parts}
 use Rattle.std.proofs.lemmas.Bool.Decides.{Decides-eqb, nat_tests}
-use Rattle.bm_base.specs.Extent.{Extent, covers}
+use Rattle.bm_base.specs.Range.{RangeView, covers}
 use Rattle.bm_base.specs.Frames.{bytes_of_frame}
 use Rattle.bm_base.proofs.EachLaws.{each_in-all, each_in-fails}
 use Rattle.audit_lines.specs.Blocks.{Block, bytes_of_block}
@@ -64,7 +64,7 @@ free_in_block true blocked in_it other = refl
 free_in_block false true in_it other = absurd (other refl)
 free_in_block false false in_it other = cc
 
-module _ (limit : ℕ) (map_lines : List MapLine) (owners : List Extent) where
+module _ (limit : ℕ) (map_lines : List MapLine) (owners : List RangeView) where
   free_byte : ℕ → Bool
   free_byte x = is_free_byte limit map_lines owners x
 
@@ -155,14 +155,14 @@ module _ (limit : ℕ) (map_lines : List MapLine) (owners : List Extent) where
     }
 
 -- what four tests of a byte say of it
-pub around : (limit : ℕ) (map_lines : List MapLine) (owners : List Extent) (blocks : List Block) (x : ℕ) (below inside owned held : Bool)
+pub around : (limit : ℕ) (map_lines : List MapLine) (owners : List RangeView) (blocks : List Block) (x : ℕ) (below inside owned held : Bool)
     → nat_lt x limit ≡ below → in_memory map_lines x ≡ inside → is_owned owners x ≡ owned → in_block_byte blocks x ≡ held
     → state_at limit map_lines owners blocks x ≡ state_by ((below && inside) && not owned) held
 unfolding state_at
 around limit map_lines owners blocks x below inside owned held first second third fourth = rw (first, second, third, fourth) refl
 
 -- the same lists from an address on
-pub same_state : (limit : ℕ) (runs map_lines : List MapLine) (left owners : List Extent) (rest blocks : List Block) (x : ℕ)
+pub same_state : (limit : ℕ) (runs map_lines : List MapLine) (left owners : List RangeView) (rest blocks : List Block) (x : ℕ)
     → in_memory runs x ≡ in_memory map_lines x → is_owned left x ≡ is_owned owners x → in_block_byte rest x ≡ in_block_byte blocks x
     → state_at limit map_lines owners blocks x ≡ state_at limit runs left rest x
 unfolding state_at

@@ -4,7 +4,7 @@ use Rattle.std.specs.List.{All}
 use Rattle.std.proofs.lemmas.Bool.{and_parts}
 use Rattle.std.proofs.lemmas.Bool.Decides.{nat_tests}
 use Rattle.std.proofs.lemmas.List.Elements.{All-cons, All-nil}
-use Rattle.bm_base.specs.Extent.{Extent, end_of}
+use Rattle.bm_base.specs.Range.{RangeView, end_of}
 use Rattle.bm_base.specs.ResultSteps.{◌>>=◌, with_error}
 use Rattle.bm_base.specs.OptionSteps.{◌>>=◌ as ◌and_then◌}
 use Rattle.bm_base.specs.Width.{reach_of}
@@ -59,7 +59,7 @@ block_fits index text b is =
     step_some (ends at.1) _ b (IsBlock b) (λ nothing.
     within (record { node = node.0; zone = zone.0; order = order.0; at = at.0 }) b _ refl))))))))) is
 
-module _ {L : Type 0} (form : ℕ → List ℕ → Option L) (extent : L → Extent) (P : L → Type 0)
+module _ {L : Type 0} (form : ℕ → List ℕ → Option L) (extent : L → RangeView) (P : L → Type 0)
     (fits : (index : ℕ) (text : List ℕ) (line : L) → form index text ≡ Some line → P line) where
   ordered : (index : ℕ) (below : Bool) (other line : L)
       → ◌≡◌ {A = Result L LineFault} (if below then Err (line_faults.Order (index + 1)) else Ok other) (Ok line) → other ≡ line
@@ -96,7 +96,7 @@ module _ {L : Type 0} (form : ℕ → List ℕ → Option L) (extent : L → Ext
       (λ line. lines_fit (index + 1) (end_of (extent line)) texts left) is
 
 -- lines that were read are those of some bytes
-read_of : {L : Type 0} (form : ℕ → List ℕ → Option L) (extent : L → Extent) (report : Report) (held : Option (List ℕ)) (lines : List L)
+read_of : {L : Type 0} (form : ℕ → List ℕ → Option L) (extent : L → RangeView) (report : Report) (held : Option (List ℕ)) (lines : List L)
     → lines_by form extent report held ≡ Ok lines → (bytes : List ℕ) × (report_of form extent bytes ≡ Ok lines)
 read_of form extent report None lines is = cc
 read_of form extent report (Some bytes) lines is = (bytes, by_length (nat_lt 536870912 (length bytes)) (report_of form extent bytes) is)
@@ -127,7 +127,7 @@ good_lines held wanted lines is =
     (lines_by owner_in (λ r. r) reports.Owners (held wanted.owners_name))
     (lines_by block_in bytes_of_block reports.Blocks (held wanted.blocks_name)) refl is
   where
-    by_map : (m : Result (List MapLine) Reason) (o : Result (List Extent) Reason) (b : Result (List Block) Reason)
+    by_map : (m : Result (List MapLine) Reason) (o : Result (List RangeView) Reason) (b : Result (List Block) Reason)
         → lines_by block_in bytes_of_block reports.Blocks (held wanted.blocks_name) ≡ b
         → (m >>= λ map_lines. o >>= λ owners. b >>= λ blocks.
         Ok (record { map_lines = map_lines; owners = owners; blocks = blocks })) ≡ Ok lines

@@ -1,17 +1,17 @@
 -- What ascending lines say of a byte below, in and behind the first of them.
 use Rattle.std.proofs.Common.{◌≡◌, ℕ, ◌<◌, ◌≤◌, ◌&&◌, ◌||◌, Bool, true, false, List, [], ◌∷◌, map, refl, ap, ◌∙◌, arith}
 use Rattle.std.proofs.lemmas.Bool.Decides.{nat_tests}
-use Rattle.bm_base.specs.Extent.{Extent, covers, end_of}
+use Rattle.bm_base.specs.Range.{RangeView, covers, end_of}
 use Rattle.audit_lines.specs.Lines.{StartFrom, AscendApart}
 use Rattle.boot_audit.specs.Sweep.{says}
 
-pub covers_below : (r : Extent) (x : ℕ) → x < r.base → covers r x ≡ false
+pub covers_below : (r : RangeView) (x : ℕ) → x < r.base → covers r x ≡ false
 covers_below r x below = grind (arith, nat_tests)
 
-pub covers_past : (r : Extent) (x : ℕ) → end_of r ≤ x → covers r x ≡ false
+pub covers_past : (r : RangeView) (x : ℕ) → end_of r ≤ x → covers r x ≡ false
 covers_past r x past = grind (arith, nat_tests)
 
-pub covers_in : (r : Extent) (x : ℕ) → r.base ≤ x → x < end_of r → covers r x ≡ true
+pub covers_in : (r : RangeView) (x : ℕ) → r.base ≤ x → x < end_of r → covers r x ≡ true
 covers_in r x above below = grind (arith, nat_tests)
 
 abbrev pub either : Bool → Bool → Bool → Bool
@@ -25,7 +25,7 @@ first_false : (c others : Bool) → either c false others ≡ others
 first_false true others = refl
 first_false false others = refl
 
-module _ {L : Type 0} (counts : L → Bool) (extent : L → Extent) where
+module _ {L : Type 0} (counts : L → Bool) (extent : L → RangeView) where
   pub says_below : (at x : ℕ) (lines : List L) → StartFrom at (map extent lines) → AscendApart (map extent lines) → x < at
       → says counts extent lines x ≡ false
   says_below at x [] start order below = refl

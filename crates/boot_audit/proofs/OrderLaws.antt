@@ -1,6 +1,6 @@
 -- Blocks whose bytes are ascending have ascending frames.
 use Rattle.std.proofs.Common.{ℕ, ◌+◌, ◌*◌, ◌/◌, ◌^◌, ◌≤◌, List, [], ◌∷◌, map, arith}
-use Rattle.bm_base.specs.Extent.{end_of}
+use Rattle.bm_base.specs.Range.{end_of}
 use Rattle.audit_lines.specs.Blocks.{Block, bytes_of_block}
 use Rattle.audit_lines.specs.Lines.{StartFrom, AscendApart}
 use Rattle.boot_audit.specs.Frames.{frames_of_block}

@@ -4,7 +4,7 @@ use Rattle.std.proofs.Math.Nat.{mod-lt}
 use Rattle.std.proofs.lemmas.Nat.{pow_pos}
 use Rattle.std.proofs.lemmas.Bool.{cases_Bool, cases_lt, and_parts}
 use Rattle.std.proofs.lemmas.Bool.Decides.{Decides-eqb, nat_tests}
-use Rattle.bm_base.specs.Extent.{covers, end_of}
+use Rattle.bm_base.specs.Range.{covers, end_of}
 use Rattle.bm_base.specs.Each.{each_in}
 use Rattle.bm_base.proofs.EachLaws.{each_in-all, each_in-fails}
 use Rattle.bm_base.specs.declared.zone.Zone.{Zone}

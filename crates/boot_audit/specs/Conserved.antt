@@ -1,7 +1,7 @@
 -- What it means that memory was conserved, by three reports.
 use Rattle.std.specs.Prelude.{◌≡◌, ℕ, ◌+◌, ◌<◌, true, false, if◌then◌else◌, List, [], ◌∷◌, ◌⊎◌}
 use Rattle.std.specs.List.{All}
-use Rattle.bm_base.specs.Extent.{Extent, covers}
+use Rattle.bm_base.specs.Range.{RangeView, covers}
 use Rattle.bm_base.specs.Width.{reach_of}
 use Rattle.bm_base.specs.declared.width.Width.{Width}
 use Rattle.audit_lines.specs.Blocks.{Block}
@@ -15,7 +15,7 @@ blocks_with [] frame = 0
 blocks_with (b ∷ bs) frame = if covers (frames_of_block b) frame then blocks_with bs frame + 1 else blocks_with bs frame
 
 -- a frame is touched and in no block, or untouched and in exactly one
-abbrev pub IsTouchedOrInOne : List Extent → List Block → ℕ → Type 0
+abbrev pub IsTouchedOrInOne : List RangeView → List Block → ℕ → Type 0
 IsTouchedOrInOne owners blocks frame =
     ((is_untouched owners frame ≡ false) × (blocks_with blocks frame ≡ 0))
     ⊎ ((is_untouched owners frame ≡ true) × (blocks_with blocks frame ≡ 1))
@@ -26,7 +26,7 @@ pub record IsSoundBlock (blocks : List Block) (b : Block) : Type 0 where
   pub in_zone : is_in_zone b ≡ true
   pub maximal : could_join blocks b ≡ false
 
-pub record AreConserved (limit : ℕ) (map_lines : List MapLine) (owners : List Extent) (blocks : List Block) : Type 0 where
+pub record AreConserved (limit : ℕ) (map_lines : List MapLine) (owners : List RangeView) (blocks : List Block) : Type 0 where
   -- each usable frame is touched or in exactly one block, and not both
   pub frames : (frame : ℕ) → is_usable limit map_lines frame ≡ true → IsTouchedOrInOne owners blocks frame
   -- each frame of a block is usable and untouched

@@ -2,13 +2,13 @@
 -- with another.
 use Rattle.std.specs.Prelude.{ℕ, ◌+◌, ◌-◌, ◌*◌, ◌/◌, ◌%◌, ◌^◌, ◌==◌, ◌&&◌, ◌||◌, Bool, true, false, not, nat_lt, List}
 use Rattle.std.specs.List.{list_any}
-use Rattle.bm_base.specs.Extent.{Extent, covers}
+use Rattle.bm_base.specs.Range.{RangeView, covers}
 use Rattle.bm_base.specs.Each.{each_in}
 use Rattle.bm_base.specs.Frames.{bytes_of_frame}
 use Rattle.bm_base.specs.Zones.{zone_of}
 use Rattle.bm_base.specs.declared.zone.Zone.{Zone}
 use Rattle.bm_base.specs.declared.zone.Zone.TheVariants as zones
-use Rattle.bm_base.specs.declared.frame.TheConstants.{FRAME_SIZE}
+use Rattle.bm_base.specs.declared.range.TheConstants.{FRAME_SIZE}
 use Rattle.audit_lines.specs.Blocks.{Block}
 use Rattle.audit_lines.specs.declared.lines.MapLine.{MapLine}
 
@@ -21,7 +21,7 @@ abbrev pub in_memory : List MapLine → ℕ → Bool
 in_memory map x = list_any (λ l. is_memory l.kind && covers l.range x) map
 
 -- somebody has the byte
-abbrev pub is_owned : List Extent → ℕ → Bool
+abbrev pub is_owned : List RangeView → ℕ → Bool
 is_owned owners x = list_any (λ r. covers r x) owners
 
 -- each byte of the frame lies below the limit, in a line of memory
@@ -29,11 +29,11 @@ unfoldable pub is_usable : ℕ → List MapLine → ℕ → Bool
 is_usable limit map frame = each_in (bytes_of_frame frame) (λ x. nat_lt x limit && in_memory map x)
 
 -- nobody has a byte of the frame
-unfoldable pub is_untouched : List Extent → ℕ → Bool
+unfoldable pub is_untouched : List RangeView → ℕ → Bool
 is_untouched owners frame = each_in (bytes_of_frame frame) (λ x. not (is_owned owners x))
 
 -- the frames of a block
-abbrev pub frames_of_block : Block → Extent
+abbrev pub frames_of_block : Block → RangeView
 frames_of_block b = record { base = b.at / FRAME_SIZE; size = 2 ^ b.order }
 
 -- the frame is in a block of the list
@@ -55,7 +55,7 @@ unfoldable pub is_in_zone : Block → Bool
 is_in_zone b = each_in (frames_of_block b) (λ frame. same_zone (zone_of frame) b.zone)
 
 -- the aligned set of twice as many frames that has the block's (`__find_buddy_pfn`)
-abbrev pub parent_of : Block → Extent
+abbrev pub parent_of : Block → RangeView
 parent_of b = record {
   base = b.at / FRAME_SIZE - b.at / FRAME_SIZE % 2 ^ (b.order + 1);
   size = 2 ^ (b.order + 1);

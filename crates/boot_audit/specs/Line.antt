@@ -1,7 +1,7 @@
 -- The texts of the program: the verdict on the output, and the one line on the error output.
 use Rattle.std.specs.Prelude.{ℕ, ◌*◌, List, [], ◌++◌, codes, decimal, Option, Some, None}
 use Rattle.bm_base.specs.Text.{hex_text}
-use Rattle.bm_base.specs.declared.frame.TheConstants.{FRAME_SIZE}
+use Rattle.bm_base.specs.declared.range.TheConstants.{FRAME_SIZE}
 use Rattle.program_end.specs.declared.failure.Failure.{Failure}
 use Rattle.program_end.specs.Line.{failure_line as end_line}
 use Rattle.audit_lines.specs.declared.report.LineFault.{LineFault}

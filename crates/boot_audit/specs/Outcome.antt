@@ -1,6 +1,6 @@
 -- What an audit comes to, from the words and from what each name holds.
 use Rattle.std.specs.Prelude.{ℕ, nat_lt, if◌then◌else◌, List, length, Option, Some, None, Result, Ok, Err}
-use Rattle.bm_base.specs.Extent.{Extent}
+use Rattle.bm_base.specs.Range.{RangeView}
 use Rattle.bm_base.specs.ResultSteps.{◌>>=◌, with_error}
 use Rattle.bm_base.specs.Width.{reach_of}
 use Rattle.program_end.specs.declared.failure.Reason.TheVariants as reasons
@@ -19,7 +19,7 @@ use Rattle.boot_audit.specs.Verdicts.{verdict_on}
 use Rattle.boot_audit.specs.Words.{Wanted}
 
 -- the lines of a report, of the bytes that its name holds, which are at most 512 MiB
-abbrev pub lines_by : {L : Type 0} → (ℕ → List ℕ → Option L) → (L → Extent) → Report → Option (List ℕ) → Result (List L) Reason
+abbrev pub lines_by : {L : Type 0} → (ℕ → List ℕ → Option L) → (L → RangeView) → Report → Option (List ℕ) → Result (List L) Reason
 lines_by form extent report None = Err (reasons.Unread report)
 lines_by form extent report (Some bytes) =
     if nat_lt 536870912 (length bytes) then Err (reasons.Faulty report faults.TooLong) else
@@ -28,7 +28,7 @@ lines_by form extent report (Some bytes) =
 -- the lines of the three reports
 pub record Lines : Type 0 where
   pub map_lines : List MapLine
-  pub owners : List Extent
+  pub owners : List RangeView
   pub blocks : List Block
 
 abbrev pub lines_of : Held → Wanted → Result Lines Reason

@@ -1,7 +1,7 @@
 -- What is said of a byte, and of all bytes from an address on.
 use Rattle.std.specs.Prelude.{ℕ, ◌+◌, ◌*◌, ◌/◌, ◌<◌, ◌&&◌, Bool, not, nat_lt, if◌then◌else◌, List, [], ◌∷◌, Option, Some, None}
 use Rattle.std.specs.List.{list_any}
-use Rattle.bm_base.specs.Extent.{Extent, covers, end_of}
+use Rattle.bm_base.specs.Range.{RangeView, covers, end_of}
 use Rattle.audit_lines.specs.Blocks.{Block, bytes_of_block}
 use Rattle.audit_lines.specs.declared.lines.MapLine.{MapLine}
 use Rattle.boot_audit.specs.declared.sweep.State.{State}
@@ -9,12 +9,12 @@ use Rattle.boot_audit.specs.declared.sweep.State.TheVariants as states
 use Rattle.boot_audit.specs.Frames.{in_memory, is_owned}
 
 -- the first range of the list ends behind the number
-abbrev pub EndsBehind : ℕ → List Extent → Type 0
+abbrev pub EndsBehind : ℕ → List RangeView → Type 0
 EndsBehind at [] = Unit {0}
 EndsBehind at (r ∷ rs) = at < end_of r
 
 -- the byte lies in a range of one of the lines that count
-abbrev pub says : {L : Type 0} → (L → Bool) → (L → Extent) → List L → ℕ → Bool
+abbrev pub says : {L : Type 0} → (L → Bool) → (L → RangeView) → List L → ℕ → Bool
 says counts extent lines x = list_any (λ l. counts l && covers (extent l) x) lines
 
 -- the byte is in a block
@@ -22,7 +22,7 @@ abbrev pub in_block_byte : List Block → ℕ → Bool
 in_block_byte blocks x = list_any (λ b. covers (bytes_of_block b) x) blocks
 
 -- the byte lies below the limit, in memory, and nobody has it
-abbrev pub is_free_byte : ℕ → List MapLine → List Extent → ℕ → Bool
+abbrev pub is_free_byte : ℕ → List MapLine → List RangeView → ℕ → Bool
 is_free_byte limit map owners x = (nat_lt x limit && in_memory map x) && not (is_owned owners x)
 
 -- what a byte is, by whether it is free and whether it is in a block
@@ -30,7 +30,7 @@ abbrev pub state_by : Bool → Bool → State
 state_by free in_block =
     if free then (if in_block then states.Sound else states.Lost) else (if in_block then states.NotFree else states.Sound)
 
-unfoldable pub state_at : ℕ → List MapLine → List Extent → List Block → ℕ → State
+unfoldable pub state_at : ℕ → List MapLine → List RangeView → List Block → ℕ → State
 state_at limit map owners blocks x = state_by (is_free_byte limit map owners x) (in_block_byte blocks x)
 
 -- the first whole frame of the bytes from the one address up to the other

@@ -1,6 +1,6 @@
 -- The verdict on saved reports: the first of five faults that there is.
 use Rattle.std.specs.Prelude.{ℕ, zero, suc, ◌+◌, ◌^◌, ◌<◌, ◌&&◌, Bool, not, if◌then◌else◌, List, [], ◌∷◌, Option, Some, None}
-use Rattle.bm_base.specs.Extent.{Extent}
+use Rattle.bm_base.specs.Range.{RangeView}
 use Rattle.bm_base.specs.Width.{reach_of}
 use Rattle.bm_base.specs.declared.width.Width.{Width}
 use Rattle.audit_lines.specs.Blocks.{Block}
@@ -30,14 +30,14 @@ abbrev pub least_frame : (ℕ → Bool) → Option ℕ
 least_frame p = least_below p (2 ^ 40)
 
 -- a frame that is usable and untouched
-abbrev pub is_free : ℕ → List MapLine → List Extent → ℕ → Bool
+abbrev pub is_free : ℕ → List MapLine → List RangeView → ℕ → Bool
 is_free limit map owners frame = is_usable limit map frame && is_untouched owners frame
 
 -- a frame that is in a block, and isn't free; and the other way round
-abbrev pub is_not_free : ℕ → List MapLine → List Extent → List Block → ℕ → Bool
+abbrev pub is_not_free : ℕ → List MapLine → List RangeView → List Block → ℕ → Bool
 is_not_free limit map owners blocks frame = in_a_block blocks frame && not (is_free limit map owners frame)
 
-abbrev pub is_lost : ℕ → List MapLine → List Extent → List Block → ℕ → Bool
+abbrev pub is_lost : ℕ → List MapLine → List RangeView → List Block → ℕ → Bool
 is_lost limit map owners blocks frame = is_free limit map owners frame && not (in_a_block blocks frame)
 
 -- the first fault that there is
@@ -49,7 +49,7 @@ first_fault None None None (Some frame) parted = verdicts.Lost frame
 first_fault None None None None (Some line) = verdicts.NotMaximal line
 first_fault None None None None None = verdicts.Sound
 
-abbrev pub verdict_on : ℕ → List MapLine → List Extent → List Block → Verdict
+abbrev pub verdict_on : ℕ → List MapLine → List RangeView → List Block → Verdict
 verdict_on limit map owners blocks =
     first_fault
     (first_line (λ b. not (is_aligned b)) 1 blocks)

@@ -1,6 +1,6 @@
 -- How one goes over ascending blocks, and knows of each how far its kin go without a gap.
 use Rattle.std.specs.Prelude.{ℕ, ◌+◌, ◌==◌, ◌&&◌, Bool, true, false, nat_le, nat_lt, if◌then◌else◌, List, [], ◌∷◌, Option, Some, None}
-use Rattle.bm_base.specs.Extent.{end_of}
+use Rattle.bm_base.specs.Range.{end_of}
 use Rattle.audit_lines.specs.Blocks.{Block}
 use Rattle.boot_audit.specs.Frames.{are_kin, frames_of_block, parent_of}
 

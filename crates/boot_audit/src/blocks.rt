@@ -4,7 +4,7 @@ ghost use Rattle.std.specs.Prelude.{◌≡◌, ◌^◌, ◌<◌, length, not};
 ghost use Rattle.audit_lines.specs.Blocks.{IsBlock};
 ghost use Rattle.boot_audit.specs.Frames.{frames_of_block, is_aligned, is_in_zone, parent_of, same_zone};
 ghost use Rattle.boot_audit.specs.Verdicts.{first_line};
-ghost use Rattle.bm_base.specs.Extent.{end_of};
+ghost use Rattle.bm_base.specs.Range.{end_of};
 
 use audit_lines::BlockLine;
 use bm_base::{FRAME_SIZE, Zone, zone_of};

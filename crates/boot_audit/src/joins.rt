@@ -9,7 +9,7 @@ ghost use Rattle.audit_lines.specs.Lines.{AscendApart};
 ghost use Rattle.boot_audit.specs.Frames.{are_kin, could_join, frames_of_block, parent_of};
 ghost use Rattle.boot_audit.specs.Verdicts.{first_line};
 ghost use Rattle.boot_audit.specs.Walk.{fills, goes_on, joins, run_start};
-ghost use Rattle.bm_base.specs.Extent.{end_of};
+ghost use Rattle.bm_base.specs.Range.{end_of};
 
 use crate::blocks::{end_frame, first_frame, same_zone};
 use audit_lines::BlockLine;

@@ -6,7 +6,7 @@
 ghost use Rattle.std.specs.Prelude.{◌≡◌, ◌^◌, ◌<◌, ◌≤◌, ◌&&◌, Bool, true, not, nat_lt, ℕ, map, None, IsNone};
 ghost use Rattle.audit_lines.specs.Blocks.{bytes_of_block};
 ghost use Rattle.audit_lines.specs.Lines.{AscendApart};
-ghost use Rattle.bm_base.specs.Extent.{Extent, end_of};
+ghost use Rattle.bm_base.specs.Range.{RangeView, end_of};
 ghost use Rattle.boot_audit.specs.Frames.{is_aligned};
 ghost use Rattle.boot_audit.specs.Sweep.{EndsBehind, carried, first_whole, says, state_at, state_by};
 ghost use Rattle.boot_audit.specs.Verdicts.{first_line, is_lost, is_not_free, least_frame};
@@ -41,7 +41,7 @@ pub struct Swept {
 /// A line that tells something of its bytes.
 pub trait Line: Copy {
     // its addresses
-    ghost extent: { Self → Extent };
+    ghost extent: { Self → RangeView };
 
     // whether it counts
     ghost counted: { Self → Bool };

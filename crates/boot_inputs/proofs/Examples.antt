@@ -8,7 +8,7 @@ use Rattle.e820_table.specs.declared.extension.ExtFault.TheVariants as extension
 use Rattle.e820_table.specs.Entries.{entry_at}
 use Rattle.e820_table.specs.Initrd.{initrd_of, is_initrd_far}
 use Rattle.boot_options.specs.Crash.{no_crash}
-use Rattle.bm_base.specs.Extent.{Extent}
+use Rattle.bm_base.specs.Range.{RangeView}
 use Rattle.bm_base.specs.declared.width.Width.TheVariants.{Bits46}
 use Rattle.boot_model.specs.Boot.{Given, begun, no_options}
 use Rattle.boot_options.specs.declared.fault.OptionFault.TheVariants as options
@@ -184,7 +184,7 @@ unread_examples : (or_unread {A = List ℕ} inputs.ZeroPage None (λ bytes. Ok b
 unread_examples = (refl, refl)
 
 -- where the kernel lies
-abbrev image : Extent
+abbrev image : RangeView
 image = record { base = 0x1000000; size = 0x2000000 }
 
 abbrev start : Given

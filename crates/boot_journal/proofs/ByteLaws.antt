@@ -8,7 +8,7 @@ use Rattle.std.proofs.lemmas.List.Sums.{fold-append, fails_before_first}
 use Rattle.std.proofs.lemmas.List.{get_or-take, length-take}
 use Rattle.std.proofs.Math.Seq.{split_at}
 use Rattle.std.specs.List.{fold, position, position_or_len}
-use Rattle.bm_base.specs.Extent.{Extent, covers, end_of}
+use Rattle.bm_base.specs.Range.{RangeView, covers, end_of}
 use Rattle.memblock_model.specs.declared.item.Item.{Item}
 use Rattle.memblock_model.specs.declared.item.Item.TheVariants as item
 use Rattle.memblock_model.specs.Labels.{Label, Labels}
@@ -28,7 +28,7 @@ abbrev edge_in : List Item → ℕ → Bool
 edge_in [] e = false
 edge_in (i ∷ is) e = edge_at i e || edge_in is e
 
-covers-step : (r : Extent) (y : ℕ) → ((r.base == y + 1) || (end_of r == y + 1)) ≡ false → covers r (y + 1) ≡ covers r y
+covers-step : (r : RangeView) (y : ℕ) → ((r.base == y + 1) || (end_of r == y + 1)) ≡ false → covers r (y + 1) ≡ covers r y
 covers-step r y h = grind (arith, nat_tests)
 
 -- if no end of its range is at the next address, an item has the same effect on that byte as on
@@ -47,7 +47,7 @@ label_from-step (i ∷ is) t y h =
     ap (λ (u : Option Label). label_from u is (y + 1)) (label_after-step i t y both.0) ∙ label_from-step is (label_after y t i) y both.1
 
 -- if both ends of a range agree with the frame's first byte, so does each of them
-range_agrees-at : (whole : Option Label) (items : List Item) (first : ℕ) (r : Extent) (e : ℕ) → Agrees whole items first r.base
+range_agrees-at : (whole : Option Label) (items : List Item) (first : ℕ) (r : RangeView) (e : ℕ) → Agrees whole items first r.base
     → Agrees whole items first (end_of r)
     → ((r.base == e) || (end_of r == e)) ≡ true → Agrees whole items first e
 range_agrees-at whole items first r e base_agrees end_agrees h =

@@ -2,7 +2,7 @@
 use Rattle.std.proofs.Common.{◌≡◌, ℕ, true, false, Option, Some, None, List, [], ◌∷◌, refl, sym, ap, arith}
 use Rattle.std.proofs.lemmas.Bool.{true≢false}
 use Rattle.std.specs.Option.{option_map_or}
-use Rattle.bm_base.specs.Extent.{Extent}
+use Rattle.bm_base.specs.Range.{RangeView}
 use Rattle.memblock_model.specs.declared.item.Item.{Item}
 use Rattle.memblock_model.specs.declared.item.Item.TheVariants as item
 use Rattle.bm_base.specs.Each.{each_from, each_in}
@@ -12,7 +12,7 @@ use Rattle.boot_journal.specs.Contents.{Contents}
 use Rattle.boot_journal.specs.Mirrors.{mirrors_after, mirrors_in}
 use Rattle.boot_journal.specs.Bytes.{is_trim, label_after, label_from, label_kept, Agrees, Differs, EdgesAgree, AllAgree}
 
-abbrev bytes : ℕ → ℕ → Extent
+abbrev bytes : ℕ → ℕ → RangeView
 bytes base size = record { base = base; size = size }
 
 abbrev of_node : ℕ → Label

@@ -1,7 +1,7 @@
 -- The marks of one byte, followed through items other than trims.
 use Rattle.std.specs.Prelude.{◌≡◌, ◌≢◌, ◌<◌, ◌+◌, ℕ, [], ◌∷◌, Bool, true, false, Option, List, fold}
-use Rattle.bm_base.specs.Extent.{end_of}
-use Rattle.bm_base.specs.declared.frame.TheConstants.{FRAME_SIZE}
+use Rattle.bm_base.specs.Range.{end_of}
+use Rattle.bm_base.specs.declared.range.TheConstants.{FRAME_SIZE}
 use Rattle.memblock_model.specs.declared.item.Item.{Item}
 use Rattle.memblock_model.specs.declared.item.Item.TheVariants as item
 use Rattle.memblock_model.specs.Labels.{Label}

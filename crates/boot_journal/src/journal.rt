@@ -5,7 +5,7 @@
 //! both is allocated in one place (`ready`), before anything changes.
 
 ghost use Rattle.std.specs.Prelude.{◌≡◌, ◌++◌, ◌∷◌, ◌+◌, ◌-◌, ◌^◌, ◌<◌, ◌≤◌, ℕ, Some, [], ◌↔◌, IsTrue, max, OnOk, OnErr, IfOk, vec_len, vec_capacity};
-ghost use Rattle.bm_base.specs.Extent.{end_of};
+ghost use Rattle.bm_base.specs.Range.{end_of};
 ghost use Rattle.address_runs.specs.Runs.{IsRunsOf};
 ghost use Rattle.memblock_model.specs.Items.{IsItem, AreItems, owner_of, tag_of, owner_runs_of};
 ghost use Rattle.boot_journal.specs.Mirrors.{mirrors_after, mirrors_in};

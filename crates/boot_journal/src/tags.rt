@@ -6,7 +6,7 @@
 //! ends of ranges, so only the ends that are inside the frame are compared.
 
 ghost use Rattle.std.specs.Prelude.{◌≡◌, ◌<◌, ℕ, IsTrue, IfSome, None, false, length, position};
-ghost use Rattle.bm_base.specs.Extent.{end_of};
+ghost use Rattle.bm_base.specs.Range.{end_of};
 ghost use Rattle.memblock_model.specs.Labels.{tag_for};
 ghost use Rattle.memblock_model.specs.Items.{tag_of};
 ghost use Rattle.boot_journal.specs.Bytes.{is_trim, label_after, label_from, label_kept, Agrees, Differs, EdgesAgree, AllAgree};

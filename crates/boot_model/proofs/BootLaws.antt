@@ -3,7 +3,7 @@ use Rattle.std.proofs.Common.{◌≡◌, ℕ, ◌+◌, ◌*◌, ◌^◌, ◌<◌
 use Rattle.std.proofs.lemmas.Bool.{cases_Bool}
 use Rattle.std.proofs.lemmas.Bool.Decides.{nat_tests}
 use Rattle.std.proofs.Math.Bool.{or-false}
-use Rattle.bm_base.specs.Extent.{Extent}
+use Rattle.bm_base.specs.Range.{RangeView}
 use Rattle.address_runs.specs.Runs.{RunOf, run_end, lies_in, value_at, AreRuns, runs_of}
 use Rattle.address_runs.proofs.RunsLaws.{IsRunsBetween, from_runs, none_below, rest_from}
 use Rattle.e820_model.specs.Claims.{Claims}
@@ -61,11 +61,11 @@ judged_first given made ends =
     (sym (room.1 ∙ frames.1 ∙ last), frames.0, room.0)
 
 -- lines of the script leave the map
-pub lines_passed : (kernel : Extent) (lines : List Line) (before after : BootSoFar) → runs_lines kernel lines before ≡ Ok after
+pub lines_passed : (kernel : RangeView) (lines : List Line) (before after : BootSoFar) → runs_lines kernel lines before ≡ Ok after
     → after ≡ behind_lines before (after_lines (script_at kernel before) lines)
 lines_passed kernel lines before after ends = cc
 
-pub lines_map : (kernel : Extent) (lines : List Line) → Keeps (λ (made : BootSoFar). made.map) (runs_lines kernel lines)
+pub lines_map : (kernel : RangeView) (lines : List Line) → Keeps (λ (made : BootSoFar). made.map) (runs_lines kernel lines)
 lines_map kernel lines before after ends = ap (λ (m : BootSoFar). m.map) (lines_passed kernel lines before after ends)
 
 -- so does each stage behind those that judge it: one fact a stage

@@ -4,7 +4,7 @@ use Rattle.std.proofs.Common.{◌≡◌, ℕ, ◌*◌, ◌^◌, ◌==◌, if◌t
 use Rattle.std.proofs.lemmas.Bool.Decides.{nat_tests}
 use Rattle.std.specs.Prelude.{Result}
 use Rattle.std.specs.Option.{option_map}
-use Rattle.bm_base.specs.Extent.{Extent}
+use Rattle.bm_base.specs.Range.{RangeView}
 use Rattle.bm_base.specs.declared.width.Width.TheVariants.{Bits46, Bits52}
 use Rattle.address_runs.specs.Runs.{RunOf}
 use Rattle.address_runs.proofs.RunsLaws.{one_list}
@@ -71,7 +71,7 @@ first_stop_is_the_answer = (refl, refl)
 abbrev two_runs : List (RunOf ℕ)
 two_runs = record { base = 0x1000; size = 0x1000; value = 1 } ∷ record { base = 0x2000; size = 0x1000; value = 2 } ∷ []
 
-abbrev image : Extent
+abbrev image : RangeView
 image = record { base = 0x1000000; size = 0x2000000 }
 
 abbrev made : BootSoFar

@@ -3,7 +3,7 @@ use Rattle.std.proofs.Common.{◌≡◌, ℕ, ◌/◌, ◌^◌, ◌<◌, ◌≤�
 use Rattle.std.specs.Option.{option_map}
 use Rattle.std.proofs.lemmas.Bool.{cases_Bool}
 use Rattle.std.proofs.lemmas.Bool.Decides.{nat_tests}
-use Rattle.bm_base.specs.Extent.{Extent}
+use Rattle.bm_base.specs.Range.{RangeView}
 use Rattle.bm_base.specs.declared.width.Width.{Width}
 use Rattle.address_runs.specs.Runs.{RunOf, value_at}
 use Rattle.e820_model.specs.Claims.{Claims}
@@ -63,11 +63,11 @@ lines_keep f keeps s (line ∷ lines) =
     ∙ acts-keep f keeps (Ok (answer_of s.state (deed_at s line))) s.state (state_after s.state (deed_at s line)) (deed_at s line)
     (deed-quiet s.state (byte s.state.kernel s.state.items s.fills) line.act) (refl, refl)
 
-pub lines_labels : (kernel : Extent) (lines : List Line) → Keeps labels_by (runs_lines kernel lines)
+pub lines_labels : (kernel : RangeView) (lines : List Line) → Keeps labels_by (runs_lines kernel lines)
 lines_labels kernel lines before last ends =
     ap labels_by (lines_passed kernel lines before last ends) ∙ lines_keep memory_of quiet-memory (script_at kernel before) lines
 
-lines_bound : (kernel : Extent) (lines : List Line) → Keeps bound_by (runs_lines kernel lines)
+lines_bound : (kernel : RangeView) (lines : List Line) → Keeps bound_by (runs_lines kernel lines)
 lines_bound kernel lines before last ends =
     ap bound_by (lines_passed kernel lines before last ends) ∙ lines_keep limit_of quiet-limit (script_at kernel before) lines
 

@@ -5,7 +5,7 @@ use Rattle.std.specs.List.{All}
 use Rattle.std.proofs.lemmas.Bool.Decides.{nat_tests}
 use Rattle.std.proofs.lemmas.Option.{cond_some}
 use Rattle.std.proofs.lemmas.List.Elements.{All-cons, All-nil}
-use Rattle.bm_base.specs.Extent.{Extent, end_of}
+use Rattle.bm_base.specs.Range.{RangeView, end_of}
 use Rattle.bm_base.specs.Frames.{frames_within}
 use Rattle.efi_map.specs.declared.efi.EfiFault.{EfiFault}
 use Rattle.efi_map.specs.declared.efi.EfiFault.TheVariants as faults
@@ -15,33 +15,33 @@ use Rattle.early_stages.specs.Early.{bytes_of_frames}
 use Rattle.boot_model.specs.Mirrors.{IsMirror, frames_in}
 
 -- the bytes of its frames are the range
-pub mirror-frames : (r : Extent) → IsMirror r → bytes_of_frames (frames_in r) ≡ r
+pub mirror-frames : (r : RangeView) → IsMirror r → bytes_of_frames (frames_in r) ≡ r
 mirror-frames r mirror =
     let base : 4096 * (r.base / 4096) ≡ r.base = omega (arith, mirror.at_frame) in
     let size : 4096 * (r.size / 4096) ≡ r.size = omega (arith, mirror.of_frames) in
     rw (base, size) refl
 
 -- the whole frames of a range, where it has some
-whole-mirrors : (r m : Extent) → frames_within r ≡ Some m → IsMirror m
+whole-mirrors : (r m : RangeView) → frames_within r ≡ Some m → IsMirror m
 whole-mirrors r m is =
     let from : ℕ = next_multiple_of r.base 4096 in
     let until : ℕ = end_of r - end_of r % 4096 in
     let same = cond_some (nat_lt from until) (record { base = from; size = until - from }) m is in
     subst IsMirror same.1 (record { some = grind (arith, nat_tests, same.0); at_frame = omega arith; of_frames = omega arith })
 
-if_some : (o : Option Extent) → ((m : Extent) → o ≡ Some m → IsMirror m) → IfSome o IsMirror
+if_some : (o : Option RangeView) → ((m : RangeView) → o ≡ Some m → IsMirror m) → IfSome o IsMirror
 if_some None mirror = tt
 if_some (Some m) mirror = mirror m refl
 
-pub cut-mirrors : (r : Extent) → IfSome (frames_within r) IsMirror
+pub cut-mirrors : (r : RangeView) → IfSome (frames_within r) IsMirror
 cut-mirrors r = if_some (frames_within r) (whole-mirrors r)
 
 -- so are the mirrors of descriptors
-mirror_whole : (mirrors : Bool) (r m : Extent) → (if mirrors then frames_within r else None) ≡ Some m → IsMirror m
+mirror_whole : (mirrors : Bool) (r m : RangeView) → (if mirrors then frames_within r else None) ≡ Some m → IsMirror m
 mirror_whole true r m is = whole-mirrors r m is
 mirror_whole false r m is = absurd (cc is)
 
-in_front : (o : Option Extent) (ms : List Extent) → ((m : Extent) → o ≡ Some m → IsMirror m) → All IsMirror ms
+in_front : (o : Option RangeView) (ms : List RangeView) → ((m : RangeView) → o ≡ Some m → IsMirror m) → All IsMirror ms
     → All IsMirror (mirror_in_front o ms)
 in_front None ms first rest = rest
 in_front (Some m) ms first rest = All-cons IsMirror m ms (first m refl) rest

@@ -1,7 +1,7 @@
 -- The boot: what `setup_arch` makes of the firmware's map and of the command line, stage by stage.
 use Rattle.std.specs.Prelude.{ℕ, ◌==◌, Bool, false, ◌&&◌, ◌||◌, List, [], ◌∷◌, ◌++◌, length, nat_lt, if◌then◌else◌, Option, Some, None, Result, Ok, Err}
 use Rattle.std.specs.List.{list_any}
-use Rattle.bm_base.specs.Extent.{Extent}
+use Rattle.bm_base.specs.Range.{RangeView}
 use Rattle.bm_base.specs.Width.{reach_of}
 use Rattle.bm_base.specs.declared.width.Width.{Width}
 use Rattle.address_runs.specs.Runs.{RunOf, lies_in}
@@ -64,12 +64,12 @@ pub record EfiGiven : Type 0 where
 -- distances, and the firmware's own map of memory, where there is one
 pub record Given : Type 0 where
   pub entries : List Entry
-  pub initrd : Option Extent
+  pub initrd : Option RangeView
   pub extension : List Entry
   pub options : Chosen
   pub domains : Option Affinity
   pub width : Width
-  pub kernel : Extent
+  pub kernel : RangeView
   pub mirrors : List FrameRange
   pub upward : Bool
   pub lines : List Line
@@ -82,7 +82,7 @@ abbrev pub no_options : Chosen
 no_options = record { edits = []; crash = no_crash; numa_off = false; add_efi = false }
 
 -- what a boot is given by no file: how far addresses reach and where the kernel lies, and nothing else
-abbrev pub begun : Width → Extent → Given
+abbrev pub begun : Width → RangeView → Given
 begun width kernel = record {
   entries = [];
   initrd = None;
@@ -174,7 +174,7 @@ abbrev pub claims : Given → Claims
 claims given = finished given.entries given.extension given.options.edits (added given)
 
 -- the heads of the tables that the items stand for
-abbrev pub heads_of : Extent → List Item → Heads
+abbrev pub heads_of : RangeView → List Item → Heads
 heads_of kernel items = record {
   memory = head_of (table_for which.Memory kernel items);
   reserved = head_of (table_for which.Reserved kernel items);
@@ -257,7 +257,7 @@ abbrev pub map_judged : Given → Result BootSoFar Cause
 map_judged given = in_order (map_stages given) (begin given)
 
 -- where lines of the script begin, and what is made behind them
-abbrev pub script_at : Extent → BootSoFar → Script
+abbrev pub script_at : RangeView → BootSoFar → Script
 script_at kernel made = record {
   state = record { kernel = kernel; items = made.items; ids = made.ids };
   fills = made.fills;
@@ -268,7 +268,7 @@ abbrev pub behind_lines : BootSoFar → Script → BootSoFar
 behind_lines made s = record made { items = s.state.items; ids = s.state.ids; fills = s.fills; answers = s.answers }
 
 -- lines of the early script are carried out. One that is refused is answered, and the boot goes on
-abbrev pub runs_lines : Extent → List Line → Stage
+abbrev pub runs_lines : RangeView → List Line → Stage
 runs_lines kernel lines made = Ok (behind_lines made (after_lines (script_at kernel made) lines))
 
 -- what the steps of a stage answer is put beside what was made, and their items behind those that there were; or they stop the boot

@@ -1,13 +1,13 @@
 -- Where the kernel's image may lie, from its text to the end of its bss (`_text` to `__end_of_kernel_reserve`).
 use Rattle.std.specs.Prelude.{◌≡◌, ◌*◌, ◌%◌, ◌≤◌, ◌==◌, Bool, ◌&&◌, nat_le}
-use Rattle.bm_base.specs.Extent.{Extent, end_of}
-use Rattle.bm_base.specs.declared.frame.TheConstants.{FRAME_SIZE}
+use Rattle.bm_base.specs.Range.{RangeView, end_of}
+use Rattle.bm_base.specs.declared.range.TheConstants.{FRAME_SIZE}
 use Rattle.bm_base.specs.Width.{reach_of}
 use Rattle.bm_base.specs.declared.width.Width.{Width}
 
 -- above the first MiB, which real mode keeps; with room for memblock's two tables in its last two frames; in whole frames; and in reach
 -- of the kernel's tables of memory. The bounds are this project's own, since the boot protocol leaves them to the loader
-pub record IsKernel (width : Width) (image : Extent) : Type 0 where
+pub record IsKernel (width : Width) (image : RangeView) : Type 0 where
   pub above : 0x100000 ≤ image.base
   pub long : 2 * FRAME_SIZE ≤ image.size
   pub at_frame : image.base % FRAME_SIZE ≡ 0
@@ -15,7 +15,7 @@ pub record IsKernel (width : Width) (image : Extent) : Type 0 where
   pub in_reach : end_of image ≤ reach_of width
 
 -- the same as a test
-abbrev pub is_kernel : Width → Extent → Bool
+abbrev pub is_kernel : Width → RangeView → Bool
 is_kernel width image =
     nat_le 0x100000 image.base && nat_le (2 * FRAME_SIZE) image.size && (image.base % FRAME_SIZE == 0) && (image.size % FRAME_SIZE == 0)
     && nat_le (end_of image) (reach_of width)

@@ -6,7 +6,7 @@ ghost use Rattle.address_runs.specs.Runs.{value_at};
 ghost use Rattle.e820_model.specs.Map.{kinds};
 ghost use Rattle.std.specs.List.{All};
 ghost use Rattle.bm_base.specs.Each.{each_in};
-ghost use Rattle.bm_base.specs.Extent.{Extent};
+ghost use Rattle.bm_base.specs.Range.{RangeView};
 ghost use Rattle.bm_base.specs.Frames.{bytes_of_frame, frames_within};
 ghost use Rattle.efi_map.specs.Map.{efi_of};
 ghost use Rattle.e820_model.specs.Usable.{is_usable, usable_frames};
@@ -65,6 +65,6 @@ pub fn no_ram_means_no_usable_frame()
 
 /// A law: the ranges that the firmware mirrors, and those of words that are cut to whole frames, are what a boot may be given.
 pub fn mirrors_are_whole_frames()
-    ensures cut { (range : Extent) → IfSome (frames_within range) IsMirror }
+    ensures cut { (range : RangeView) → IfSome (frames_within range) IsMirror }
     ensures firmware { (bytes : List ℕ) → IfOk (efi_of bytes) (λ map. All IsMirror map.mirrors) }
 {}

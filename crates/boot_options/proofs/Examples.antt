@@ -3,7 +3,7 @@ use Rattle.std.proofs.Common.{◌≡◌, ℕ, ◌-◌, ◌^◌, true, false, Som
 use Rattle.std.specs.declared.alloc.Global.{Global}
 use Rattle.bm_base.specs.declared.memory.Memory.{Memory}
 use Rattle.e820_model.specs.declared.edit.Edit.{Edit}
-use Rattle.bm_base.specs.Extent.{Extent}
+use Rattle.bm_base.specs.Range.{RangeView}
 use Rattle.bm_base.specs.Size.{size_of}
 use Rattle.e820_model.specs.declared.edit.Edit.TheVariants.{Add, Remove, RemoveAll, Change, Clear}
 use Rattle.boot_options.specs.declared.fault.OptionFault.TheVariants as faults
@@ -18,7 +18,7 @@ use Rattle.boot_options.specs.Kept.{KeepsItems}
 use Rattle.boot_options.specs.Options.{raw_line, is_closed, checked_line, line_of, Said, OfMap, NumaOff, AddEfi, map_options_of, memmap_of, of_one, numa_of, or_fault, said_by, at_cut, name_value_of, until_end, option_words, said_from, numbered, all_map_options, edit_of, edits_of, is_efi_added, is_numa_off, count_adding, or_here, last_exact, Chosen, chosen, chosen_by, unless_incomplete, with_user_map, options_of, HasRange, HaveRanges, IsNumbered}
 use Rattle.boot_options.specs.Reading.{start, one_fewer, user_map_behind, after_map_option, after_map_options, after, after_all, read_on, read_all, read_map_options, when_complete, at_line_end, IsReadTo, IsAtSome, ReadsAs}
 
-abbrev range : ℕ → ℕ → Extent
+abbrev range : ℕ → ℕ → RangeView
 range base size = record { base = base; size = size }
 
 -- a size and a number at the start of a text, and the rest after them

@@ -4,7 +4,7 @@ use Rattle.std.proofs.lemmas.Bool.{ltb-true}
 use Rattle.std.proofs.lemmas.Bool.Decides.{nat_tests}
 use Rattle.std.specs.Option.{option_map, option_and_then}
 use Rattle.std.specs.Str.{bytes_eq}
-use Rattle.bm_base.specs.Extent.{Extent}
+use Rattle.bm_base.specs.Range.{RangeView}
 use Rattle.e820_model.specs.Claims.{HasTypes}
 use Rattle.e820_model.specs.declared.edit.Edit.{Edit}
 use Rattle.e820_model.specs.declared.edit.Edit.TheVariants.{Add, Remove, RemoveAll, Change}
@@ -50,7 +50,7 @@ ifsome-if P true x y a b = a
 ifsome-if P false x y a b = b
 
 -- the edit of a range that isn't empty is sound
-pub sound-unless_empty : (range : Extent) (e : Edit) → HasTypes e → (0 < range.size → HasRange e) → IsSound (unless_empty range e)
+pub sound-unless_empty : (range : RangeView) (e : Edit) → HasTypes e → (0 < range.size → HasRange e) → IsSound (unless_empty range e)
 sound-unless_empty range e types ranged = by_test (nat_lt 0 range.size) refl
   where
     by_test : (t : Bool) → nat_lt 0 range.size ≡ t → IsSound (if t then Some e else None)
@@ -66,7 +66,7 @@ sound-adding_option kind size place above =
     ifsome-then IsSoundOption (range_at base size) _ (λ range.
     sound-unless_empty range (Add range kind) above (λ h. h)))
 
-pub sound-retyped : (range : Extent) (from to : ℕ) → IfSome (retyped range from to) IsSoundOption
+pub sound-retyped : (range : RangeView) (from to : ℕ) → IfSome (retyped range from to) IsSoundOption
 sound-retyped range from to = by_tests (from == 0) refl (to == 0) refl (from == to)
   where
     above : (n : ℕ) → n == 0 ≡ false → 0 < n

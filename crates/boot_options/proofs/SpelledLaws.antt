@@ -7,11 +7,11 @@ use Rattle.std.proofs.lemmas.List.{append-nil}
 use Rattle.std.proofs.lemmas.Slice.Eq.{bytes_eq-Decides}
 use Rattle.std.specs.Option.{option_map, option_and_then}
 use Rattle.std.specs.Str.{bytes_eq}
-use Rattle.bm_base.specs.Extent.{Extent}
+use Rattle.bm_base.specs.Range.{RangeView}
 use Rattle.bm_base.specs.OptionSteps.{◌>>=◌}
 use Rattle.bm_base.specs.Size.{size_of, number_of, IsSize, IsNumber}
 use Rattle.bm_base.specs.declared.size.NumFault.{NumFault}
-use Rattle.bm_base.specs.Spelling.{bare}
+use Rattle.bm_base.specs.Spelling.{number_alone}
 use Rattle.bm_base.proofs.SpellingLaws.{size-exactly, number-exactly, size-front, number-front}
 use Rattle.e820_model.specs.declared.edit.Edit.TheVariants.{Add, Remove, RemoveAll, Change}
 use Rattle.text_words.specs.declared.separators.Separators.TheVariants.{Byte}
@@ -72,10 +72,10 @@ whole_size-spelled text n is =
         let text_is : text ≡ s = is ∙ rw none (append-nil s) in rw (text_is, ← same) size
 
 -- the range that a base and a size make
-abbrev range_if : Bool → ℕ → ℕ → Option Extent
+abbrev range_if : Bool → ℕ → ℕ → Option RangeView
 range_if t base size = if t then Some (record { base = base; size = size }) else None
 
-range_at-is : (base size : ℕ) (range : Extent) → range_at base size ≡ Some range
+range_at-is : (base size : ℕ) (range : RangeView) → range_at base size ≡ Some range
     → (record { base = base; size = size } ≡ range) × (base + size < 2 ^ 64)
 range_at-is base size range = by_test (nat_lt (base + size) (2 ^ 64)) refl
   where
@@ -84,14 +84,14 @@ range_at-is base size range = by_test (nat_lt (base + size) (2 ^ 64)) refl
     by_test false test is = cc
     by_test true test is = (cc, ltb-true (base + size) (2 ^ 64) test)
 
-place-spelled : (s a : List ℕ) (size base : ℕ) (range : Extent) → IsSize s size → IsSize a base → range_at base size ≡ Some range
+place-spelled : (s a : List ℕ) (size base : ℕ) (range : RangeView) → IsSize s size → IsSize a base → range_at base size ≡ Some range
     → SpellsPlace s a range
 place-spelled s a size base range size_is base_is is =
     let found = range_at-is base size range is in
     subst (SpellsPlace s a) found.0 (record { size = size_is; base = base_is; ends = found.1 })
 
 adding_option-spelled : (kind : ℕ) (s a : List ℕ) (size : ℕ) (option : MapOption) → IsSize s size → adding_option kind size a ≡ Some option
-    → (range : Extent) × SpellsPlace s a range × (option ≡ Adding (unless_empty range (Add range kind)))
+    → (range : RangeView) × SpellsPlace s a range × (option ≡ Adding (unless_empty range (Add range kind)))
 adding_option-spelled kind s a size option size_is is =
     let base = then-both (whole_size a) (λ base. range_at base size >>= λ range. Some (Adding (unless_empty range (Add range kind)))) option is in
     let range = then-both (range_at base.0 size) (λ range. Some (Adding (unless_empty range (Add range kind)))) option base.2 in
@@ -131,7 +131,7 @@ kind-no_type mark text kind none not_there = nothing
 kind-no_type mark text kind none (there number _ is small) = type_zero number (rw none at is)
 
 -- the forms with `%`
-abbrev retyped_if : Bool → Bool → Bool → Extent → ℕ → ℕ → Option MapOption
+abbrev retyped_if : Bool → Bool → Bool → RangeView → ℕ → ℕ → Option MapOption
 retyped_if no_from no_to same range from to =
     if no_from
     then (if no_to then Some (Other (unless_empty range (RemoveAll range))) else Some (Adding (unless_empty range (Add range to))))
@@ -139,7 +139,7 @@ retyped_if no_from no_to same range from to =
     then Some (Other (unless_empty range (Remove range from)))
     else (if same then None else Some (Other (unless_empty range (Change range from to)))))
 
-retyped-spelled : (s a f t : List ℕ) (range : Extent) (from to : ℕ) (option : MapOption) → SpellsPlace s a range → IsKind 45 f from
+retyped-spelled : (s a f t : List ℕ) (range : RangeView) (from to : ℕ) (option : MapOption) → SpellsPlace s a range → IsKind 45 f from
     → IsKind 43 t to → retyped range from to ≡ Some option → SpellsMapOption (s ++ (37 ∷ (a ++ (f ++ t)))) option
 retyped-spelled s a f t range from to option spell from_is to_is =
     by_tests (from == 0) refl (to == 0) refl (from == to) refl
@@ -231,22 +231,22 @@ map_option-exactly text option = (map_option-spelled text option, map_option-rea
 
 -- a map option contains no comma
 number-size : (text : List ℕ) (n : ℕ) → IsNumber text n → IsSize text n
-number-size text n is = (size-exactly text n).1 (bare text n ((number-exactly text n).0 is))
+number-size text n is = (size-exactly text n).1 (number_alone text n ((number-exactly text n).0 is))
 
 lacks-kind : (mark : ℕ) (text : List ℕ) (kind : ℕ) → mark == 44 ≡ false → IsKind mark text kind → Lacks 44 text
 lacks-kind mark text kind other not_there = tt
 lacks-kind mark text kind other (there number _ is small) = (other, lacks-size number 44 kind refl (number-size number kind is))
 
-lacks-marked : (s a rest : List ℕ) (range : Extent) (mark : ℕ) → mark == 44 ≡ false → SpellsPlace s a range → Lacks 44 rest
+lacks-marked : (s a rest : List ℕ) (range : RangeView) (mark : ℕ) → mark == 44 ≡ false → SpellsPlace s a range → Lacks 44 rest
     → Lacks 44 (s ++ (mark ∷ (a ++ rest)))
 lacks-marked s a rest range mark other spell behind =
     lacks-append 44 s (mark ∷ (a ++ rest)) (lacks-size s 44 range.size refl spell.size)
     (other, lacks-append 44 a rest (lacks-size a 44 range.base refl spell.base) behind)
 
-lacks-adding : (s a : List ℕ) (range : Extent) (mark : ℕ) → mark == 44 ≡ false → SpellsPlace s a range → Lacks 44 (s ++ (mark ∷ a))
+lacks-adding : (s a : List ℕ) (range : RangeView) (mark : ℕ) → mark == 44 ≡ false → SpellsPlace s a range → Lacks 44 (s ++ (mark ∷ a))
 lacks-adding s a range mark other spell = rw (append-nil a) at (lacks-marked s a [] range mark other spell tt)
 
-lacks-changed : (s a f t : List ℕ) (range : Extent) (from to : ℕ) → SpellsPlace s a range → IsKind 45 f from → IsKind 43 t to
+lacks-changed : (s a f t : List ℕ) (range : RangeView) (from to : ℕ) → SpellsPlace s a range → IsKind 45 f from → IsKind 43 t to
     → Lacks 44 (s ++ (37 ∷ (a ++ (f ++ t))))
 lacks-changed s a f t range from to spell from_is to_is =
     lacks-marked s a (f ++ t) range 37 refl spell

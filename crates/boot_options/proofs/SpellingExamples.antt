@@ -1,6 +1,6 @@
 -- Worked examples of the spelling of words and values.
 use Rattle.std.proofs.Common.{◌≡◌, ℕ, ◌-◌, ◌^◌, Some, None, [], ◌∷◌, codes, Err, Ok, refl, arith}
-use Rattle.bm_base.specs.Extent.{Extent}
+use Rattle.bm_base.specs.Range.{RangeView}
 use Rattle.e820_model.specs.declared.edit.Edit.TheVariants.{Add, Remove, RemoveAll}
 use Rattle.text_words.specs.Spelling.{blank_first, both_marks, no_mark, word_alone}
 use Rattle.boot_options.specs.declared.fault.OptionFault.TheVariants as faults
@@ -14,7 +14,7 @@ use Rattle.boot_options.proofs.SaidSpelledLaws.{word-exactly}
 use Rattle.boot_options.proofs.SpelledCrashLaws.{form-exactly}
 use Rattle.boot_options.proofs.SpelledLaws.{map_option-exactly, map_options-exactly}
 
-abbrev range : ℕ → ℕ → Extent
+abbrev range : ℕ → ℕ → RangeView
 range base size = record { base = base; size = size }
 
 -- a range up to the last byte is spelled; one past it isn't

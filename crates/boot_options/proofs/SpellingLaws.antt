@@ -7,7 +7,7 @@ use Rattle.std.proofs.lemmas.List.{append-nil}
 use Rattle.std.proofs.lemmas.Bool.Decides.{nat_tests}
 use Rattle.std.specs.Char.{is_digit}
 use Rattle.std.specs.Str.{bytes_eq}
-use Rattle.bm_base.specs.Extent.{Extent}
+use Rattle.bm_base.specs.Range.{RangeView}
 use Rattle.bm_base.specs.declared.size.NumFault.{NumFault}
 use Rattle.bm_base.specs.Size.{begins_with_digit, number_value, number_end, suffix_of, with_suffix, size_of, number_of, IsSize, IsNumber}
 use Rattle.bm_base.proofs.SizeLaws.{size_of-mark, number_of-mark}
@@ -77,17 +77,17 @@ map_option-mark s n mark rest size is =
     (then-some (front_size (s ++ (mark ∷ rest))) (λ size. by_mark size.0 size.1) (n, mark ∷ rest) (front_size-mark s n mark rest size is))
 
 -- a range that ends in the address space is read, and so is its edit
-pub range_at-ends : (range : Extent) → range.base + range.size < 2 ^ 64 → range_at range.base range.size ≡ Some range
+pub range_at-ends : (range : RangeView) → range.base + range.size < 2 ^ 64 → range_at range.base range.size ≡ Some range
 range_at-ends range ends = rw (lt-ltb (range.base + range.size) (2 ^ 64) ends) refl
 
-pub adding_option-spelled : (kind : ℕ) (s a : List ℕ) (range : Extent) → SpellsPlace s a range
+pub adding_option-spelled : (kind : ℕ) (s a : List ℕ) (range : RangeView) → SpellsPlace s a range
     → adding_option kind range.size a ≡ Some (Adding (unless_empty range (Add range kind)))
 adding_option-spelled kind s a range spell =
     then-some (whole_size a) _ range.base (whole_size-end a range.base spell.base)
     ∙ then-some (range_at range.base range.size) (λ r. Some (Adding (unless_empty r (Add r kind)))) range (range_at-ends range spell.ends)
 
 -- a form whose mark adds memory of this type
-pub map_option-adding : (s a : List ℕ) (range : Extent) (mark kind : ℕ) → is_digit mark 36 ≡ false
+pub map_option-adding : (s a : List ℕ) (range : RangeView) (mark kind : ℕ) → is_digit mark 36 ≡ false
     → by_mark range.size (mark ∷ a) ≡ adding_option kind range.size a → SpellsPlace s a range
     → map_option_of (s ++ (mark ∷ a)) ≡ Some (Adding (unless_empty range (Add range kind)))
 map_option-adding s a range mark kind is means spell =
@@ -159,7 +159,7 @@ both-marked f t from to not_there to_is = kind-marked 43 t to refl to_is
 both-marked f t from to (there _ _ number small) to_is = refl
 
 -- the forms with `%`
-pub map_option-changed : (s a f t : List ℕ) (range : Extent) (from to : ℕ) → SpellsPlace s a range → IsKind 45 f from → IsKind 43 t to
+pub map_option-changed : (s a f t : List ℕ) (range : RangeView) (from to : ℕ) → SpellsPlace s a range → IsKind 45 f from → IsKind 43 t to
     → map_option_of (s ++ (37 ∷ (a ++ (f ++ t)))) ≡ retyped range from to
 map_option-changed s a f t range from to spell from_is to_is =
     map_option-mark s range.size 37 (a ++ (f ++ t)) spell.size refl

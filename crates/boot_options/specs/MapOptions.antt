@@ -2,7 +2,7 @@
 -- arch/x86/kernel/e820.c). A definition gives None if its text is malformed.
 use Rattle.std.specs.Prelude.{ℕ, ◌+◌, ◌-◌, ◌^◌, ◌==◌, nat_lt, if◌then◌else◌, Option, Some, None, List, [], ◌∷◌, drop, codes, Result, Ok, Err}
 use Rattle.std.specs.Str.{bytes_eq}
-use Rattle.bm_base.specs.Extent.{Extent}
+use Rattle.bm_base.specs.Range.{RangeView}
 use Rattle.bm_base.specs.OptionSteps.{◌>>=◌}
 use Rattle.bm_base.specs.Size.{size_of, number_of}
 use Rattle.bm_base.specs.declared.size.NumFault.{NumFault}
@@ -62,16 +62,16 @@ whole_size text = do
   at_end front.1 (Some front.0)
 
 -- the range of this size from the address on, if both together are at most 2^64 - 1
-abbrev pub range_at : ℕ → ℕ → Option Extent
+abbrev pub range_at : ℕ → ℕ → Option RangeView
 range_at base size = if nat_lt (base + size) (2 ^ 64) then Some (record { base = base; size = size }) else None
 
 -- the edit, or None if its range is empty
-abbrev pub unless_empty : Extent → Edit → Option Edit
+abbrev pub unless_empty : RangeView → Edit → Option Edit
 unless_empty range edit = if nat_lt 0 range.size then Some edit else None
 
 -- the range from this address up to 2^64 - 2 (a range ends at 2^64 - 1 or below), and the edit
 -- that removes RAM in it
-abbrev pub range_above : ℕ → Extent
+abbrev pub range_above : ℕ → RangeView
 range_above size = record { base = size; size = 2 ^ 64 - 1 - size }
 
 abbrev pub ram_above : ℕ → Option Edit
@@ -94,18 +94,18 @@ kind_behind mark [] = Some (0, [])
 kind_behind mark (b ∷ bs) = if b == mark then front_number bs >>= small_kind else Some (0, b ∷ bs)
 
 -- if no type `f` is given: type `t` is added, or without `t` all types are removed
-abbrev pub retyped_to : Extent → ℕ → Option MapOption
+abbrev pub retyped_to : RangeView → ℕ → Option MapOption
 retyped_to range to =
     if to == 0 then Some (Other (unless_empty range (RemoveAll range))) else Some (Adding (unless_empty range (Add range to)))
 
 -- if a type `f` is given: it is removed, or changed to `t`, which must differ from it
-abbrev pub retyped_from : Extent → ℕ → ℕ → Option MapOption
+abbrev pub retyped_from : RangeView → ℕ → ℕ → Option MapOption
 retyped_from range from to =
     if to == 0 then Some (Other (unless_empty range (Remove range from))) else
     (if from == to then None else Some (Other (unless_empty range (Change range from to))))
 
 -- the option for the types `-f` and `+t`; each is 0 if it isn't given
-abbrev pub retyped : Extent → ℕ → ℕ → Option MapOption
+abbrev pub retyped : RangeView → ℕ → ℕ → Option MapOption
 retyped range from to = if from == 0 then retyped_to range to else retyped_from range from to
 
 -- the option `S%A-f+t`; the types `f` and `t` are optional

@@ -3,7 +3,7 @@
 -- `parse_crashkernel` of kernel/crash_core.c).
 use Rattle.std.specs.Prelude.{◌≡◌, ◌≢◌, ℕ, ◌+◌, ◌^◌, ◌<◌, Option, Some, None, List, [], ◌∷◌, ◌++◌, length, codes, Ok}
 use Rattle.std.specs.List.{AllByRecursion}
-use Rattle.bm_base.specs.Extent.{Extent}
+use Rattle.bm_base.specs.Range.{RangeView}
 use Rattle.bm_base.specs.Size.{IsSize, IsNumber}
 use Rattle.e820_model.specs.declared.types.TheConstants.{E820_TYPE_RAM, E820_TYPE_RESERVED, E820_TYPE_ACPI, E820_TYPE_PRAM}
 use Rattle.e820_model.specs.declared.edit.Edit.TheVariants.{Add, Remove, RemoveAll, Change}
@@ -17,7 +17,7 @@ use Rattle.boot_options.specs.MapOptions.{ram_above, unless_empty}
 use Rattle.boot_options.specs.Options.{AddEfi, NumaOff, OfCrash, OfMap, Said, line_of}
 
 -- the two texts spell the size and the address of the range; both together are at most 2^64 - 1
-pub record SpellsPlace (s a : List ℕ) (range : Extent) : Type 0 where
+pub record SpellsPlace (s a : List ℕ) (range : RangeView) : Type 0 where
   pub size : IsSize s range.size
   pub base : IsSize a range.base
   pub ends : range.base + range.size < 2 ^ 64
@@ -34,24 +34,24 @@ pub data SpellsNoType (mark : List ℕ) : List ℕ → Type 0 where
 -- one map option of `memmap=`; an empty range makes no edit
 pub data SpellsMapOption : List ℕ → MapOption → Type 0 where
   exactmap : SpellsMapOption (codes "exactmap") ExactMap
-  ram : (s a : List ℕ) (range : Extent) → SpellsPlace s a range
+  ram : (s a : List ℕ) (range : RangeView) → SpellsPlace s a range
       → SpellsMapOption (s ++ (codes "@" ++ a)) (Adding (unless_empty range (Add range E820_TYPE_RAM)))
-  acpi : (s a : List ℕ) (range : Extent) → SpellsPlace s a range
+  acpi : (s a : List ℕ) (range : RangeView) → SpellsPlace s a range
       → SpellsMapOption (s ++ (codes "#" ++ a)) (Adding (unless_empty range (Add range E820_TYPE_ACPI)))
-  reserved : (s a : List ℕ) (range : Extent) → SpellsPlace s a range
+  reserved : (s a : List ℕ) (range : RangeView) → SpellsPlace s a range
       → SpellsMapOption (s ++ (codes "$" ++ a)) (Adding (unless_empty range (Add range E820_TYPE_RESERVED)))
-  persistent : (s a : List ℕ) (range : Extent) → SpellsPlace s a range
+  persistent : (s a : List ℕ) (range : RangeView) → SpellsPlace s a range
       → SpellsMapOption (s ++ (codes "!" ++ a)) (Adding (unless_empty range (Add range E820_TYPE_PRAM)))
   size_alone : (s : List ℕ) (size : ℕ) → IsSize s size → SpellsMapOption s (Other (ram_above size))
-  every_type : (s a f t : List ℕ) (range : Extent) → SpellsPlace s a range → SpellsNoType (codes "-") f → SpellsNoType (codes "+") t
+  every_type : (s a f t : List ℕ) (range : RangeView) → SpellsPlace s a range → SpellsNoType (codes "-") f → SpellsNoType (codes "+") t
       → SpellsMapOption (s ++ (codes "%" ++ (a ++ (f ++ t)))) (Other (unless_empty range (RemoveAll range)))
-  one_type : (s a f t : List ℕ) (range : Extent) (from : ℕ) → SpellsPlace s a range → SpellsType (codes "-") f from
+  one_type : (s a f t : List ℕ) (range : RangeView) (from : ℕ) → SpellsPlace s a range → SpellsType (codes "-") f from
       → SpellsNoType (codes "+") t
       → SpellsMapOption (s ++ (codes "%" ++ (a ++ (f ++ t)))) (Other (unless_empty range (Remove range from)))
-  new_type : (s a f t : List ℕ) (range : Extent) (to : ℕ) → SpellsPlace s a range → SpellsNoType (codes "-") f
+  new_type : (s a f t : List ℕ) (range : RangeView) (to : ℕ) → SpellsPlace s a range → SpellsNoType (codes "-") f
       → SpellsType (codes "+") t to
       → SpellsMapOption (s ++ (codes "%" ++ (a ++ (f ++ t)))) (Adding (unless_empty range (Add range to)))
-  other_type : (s a f t : List ℕ) (range : Extent) (from to : ℕ) → SpellsPlace s a range → SpellsType (codes "-") f from
+  other_type : (s a f t : List ℕ) (range : RangeView) (from to : ℕ) → SpellsPlace s a range → SpellsType (codes "-") f from
       → SpellsType (codes "+") t to → from ≢ to
       → SpellsMapOption (s ++ (codes "%" ++ (a ++ (f ++ t)))) (Other (unless_empty range (Change range from to)))
 

@@ -1,6 +1,6 @@
 -- Each byte stays that of the items and the fills behind a call.
 use Rattle.std.proofs.Common.{◌≡◌, List, sym, subst}
-use Rattle.bm_base.specs.Extent.{Extent}
+use Rattle.bm_base.specs.Range.{RangeView}
 use Rattle.phys_store.specs.Bytes.{byte_of}
 use Rattle.growth_model.specs.Bytes.{Filled, Follows, Holds}
 use Rattle.growth_model.proofs.FillLaws.{holds-call}
@@ -12,7 +12,7 @@ pub holds-on : (fills : List Filled) (old new : Contents) → new.kernel ≡ old
     → Follows old.kernel old.journal.items new.journal.items (byte_of old.tables.store) (byte_of new.tables.store)
     → HoldsWith fills old → HoldsWith fills new
 holds-on fills old new kernel follows holds =
-    let At : Extent → Type 0 = λ k. Holds k new.journal.items fills (byte_of new.tables.store) in
+    let At : RangeView → Type 0 = λ k. Holds k new.journal.items fills (byte_of new.tables.store) in
     subst At (sym kernel)
     (holds-call old.kernel old.journal.items new.journal.items fills (byte_of old.tables.store) (byte_of new.tables.store) holds follows)
 

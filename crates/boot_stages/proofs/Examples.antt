@@ -1,6 +1,6 @@
 -- What the boot makes of small answers of the table, and the parts of a small memory.
 use Rattle.std.proofs.Common.{◌≡◌, inr, ⊎_elim, ℕ, true, List, [], ◌∷◌, Some, None, Ok, Err, refl, arith}
-use Rattle.bm_base.specs.Extent.{Extent}
+use Rattle.bm_base.specs.Range.{RangeView}
 use Rattle.address_runs.specs.Runs.{RunOf}
 use Rattle.memblock_model.specs.declared.owner.Owner.TheVariants as owner
 use Rattle.memblock_model.specs.declared.item.Item.{Item}
@@ -35,7 +35,7 @@ undecided : (given : Given) → IsDecided given (Err faults.Memory)
 undecided given = tt
 
 -- the parts of what is wanted, where frames 1 and 2 are mirrored and searches go upward
-abbrev image : Extent
+abbrev image : RangeView
 image = record { base = 0x1000000; size = 0x2000000 }
 
 abbrev early : Early

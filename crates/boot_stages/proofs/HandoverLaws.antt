@@ -6,7 +6,7 @@ use Rattle.phys_store.specs.Bytes.{Stored}
 use Rattle.memblock_model.specs.declared.item.Item.{Item}
 use Rattle.memblock_model.specs.declared.which.Which.{Which}
 use Rattle.memblock_model.specs.declared.which.Which.TheVariants as which
-use Rattle.bm_base.specs.Extent.{Extent}
+use Rattle.bm_base.specs.Range.{RangeView}
 use Rattle.memblock_grow.specs.Kept.{AreKept}
 use Rattle.memblock_grow.specs.declared.aim.Aim.{Aim}
 use Rattle.memblock_model.specs.Items.{memory_of, owner_of}
@@ -124,7 +124,7 @@ told-by given map m later ids fills items heads spans frames lists answers after
     cc
 
 -- the tables of a memblock are those of its items
-pub tables-kept : (w : Which) (kernel : Extent) (items : List Item) (t : Tables) (aim : Aim) → AreKept kernel items t aim
+pub tables-kept : (w : Which) (kernel : RangeView) (items : List Item) (t : Tables) (aim : Aim) → AreKept kernel items t aim
     → table_in w t ≡ table_for w kernel items
 tables-kept which.Memory kernel items t aim kept = kept.memory
 tables-kept which.Reserved kernel items t aim kept = kept.reserved

@@ -2,7 +2,7 @@
 use Rattle.std.proofs.Common.{◌≡◌, ◌<◌, length, Option, Some, None, List, [], ◌∷◌, ◌++◌, Result, Ok, Err, refl, sym, ◌∙◌, ap, subst}
 use Rattle.std.proofs.lemmas.List.{append-nil, append_assoc}
 use Rattle.std.specs.Prelude.{OnOk}
-use Rattle.bm_base.specs.Extent.{Extent}
+use Rattle.bm_base.specs.Range.{RangeView}
 use Rattle.memblock_model.specs.declared.which.Which.TheVariants as which
 use Rattle.memblock_model.specs.declared.owner.Owner.{Owner}
 use Rattle.memblock_model.specs.declared.item.Item.{Item}
@@ -142,7 +142,7 @@ behind_begun first None i old new is unrefused same =
     subst HasBegun (sym last) (last_begun (old ++ joined first.steps) i)
 behind_begun first (Some refused) i old new is unrefused same = let clash : Some refused ≡ None = sym is ∙ unrefused in absurd (cc)
 
-pub claim-begun : (x : Unit {0}) (old new : List Item) (range : Extent) (who : Owner) → Ends (Ok x) old new (claimed range who)
+pub claim-begun : (x : Unit {0}) (old new : List Item) (range : RangeView) (who : Owner) → Ends (Ok x) old new (claimed range who)
     → HasBegun new
 unfolding claimed
 claim-begun x old new range who ends =

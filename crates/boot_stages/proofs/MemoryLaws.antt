@@ -3,7 +3,7 @@ use Rattle.std.proofs.Common.{◌≡◌, ◌≢◌, ℕ, ◌+◌, ◌^◌, ◌<�
 use Rattle.std.specs.List.{All}
 use Rattle.std.proofs.lemmas.Bool.Decides.{nat_tests}
 use Rattle.std.proofs.lemmas.List.{append_assoc, at_drop_more}
-use Rattle.bm_base.specs.Extent.{Extent}
+use Rattle.bm_base.specs.Range.{RangeView}
 use Rattle.address_runs.specs.Runs.{RunOf, AreRuns, IsRunsOf, extent_of, run_end, value_at}
 use Rattle.address_runs.specs.Edits.{NothingFrom}
 use Rattle.e820_model.specs.Usable.{is_memory}
@@ -89,14 +89,14 @@ pub mirrors-append : (first rest : List FrameRange) → mirror_items (first ++ r
 mirrors-append [] rest = refl
 mirrors-append (r ∷ rs) rest = ap (λ (is : List Item). item.Mirror (bytes_of_frames r) ∷ is) (mirrors-append rs rest)
 
-pub mirrors_next : (rs : List Extent) (i : ℕ) (r : Extent) → i < length rs → r ≡ get_or rs i r → All IsMirror rs
+pub mirrors_next : (rs : List RangeView) (i : ℕ) (r : RangeView) → i < length rs → r ≡ get_or rs i r → All IsMirror rs
     → mirror_items (map frames_in (drop i rs)) ≡ item.Mirror r ∷ mirror_items (map frames_in (drop (i + 1) rs))
 mirrors_next rs i r low is whole =
     let rest : List Item = mirror_items (map frames_in (drop (i + 1) rs)) in
     let here : IsMirror r = subst IsMirror (sym is) (whole i r low) in
-    at_drop_more (λ (xs : List Extent). mirror_items (map frames_in xs)) rs i r low
-    ∙ ap (λ (s : Extent). item.Mirror (bytes_of_frames (frames_in s)) ∷ rest) (sym is)
-    ∙ ap (λ (s : Extent). item.Mirror s ∷ rest) (mirror-frames r here)
+    at_drop_more (λ (xs : List RangeView). mirror_items (map frames_in xs)) rs i r low
+    ∙ ap (λ (s : RangeView). item.Mirror (bytes_of_frames (frames_in s)) ∷ rest) (sym is)
+    ∙ ap (λ (s : RangeView). item.Mirror s ∷ rest) (mirror-frames r here)
 
 -- the items of what is left of a map begin with those of its first run
 pub map_next : (limit : ℕ) (rs : List (RunOf ℕ)) (i : ℕ) (r : RunOf ℕ) → i < length rs → r ≡ get_or rs i r

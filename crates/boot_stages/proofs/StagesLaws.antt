@@ -2,7 +2,7 @@
 use Rattle.std.proofs.Common.{◌≡◌, ◌≢◌, ⊎_elim, ℕ, ◌≤◌, List, [], ◌∷◌, ◌++◌, Option, Some, None, Result, Ok, Err, refl, ◌∙◌, sym, ap, arith}
 use Rattle.std.specs.Prelude.{IfErr, IsErrAnd}
 use Rattle.std.proofs.lemmas.Result.{err_from_is_err_and}
-use Rattle.bm_base.specs.Extent.{Extent}
+use Rattle.bm_base.specs.Range.{RangeView}
 use Rattle.bm_base.specs.ResultSteps.{◌>>=◌, with_error}
 use Rattle.address_runs.specs.Runs.{RunOf}
 use Rattle.memblock_model.specs.declared.item.Item.{Item}
@@ -115,7 +115,7 @@ module _ {given : Given} {map : List (RunOf ℕ)} {stages : List Stage} {base : 
       record {
         fills = s.fills;
         come = one-more (runs_lines given.kernel lines) (made_by_lines base n later s.fills told)
-            (ap (λ (k : Extent). runs_lines k lines (made_by_lines base m ids row.fills answers)) (sym row.kernel)
+            (ap (λ (k : RangeView). runs_lines k lines (made_by_lines base m ids row.fills answers)) (sym row.kernel)
             ∙ ap (λ (made : BootSoFar). Ok made) (reached_is s later n told reached));
         kernel = same ∙ row.kernel;
         holds = reached.holds;

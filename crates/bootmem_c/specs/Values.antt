@@ -1,7 +1,7 @@
 -- What a boot made, as values that cross to C.
 use Rattle.std.specs.Prelude.{◌≡◌, ℕ, List, ◌++◌, map, take, drop, length, Option, Some, None}
 use Rattle.address_runs.specs.Runs.{RunOf}
-use Rattle.bm_base.specs.Extent.{Extent}
+use Rattle.bm_base.specs.Range.{RangeView}
 use Rattle.bm_base.specs.declared.zone.Zone.{Zone}
 use Rattle.bm_base.specs.declared.zone.Zone.TheVariants as zone
 use Rattle.boot_model.specs.Boot.{Told}
@@ -26,11 +26,11 @@ abbrev pub map_values : Told → List MapRun
 map_values told = map run_value told.map
 
 -- the crash area and its low part, in bytes; what there is none of has size 0
-abbrev pub part_value : Option Extent → Extent
+abbrev pub part_value : Option RangeView → RangeView
 part_value None = record { base = 0; size = 0 }
 part_value (Some part) = part
 
-abbrev pub parts_value : Option Extent → Option Extent → CrashArea
+abbrev pub parts_value : Option RangeView → Option RangeView → CrashArea
 parts_value main low = record {
   base = (part_value main).base;
   size = (part_value main).size;

@@ -2,7 +2,7 @@
 use Rattle.std.proofs.Common.{◌≡◌, ℕ, ◌^◌, ◌<◌, ◌≤◌, ◌==◌, true, false, if◌then◌else◌, Some, None, List, [], ◌∷◌, refl, inl, inr, arith}
 use Rattle.std.proofs.lemmas.Bool.Decides.{nat_tests}
 use Rattle.std.proofs.lemmas.Bool.{cases_Bool}
-use Rattle.bm_base.specs.Extent.{Extent, covers}
+use Rattle.bm_base.specs.Range.{RangeView, covers}
 use Rattle.bm_base.specs.Zones.{zone_of}
 use Rattle.bm_base.specs.declared.zone.Zone.TheVariants as zone
 use Rattle.address_runs.specs.Runs.{RunOf}
@@ -24,10 +24,10 @@ use Rattle.conservation.specs.Paged.{AllInOneOrHeld, NoOtherInOneOrHeld}
 use Rattle.conservation.proofs.CountLaws.{no_block_with, one_block_with}
 
 -- a byte of frame 4 and one of frame 5 are claimed, and the claim of frame 4 is freed again
-abbrev byte_of_four : Extent
+abbrev byte_of_four : RangeView
 byte_of_four = record { base = 0x4FFF; size = 1 }
 
-abbrev byte_of_five : Extent
+abbrev byte_of_five : RangeView
 byte_of_five = record { base = 0x5800; size = 1 }
 
 abbrev journal : List Item

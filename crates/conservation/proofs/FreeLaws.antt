@@ -2,7 +2,7 @@
 use Rattle.std.proofs.Common.{◌≡◌, ℕ, ◌*◌, ◌/◌, nat_lt, Bool, true, false, ◌&&◌, is_some, is_none, if◌then◌else◌, Option, Some, None, refl, sym, ◌∙◌, ap, arith}
 use Rattle.std.proofs.lemmas.Bool.Decides.{nat_tests}
 use Rattle.std.proofs.lemmas.Bool.{and_from, and_parts}
-use Rattle.bm_base.specs.Extent.{covers}
+use Rattle.bm_base.specs.Range.{covers}
 use Rattle.bm_base.specs.Each.{each_in}
 use Rattle.bm_base.specs.Zones.{zone_of}
 use Rattle.bm_base.specs.Frames.{bytes_of_frame}

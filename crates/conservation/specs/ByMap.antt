@@ -1,8 +1,8 @@
 -- Usable frames by the map that a boot tells.
 use Rattle.std.specs.Prelude.{◌≡◌, ℕ, ◌+◌, ◌*◌, ◌≤◌, true, List}
 use Rattle.bm_base.specs.Frames.{bytes_of_frame}
-use Rattle.bm_base.specs.Extent.{covers}
-use Rattle.bm_base.specs.declared.frame.TheConstants.{FRAME_SIZE}
+use Rattle.bm_base.specs.Range.{covers}
+use Rattle.bm_base.specs.declared.range.TheConstants.{FRAME_SIZE}
 use Rattle.address_runs.specs.Runs.{RunOf}
 use Rattle.boot_model.specs.Boot.{lies_in_memory}
 

@@ -1,7 +1,7 @@
 -- Claims that stand in the end, as the journal records them (`memblock_reserve`, `memblock_phys_free`).
 use Rattle.std.specs.Prelude.{◌≡◌, ℕ, Bool, true, false, Some, None, List, ◌∷◌, ◌++◌}
 use Rattle.std.specs.List.{list_any}
-use Rattle.bm_base.specs.Extent.{Extent, covers}
+use Rattle.bm_base.specs.Range.{RangeView, covers}
 use Rattle.bm_base.specs.Frames.{bytes_of_frame}
 use Rattle.memblock_model.specs.Items.{owner_of}
 use Rattle.memblock_model.specs.declared.owner.Owner.{Owner}
@@ -17,7 +17,7 @@ decides i x = false
 -- the journal has a claim of the byte for the owner, and the claim stands: no item behind it claims the byte anew or frees it
 pub record IsRecorded (items : List Item) (x : ℕ) (who : Owner) : Type 0 where
   pub before : List Item
-  pub range : Extent
+  pub range : RangeView
   pub behind : List Item
   pub recorded : items ≡ before ++ (item.Claim range who ∷ behind)
   pub covered : covers range x ≡ true

@@ -2,7 +2,7 @@
 -- and no other frame is in any (`memblock_free_all`). A block is as great as it can be (`__free_one_page`). The blocks are those that the
 -- frames told as free are (`blocks_of`). They are judged by the map, the owners and the nodes of memory alone, and by no stage of the boot.
 use Rattle.std.specs.Prelude.{◌≡◌, ◌⊎◌, ℕ, ◌+◌, ◌-◌, ◌%◌, ◌^◌, ◌<◌, ◌≤◌, Bool, true, ◌&&◌, nat_le, nat_lt, Some, List, count_by}
-use Rattle.bm_base.specs.Extent.{covers}
+use Rattle.bm_base.specs.Range.{covers}
 use Rattle.bm_base.specs.Frames.{bytes_of_frame}
 use Rattle.bm_base.specs.Zones.{zone_of}
 use Rattle.e820_model.specs.Usable.{is_usable}

@@ -2,7 +2,7 @@
 use Rattle.std.proofs.Common.{◌≡◌, ℕ, ◌^◌, nat_le, true, false, Some, None, List, [], ◌∷◌, refl, ap, arith}
 use Rattle.std.proofs.lemmas.Bool.Decides.{nat_tests}
 use Rattle.std.proofs.lemmas.Option.{same_Some}
-use Rattle.bm_base.specs.Extent.{Extent, covers}
+use Rattle.bm_base.specs.Range.{RangeView, covers}
 use Rattle.bm_base.specs.Each.{each_from, each_in}
 use Rattle.address_runs.specs.Runs.{RunOf, value_at, AreRuns}
 use Rattle.address_runs.specs.Edits.{NothingFrom}
@@ -110,7 +110,7 @@ unfolding main_range fits fits_in each_in each_from
 fixed_examples = (refl, refl, refl, refl, refl, refl, refl)
 
 -- what is free, and an area of it that needs no low part
-abbrev two_bytes : Extent
+abbrev two_bytes : RangeView
 two_bytes = record { base = 0x100000; size = 2 }
 
 two_are_free : IsFree three two_bytes

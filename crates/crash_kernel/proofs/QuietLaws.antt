@@ -1,6 +1,6 @@
 -- The stage writes no item of memory, whatever it answers.
 use Rattle.std.proofs.Common.{ℕ, Bool, true, false, if◌then◌else◌, Option, Some, None}
-use Rattle.bm_base.specs.Extent.{Extent}
+use Rattle.bm_base.specs.Range.{RangeView}
 use Rattle.memblock_model.specs.declared.owner.Owner.TheVariants as owner
 use Rattle.memblock_model.specs.Items.{memory_of}
 use Rattle.growth_model.proofs.QuietLaws.{claimed-quiet, freed-quiet}
@@ -21,16 +21,16 @@ quiet_if : (b : Bool) (f g : Doing Refused Crash) → IsQuietStep f → IsQuietS
 quiet_if true f g first second = first
 quiet_if false f g first second = second
 
-quiet_with_low : (main : Extent) (low : Option Extent) → IsQuietStep (with_low main low)
+quiet_with_low : (main : RangeView) (low : Option RangeView) → IsQuietStep (with_low main low)
 quiet_with_low main None = quiet-bind _ _ (quiet-changes _ (freed-quiet main)) (λ done. quiet-returns crash.LowFailed)
 quiet_with_low main (Some low) =
     quiet-bind _ _ (quiet-changes _ (claimed-quiet low owner.CrashLow)) (λ done. quiet-returns (crash.At main (Some low)))
 
-quiet_low_part : (main : Extent) (size : ℕ) → IsQuietStep (low_part main size)
+quiet_low_part : (main : RangeView) (size : ℕ) → IsQuietStep (low_part main size)
 unfolding low_part
 quiet_low_part main size = quiet-bind _ _ (quiet-seen (low_range size)) (quiet_with_low main)
 
-quiet_with_main : (area : Area) (low : ℕ) (main : Option Extent) → IsQuietStep (with_main area low main)
+quiet_with_main : (area : Area) (low : ℕ) (main : Option RangeView) → IsQuietStep (with_main area low main)
 quiet_with_main area low None = quiet-returns (unplaced area.spot)
 quiet_with_main area low (Some main) =
     quiet-bind _ _ (quiet-changes _ (claimed-quiet main owner.Crash))

@@ -1,6 +1,6 @@
 -- The stage step by step: how its parts end by the ends of what they carry out.
 use Rattle.std.proofs.Common.{◌≡◌, ◌≢◌, ℕ, Bool, if◌then◌else◌, Option, Some, None, List, [], ◌∷◌, ◌++◌, Result, Ok, Err, refl, sym, ◌∙◌, ap}
-use Rattle.bm_base.specs.Extent.{Extent}
+use Rattle.bm_base.specs.Range.{RangeView}
 use Rattle.memblock_model.specs.declared.which.Which.TheVariants as which
 use Rattle.memblock_model.specs.declared.owner.Owner.{Owner}
 use Rattle.memblock_model.specs.declared.owner.Owner.TheVariants as owner
@@ -37,13 +37,13 @@ pub change-fails : (e : Refusal) (old new : List Item) (change : Change) (next :
 change-fails e old new change next h = ends-first e refusal_for old new (changes change) next (ends-change (Err e) old new change h)
 
 -- the low part, by the place that was found
-pub low-at : (items : List Item) (main : Extent) (size : ℕ) (low : Option Extent) → low ≡ low_range size items
+pub low-at : (items : List Item) (main : RangeView) (size : ℕ) (low : Option RangeView) → low ≡ low_range size items
     → low_part main size items ≡ with_low main low items
 unfolding low_part
 low-at items main size low found = rw found refl
 
 -- behind the claim of the area
-pub main-then : (r : Result Crash Refusal) (old mid new : List Item) (low : ℕ) (area : Area) (main : Extent) (b : Bool)
+pub main-then : (r : Result Crash Refusal) (old mid new : List Item) (low : ℕ) (area : Area) (main : RangeView) (b : Bool)
     → b ≡ needs_low main low → Ends {T = Unit {0}} (Ok tt) old mid (claimed main owner.Crash)
     → StageEnds (if b then low_part main low else returns (crash.At main None)) refusal_for r mid new
     → StageEnds (with_main area low (Some main)) refusal_for r old new
@@ -52,7 +52,7 @@ main-then r old mid new low area main b is claim h =
     (λ done. if needs_low main low then low_part main low else returns (crash.At main None))
     (ends-change (Ok tt) old mid (claimed main owner.Crash) claim) (rw is at h)
 
-pub main-fails : (e : Refusal) (old new : List Item) (low : ℕ) (area : Area) (main : Extent)
+pub main-fails : (e : Refusal) (old new : List Item) (low : ℕ) (area : Area) (main : RangeView)
     → Ends {T = Unit {0}} (Err e) old new (claimed main owner.Crash)
     → StageEnds (with_main area low (Some main)) refusal_for (Err e) old new
 main-fails e old new low area main h =
@@ -65,7 +65,7 @@ pub area-at : (items : List Item) (asked : Asked) (total : ℕ) (area : Option A
 unfolding reserved
 area-at items asked total area counted is = rw (is, counted) refl
 
-pub main-at : (items : List Item) (asked : Asked) (total : ℕ) (area : Area) (main : Option Extent) → total ≡ memory_bytes (memory_of items)
+pub main-at : (items : List Item) (asked : Asked) (total : ℕ) (area : Area) (main : Option RangeView) → total ≡ memory_bytes (memory_of items)
     → Some area ≡ area_for total asked → main ≡ main_range area.size area.spot items
     → reserved asked items ≡ with_main area (low_size asked) main items
 main-at items asked total area main counted is found = rw (area-at items asked total (Some area) counted is, found) refl
@@ -92,7 +92,7 @@ writes told items first (Some r) i next same = λ is.
     let none = rw same at (ap (λ (t : Done Refused Crash). t.answer) is) in cc none
 
 -- so a claim is no answer behind no step
-pub claim-writes : (told : Crash) (items : List Item) (range : Extent) (who : Owner) (next : Unit {0} → Doing Refused Crash)
+pub claim-writes : (told : Crash) (items : List Item) (range : RangeView) (who : Owner) (next : Unit {0} → Doing Refused Crash)
     → (changes (claimed range who) >>= next) items ≢ returns told items
 unfolding claimed
 claim-writes told items range who next =

@@ -4,7 +4,7 @@ use Rattle.std.proofs.lemmas.Bool.{true≢false, and_parts}
 use Rattle.std.proofs.lemmas.Bool.Decides.{nat_tests}
 use Rattle.std.proofs.lemmas.Option.{none-some, same_Some}
 use Rattle.std.specs.Option.{option_map, option_or}
-use Rattle.bm_base.specs.Extent.{Extent, covers, end_of}
+use Rattle.bm_base.specs.Range.{RangeView, covers, end_of}
 use Rattle.memblock_model.specs.declared.which.Which.TheVariants as which
 use Rattle.memblock_model.specs.declared.owner.Owner.TheVariants as owner
 use Rattle.memblock_model.specs.declared.query.Query.{Query}
@@ -34,7 +34,7 @@ use Rattle.crash_kernel.specs.Reserved.{low_part, reserved, with_area, with_low,
 use Rattle.crash_kernel.specs.Told.{HasLowPart, IsArea, IsFree, with_claim}
 
 -- a place that fits is free
-free_by : (items : List Item) (r : Extent) (o : Option Label) → is_some o ≡ true
+free_by : (items : List Item) (r : RangeView) (o : Option Label) → is_some o ≡ true
     → ((x : ℕ) → covers r x ≡ true → memory_of items x ≡ o) → Unclaimed (owner_of items) r → IsFree items r
 free_by items r None held each free = absurd (true≢false (sym held))
 free_by items r (Some label) held each free = record { label = label; memory = each; free = free }
@@ -43,32 +43,32 @@ place_free : (items : List Item) (q : Query) (place : ℕ)
     → IsPlace false (table_of which.Memory items) (table_of which.Reserved items) q place
     → IsFree items (record { base = place; size = q.size })
 place_free items q place known =
-    let r : Extent = record { base = place; size = q.size } in
+    let r : RangeView = record { base = place; size = q.size } in
     free_by items r (memory_of items place) known.held
     (λ x at. let inside = covers-from r x at in known.label x inside.0 inside.1)
     (λ x at. let inside = covers-from r x at in no_owner (owner_of items x) (known.free x inside.0 inside.1))
 
 -- a range that was found: free, of that size, at a multiple of 1 MiB, and, in a window, ending by its end
-record IsMain (items : List Item) (size : ℕ) (r : Extent) : Type 0 where
+record IsMain (items : List Item) (size : ℕ) (r : RangeView) : Type 0 where
   free : IsFree items r
   sized : r.size ≡ size
   aligned : r.base % 0x100000 ≡ 0
 
-record IsFound (items : List Item) (size hi : ℕ) (r : Extent) : Type 0 where
+record IsFound (items : List Item) (size hi : ℕ) (r : RangeView) : Type 0 where
   main : IsMain items size r
   within : end_of r ≤ hi
 
-best_by : (items : List Item) (size lo hi : ℕ) (found : Option ℕ) (r : Extent) → best items (area_query size 0x1000000 lo hi) ≡ found
-    → option_map (λ (base : ℕ). let e : Extent = record { base = base; size = size } in e) found ≡ Some r → IsFound items size hi r
+best_by : (items : List Item) (size lo hi : ℕ) (found : Option ℕ) (r : RangeView) → best items (area_query size 0x1000000 lo hi) ≡ found
+    → option_map (λ (base : ℕ). let e : RangeView = record { base = base; size = size } in e) found ≡ Some r → IsFound items size hi r
 best_by items size lo hi None r was is = absurd (none-some r is)
 best_by items size lo hi (Some place) r was is =
     let known = found-fits items (area_query size 0x1000000 lo hi) place was in
-    let here : Extent = record { base = place; size = size } in
+    let here : RangeView = record { base = place; size = size } in
     let free = place_free items (area_query size 0x1000000 lo hi) place known in
     let main : IsMain items size here = record { free = free; sized = refl; aligned = omega (arith, known.aligned) } in
     rw (← same_Some here r is) (record { main = main; within = known.high })
 
-best_found : (items : List Item) (size lo hi : ℕ) (r : Extent) → best_range size lo hi items ≡ Some r → IsFound items size hi r
+best_found : (items : List Item) (size lo hi : ℕ) (r : RangeView) → best_range size lo hi items ≡ Some r → IsFound items size hi r
 best_found items size lo hi r is = best_by items size lo hi (best items (area_query size 0x1000000 lo hi)) r refl is
 
 -- the place that was asked for
@@ -79,23 +79,23 @@ fits_free items size base h =
     place_free items (area_query size 1 base (base + size)) base
     (fits_in-parts false (table_of which.Memory items) (table_of which.Reserved items) (area_query size 1 base (base + size)) base h)
 
-fixed_by : (items : List Item) (size base : ℕ) (b : Bool) (r : Extent)
+fixed_by : (items : List Item) (size base : ℕ) (b : Bool) (r : RangeView)
     → ((base % 0x100000 == 0) && nat_lt (base + size) (2 ^ 64) && fits items (area_query size 1 base (base + size)) false base) ≡ b
-    → (if b then Some (let e : Extent = record { base = base; size = size } in e) else None) ≡ Some r → IsMain items size r
+    → (if b then Some (let e : RangeView = record { base = base; size = size } in e) else None) ≡ Some r → IsMain items size r
 fixed_by items size base true r passed is =
     let fit = fits items (area_query size 1 base (base + size)) false base in
     let parts = and_parts ((base % 0x100000 == 0) && nat_lt (base + size) (2 ^ 64)) fit passed in
     let multiple = (and_parts (base % 0x100000 == 0) (nat_lt (base + size) (2 ^ 64)) parts.0).0 in
-    let here : Extent = record { base = base; size = size } in
+    let here : RangeView = record { base = base; size = size } in
     rw (← same_Some here r is)
     (record { free = fits_free items size base parts.1; sized = refl; aligned = grind (arith, nat_tests, multiple) })
 fixed_by items size base false r passed is = absurd (none-some r is)
 
-or_cases : (a b : Option Extent) (r : Extent) → option_or a b ≡ Some r → (a ≡ Some r) ⊎ (b ≡ Some r)
+or_cases : (a b : Option RangeView) (r : RangeView) → option_or a b ≡ Some r → (a ≡ Some r) ⊎ (b ≡ Some r)
 or_cases None b r h = inr h
 or_cases (Some x) b r h = inl h
 
-main_found : (items : List Item) (size : ℕ) (where_to : Spot) (r : Extent) → main_range size where_to items ≡ Some r → IsMain items size r
+main_found : (items : List Item) (size : ℕ) (where_to : Spot) (r : RangeView) → main_range size where_to items ≡ Some r → IsMain items size r
 unfolding main_range
 main_found items size (spot.Fixed base) r is =
     fixed_by items size base
@@ -121,7 +121,7 @@ change_told change items next a = by (change items).refused where
   by (Some r) h = cc
 
 -- behind the claim, by the place of the low part
-with_low_told : (asked : Asked) (items : List Item) (m main : Extent) (low found : Option Extent)
+with_low_told : (asked : Asked) (items : List Item) (m main : RangeView) (low found : Option RangeView)
     → low_range (low_size asked) (with_claim m items) ≡ found → needs_low m (low_size asked) ≡ true
     → (with_low m found (with_claim m items)).answer ≡ Ok (crash.At main low) → HasLowPart asked items m low × (m ≡ main)
 unfolding low_range
@@ -139,7 +139,7 @@ with_low_told asked items m main low (Some l) is needs h =
     (rw (← there) (needs, record { size = found.main.sized; free = found.main.free; within = found.within }), same)
 
 -- by whether one is needed
-needs_told : (asked : Asked) (items : List Item) (m main : Extent) (low : Option Extent) (b : Bool) → needs_low m (low_size asked) ≡ b
+needs_told : (asked : Asked) (items : List Item) (m main : RangeView) (low : Option RangeView) (b : Bool) → needs_low m (low_size asked) ≡ b
     → ((if b then low_part m (low_size asked) else returns (crash.At m None)) (with_claim m items)).answer ≡ Ok (crash.At main low)
     → HasLowPart asked items m low × (m ≡ main)
 unfolding low_part
@@ -152,12 +152,12 @@ needs_told asked items m main low false is h =
     (rw (← there) is, same)
 
 -- an area without a place isn't one that is told
-unplaced_told : (s : Spot) (main : Extent) (low : Option Extent) → ok (unplaced s) ≡ Ok (crash.At main low) → ⊥
+unplaced_told : (s : Spot) (main : RangeView) (low : Option RangeView) → ok (unplaced s) ≡ Ok (crash.At main low) → ⊥
 unplaced_told (spot.Fixed base) main low h = cc
 unplaced_told spot.Automatic main low h = cc
 unplaced_told spot.High main low h = cc
 
-main_told : (asked : Asked) (items : List Item) (area : Area) (main : Extent) (low found : Option Extent)
+main_told : (asked : Asked) (items : List Item) (area : Area) (main : RangeView) (low found : Option RangeView)
     → area_for (memory_bytes (memory_of items)) asked ≡ Some area → main_range area.size area.spot items ≡ found
     → (with_main area (low_size asked) found items).answer ≡ Ok (crash.At main low) → IsArea asked items main low
 main_told asked items area main low None asks is h = absurd (unplaced_told area.spot main low h)
@@ -175,14 +175,14 @@ main_told asked items area main low (Some m) asks is h =
       low_part = behind.0;
     })
 
-area_told : (asked : Asked) (items : List Item) (main : Extent) (low : Option Extent) (area : Option Area)
+area_told : (asked : Asked) (items : List Item) (main : RangeView) (low : Option RangeView) (area : Option Area)
     → area_for (memory_bytes (memory_of items)) asked ≡ area
     → (with_area (low_size asked) area items).answer ≡ Ok (crash.At main low) → IsArea asked items main low
 area_told asked items main low None asks h = let told : ok crash.Nothing ≡ Ok (crash.At main low) = h in cc
 area_told asked items main low (Some area) asks h =
     main_told asked items area main low (main_range area.size area.spot items) asks refl h
 
-pub reserved-told : (asked : Asked) (items : List Item) (main : Extent) (low : Option Extent)
+pub reserved-told : (asked : Asked) (items : List Item) (main : RangeView) (low : Option RangeView)
     → (reserved asked items).answer ≡ Ok (crash.At main low) → IsArea asked items main low
 unfolding reserved
 reserved-told asked items main low h =

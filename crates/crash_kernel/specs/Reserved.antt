@@ -1,6 +1,6 @@
 -- The crash area, reserved: what is claimed and what comes of it (`reserve_crashkernel`, `reserve_crashkernel_low`).
 use Rattle.std.specs.Prelude.{ℕ, if◌then◌else◌, Option, Some, None}
-use Rattle.bm_base.specs.Extent.{Extent}
+use Rattle.bm_base.specs.Range.{RangeView}
 use Rattle.memblock_model.specs.declared.owner.Owner.TheVariants as owner
 use Rattle.memblock_model.specs.Items.{memory_of}
 use Rattle.growth_model.specs.Growth.{claimed, freed}
@@ -16,7 +16,7 @@ use Rattle.crash_kernel.specs.Area.{area_for}
 use Rattle.crash_kernel.specs.Places.{low_range, low_size, main_range, needs_low, unplaced}
 
 -- the low part is claimed; where it has no place the area is given back
-abbrev pub with_low : Extent → Option Extent → Doing Refused Crash
+abbrev pub with_low : RangeView → Option RangeView → Doing Refused Crash
 with_low main None = do
   done ← changes (freed main)
   returns crash.LowFailed
@@ -24,13 +24,13 @@ with_low main (Some low) = do
   done ← changes (claimed low owner.CrashLow)
   returns (crash.At main (Some low))
 
-unfoldable pub low_part : Extent → ℕ → Doing Refused Crash
+unfoldable pub low_part : RangeView → ℕ → Doing Refused Crash
 low_part main size = do
   low ← seen (low_range size)
   with_low main low
 
 -- the area is claimed, and then a low part, where the area needs one
-abbrev pub with_main : Area → ℕ → Option Extent → Doing Refused Crash
+abbrev pub with_main : Area → ℕ → Option RangeView → Doing Refused Crash
 with_main area low None = returns (unplaced area.spot)
 with_main area low (Some main) = do
   done ← changes (claimed main owner.Crash)

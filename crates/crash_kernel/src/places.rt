@@ -2,7 +2,7 @@
 //! here, so that an area has no place is known before anything is claimed, and wants no memory.
 
 ghost use Rattle.std.specs.Prelude.{◌≡◌, ℕ, ◌+◌, ◌^◌, ◌<◌, ◌≤◌, IfSome};
-ghost use Rattle.bm_base.specs.Extent.{Extent};
+ghost use Rattle.bm_base.specs.Range.{RangeView};
 ghost use Rattle.growth_model.specs.Sound.{HasBegun, IsAway};
 ghost use Rattle.crash_kernel.specs.Places.{best_range, fixed_range, low_range, main_range, needs_low, unplaced};
 

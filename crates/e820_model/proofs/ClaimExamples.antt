@@ -5,7 +5,7 @@ use Rattle.e820_model.specs.Claims.{Claims, no_claims, is_covered_by, EndInSpace
 use Rattle.e820_model.specs.declared.entry.Entry.{Entry}
 use Rattle.e820_model.specs.declared.edit.Edit.{Edit}
 use Rattle.e820_model.specs.declared.edit.Edit.TheVariants as edit
-use Rattle.bm_base.specs.Extent.{Extent, covers}
+use Rattle.bm_base.specs.Range.{RangeView, covers}
 use Rattle.e820_model.proofs.ClaimLaws.{greatest_is}
 
 -- RAM up to 2 MiB, with ACPI data in it from 1 MiB on, 512 KiB long
@@ -67,7 +67,7 @@ unfolding with_nvs
 with_claims_examples = (refl, refl, refl, refl)
 
 -- the edits, on the page from 0x1000 on: `memmap=4K@0x1000` and the like
-abbrev page : Extent
+abbrev page : RangeView
 page = record { base = 0x1000; size = 0x1000 }
 
 abbrev ram_and_nvs : Claims

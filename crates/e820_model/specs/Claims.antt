@@ -1,7 +1,7 @@
 -- What the firmware's entries, the extension, the options and the EFI map claim of one address: a set of types.
 use Rattle.std.specs.Prelude.{ℕ, zero, suc, ◌+◌, ◌^◌, ◌==◌, Bool, false, ◌&&◌, ◌||◌, ◌<◌, not, nat_lt, if◌then◌else◌, List, [], ◌∷◌}
-use Rattle.bm_base.specs.Extent.{Extent, covers}
-use Rattle.bm_base.specs.declared.frame.TheConstants.{FRAME_SIZE}
+use Rattle.bm_base.specs.Range.{RangeView, covers}
+use Rattle.bm_base.specs.declared.range.TheConstants.{FRAME_SIZE}
 use Rattle.e820_model.specs.declared.types.TheConstants.{E820_TYPE_RAM, E820_TYPE_RESERVED}
 use Rattle.e820_model.specs.declared.entry.Entry.{Entry}
 use Rattle.e820_model.specs.declared.edit.Edit.{Edit}
@@ -82,10 +82,10 @@ after_edits (e ∷ es) c = after_edits es (edited e c)
 
 -- the first page is the BIOS's even where firmware calls it RAM, and from 640 KiB to 1 MiB there
 -- is none (`trim_bios_range`)
-abbrev pub first_page : Extent
+abbrev pub first_page : RangeView
 first_page = record { base = 0; size = FRAME_SIZE }
 
-abbrev pub bios_area : Extent
+abbrev pub bios_area : RangeView
 bios_area = record { base = 0xA0000; size = 0x60000 }
 
 abbrev pub bios_trimmed : Claims → Claims

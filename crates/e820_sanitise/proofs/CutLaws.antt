@@ -3,7 +3,7 @@ use Rattle.std.proofs.Common.{◌≡◌, ℕ, ◌+◌, ◌-◌, ◌^◌, ◌<◌
 use Rattle.std.specs.List.{flat_map}
 use Rattle.std.proofs.lemmas.Bool.Decides.{nat_tests}
 use Rattle.std.proofs.lemmas.Bool.{cases_Bool}
-use Rattle.bm_base.specs.Extent.{Extent, end_of, covers}
+use Rattle.bm_base.specs.Range.{RangeView, end_of, covers}
 use Rattle.address_runs.specs.Runs.{RunOf, run_end, lies_in}
 use Rattle.e820_model.specs.Claims.{is_covered_by, claims_of_entries, with_claims, edited}
 use Rattle.e820_model.specs.Map.{claims_of, AreClaims}
@@ -27,7 +27,7 @@ between_if_test from until None x k = grind (arith, nat_tests)
 between_if_test from until (Some kind) x k = between_test from until kind x k
 
 -- the claims of the parts: the claim's own addresses, with the type `inner` inside the range
-parts_test : (range : Extent) (inner : Option ℕ) (r : RunOf ℕ) (x k : ℕ)
+parts_test : (range : RangeView) (inner : Option ℕ) (r : RunOf ℕ) (x k : ℕ)
     → claims_of (parts range inner r) x k ≡ (lies_in r x && (if covers range x then is_value inner k else (k == r.value)))
 parts_test range inner r x k =
     let first : List (RunOf ℕ) = between r.base (min range.base (run_end r)) r.value in
@@ -69,7 +69,7 @@ alike : (f g : ℕ → ℕ → Bool) → ((x k : ℕ) → f x k ≡ g x k) → f
 alike f g same = λ i x k. same x k i
 
 -- the list after a cut has the claims that the definition of the edit gives
-pub remove_same : (range : Extent) (kind : ℕ) (rs : List (RunOf ℕ))
+pub remove_same : (range : RangeView) (kind : ℕ) (rs : List (RunOf ℕ))
     → claims_of (cut_out range (Some kind) None rs) ≡ edited (edit.Remove range kind) (claims_of rs)
 remove_same range kind [] = refl
 remove_same range kind (r ∷ rs) =
@@ -77,14 +77,14 @@ remove_same range kind (r ∷ rs) =
     ∙ rw (parts_test range (left_inside (Some kind) None r.value) r x k, remove_same range kind rs)
     (remove_step (lies_in r x) (covers range x) (claims_of rs x k) r.value kind k))
 
-pub remove_all_same : (range : Extent) (rs : List (RunOf ℕ))
+pub remove_all_same : (range : RangeView) (rs : List (RunOf ℕ))
     → claims_of (cut_out range None None rs) ≡ edited (edit.RemoveAll range) (claims_of rs)
 remove_all_same range [] = refl
 remove_all_same range (r ∷ rs) =
     alike _ _ (λ x k. claims_append_at (parts range None r) (cut_out range None None rs) x k
     ∙ rw (parts_test range None r x k, remove_all_same range rs) (grind (arith, nat_tests)))
 
-pub change_same : (range : Extent) (from to : ℕ) (rs : List (RunOf ℕ))
+pub change_same : (range : RangeView) (from to : ℕ) (rs : List (RunOf ℕ))
     → claims_of (cut_out range (Some from) (Some to) rs) ≡ edited (edit.Change range from to) (claims_of rs)
 change_same range from to [] = alike _ _ (λ x k. grind (arith, nat_tests))
 change_same range from to (r ∷ rs) =
@@ -93,7 +93,7 @@ change_same range from to (r ∷ rs) =
     ∙ rw (parts_test range (left_inside (Some from) (Some to) r.value) r x k, change_same range from to rs)
     (change_step (lies_in r x) (covers range x) (claims_of rs x k) (claims_of rs x from) r.value from to k))
 
-pub add_same : (range : Extent) (kind : ℕ) (rs : List (RunOf ℕ))
+pub add_same : (range : RangeView) (kind : ℕ) (rs : List (RunOf ℕ))
     → claims_of (rs ++ between range.base (end_of range) kind) ≡ edited (edit.Add range kind) (claims_of rs)
 add_same range kind rs =
     alike _ _ (λ x k. claims_append_at rs (between range.base (end_of range) kind) x k
@@ -142,7 +142,7 @@ type_inside meant instead kind type some small =
       | inr other ↦ rw other (some, small)
     ]
 
-pub are_cut : (range : Extent) (meant instead : Option ℕ) (rs : List (RunOf ℕ)) → IsType instead → AreClaims rs
+pub are_cut : (range : RangeView) (meant instead : Option ℕ) (rs : List (RunOf ℕ)) → IsType instead → AreClaims rs
     → AreClaims (cut_out range meant instead rs)
 are_cut range meant instead [] type claims = tt
 are_cut range meant instead (r ∷ rs) type claims =

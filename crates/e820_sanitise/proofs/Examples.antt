@@ -1,12 +1,12 @@
 -- Worked examples of cuts and of the limit on runs.
 use Rattle.std.proofs.Common.{◌≡◌, ℕ, true, false, Some, None, List, [], ◌∷◌, length, Ok, Err, refl}
-use Rattle.bm_base.specs.Extent.{Extent}
+use Rattle.bm_base.specs.Range.{RangeView}
 use Rattle.address_runs.specs.Runs.{RunOf}
 use Rattle.e820_sanitise.specs.declared.fault.MapFault.TheVariants as faults
 use Rattle.e820_sanitise.specs.Cuts.{between, between_if, parts, is_meant, left_inside, cut_out, claim_of}
 use Rattle.e820_sanitise.specs.Room.{in_room}
 
-abbrev range : ℕ → ℕ → Extent
+abbrev range : ℕ → ℕ → RangeView
 range base size = record { base = base; size = size }
 
 abbrev run : ℕ → ℕ → ℕ → RunOf ℕ

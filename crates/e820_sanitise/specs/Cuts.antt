@@ -1,7 +1,7 @@
 -- The parts into which a range cuts a claim, and a list of claims.
 use Rattle.std.specs.Prelude.{ℕ, ◌+◌, ◌-◌, ◌==◌, Bool, true, nat_lt, if◌then◌else◌, min, max, Option, Some, None, List, [], ◌∷◌, ◌++◌}
 use Rattle.std.specs.List.{flat_map}
-use Rattle.bm_base.specs.Extent.{Extent, end_of}
+use Rattle.bm_base.specs.Range.{RangeView, end_of}
 use Rattle.address_runs.specs.Runs.{RunOf, run_end}
 use Rattle.e820_model.specs.declared.entry.Entry.{Entry}
 
@@ -17,7 +17,7 @@ between_if from until (Some kind) = between from until kind
 
 -- the parts of a claim: below the range, inside it with the type `inner` (nothing for None), and
 -- above it
-abbrev pub parts : Extent → Option ℕ → RunOf ℕ → List (RunOf ℕ)
+abbrev pub parts : RangeView → Option ℕ → RunOf ℕ → List (RunOf ℕ)
 parts range inner r =
     between r.base (min range.base (run_end r)) r.value
     ++ between_if (max range.base r.base) (min (end_of range) (run_end r)) inner
@@ -33,7 +33,7 @@ abbrev pub left_inside : Option ℕ → Option ℕ → ℕ → Option ℕ
 left_inside meant instead kind = if is_meant meant kind then instead else Some kind
 
 -- the parts of every claim in the list, after the cut
-abbrev pub cut_out : Extent → Option ℕ → Option ℕ → List (RunOf ℕ) → List (RunOf ℕ)
+abbrev pub cut_out : RangeView → Option ℕ → Option ℕ → List (RunOf ℕ) → List (RunOf ℕ)
 cut_out range meant instead rs = flat_map (λ r. parts range (left_inside meant instead r.value) r) rs
 
 -- the claim of an entry; none if it is empty or has type 0

@@ -8,7 +8,7 @@
 //! claims on an address don't depend on the order.
 
 ghost use Rattle.std.specs.Prelude.{◌≡◌, ℕ, ◌+◌, ◌^◌, ◌<◌, Option, [], ◌∷◌, ◌++◌, OnOk, OnErr, IfOk, IsOk, IsTrue};
-ghost use Rattle.bm_base.specs.Extent.{end_of};
+ghost use Rattle.bm_base.specs.Range.{end_of};
 ghost use Rattle.e820_model.specs.Claims.{EndInSpace, HasTypes, with_claims, claims_of_entries, edited, bios_trimmed};
 ghost use Rattle.e820_model.specs.declared.edit.Edit.TheVariants as edits;
 ghost use Rattle.e820_model.specs.Map.{AreClaims, claims_of};

@@ -1,14 +1,14 @@
 -- Worked examples of zero pages with an initrd.
 use Rattle.std.proofs.Common.{◌≡◌, ℕ, ◌-◌, ◌^◌, true, false, List, [], ◌∷◌, ◌++◌, Some, None, refl, arith}
 use Rattle.std.specs.Prelude.{replicate}
-use Rattle.bm_base.specs.Extent.{Extent}
+use Rattle.bm_base.specs.Range.{RangeView}
 use Rattle.e820_table.specs.declared.zero_page.ZeroFault.TheVariants as faults
 use Rattle.e820_table.specs.declared.zero_page.ZeroPage.{ZeroPage}
 use Rattle.e820_table.specs.Entries.{entry_at}
 use Rattle.e820_table.specs.Initrd.{IsInitrd, halves_at, has_initrd, image_of, initrd_of, is_far, is_initrd_far, loader_of, placed, to_frame_end}
 use Rattle.e820_table.specs.ZeroPage.{entries_of, initrd_fault, page_of, page_view, zero_fault}
 
-abbrev range : ℕ → ℕ → Extent
+abbrev range : ℕ → ℕ → RangeView
 range base size = record { base = base; size = size }
 
 -- a page with this loader type and these 8 bytes at 0x0C0 and at 0x218; it states two entries,

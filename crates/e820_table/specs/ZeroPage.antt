@@ -1,7 +1,7 @@
 -- The zero page: `struct boot_params`, 4,096 bytes. Only its table of entries and its initrd are
 -- read.
 use Rattle.std.specs.Prelude.{ℕ, ◌==◌, List, length, slice_index, not, nat_lt, if◌then◌else◌, Option, Some, None}
-use Rattle.bm_base.specs.Extent.{Extent}
+use Rattle.bm_base.specs.Range.{RangeView}
 use Rattle.e820_model.specs.declared.entry.Entry.{Entry}
 use Rattle.e820_table.specs.declared.zero_page.ZeroFault.{ZeroFault}
 use Rattle.e820_table.specs.declared.zero_page.ZeroFault.TheVariants as faults
@@ -25,7 +25,7 @@ entries_of bytes = first_entries table_offset (entry_count bytes) bytes
 -- is one
 pub record Page : Type 0 where
   pub entries : List Entry
-  pub initrd : Option Extent
+  pub initrd : Option RangeView
 
 abbrev pub page_of : List ℕ → Page
 page_of bytes = record { entries = entries_of bytes; initrd = initrd_of bytes }

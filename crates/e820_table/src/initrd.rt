@@ -5,7 +5,7 @@
 //! (`early_reserve_initrd`), so the range here ends at the end of that frame.
 
 ghost use Rattle.std.specs.Prelude.{◌≡◌, ℕ, ◌+◌, ◌-◌, ◌*◌, ◌^◌, ◌<◌, ◌≤◌, length, IfErr, IfOk, OnErr, OnOk, IfSome, None, Some, SomeIff, true, false};
-ghost use Rattle.bm_base.specs.Extent.{Extent, end_of};
+ghost use Rattle.bm_base.specs.Range.{RangeView, end_of};
 ghost use Rattle.e820_table.specs.Initrd.{halves_at, initrd_of, is_far, placed, to_frame_end, IsInitrd};
 ghost use Rattle.e820_table.specs.ZeroPage.{initrd_fault};
 

@@ -1,6 +1,6 @@
 -- The number of whole frames between two addresses.
 use Rattle.std.specs.Prelude.{ℕ, ◌+◌, ◌*◌, ◌^◌, ◌&&◌, nat_le}
-use Rattle.bm_base.specs.declared.frame.TheConstants.{FRAME_SIZE}
+use Rattle.bm_base.specs.declared.range.TheConstants.{FRAME_SIZE}
 use Rattle.e820_model.specs.Usable.{count_below}
 
 -- the number of frames that begin at or above `from` and end at or below `until`

@@ -1,7 +1,7 @@
 -- Two live IDs in a small machine, and what each act makes of them.
 use Rattle.std.proofs.Common.{◌≡◌, ℕ, suc, zero, ◌+◌, ◌<◌, ◌++◌, true, false, Some, None, List, [], ◌∷◌, length, take, refl, sym, ap, subst, arith, lit<, inl, inr, length-take, length-append}
 use Rattle.std.proofs.lemmas.Bool.{true≢false}
-use Rattle.bm_base.specs.Extent.{Extent}
+use Rattle.bm_base.specs.Range.{RangeView}
 use Rattle.bm_base.specs.Each.{each_from, each_in}
 use Rattle.memblock_model.specs.declared.which.Which.TheVariants as which
 use Rattle.memblock_model.specs.declared.owner.Owner.TheVariants as owner
@@ -22,13 +22,13 @@ use Rattle.early_script.specs.Acted.{State, IsAmid, answers, alloc_at, reserve_d
 use Rattle.early_script.specs.Found.{state_of, bytes_in}
 use Rattle.early_script.specs.Stage.{LineStage, EndsAmid, deed_at, after_lines}
 
-abbrev at_base : ℕ → ℕ → Extent
+abbrev at_base : ℕ → ℕ → RangeView
 at_base base size = record { base = base; size = size }
 
-abbrev first : Extent
+abbrev first : RangeView
 first = at_base 0x100 4
 
-abbrev second : Extent
+abbrev second : RangeView
 second = at_base 0x200 2
 
 abbrev ids : Ids
@@ -45,7 +45,7 @@ bytes_examples : HaveBytes ids × ¬ HaveBytes ((1, at_base 0x100 0) ∷ [])
 bytes_examples = ((lit< tt, (lit< tt, tt)), λ known. let clash : 0 < 0 = known.0 in absurd (omega (arith, clash)))
 
 -- both IDs have what they claimed, but for one byte of the second, which was freed
-abbrev kernel : Extent
+abbrev kernel : RangeView
 kernel = at_base 0x10000 0x4000
 
 abbrev items : List Item

@@ -1,7 +1,7 @@
 -- Bytes that are those of items and fills stay so behind a line.
 use Rattle.std.proofs.Common.{◌≡◌, ℕ, None, List, Result, Ok, Err, ◌∙◌, ap, refl}
 use Rattle.bm_base.specs.declared.memory.Memory.{Memory}
-use Rattle.bm_base.specs.Extent.{Extent}
+use Rattle.bm_base.specs.Range.{RangeView}
 use Rattle.memblock_model.specs.declared.item.Item.{Item}
 use Rattle.growth_model.specs.Bytes.{Filled, Follows, Holds}
 use Rattle.growth_model.proofs.FillLaws.{holds-call}
@@ -9,7 +9,7 @@ use Rattle.early_script.specs.declared.outcome.Outcome.{Outcome}
 use Rattle.early_script.specs.Acted.{State, Deed, Acts, fills_by}
 
 -- the same bytes, items and image by other names
-pub holds-as : (kernel other : Extent) (items same : List Item) (fills : List Filled) (f g : ℕ → ℕ) → other ≡ kernel → same ≡ items →
+pub holds-as : (kernel other : RangeView) (items same : List Item) (fills : List Filled) (f g : ℕ → ℕ) → other ≡ kernel → same ≡ items →
     ((x : ℕ) → g x ≡ f x) → Holds kernel items fills f → Holds other same fills g
 holds-as kernel other items same fills f g is_kernel is_items each holds =
     rw (is_kernel, is_items) (record { made = holds.made; each = λ x. each x ∙ holds.each x })

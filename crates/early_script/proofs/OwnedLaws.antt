@@ -3,7 +3,7 @@ use Rattle.std.proofs.Common.{◌≡◌, ℕ, ◌<◌, ◌≤◌, ◌↔◌, Boo
 use Rattle.std.specs.Prelude.{min, max}
 use Rattle.std.proofs.lemmas.Bool.{cases_Bool, and_from, or_right, false≢true, false_from_ne_true}
 use Rattle.std.proofs.lemmas.Bool.Decides.{nat_tests}
-use Rattle.bm_base.specs.Extent.{Extent, end_of, covers, Meet}
+use Rattle.bm_base.specs.Range.{RangeView, end_of, covers, Meet}
 use Rattle.bm_base.proofs.EachLaws.{each_in-all, each_in-each}
 use Rattle.address_runs.specs.Edits.{agree}
 use Rattle.memblock_model.specs.declared.owner.Owner.{Owner}
@@ -24,13 +24,13 @@ agreed : (o : Option Owner) (who : Owner) → agree same_owner o (Some who) ≡ 
 agreed None who h = cc h
 agreed (Some a) who h = ap (λ (b : Owner). Some b) (owner_tells.true_is_equal a who h)
 
-pub owned-each : (own : Owners) (who : Owner) (range : Extent) → is_owned own who range ≡ true → (x : ℕ) → range.base ≤ x → x < end_of
+pub owned-each : (own : Owners) (who : Owner) (range : RangeView) → is_owned own who range ≡ true → (x : ℕ) → range.base ≤ x → x < end_of
     range →
     own x ≡ Some who
 unfolding is_owned
 owned-each own who range h x low high = agreed (own x) who (each_in-each range (λ y. agree same_owner (own y) (Some who)) h x low high)
 
-pub owned-is : (own : Owners) (who : Owner) (range : Extent) (b : Bool) →
+pub owned-is : (own : Owners) (who : Owner) (range : RangeView) (b : Bool) →
     (IsTrue b ↔ ((x : ℕ) → range.base ≤ x → x < end_of range → own x ≡ Some who)) → is_owned own who range ≡ b
 unfolding is_owned
 owned-is own who range true tells =
@@ -39,7 +39,7 @@ owned-is own who range false tells =
     false_from_ne_true _ (λ holds. false≢true (tells.1 (λ x low high. owned-each own who range holds x low high)))
 
 -- ranges that meet have a byte in common, and the other way round
-meets-meet : (r s : Extent) → meets r s ≡ true → Meet s r
+meets-meet : (r s : RangeView) → meets r s ≡ true → Meet s r
 meets-meet r s h =
     let x = max r.base s.base in
     let below : x < min (end_of r) (end_of s) = grind (arith, nat_tests) in
@@ -47,22 +47,22 @@ meets-meet r s h =
     let too : covers r x ≡ true = grind (arith, nat_tests) in
     (x, and_from (covers s x) (covers r x) here too)
 
-meet-meets : (r s : Extent) → Meet s r → meets r s ≡ true
+meet-meets : (r s : RangeView) → Meet s r → meets r s ≡ true
 meet-meets r s both = grind (arith, nat_tests, both.1)
 
-met : (kernel : Extent) (items : List Item) (range : Extent) → (w : Which) × Meet (live w kernel items) range →
+met : (kernel : RangeView) (items : List Item) (range : RangeView) → (w : Which) × Meet (live w kernel items) range →
     touches kernel items range ≡ true
 met kernel items range (which.Memory, both) = rw (meet-meets range (live which.Memory kernel items) both) refl
 met kernel items range (which.Reserved, both) = or_right _ _ (meet-meets range (live which.Reserved kernel items) both)
 
-touched : (kernel : Extent) (items : List Item) (range : Extent) → touches kernel items range ≡ true →
+touched : (kernel : RangeView) (items : List Item) (range : RangeView) → touches kernel items range ≡ true →
     (w : Which) × Meet (live w kernel items) range
 touched kernel items range h = elim (cases_Bool (meets range (live which.Memory kernel items))) [
   | inl first ↦ (which.Memory, meets-meet range (live which.Memory kernel items) first)
   | inr none ↦ (which.Reserved, meets-meet range (live which.Reserved kernel items) (rw none at h))
 ]
 
-pub touches-is : (kernel : Extent) (items : List Item) (range : Extent) (b : Bool) →
+pub touches-is : (kernel : RangeView) (items : List Item) (range : RangeView) (b : Bool) →
     (IsTrue b ↔ TouchesTable kernel range items) → touches kernel items range ≡ b
 touches-is kernel items range true tells = met kernel items range (tells.0 refl)
 touches-is kernel items range false tells =

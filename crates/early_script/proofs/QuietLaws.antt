@@ -1,7 +1,7 @@
 -- A line claims and frees, and nothing else: memory and the limit stay.
 use Rattle.std.proofs.Common.{◌≡◌, ℕ, ◌-◌, Bool, true, false, if◌then◌else◌, Option, Some, None, List, take, Result, Ok, Err, ◌∙◌, ap}
 use Rattle.bm_base.specs.declared.memory.Memory.{Memory}
-use Rattle.bm_base.specs.Extent.{Extent}
+use Rattle.bm_base.specs.Range.{RangeView}
 use Rattle.memblock_model.specs.declared.owner.Owner.TheVariants as owner
 use Rattle.memblock_model.specs.declared.item.Item.{Item}
 use Rattle.memblock_model.specs.Items.{memory_of, limit_of}
@@ -33,7 +33,7 @@ alloc_at-quiet : (s : State) (id size : ℕ) (place : Option ℕ) → IsQuietDee
 alloc_at-quiet s id size None = by_change (answers s outcomes.NoGap) nothing-quiet
 alloc_at-quiet s id size (Some place) = record { change = claimed-quiet (record { base = place; size = size }) (owner.Script id) }
 
-whole-quiet : (s : State) (id : ℕ) (deed : Extent → Deed) (range : Option Extent) → ((r : Extent) → IsQuietDeed (deed r)) →
+whole-quiet : (s : State) (id : ℕ) (deed : RangeView → Deed) (range : Option RangeView) → ((r : RangeView) → IsQuietDeed (deed r)) →
     IsQuietDeed (on_range s id deed range)
 whole-quiet s id deed None quiet = by_change (answers s outcomes.Unknown) nothing-quiet
 whole-quiet s id deed (Some range) quiet = search (either, quiet, by_change, nothing-quiet)

@@ -3,7 +3,7 @@ use Rattle.std.proofs.Common.{◌≡◌, ℕ, Bool, None, List, length, Result, 
 use Rattle.std.proofs.lemmas.Bool.{true≢false}
 use Rattle.std.proofs.Math.Seq.{take-length}
 use Rattle.bm_base.specs.declared.memory.Memory.{Memory}
-use Rattle.bm_base.specs.Extent.{Extent}
+use Rattle.bm_base.specs.Range.{RangeView}
 use Rattle.memblock_model.specs.declared.item.Item.{Item}
 use Rattle.memblock_model.specs.declared.request.Request.{Request}
 use Rattle.growth_model.specs.Outcome as growth
@@ -44,7 +44,7 @@ bytes-quiet (Err memory) old new d f g none follows x = follows.each x
 pub alloc-quiet : (s : State) (id : ℕ) (r : Request) → (alloc_deed s id r).fill ≡ None
 alloc-quiet s id r = grind arith
 
-pub reserve-quiet : (s : State) (id : ℕ) (range : Extent) → (reserve_deed s id range).fill ≡ None
+pub reserve-quiet : (s : State) (id : ℕ) (range : RangeView) → (reserve_deed s id range).fill ≡ None
 reserve-quiet s id range = grind arith
 
 pub free-quiet : (s : State) (id : ℕ) → (free_deed s id).fill ≡ None

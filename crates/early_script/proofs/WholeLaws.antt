@@ -1,6 +1,6 @@
 -- An act on a live ID, by what is found of it.
 use Rattle.std.proofs.Common.{◌≡◌, ℕ, ◌<◌, ◌≤◌, ◌↔◌, Bool, if◌then◌else◌, Some, IsTrue, refl}
-use Rattle.bm_base.specs.Extent.{Extent, end_of}
+use Rattle.bm_base.specs.Range.{RangeView, end_of}
 use Rattle.memblock_model.specs.declared.owner.Owner.TheVariants as owner
 use Rattle.memblock_model.specs.Items.{owner_of}
 use Rattle.boot_journal.specs.Contents.{Contents}
@@ -11,13 +11,13 @@ use Rattle.early_script.specs.Acted.{State, Deed, answers, on_whole}
 use Rattle.early_script.proofs.OwnedLaws.{owned-is}
 
 -- what the journal's look-up tells
-pub owned-by : (j k : Contents) (id : ℕ) (range : Extent) (b told : Bool) → j ≡ k → b ≡ told →
+pub owned-by : (j k : Contents) (id : ℕ) (range : RangeView) (b told : Bool) → j ≡ k → b ≡ told →
     (IsTrue b ↔ ((x : ℕ) → range.base ≤ x → x < end_of range → owner_of j.items x ≡ Some (owner.Script id))) →
     is_owned (owner_of k.items) (owner.Script id) range ≡ told
 owned-by j k id range b told same is tells =
     rw (← same, ← is) (owned-is (owner_of j.items) (owner.Script id) range b tells)
 
-pub whole-is : (s : State) (id : ℕ) (range : Extent) (told : Bool) → range_of s.ids id ≡ Some range →
-    is_owned (owner_of s.items) (owner.Script id) range ≡ told → (deed : Extent → Deed) →
+pub whole-is : (s : State) (id : ℕ) (range : RangeView) (told : Bool) → range_of s.ids id ≡ Some range →
+    is_owned (owner_of s.items) (owner.Script id) range ≡ told → (deed : RangeView → Deed) →
     on_whole s id deed ≡ (if told then deed range else answers s outcomes.NotWhole)
 whole-is s id range told found owned deed = rw (found, owned) refl

@@ -2,7 +2,7 @@
 -- memory where none does.
 use Rattle.std.specs.Prelude.{◌≡◌, ◌⊎◌, ℕ, ◌+◌, ◌-◌, nat_le, nat_lt, Bool, true, false, IsTrue, if◌then◌else◌, Option, Some, None, List, [], ◌∷◌, ◌++◌, length, Result, Ok, Err}
 use Rattle.bm_base.specs.declared.memory.Memory.{Memory}
-use Rattle.bm_base.specs.Extent.{Extent}
+use Rattle.bm_base.specs.Range.{RangeView}
 use Rattle.phys_store.specs.Bytes.{bytes_at}
 use Rattle.memblock_model.specs.declared.item.Item.{Item}
 use Rattle.memblock_model.specs.declared.owner.Owner.TheVariants as owner
@@ -23,7 +23,7 @@ use Rattle.early_script.specs.Owned.{is_owned, touches}
 
 -- what a line finds: the kernel's image, what happened to memory, and the live IDs
 pub record State : Type 0 where
-  pub kernel : Extent
+  pub kernel : RangeView
   pub items : List Item
   pub ids : Ids
 
@@ -60,7 +60,7 @@ abbrev pub alloc_deed : State → ℕ → Request → Deed
 alloc_deed s id r = if is_live s.ids id then answers s outcomes.Taken else alloc_at s id r.size (place_for r s.items)
 
 -- reserve: the range is claimed for the ID, unless it meets a table
-abbrev pub reserved_for : State → ℕ → Extent → Deed
+abbrev pub reserved_for : State → ℕ → RangeView → Deed
 reserved_for s id range = record {
   change = claimed range (owner.Script id);
   answer = outcomes.Done;
@@ -69,28 +69,28 @@ reserved_for s id range = record {
   takes = true;
 }
 
-abbrev pub reserve_deed : State → ℕ → Extent → Deed
+abbrev pub reserve_deed : State → ℕ → RangeView → Deed
 reserve_deed s id range =
     if is_live s.ids id then answers s outcomes.Taken else
     (if touches s.kernel s.items range then answers s outcomes.TableInUse else reserved_for s id range)
 
 -- an act on the range of a live ID, of which nobody else has a byte
-abbrev pub on_range : State → ℕ → (Extent → Deed) → Option Extent → Deed
+abbrev pub on_range : State → ℕ → (RangeView → Deed) → Option RangeView → Deed
 on_range s id deed None = answers s outcomes.Unknown
 on_range s id deed (Some range) = if is_owned (owner_of s.items) (owner.Script id) range then deed range else answers s outcomes.NotWhole
 
-abbrev pub on_whole : State → ℕ → (Extent → Deed) → Deed
+abbrev pub on_whole : State → ℕ → (RangeView → Deed) → Deed
 on_whole s id deed = on_range s id deed (range_of s.ids id)
 
 -- free: the ID's whole range is freed
-abbrev pub free_whole : State → ℕ → Extent → Deed
+abbrev pub free_whole : State → ℕ → RangeView → Deed
 free_whole s id range = record { change = freed range; answer = outcomes.Done; ids = without s.ids id; fill = None; takes = false }
 
 abbrev pub free_deed : State → ℕ → Deed
 free_deed s id = on_whole s id (free_whole s id)
 
 -- trim: the bytes from `keep` on are freed, and the ID keeps those before
-abbrev pub trimmed_to : State → ℕ → ℕ → Extent → Deed
+abbrev pub trimmed_to : State → ℕ → ℕ → RangeView → Deed
 trimmed_to s id keep range = record {
   change = freed (record { base = range.base + keep; size = range.size - keep });
   answer = outcomes.Done;
@@ -99,14 +99,14 @@ trimmed_to s id keep range = record {
   takes = true;
 }
 
-abbrev pub trim_whole : State → ℕ → ℕ → Extent → Deed
+abbrev pub trim_whole : State → ℕ → ℕ → RangeView → Deed
 trim_whole s id keep range = if nat_le range.size keep then answers s outcomes.TooLargeKeep else trimmed_to s id keep range
 
 abbrev pub trim_deed : State → ℕ → ℕ → Deed
 trim_deed s id keep = on_whole s id (trim_whole s id keep)
 
 -- fill: each byte of the ID's range gets the value, where there are at most 65,536
-abbrev pub fill_whole : State → ℕ → Extent → Deed
+abbrev pub fill_whole : State → ℕ → RangeView → Deed
 fill_whole s byte range = if nat_lt 65536 range.size then answers s outcomes.TooLargeFill else
     record (answers s outcomes.Done) { fill = Some (record { range = range; byte = byte; at = length s.items }); takes = true }
 

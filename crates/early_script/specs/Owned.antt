@@ -1,6 +1,6 @@
 -- Whose the bytes of a range are, and whether it meets a table, as tests.
 use Rattle.std.specs.Prelude.{Bool, ◌||◌, nat_lt, min, max, Some, List}
-use Rattle.bm_base.specs.Extent.{Extent, end_of}
+use Rattle.bm_base.specs.Range.{RangeView, end_of}
 use Rattle.bm_base.specs.Each.{each_in}
 use Rattle.address_runs.specs.Edits.{agree}
 use Rattle.memblock_model.specs.declared.owner.Owner.{Owner}
@@ -11,13 +11,13 @@ use Rattle.memblock_model.specs.Items.{Owners}
 use Rattle.memblock_model.specs.Tables.{live}
 
 -- each byte of the range has the owner
-unfoldable pub is_owned : Owners → Owner → Extent → Bool
+unfoldable pub is_owned : Owners → Owner → RangeView → Bool
 is_owned own who range = each_in range (λ x. agree same_owner (own x) (Some who))
 
 -- the ranges have a byte in common
-abbrev pub meets : Extent → Extent → Bool
+abbrev pub meets : RangeView → RangeView → Bool
 meets r s = nat_lt (max r.base s.base) (min (end_of r) (end_of s))
 
 -- the range meets the bytes of a table
-abbrev pub touches : Extent → List Item → Extent → Bool
+abbrev pub touches : RangeView → List Item → RangeView → Bool
 touches kernel items range = meets range (live which.Memory kernel items) || meets range (live which.Reserved kernel items)

@@ -2,7 +2,7 @@
 //! still the ID's is asked of the journal, since another line may have claimed over it.
 
 ghost use Rattle.std.specs.Prelude.{◌≡◌, ℕ, ◌+◌, ◌-◌, ◌^◌, ◌<◌, ◌≤◌, List, [], OnOk, OnErr, IfOk, IfErr, IsOk};
-ghost use Rattle.bm_base.specs.Extent.{Extent};
+ghost use Rattle.bm_base.specs.Range.{RangeView};
 ghost use Rattle.script_reader.specs.Forms.{HasBounds};
 ghost use Rattle.growth_model.specs.Sound.{HasBegun, IsAway};
 ghost use Rattle.growth_model.specs.Bytes.{Filled, Holds};
@@ -214,10 +214,10 @@ impl Live {
     /// The range of a live ID, of which nobody else has a byte; or what else is answered, whatever is to be done.
     fn whole(&self, mb: &Memblock, id: u32) -> Result<Range, Outcome>
         requires { HasBegun mb.now.journal.items }
-        ensures range { IfOk result (λ range. (deed : Extent → AnyDeed) → on_whole (state_of self.now mb.now) id deed ≡ deed range) }
+        ensures range { IfOk result (λ range. (deed : RangeView → AnyDeed) → on_whole (state_of self.now mb.now) id deed ≡ deed range) }
         ensures some { IfOk result (λ range. 0 < range.size) }
         ensures away { IfOk result (λ range. IsAway mb.now.kernel range mb.now.journal.items) }
-        ensures outcome { IfErr result (λ outcome. (deed : Extent → AnyDeed) →
+        ensures outcome { IfErr result (λ outcome. (deed : RangeView → AnyDeed) →
             on_whole (state_of self.now mb.now) id deed ≡ answers (state_of self.now mb.now) outcome) }
     {
         let Some(range) = self.ids.get(&id).copied() else {

@@ -3,7 +3,7 @@ use Rattle.std.proofs.Common.{◌≡◌, ℕ, ◌^◌, Bool, true, false, ◌&&�
 use Rattle.std.proofs.lemmas.Bool.Decides.{nat_tests}
 use Rattle.std.proofs.Math.Nat.{le_antisymm}
 use Rattle.bm_base.specs.Each.{each_from, each_in}
-use Rattle.bm_base.specs.Extent.{Extent}
+use Rattle.bm_base.specs.Range.{RangeView}
 use Rattle.address_runs.specs.Runs.{RunOf, value_at}
 use Rattle.e820_model.specs.Map.{TypeAt}
 use Rattle.e820_model.specs.Usable.{is_memory, is_usable, reachable}
@@ -19,7 +19,7 @@ use Rattle.early_stages.specs.Memory.{behind_frame, end_behind, end_of_runs, is_
 use Rattle.early_stages.specs.Wanted.{closing_items, direction_items, early_claims, first_items, initrd_claims, items_of_map, items_of_run, mirror_items, part_below, up_to}
 use Rattle.early_stages.proofs.EndLaws.{IsEnd, memory_end-is, one_end}
 
-abbrev bytes : ℕ → ℕ → Extent
+abbrev bytes : ℕ → ℕ → RangeView
 bytes base size = record { base = base; size = size }
 
 abbrev run : ℕ → ℕ → ℕ → RunOf ℕ
@@ -29,10 +29,10 @@ abbrev limit : ℕ
 limit = 2 ^ 46
 
 -- who has a byte before memory is known: an image of 32 MiB from 16 MiB on, and an initrd of 12 KiB or none
-abbrev owned : Option Extent → ℕ → Option Owner
+abbrev owned : Option RangeView → ℕ → Option Owner
 owned initrd x = owner_of (early_claims (bytes 0x1000000 0x2000000) initrd) x
 
-abbrev initrd_range : Option Extent
+abbrev initrd_range : Option RangeView
 initrd_range = Some (bytes 0x7000000 0x3000)
 
 -- with the initrd, without it, and with one that begins within the first 64 KiB, which has its bytes there, too
@@ -83,11 +83,11 @@ mirrors_and_direction : (mirror_items [] ≡ []) × (bytes_of_frames (record { f
 mirrors_and_direction = (refl, refl, refl, refl)
 
 -- a boot with 127 MiB of RAM from 1 MiB on
-abbrev given : Option Extent → Bool → Early
+abbrev given : Option RangeView → Bool → Early
 given initrd upward =
     record { limit = limit; kernel = bytes 0x1000000 0x2000000; initrd = initrd; mirrors = some_frames; upward = upward }
 
-abbrev wanted : Option Extent → Bool → ℕ → List Item
+abbrev wanted : Option RangeView → Bool → ℕ → List Item
 wanted initrd upward steps = take steps (first_items (given initrd upward) (run 0x100000 0x7F00000 1 ∷ []))
 
 -- an allocation stays in the first MiB when the first byte becomes memory, which is the fourth thing to happen

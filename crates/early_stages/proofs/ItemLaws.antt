@@ -3,7 +3,7 @@ use Rattle.std.proofs.Common.{◌≡◌, ℕ, suc, ◌<◌, Bool, true, false, �
 use Rattle.std.proofs.lemmas.Bool.Decides.{nat_tests}
 use Rattle.std.specs.Prelude.{IfSome}
 use Rattle.std.specs.List.{All}
-use Rattle.bm_base.specs.Extent.{Extent}
+use Rattle.bm_base.specs.Range.{RangeView}
 use Rattle.address_runs.specs.Runs.{RunOf, AreRuns, extent_of}
 use Rattle.e820_model.specs.Usable.{is_memory}
 use Rattle.memblock_model.specs.declared.item.Item.{Item}
@@ -33,7 +33,7 @@ map-items limit (r ∷ rs) runs =
     (item.Mem (part_below limit r)) some (λ held. (let low : r.base < limit = grind (arith, nat_tests) in omega (arith, low, some))))
     (map-items limit rs runs.2)
 
-initrd-items : (initrd : Option Extent) → IfSome initrd (λ range. 0 < range.size) → AreItems (initrd_claims initrd)
+initrd-items : (initrd : Option RangeView) → IfSome initrd (λ range. 0 < range.size) → AreItems (initrd_claims initrd)
 initrd-items None some = tt
 initrd-items (Some range) some = (some, tt)
 

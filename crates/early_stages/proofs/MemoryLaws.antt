@@ -3,7 +3,7 @@ use Rattle.std.proofs.Common.{◌≡◌, ℕ, Bool, true, false, Option, Some, N
 use Rattle.std.proofs.lemmas.List.{append-nil}
 use Rattle.std.proofs.lemmas.List.Sums.{fold-append}
 use Rattle.std.specs.List.{fold}
-use Rattle.bm_base.specs.Extent.{Extent}
+use Rattle.bm_base.specs.Range.{RangeView}
 use Rattle.address_runs.specs.Runs.{RunOf, value_at, AreRuns}
 use Rattle.e820_model.specs.Usable.{reachable}
 use Rattle.memblock_model.specs.declared.owner.Owner.TheVariants as owner
@@ -22,7 +22,7 @@ use Rattle.early_stages.proofs.MapItemLaws.{added_memory, trimmed_memory}
 use Rattle.early_stages.proofs.MirrorLaws.{mirrors-memory}
 
 -- what is wanted before the map says nothing of memory, and leaves the limit of the first MiB
-begins : (kernel : Extent) (initrd : Option Extent) (upward : Bool) (is : List Item)
+begins : (kernel : RangeView) (initrd : Option RangeView) (upward : Bool) (is : List Item)
     → (memory_of (early_claims kernel initrd ++ (item.Limit ISA_END_ADDRESS ∷ (direction_items upward ++ is))) ≡ memory_of is)
     × (limit_of (early_claims kernel initrd ++ (item.Limit ISA_END_ADDRESS ∷ (direction_items upward ++ is)))
     ≡ fold limit_after ISA_END_ADDRESS is)

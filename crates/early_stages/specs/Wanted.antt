@@ -1,6 +1,6 @@
 -- What a boot wants to happen to memory before any node is known, as items in their order. They depend on what it is given alone.
 use Rattle.std.specs.Prelude.{ℕ, ◌-◌, ◌==◌, Bool, true, false, ◌&&◌, nat_lt, min, if◌then◌else◌, Option, Some, None, List, [], ◌∷◌, ◌++◌}
-use Rattle.bm_base.specs.Extent.{Extent}
+use Rattle.bm_base.specs.Range.{RangeView}
 use Rattle.address_runs.specs.Runs.{RunOf, run_end, extent_of, value_at}
 use Rattle.e820_model.specs.declared.types.TheConstants.{E820_TYPE_SOFT_RESERVED}
 use Rattle.e820_model.specs.Usable.{is_memory}
@@ -12,20 +12,20 @@ use Rattle.early_stages.specs.Early.{Early, FrameRange, bytes_of_frames}
 use Rattle.early_stages.specs.Memory.{memory_end}
 
 -- the bytes from 0 up to the address
-abbrev pub up_to : ℕ → Extent
+abbrev pub up_to : ℕ → RangeView
 up_to at = record { base = 0; size = at }
 
 -- the initrd is claimed, where there is one (`early_reserve_initrd`)
-abbrev pub initrd_claims : Option Extent → List Item
+abbrev pub initrd_claims : Option RangeView → List Item
 initrd_claims None = []
 initrd_claims (Some range) = item.Claim range owner.Initrd ∷ []
 
 -- the kernel's image, the first 64 KiB and the initrd are claimed before memory is known (`early_reserve_memory`)
-abbrev pub early_claims : Extent → Option Extent → List Item
+abbrev pub early_claims : RangeView → Option RangeView → List Item
 early_claims kernel initrd = item.Claim kernel owner.Kernel ∷ item.Claim (up_to LOW_END) owner.Low64K ∷ initrd_claims initrd
 
 -- the part of the run below the limit
-abbrev pub part_below : ℕ → RunOf ℕ → Extent
+abbrev pub part_below : ℕ → RunOf ℕ → RangeView
 part_below limit r = record { base = r.base; size = min (run_end r) limit - r.base }
 
 -- memory that firmware keeps for a driver is claimed, and what is memory is added as far as the kernel's tables of memory reach

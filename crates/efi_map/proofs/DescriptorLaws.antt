@@ -2,7 +2,7 @@
 use Rattle.std.proofs.Common.{◌≡◌, ℕ, zero, suc, ◌+◌, ◌-◌, ◌*◌, ◌^◌, ◌<◌, ◌≤◌, true, false, Option, Some, None, List, [], ◌∷◌, ◌++◌, map, length, append_assoc, refl, sym, ◌∙◌, ap, inl, inr, arith}
 use Rattle.std.proofs.lemmas.Bool.Decides.{nat_tests}
 use Rattle.std.proofs.lemmas.Bool.{cases_Bool}
-use Rattle.bm_base.specs.Extent.{Extent}
+use Rattle.bm_base.specs.Range.{RangeView}
 use Rattle.e820_model.specs.declared.entry.Entry.{Entry}
 use Rattle.e820_model.specs.Claims.{EndInSpace}
 use Rattle.efi_map.specs.Descriptors.{Descriptor, is_far, entry_of, mirror_of}
@@ -71,15 +71,15 @@ pub entries_on : (es : List Entry) (stride i n : ℕ) (bytes : List ℕ) → i <
     ≡ es ++ map entry_of (descriptors_from stride i (n - i) bytes)
 entries_on es stride i n bytes below = rw (one_more stride i n bytes below) (append_assoc es _ _)
 
-abbrev pub with_mirror : List Extent → Option Extent → List Extent
+abbrev pub with_mirror : List RangeView → Option RangeView → List RangeView
 with_mirror ms None = ms
 with_mirror ms (Some range) = ms ++ range ∷ []
 
-mirror_on : (ms : List Extent) (o : Option Extent) (others : List Extent) → with_mirror ms o ++ others ≡ ms ++ mirror_in_front o others
+mirror_on : (ms : List RangeView) (o : Option RangeView) (others : List RangeView) → with_mirror ms o ++ others ≡ ms ++ mirror_in_front o others
 mirror_on ms None others = refl
 mirror_on ms (Some range) others = append_assoc ms (range ∷ []) others
 
-pub mirrors_on : (ms : List Extent) (o : Option Extent) (stride i n : ℕ) (bytes : List ℕ) → i < n
+pub mirrors_on : (ms : List RangeView) (o : Option RangeView) (stride i n : ℕ) (bytes : List ℕ) → i < n
     → o ≡ mirror_of (nth_descriptor stride i bytes)
     → with_mirror ms o ++ mirrors_of (descriptors_from stride (i + 1) (n - (i + 1)) bytes)
     ≡ ms ++ mirrors_of (descriptors_from stride i (n - i) bytes)

@@ -3,7 +3,7 @@
 -- arch/x86/platform/efi/efi.c, and `efi_find_mirror`).
 use Rattle.std.specs.Prelude.{ℕ, ◌+◌, ◌*◌, ◌^◌, ◌==◌, Bool, ◌||◌, not, nat_le, bit_and, if◌then◌else◌, List, drop, Option, None}
 use Rattle.byteorder.specs.Endian.{little_number}
-use Rattle.bm_base.specs.Extent.{Extent}
+use Rattle.bm_base.specs.Range.{RangeView}
 use Rattle.bm_base.specs.Frames.{frames_within}
 use Rattle.e820_model.specs.declared.entry.Entry.{Entry}
 
@@ -27,7 +27,7 @@ descriptor_at offset bytes = record {
 }
 
 -- the addresses of the memory
-abbrev pub bytes_of_descriptor : Descriptor → Extent
+abbrev pub bytes_of_descriptor : Descriptor → RangeView
 bytes_of_descriptor d = record { base = d.base; size = 4096 * d.pages }
 
 -- the first address plus the size in bytes exceeds 2^64 - 1
@@ -66,5 +66,5 @@ entry_of d = record { addr = d.base; size = 4096 * d.pages; kind = e820_type d }
 
 -- the whole frames of the memory, if it has the attribute EFI_MEMORY_MORE_RELIABLE and at least
 -- one whole frame
-abbrev pub mirror_of : Descriptor → Option Extent
+abbrev pub mirror_of : Descriptor → Option RangeView
 mirror_of d = if has_attribute 0x10000 d then frames_within (bytes_of_descriptor d) else None

@@ -3,7 +3,7 @@
 -- both numbers next to the map.
 use Rattle.std.specs.Prelude.{ℕ, zero, suc, ◌+◌, ◌-◌, ◌*◌, ◌/◌, ◌%◌, ◌==◌, Bool, ◌&&◌, not, nat_le, if◌then◌else◌, List, [], ◌∷◌, map, length, drop, Option, Some, None, Result, Ok, Err}
 use Rattle.byteorder.specs.Endian.{little_number}
-use Rattle.bm_base.specs.Extent.{Extent}
+use Rattle.bm_base.specs.Range.{RangeView}
 use Rattle.e820_model.specs.declared.entry.Entry.{Entry}
 use Rattle.efi_map.specs.Descriptors.{Descriptor, descriptor_at, is_far, entry_of, mirror_of}
 use Rattle.efi_map.specs.declared.efi.EfiFault.{EfiFault}
@@ -46,11 +46,11 @@ far_among i [] = None
 far_among i (d ∷ ds) = if is_far d then Some i else far_among (i + 1) ds
 
 -- the mirrored ranges of a list of descriptors, in their order
-abbrev pub mirror_in_front : Option Extent → List Extent → List Extent
+abbrev pub mirror_in_front : Option RangeView → List RangeView → List RangeView
 mirror_in_front None others = others
 mirror_in_front (Some range) others = range ∷ others
 
-unfoldable pub mirrors_of : List Descriptor → List Extent
+unfoldable pub mirrors_of : List Descriptor → List RangeView
 mirrors_of [] = []
 mirrors_of (d ∷ ds) = mirror_in_front (mirror_of d) (mirrors_of ds)
 
@@ -58,7 +58,7 @@ mirrors_of (d ∷ ds) = mirror_in_front (mirror_of d) (mirrors_of ds)
 -- of the descriptors
 pub record Efi : Type 0 where
   pub entries : List Entry
-  pub mirrors : List Extent
+  pub mirrors : List RangeView
 
 abbrev pub unless_far : List Descriptor → Option ℕ → Result Efi EfiFault
 unless_far ds (Some index) = Err (faults.TooFar index)

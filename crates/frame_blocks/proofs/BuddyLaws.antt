@@ -6,7 +6,7 @@ use Rattle.std.proofs.lemmas.Bool.{cases_eq, false_from_ne_true}
 use Rattle.std.proofs.lemmas.Nat.{pow_pos}
 use Rattle.std.proofs.lemmas.Option.{same_Some}
 use Rattle.std.proofs.Math.Nat.{mul-mod_left, div-div-eq-div-mul, pow-suc, mul-div_left}
-use Rattle.bm_base.specs.Extent.{covers}
+use Rattle.bm_base.specs.Range.{covers}
 use Rattle.frame_blocks.specs.declared.block.Block.{Block}
 use Rattle.frame_blocks.specs.Frames.{Frames, IsInSet, IsBlock, IsInBlock}
 use Rattle.frame_blocks.specs.Listed.{set_around, block_of}

@@ -1,6 +1,6 @@
 -- The blocks of free frames as functions: the block of a frame, and the list of all blocks.
 use Rattle.std.specs.Prelude.{◌≡◌, ◌⊎◌, ℕ, zero, suc, ◌+◌, ◌-◌, ◌%◌, ◌^◌, ◌≤◌, ◌==◌, Bool, true, false, ◌&&◌, if◌then◌else◌, Option, Some, None, List, [], ◌∷◌, count_by}
-use Rattle.bm_base.specs.Extent.{Extent}
+use Rattle.bm_base.specs.Range.{RangeView}
 use Rattle.bm_base.specs.Each.{each_in}
 use Rattle.bm_base.specs.declared.zone.Zone.{Zone}
 use Rattle.bm_base.specs.declared.zone.Zone.TheVariants as zone
@@ -15,7 +15,7 @@ is_node None n = false
 is_node (Some m) n = m == n
 
 -- the frames of the aligned set of this order that has frame x
-abbrev pub set_around : ℕ → ℕ → Extent
+abbrev pub set_around : ℕ → ℕ → RangeView
 set_around order x = record { base = x - x % 2 ^ order; size = 2 ^ order }
 
 -- all frames of that set are free, on the node

@@ -1,6 +1,6 @@
 -- A kernel's image with both tables in its last two frames, a memory table that moves twice, and fills before, between and behind.
 use Rattle.std.proofs.Common.{◌≡◌, ℕ, true, false, List, [], ◌∷◌, ◌++◌, refl, sym, arith, lit≤}
-use Rattle.bm_base.specs.Extent.{Extent}
+use Rattle.bm_base.specs.Range.{RangeView}
 use Rattle.address_runs.specs.Runs.{RunOf}
 use Rattle.memblock_model.specs.Labels.{Label, plain_label}
 use Rattle.memblock_model.specs.declared.owner.Owner.TheVariants as owner
@@ -12,7 +12,7 @@ use Rattle.memblock_ranges.specs.Tables.{Table}
 use Rattle.growth_model.specs.Bytes.{table_for, spelled_at, shown_by, AreSpelled, left_by, shown, leaves, is_left, beyond, byte_after, Filled, put, filled, written, byte, AreMadeBy, Follows, Holds}
 use Rattle.growth_model.proofs.BytesLaws.{shown_by-again, after-byte}
 
-abbrev at_base : ℕ → ℕ → Extent
+abbrev at_base : ℕ → ℕ → RangeView
 at_base base size = record { base = base; size = size }
 
 -- one record, 0x1000 to 0x17FF, in a table with room for two at 0x500000
@@ -48,7 +48,7 @@ left_examples : (left_by small_table 0x500010 9 ≡ 0) × (left_by small_table 0
 left_examples = (refl, refl)
 
 -- the image ends at 0x1100000; the memory table lies at 0x10FE000 at first, the reserved one at 0x10FF000
-abbrev kernel : Extent
+abbrev kernel : RangeView
 kernel = at_base 0x1000000 0x100000
 
 abbrev begun : List Item

@@ -4,7 +4,7 @@ use Rattle.std.proofs.Common.{◌≡◌, ℕ, ◌+◌, ◌<◌, ◌≤◌, ◌==
 use Rattle.std.proofs.lemmas.Bool.{ne_eqb, or_parts}
 use Rattle.std.proofs.lemmas.List.{append-nil}
 use Rattle.std.proofs.Math.Seq.{drop-append_seam}
-use Rattle.bm_base.specs.Extent.{Extent, covers}
+use Rattle.bm_base.specs.Range.{RangeView, covers}
 use Rattle.memblock_model.specs.declared.which.Which.{Which}
 use Rattle.memblock_model.specs.declared.which.Which.TheVariants as which
 use Rattle.memblock_model.specs.declared.item.Item.{Item}
@@ -16,12 +16,12 @@ use Rattle.growth_model.proofs.PlacedLaws.{live_by, live-is}
 use Rattle.growth_model.specs.Bytes.{table_for, spelled_at, shown_by, shown, leaves, is_left, byte_after, Filled, filled, written, byte, AreMadeBy}
 
 -- a table's bytes behind one more item
-live-push : (w : Which) (kernel : Extent) (items : List Item) (i : Item) →
+live-push : (w : Which) (kernel : RangeView) (items : List Item) (i : Item) →
     live w kernel (items ++ i ∷ []) ≡ live_by w kernel (moved_after w (moved_to w items) i) (room_after w (room_of w items) i)
 live-push w kernel items i = live-is w kernel (items ++ i ∷ []) _ _ (moved_to-push w items i) (room_of-push w items i)
 
 -- an item that doesn't move a table away from an address leaves it there
-stays_at : (w : Which) (kernel : Extent) (items : List Item) (i : Item) (x : ℕ) → covers (live w kernel items) x ≡ true →
+stays_at : (w : Which) (kernel : RangeView) (items : List Item) (i : Item) (x : ℕ) → covers (live w kernel items) x ≡ true →
     leaves kernel items i x ≡ false →
     covers (live_by w kernel (moved_after w (moved_to w items) i) (room_after w (room_of w items) i)) x ≡ true
 stays_at which.Memory kernel items (item.Grown which.Memory place room) x here stays = cc
@@ -30,13 +30,13 @@ stays_at which.Reserved kernel items (item.Grown which.Memory place room) x here
 stays_at which.Reserved kernel items (item.Grown which.Reserved place room) x here stays = cc
 stays_at w kernel items i x here stays = here
 
-pub stays_or_left : (w : Which) (kernel : Extent) (items : List Item) (i : Item) (x : ℕ) → covers (live w kernel items) x ≡ true →
+pub stays_or_left : (w : Which) (kernel : RangeView) (items : List Item) (i : Item) (x : ℕ) → covers (live w kernel items) x ≡ true →
     leaves kernel items i x ≡ false → covers (live w kernel (items ++ i ∷ [])) x ≡ true
 stays_or_left w kernel items i x here stays =
-    subst (λ (r : Extent). covers r x ≡ true) (sym (live-push w kernel items i)) (stays_at w kernel items i x here stays)
+    subst (λ (r : RangeView). covers r x ≡ true) (sym (live-push w kernel items i)) (stays_at w kernel items i x here stays)
 
 -- so do several
-pub still_live : (w : Which) (kernel : Extent) (items more : List Item) (x : ℕ) → covers (live w kernel items) x ≡ true →
+pub still_live : (w : Which) (kernel : RangeView) (items more : List Item) (x : ℕ) → covers (live w kernel items) x ≡ true →
     is_left kernel items more x ≡ false → covers (live w kernel (items ++ more)) x ≡ true
 still_live w kernel items [] x here stays = subst (λ (is : List Item). covers (live w kernel is) x ≡ true) (sym (append-nil items)) here
 still_live w kernel items (i ∷ more) x here stays =
@@ -63,7 +63,7 @@ shown_by-over m r n s x c first second =
 pub shown_by-again : (m r : Table) (x c : ℕ) → shown_by m r x (shown_by m r x c) ≡ shown_by m r x c
 shown_by-again m r x c = shown_by-over m r m r x c (λ here. here) (λ here. here)
 
-pub shown-further : (kernel : Extent) (items more : List Item) (x c : ℕ) → is_left kernel items more x ≡ false →
+pub shown-further : (kernel : RangeView) (items more : List Item) (x c : ℕ) → is_left kernel items more x ≡ false →
     shown kernel (items ++ more) x (shown kernel items x c) ≡ shown kernel (items ++ more) x c
 shown-further kernel items more x c stays =
     shown_by-over (table_for which.Memory kernel items) (table_for which.Reserved kernel items)
@@ -76,7 +76,7 @@ or_assoc true b c = refl
 or_assoc false b c = refl
 
 -- an address is left by items and further ones where it is by the first, or by the second behind them
-pub is_left-append : (kernel : Extent) (items more further : List Item) (x : ℕ) →
+pub is_left-append : (kernel : RangeView) (items more further : List Item) (x : ℕ) →
     is_left kernel items (more ++ further) x ≡ (is_left kernel items more x || is_left kernel (items ++ more) further x)
 is_left-append kernel items [] further x = ap (λ (is : List Item). is_left kernel is further x) (sym (append-nil items))
 is_left-append kernel items (i ∷ more) further x =
@@ -85,13 +85,13 @@ is_left-append kernel items (i ∷ more) further x =
     ∙ ap (λ (is : List Item). is_left kernel (items ++ i ∷ []) more x || is_left kernel is further x) (append_assoc items (i ∷ []) more))
     ∙ or_assoc (leaves kernel items i x) (is_left kernel (items ++ i ∷ []) more x) (is_left kernel (items ++ i ∷ more) further x)
 
-pub after-is : (kernel : Extent) (items more : List Item) (x b : ℕ) →
+pub after-is : (kernel : RangeView) (items more : List Item) (x b : ℕ) →
     byte_after kernel items (items ++ more) x b ≡ shown kernel (items ++ more) x (if is_left kernel items more x then 0 else b)
 unfolding byte_after
 after-is kernel items more x b =
     ap (λ (is : List Item). shown kernel (items ++ more) x (if is_left kernel items is x then 0 else b)) (drop-append_seam items more)
 
-pub after-along : (kernel : Extent) (items more longer : List Item) (x b : ℕ) → longer ≡ items ++ more →
+pub after-along : (kernel : RangeView) (items more longer : List Item) (x b : ℕ) → longer ≡ items ++ more →
     byte_after kernel items longer x b ≡ shown kernel longer x (if is_left kernel items more x then 0 else b)
 after-along kernel items more longer x b goes = rw goes (after-is kernel items more x b)
 
@@ -104,7 +104,7 @@ left_twice g h true false b hides = hides refl 0
 left_twice g h false false b hides = hides refl b
 
 -- what stands behind items and further ones is what the further ones make of what stands behind the first
-pub after-after : (kernel : Extent) (items more further : List Item) (x b : ℕ) →
+pub after-after : (kernel : RangeView) (items more further : List Item) (x b : ℕ) →
     byte_after kernel (items ++ more) ((items ++ more) ++ further) x (byte_after kernel items (items ++ more) x b)
     ≡ byte_after kernel items ((items ++ more) ++ further) x b
 after-after kernel items more further x b =
@@ -116,7 +116,7 @@ after-after kernel items more further x b =
     ∙ sym (after-along kernel items (more ++ further) ((items ++ more) ++ further) x b (append_assoc items more further)
     ∙ ap (λ (t : Bool). shown kernel ((items ++ more) ++ further) x (if t then 0 else b)) (is_left-append kernel items more further x))
 
-pub after-chain : (kernel : Extent) (items more further mid last : List Item) (x b : ℕ) → mid ≡ items ++ more → last ≡ mid ++ further →
+pub after-chain : (kernel : RangeView) (items more further mid last : List Item) (x b : ℕ) → mid ≡ items ++ more → last ≡ mid ++ further →
     byte_after kernel mid last x (byte_after kernel items mid x b) ≡ byte_after kernel items last x b
 after-chain kernel items more further mid last x b goes goes_on = rw (goes_on, goes) (after-after kernel items more further x b)
 
@@ -132,7 +132,7 @@ pub AreMadeBy-more : (n m : ℕ) (fills : List Filled) → n ≤ m → AreMadeBy
 AreMadeBy-more n m [] less made = tt
 AreMadeBy-more n m (f ∷ fills) less made = let earlier : f.at ≤ n = made.0 in (omega arith, AreMadeBy-more n m fills less made.1)
 
-pub written-append : (kernel : Extent) (fills : List Filled) (items more further : List Item) (x b : ℕ) →
+pub written-append : (kernel : RangeView) (fills : List Filled) (items more further : List Item) (x b : ℕ) →
     written kernel fills items (more ++ further) x b ≡ written kernel fills (items ++ more) further x (written kernel fills items more x b)
 written-append kernel fills items [] further x b = ap (λ (is : List Item). written kernel fills is further x b) (sym (append-nil items))
 written-append kernel fills items (i ∷ more) further x b =
@@ -142,7 +142,7 @@ written-append kernel fills items (i ∷ more) further x b =
     (append_assoc items (i ∷ []) more)
 
 -- behind the last fill only moves write
-written-beyond : (kernel : Extent) (fills : List Filled) (items more : List Item) (x b : ℕ) → AreMadeBy (length items) fills →
+written-beyond : (kernel : RangeView) (fills : List Filled) (items more : List Item) (x b : ℕ) → AreMadeBy (length items) fills →
     written kernel fills items more x b ≡ (if is_left kernel items more x then 0 else b)
 written-beyond kernel fills items [] x b made = refl
 written-beyond kernel fills items (i ∷ more) x b made =
@@ -155,7 +155,7 @@ written-beyond kernel fills items (i ∷ more) x b made =
     ∙ left_twice (λ (n : ℕ). n) (λ (n : ℕ). n) (leaves kernel items i x) (is_left kernel (items ++ i ∷ []) more x) b (λ stays c. refl)
 
 -- the byte of the longer list is what the further items make of the byte
-pub after-byte : (kernel : Extent) (items more : List Item) (fills : List Filled) (x : ℕ) → AreMadeBy (length items) fills →
+pub after-byte : (kernel : RangeView) (items more : List Item) (fills : List Filled) (x : ℕ) → AreMadeBy (length items) fills →
     byte_after kernel items (items ++ more) x (byte kernel items fills x) ≡ byte kernel (items ++ more) fills x
 unfolding byte
 after-byte kernel items more fills x made =

@@ -1,6 +1,6 @@
 -- What small lists of items come to.
 use Rattle.std.proofs.Common.{◌≡◌, List, [], ◌∷◌, Some, None, Ok, Err, true, false, refl}
-use Rattle.bm_base.specs.Extent.{Extent}
+use Rattle.bm_base.specs.Range.{RangeView}
 use Rattle.memblock_model.specs.declared.which.Which.TheVariants as which
 use Rattle.memblock_model.specs.declared.owner.Owner.TheVariants as owner
 use Rattle.memblock_model.specs.declared.item.Item.{Item}
@@ -9,7 +9,7 @@ use Rattle.growth_model.specs.Outcome.{Refused}
 use Rattle.growth_model.specs.Growth.{claimed, freed, added, noded, mirrored}
 use Rattle.growth_model.specs.Carried.{AreQuiet, carried_out, change, ended, is_of_memory, memory_items, unless_refused}
 
-abbrev page : Extent
+abbrev page : RangeView
 page = record { base = 0x1000; size = 0x1000 }
 
 abbrev full : Refused

@@ -1,7 +1,7 @@
 -- A fill that meets neither table is the newest that was written there, and the tables go on to lie in their bytes.
 use Rattle.std.proofs.Common.{◌≡◌, ℕ, ◌+◌, ◌<◌, ◌≤◌, ◌==◌, Bool, true, false, ◌&&◌, if◌then◌else◌, List, [], ◌∷◌, ◌++◌, length, refl, sym, ◌∙◌, ap, arith, eq-eqb, length-append}
 use Rattle.std.proofs.lemmas.Bool.{ne_eqb}
-use Rattle.bm_base.specs.Extent.{Extent, covers}
+use Rattle.bm_base.specs.Range.{RangeView, covers}
 use Rattle.memblock_model.specs.declared.which.Which.TheVariants as which
 use Rattle.memblock_model.specs.declared.item.Item.{Item}
 use Rattle.memblock_ranges.specs.Tables.{Table, bytes_of}
@@ -27,7 +27,7 @@ filled-before n fills f x b later =
     filled-append n fills f x b
     ∙ ap (λ (t : Bool). if t && covers f.range x then f.byte else filled n fills x b) (ne_eqb f.at n (λ same. omega arith))
 
-written-newest : (kernel : Extent) (fills : List Filled) (f : Filled) (items : List Item) (i : Item) (more : List Item) (x b : ℕ) →
+written-newest : (kernel : RangeView) (fills : List Filled) (f : Filled) (items : List Item) (i : Item) (more : List Item) (x b : ℕ) →
     f.at ≡ length items + length (i ∷ more) →
     written kernel (fills ++ f ∷ []) items (i ∷ more) x b ≡ put f x (written kernel fills items (i ∷ more) x b)
 written-newest kernel fills f items i [] x b last =
@@ -39,7 +39,7 @@ written-newest kernel fills f items i (k ∷ more) x b last =
     (filled-before (length items + 1) fills f x now (omega arith))
     ∙ written-newest kernel fills f (items ++ i ∷ []) k more x (filled (length items + 1) fills x now) (omega arith)
 
-all-newest : (kernel : Extent) (fills : List Filled) (f : Filled) (items : List Item) (x : ℕ) → f.at ≡ length items →
+all-newest : (kernel : RangeView) (fills : List Filled) (f : Filled) (items : List Item) (x : ℕ) → f.at ≡ length items →
     written kernel (fills ++ f ∷ []) [] items x (filled 0 (fills ++ f ∷ []) x 0)
     ≡ put f x (written kernel fills [] items x (filled 0 fills x 0))
 all-newest kernel fills f [] x last = filled-newest 0 fills f x 0 last
@@ -62,7 +62,7 @@ shown_by-put m r f x b first second =
     (first x) (second x)
 
 -- the newest fill decides
-pub fill-newest : (kernel : Extent) (items : List Item) (fills : List Filled) (f : Filled) (x : ℕ) → f.at ≡ length items →
+pub fill-newest : (kernel : RangeView) (items : List Item) (fills : List Filled) (f : Filled) (x : ℕ) → f.at ≡ length items →
     IsAway kernel f.range items → byte kernel items (fills ++ f ∷ []) x ≡ put f x (byte kernel items fills x)
 unfolding byte
 fill-newest kernel items fills f x last away =
@@ -83,7 +83,7 @@ AreMadeBy-append n [] f made now = (now, tt)
 AreMadeBy-append n (g ∷ fills) f made now = (made.0, AreMadeBy-append n fills f made.1 now)
 
 -- bytes that are those of items and fills stay so behind a call
-pub holds-call : (kernel : Extent) (items longer : List Item) (fills : List Filled) (f g : ℕ → ℕ) → Holds kernel items fills f →
+pub holds-call : (kernel : RangeView) (items longer : List Item) (fills : List Filled) (f g : ℕ → ℕ) → Holds kernel items fills f →
     Follows kernel items longer f g → Holds kernel longer fills g
 holds-call kernel items longer fills f g holds follows =
     let long : length longer ≡ length items + length follows.more = ap length follows.goes_on ∙ length-append items follows.more in
@@ -96,7 +96,7 @@ holds-call kernel items longer fills f g holds follows =
     }
 
 -- and behind a fill
-pub holds-fill : (kernel : Extent) (items : List Item) (fills : List Filled) (fill : Filled) (f g : ℕ → ℕ) → Holds kernel items fills f →
+pub holds-fill : (kernel : RangeView) (items : List Item) (fills : List Filled) (fill : Filled) (f g : ℕ → ℕ) → Holds kernel items fills f →
     fill.at ≡ length items → IsAway kernel fill.range items → ((x : ℕ) → g x ≡ put fill x (f x)) →
     Holds kernel items (fills ++ fill ∷ []) g
 holds-fill kernel items fills fill f g holds last away filled_in = record {

@@ -1,7 +1,7 @@
 -- The first claim: the kernel's image, in which both tables lie at first.
 use Rattle.std.proofs.Common.{◌≡◌, ℕ, ◌%◌, ◌^◌, ◌≤◌, true, false, None, List, [], ◌∷◌, length, refl, sym, ap, arith}
 use Rattle.std.proofs.lemmas.Bool.Decides.{nat_tests}
-use Rattle.bm_base.specs.Extent.{Extent, end_of, covers}
+use Rattle.bm_base.specs.Range.{RangeView, end_of, covers}
 use Rattle.memblock_model.specs.declared.which.Which.{Which}
 use Rattle.memblock_model.specs.declared.which.Which.TheVariants as which
 use Rattle.memblock_model.specs.declared.owner.Owner.{Owner}
@@ -28,7 +28,7 @@ nothing_said which.Memory x = refl
 nothing_said which.Reserved x = refl
 
 -- so the first claim, of one run, finds room
-pub first-full : (r : Extent) → end_of r ≤ 2 ^ 64 → is_full which.Reserved (new_in which.Reserved r) [] ≡ false
+pub first-full : (r : RangeView) → end_of r ≤ 2 ^ 64 → is_full which.Reserved (new_in which.Reserved r) [] ≡ false
 unfolding records_of
 first-full r small =
     let f = table_of which.Reserved [] in
@@ -46,25 +46,25 @@ unfolding records_of
 no_table_full w = let none = no_records (table_of w []) (nothing_said w) in omega arith
 
 -- and the first claim writes its item alone
-pub first-claimed : (r : Extent) (o : Owner) → end_of r ≤ 2 ^ 64 → claimed r o [] ≡ write (item.Claim r o) []
+pub first-claimed : (r : RangeView) (o : Owner) → end_of r ≤ 2 ^ 64 → claimed r o [] ≡ write (item.Claim r o) []
 first-claimed r o small = claimed-idle [] r o (first-full r small)
 
 -- the built-in places, in the last two frames of the image
-abbrev first_items : Extent → List Item
+abbrev first_items : RangeView → List Item
 first_items kernel = item.Claim kernel owner.Kernel ∷ []
 
-abbrev first_live : Which → Extent → Extent
+abbrev first_live : Which → RangeView → RangeView
 first_live w kernel = live w kernel (first_items kernel)
 
-live-inside : (w : Which) (kernel : Extent) (x : ℕ) → 8192 ≤ kernel.size → covers (first_live w kernel) x ≡ true → covers kernel x ≡ true
+live-inside : (w : Which) (kernel : RangeView) (x : ℕ) → 8192 ≤ kernel.size → covers (first_live w kernel) x ≡ true → covers kernel x ≡ true
 live-inside which.Memory kernel x large at = grind (arith, nat_tests, large, at)
 live-inside which.Reserved kernel x large at = grind (arith, nat_tests, large, at)
 
-first-apart : (kernel : Extent) → end_of kernel % 4096 ≡ 0 → 8192 ≤ kernel.size
+first-apart : (kernel : RangeView) → end_of kernel % 4096 ≡ 0 → 8192 ≤ kernel.size
     → ShareNoFrame (first_live which.Memory kernel) (first_live which.Reserved kernel)
 first-apart kernel whole large x y at_x at_y same = grind (arith, nat_tests, whole, large, at_x, at_y, same)
 
-pub first-placed : (kernel : Extent) → IsImage kernel → Seated kernel (item.Claim kernel owner.Kernel ∷ [])
+pub first-placed : (kernel : RangeView) → IsImage kernel → Seated kernel (item.Claim kernel owner.Kernel ∷ [])
 first-placed kernel image =
     let whole : end_of kernel % 4096 ≡ 0 = image.whole in
     let large : 8192 ≤ kernel.size = image.large in

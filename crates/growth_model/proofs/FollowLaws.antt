@@ -2,7 +2,7 @@
 use Rattle.std.proofs.Common.{◌≡◌, ℕ, Bool, false, if◌then◌else◌, List, [], ◌∷◌, ◌++◌, refl, sym, ◌∙◌, ap, subst, append_assoc}
 use Rattle.std.proofs.lemmas.List.{append-nil}
 use Rattle.std.proofs.Math.Bool.{or-false}
-use Rattle.bm_base.specs.Extent.{Extent}
+use Rattle.bm_base.specs.Range.{RangeView}
 use Rattle.memblock_model.specs.declared.which.Which.{Which}
 use Rattle.memblock_model.specs.declared.which.Which.TheVariants as which
 use Rattle.memblock_model.specs.declared.item.Item.{Item}
@@ -12,17 +12,17 @@ use Rattle.growth_model.specs.Bytes.{table_for, shown_by, AreSpelled, left_by, s
 use Rattle.growth_model.proofs.BytesLaws.{shown_by-again, after-along, after-chain}
 
 -- two tables that are those of the items show what the items show
-pub shown-by : (kernel : Extent) (items : List Item) (m r : Table) (x b : ℕ) → m ≡ table_for which.Memory kernel items →
+pub shown-by : (kernel : RangeView) (items : List Item) (m r : Table) (x b : ℕ) → m ≡ table_for which.Memory kernel items →
     r ≡ table_for which.Reserved kernel items → shown_by m r x b ≡ shown kernel items x b
 shown-by kernel items m r x b first second = rw (first, second) refl
 
 -- tables that lie in their bytes do so also as those of the items
-pub spelled-by : (kernel : Extent) (items : List Item) (m r : Table) (f : ℕ → ℕ) → m ≡ table_for which.Memory kernel items →
+pub spelled-by : (kernel : RangeView) (items : List Item) (m r : Table) (f : ℕ → ℕ) → m ≡ table_for which.Memory kernel items →
     r ≡ table_for which.Reserved kernel items → AreSpelled m r f →
     AreSpelled (table_for which.Memory kernel items) (table_for which.Reserved kernel items) f
 spelled-by kernel items m r f first second spelled = λ x. spelled x ∙ shown-by kernel items m r x (f x) first second
 
-pub follows-along : (kernel : Extent) (items more longer : List Item) (f g : ℕ → ℕ) → longer ≡ items ++ more →
+pub follows-along : (kernel : RangeView) (items more longer : List Item) (f g : ℕ → ℕ) → longer ≡ items ++ more →
     ((x : ℕ) → g x ≡ shown kernel longer x (if is_left kernel items more x then 0 else f x)) → Follows kernel items longer f g
 follows-along kernel items more longer f g goes each = record {
   more = more;
@@ -31,18 +31,18 @@ follows-along kernel items more longer f g goes each = record {
 }
 
 -- no item, and the same bytes
-pub follows-still : (kernel : Extent) (items : List Item) (m r : Table) (f g : ℕ → ℕ) → m ≡ table_for which.Memory kernel items →
+pub follows-still : (kernel : RangeView) (items : List Item) (m r : Table) (f g : ℕ → ℕ) → m ≡ table_for which.Memory kernel items →
     r ≡ table_for which.Reserved kernel items → AreSpelled m r f → ((x : ℕ) → g x ≡ f x) → Follows kernel items items f g
 follows-still kernel items m r f g first second spelled same =
     follows-along kernel items [] items f g (sym (append-nil items))
     (λ x. same x ∙ spelled-by kernel items m r f first second spelled x)
 
-pub follows-none : (kernel : Extent) (items : List Item) (m r : Table) (f : ℕ → ℕ) → m ≡ table_for which.Memory kernel items →
+pub follows-none : (kernel : RangeView) (items : List Item) (m r : Table) (f : ℕ → ℕ) → m ≡ table_for which.Memory kernel items →
     r ≡ table_for which.Reserved kernel items → AreSpelled m r f → Follows kernel items items f f
 follows-none kernel items m r f first second spelled = follows-still kernel items m r f f first second spelled (λ x. refl)
 
 -- one item that moves no table: the premise on it is `λ x. refl`
-pub follows-item : (kernel : Extent) (items : List Item) (i : Item) (m r : Table) (f g : ℕ → ℕ) →
+pub follows-item : (kernel : RangeView) (items : List Item) (i : Item) (m r : Table) (f g : ℕ → ℕ) →
     ((x : ℕ) → leaves kernel items i x ≡ false) → m ≡ table_for which.Memory kernel (items ++ i ∷ []) →
     r ≡ table_for which.Reserved kernel (items ++ i ∷ []) → ((x : ℕ) → g x ≡ shown_by m r x (f x)) →
     Follows kernel items (items ++ i ∷ []) f g
@@ -52,7 +52,7 @@ follows-item kernel items i m r f g stays first second told =
     ∙ ap (λ (t : Bool). shown kernel (items ++ i ∷ []) x (if t then 0 else f x)) (sym (or-false (leaves kernel items i x) ∙ stays x)))
 
 -- a table moves
-pub follows-grown : (kernel : Extent) (items : List Item) (w : Which) (place room : ℕ) (old m r : Table) (f g : ℕ → ℕ) →
+pub follows-grown : (kernel : RangeView) (items : List Item) (w : Which) (place room : ℕ) (old m r : Table) (f g : ℕ → ℕ) →
     old ≡ table_for w kernel items → m ≡ table_for which.Memory kernel (items ++ item.Grown w place room ∷ []) →
     r ≡ table_for which.Reserved kernel (items ++ item.Grown w place room ∷ []) →
     ((x : ℕ) → g x ≡ shown_by m r x (left_by old x (f x))) → Follows kernel items (items ++ item.Grown w place room ∷ []) f g
@@ -64,7 +64,7 @@ follows-grown kernel items w place room old m r f g was first second told =
     ∙ ap (λ (t : Bool). shown kernel (items ++ i ∷ []) x (if t then 0 else f x)) (sym (or-false (leaves kernel items i x))))
 
 -- one behind another
-pub follows-then : (kernel : Extent) (items mid last : List Item) (f g h : ℕ → ℕ) → Follows kernel items mid f g →
+pub follows-then : (kernel : RangeView) (items mid last : List Item) (f g h : ℕ → ℕ) → Follows kernel items mid f g →
     Follows kernel mid last g h → Follows kernel items last f h
 follows-then kernel items mid last f g h first second = record {
   more = first.more ++ second.more;
@@ -74,13 +74,13 @@ follows-then kernel items mid last f g h first second = record {
 }
 
 -- the same where the second speaks of an equal range of the kernel
-pub follows-next : (kernel other : Extent) (items mid last : List Item) (f g h : ℕ → ℕ) → other ≡ kernel →
+pub follows-next : (kernel other : RangeView) (items mid last : List Item) (f g h : ℕ → ℕ) → other ≡ kernel →
     Follows kernel items mid f g → Follows other mid last g h → Follows kernel items last f h
 follows-next kernel other items mid last f g h same first second =
-    follows-then kernel items mid last f g h first (subst (λ (k : Extent). Follows k mid last g h) same second)
+    follows-then kernel items mid last f g h first (subst (λ (k : RangeView). Follows k mid last g h) same second)
 
 -- behind the items the tables lie in their bytes again
-pub follows-spelled : (kernel : Extent) (items longer : List Item) (f g : ℕ → ℕ) → Follows kernel items longer f g →
+pub follows-spelled : (kernel : RangeView) (items longer : List Item) (f g : ℕ → ℕ) → Follows kernel items longer f g →
     AreSpelled (table_for which.Memory kernel longer) (table_for which.Reserved kernel longer) g
 unfolding byte_after
 follows-spelled kernel items longer f g follows = λ x.
@@ -89,7 +89,7 @@ follows-spelled kernel items longer f g follows = λ x.
     follows.each x ∙ sym (ap (λ (n : ℕ). shown_by m r x n) (follows.each x) ∙ shown_by-again m r x _)
 
 -- also as the tables that are those of the longer list
-pub follows-stands : (kernel : Extent) (items longer : List Item) (m r : Table) (f g : ℕ → ℕ) →
+pub follows-stands : (kernel : RangeView) (items longer : List Item) (m r : Table) (f g : ℕ → ℕ) →
     m ≡ table_for which.Memory kernel longer → r ≡ table_for which.Reserved kernel longer → Follows kernel items longer f g →
     AreSpelled m r g
 follows-stands kernel items longer m r f g first second follows =

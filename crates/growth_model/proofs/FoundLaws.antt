@@ -1,7 +1,7 @@
 -- A place that a search found: nobody has its bytes, so neither table lies there.
 use Rattle.std.proofs.Common.{◌≡◌, ℕ, ◌+◌, ◌*◌, ◌%◌, ◌<◌, ◌≤◌, Bool, true, false, ◌==◌, if◌then◌else◌, min, Option, Some, None, List, [], ◌∷◌, ◌++◌, refl, ap, subst, inl, inr, arith}
 use Rattle.std.proofs.lemmas.Bool.{and_parts}
-use Rattle.bm_base.specs.Extent.{Extent, end_of, covers, Meet}
+use Rattle.bm_base.specs.Range.{RangeView, end_of, covers, Meet}
 use Rattle.memblock_model.specs.declared.which.Which.{Which}
 use Rattle.memblock_model.specs.declared.which.Which.TheVariants as which
 use Rattle.memblock_model.specs.declared.owner.Owner.{Owner}
@@ -49,13 +49,13 @@ pub found-unclaimed : (items : List Item) (q : Query) (place : ℕ) → best ite
 found-unclaimed items q place found = fits-unclaimed items q false place (found-fits items q place found)
 
 -- a new place for a table with that room: aligned, nobody's, in the address space, and beside the range
-pub record IsNew (items : List Item) (avoid : Extent) (room place : ℕ) : Type 0 where
+pub record IsNew (items : List Item) (avoid : RangeView) (room place : ℕ) : Type 0 where
   pub aligned : place % 4096 ≡ 0
   pub free : Unclaimed (owner_of items) (frames_at place (48 * room))
   pub within : place + in_whole_frames (48 * room) ≤ limit_of items
   pub clear : Clear avoid (frames_at place (48 * room))
 
-new_between : (items : List Item) (avoid : Extent) (room lo hi place : ℕ) → hi ≤ limit_of items
+new_between : (items : List Item) (avoid : RangeView) (room lo hi place : ℕ) → hi ≤ limit_of items
     → ((x : ℕ) → avoid.base ≤ x → x < end_of avoid → lo ≤ x → x < hi → ⊥) → best items (table_query room lo hi) ≡ Some place
     → IsNew items avoid room place
 new_between items avoid room lo hi place within beside found =
@@ -69,7 +69,7 @@ new_between items avoid room lo hi place within beside found =
           let p = covers-from (frames_at place (48 * room)) x at_p in beside x a.0 a.1 (omega arith) (omega arith);
     }
 
-pub beside-new : (items : List Item) (avoid : Extent) (room place : ℕ) → place_beside avoid room items ≡ Some place
+pub beside-new : (items : List Item) (avoid : RangeView) (room place : ℕ) → place_beside avoid room items ≡ Some place
     → IsNew items avoid room place
 beside-new items avoid room place found =
     let behind = end_of avoid in let limit = limit_of items in let before = min avoid.base limit in
@@ -153,42 +153,42 @@ place-within r items place h =
     omega arith
 
 -- bytes without an owner meet no table
-pub unclaimed-away : (kernel a : Extent) (items : List Item) → Seated kernel items → Unclaimed (owner_of items) a → IsAway kernel a items
+pub unclaimed-away : (kernel a : RangeView) (items : List Item) → Seated kernel items → Unclaimed (owner_of items) a → IsAway kernel a items
 unclaimed-away kernel a items placed free = (
   unclaimed-clear (owner_of items) a (live which.Memory kernel items) free placed.seats.first,
   unclaimed-clear (owner_of items) a (live which.Reserved kernel items) free placed.seats.second,
 )
 
-pub found-away : (kernel : Extent) (items : List Item) (q : Query) (place : ℕ) → Seated kernel items → best items q ≡ Some place
+pub found-away : (kernel : RangeView) (items : List Item) (q : Query) (place : ℕ) → Seated kernel items → best items q ≡ Some place
     → IsAway kernel (record { base = place; size = q.size }) items
 found-away kernel items q place placed found =
     unclaimed-away kernel (record { base = place; size = q.size }) items placed (found-unclaimed items q place found)
 
 -- a part of a range that is away is away
-pub away-within : (kernel a b : Extent) (items : List Item) → ((x : ℕ) → covers b x ≡ true → covers a x ≡ true) → IsAway kernel a items
+pub away-within : (kernel a b : RangeView) (items : List Item) → ((x : ℕ) → covers b x ≡ true → covers a x ≡ true) → IsAway kernel a items
     → IsAway kernel b items
 away-within kernel a b items inside away = (λ x at. away.0 x (inside x at), λ x at. away.1 x (inside x at))
 
 -- such a range overlaps neither table, as the tables see it, and the other way round
-away_at : (kernel a : Extent) (items : List Item) (w : Which) → IsAway kernel a items → Meet (live w kernel items) a → ⊥
+away_at : (kernel a : RangeView) (items : List Item) (w : Which) → IsAway kernel a items → Meet (live w kernel items) a → ⊥
 away_at kernel a items which.Memory away (x, both) = let parts = and_parts _ _ both in away.0 x parts.1 parts.0
 away_at kernel a items which.Reserved away (x, both) = let parts = and_parts _ _ both in away.1 x parts.1 parts.0
 
-live_bytes : (kernel : Extent) (items : List Item) (t : Contents) (w : Which) → t.memory ≡ table_for which.Memory kernel items
+live_bytes : (kernel : RangeView) (items : List Item) (t : Contents) (w : Which) → t.memory ≡ table_for which.Memory kernel items
     → t.reserved ≡ table_for which.Reserved kernel items → bytes_in w t ≡ live w kernel items
 live_bytes kernel items t which.Memory memory reserved = ap bytes_of memory
 live_bytes kernel items t which.Reserved memory reserved = ap bytes_of reserved
 
-pub away-apart : (kernel a : Extent) (items : List Item) (t : Contents) → t.memory ≡ table_for which.Memory kernel items
+pub away-apart : (kernel a : RangeView) (items : List Item) (t : Contents) → t.memory ≡ table_for which.Memory kernel items
     → t.reserved ≡ table_for which.Reserved kernel items → IsAway kernel a items → ¬ Overlaps t a
 away-apart kernel a items t memory reserved away (w, meet) =
-    away_at kernel a items w away (subst (λ (e : Extent). Meet e a) (live_bytes kernel items t w memory reserved) meet)
+    away_at kernel a items w away (subst (λ (e : RangeView). Meet e a) (live_bytes kernel items t w memory reserved) meet)
 
 -- a place that was found, for a table with twice the room: what `Tables::relocate` wants
-pub found-apart : (kernel : Extent) (items : List Item) (t : Contents) (room place : ℕ) → t.memory ≡ table_for which.Memory kernel items
+pub found-apart : (kernel : RangeView) (items : List Item) (t : Contents) (room place : ℕ) → t.memory ≡ table_for which.Memory kernel items
     → t.reserved ≡ table_for which.Reserved kernel items → Seated kernel items
     → Unclaimed (owner_of items) (frames_at place (48 * room)) → ¬ Overlaps t (record { base = place; size = 48 * room })
 found-apart kernel items t room place memory reserved placed free =
-    let range : Extent = record { base = place; size = 48 * room } in
+    let range : RangeView = record { base = place; size = 48 * room } in
     away-apart kernel range items t memory reserved (away-within kernel (frames_at place (48 * room)) range items (frames-more range)
     (unclaimed-away kernel (frames_at place (48 * room)) items placed free))

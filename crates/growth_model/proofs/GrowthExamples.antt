@@ -2,7 +2,7 @@
 use Rattle.std.proofs.Common.{◌≡◌, ℕ, zero, suc, ◌+◌, ◌*◌, ◌%◌, ◌^◌, ◌<◌, ◌≤◌, Bool, true, false, nat_lt, Option, Some, None, List, [], ◌∷◌, ◌++◌, length, take, Ok, Err, refl, sym, ap, arith}
 use Rattle.std.proofs.lemmas.Bool.{false_from_ne_true}
 use Rattle.std.proofs.lemmas.Bool.Decides.{nat_tests}
-use Rattle.bm_base.specs.Extent.{Extent, end_of, covers}
+use Rattle.bm_base.specs.Range.{RangeView, end_of, covers}
 use Rattle.address_runs.specs.Runs.{RunOf}
 use Rattle.address_runs.specs.Edits.{NothingFrom}
 use Rattle.memblock_model.specs.declared.which.Which.{Which}
@@ -30,13 +30,13 @@ use Rattle.growth_model.proofs.FirstLaws.{no_records, first-full_by_two, first-c
 use Rattle.growth_model.proofs.IdleLaws.{claimed-idle, freed-idle, added-idle, noded-idle, mirrored-idle}
 
 -- 256 KiB of memory, in which the kernel's image has four frames from 64 KiB on
-abbrev pub image : Extent
+abbrev pub image : RangeView
 image = record { base = 65536; size = 16384 }
 
 abbrev pub small : List Item
 small = item.Mem (record { base = 0; size = 262144 }) ∷ (item.Claim image owner.Kernel ∷ (item.Limit 262144 ∷ []))
 
-abbrev pub frame : ℕ → Extent
+abbrev pub frame : ℕ → RangeView
 frame n = record { base = 4096 * n; size = 4096 }
 
 -- steps, and the items behind them
@@ -244,7 +244,7 @@ unfolding records_of
 none_at_first = no_records (table_of which.Memory []) (λ x. refl)
 
 -- an edit adds two pieces at most, so nothing is full; 128 further records would be too many
-new_has_room : (w : Which) (r : Extent) → end_of r ≤ 2 ^ 64 → NothingFrom (2 ^ 64) (table_of w small) → count w small ≡ 1
+new_has_room : (w : Which) (r : RangeView) → end_of r ≤ 2 ^ 64 → NothingFrom (2 ^ 64) (table_of w small) → count w small ≡ 1
     → is_full w (new_in w r) small ≡ false
 unfolding records_of
 new_has_room w r small_enough ends one = let few = few-pieces r (table_of w small) small_enough ends in grind (arith, nat_tests, one, few)
@@ -320,11 +320,11 @@ nothing_to_leave = refl
 a_frame_to_leave : leave (Some (frame 16)) small ≡ write (item.Free (frame 16)) small
 a_frame_to_leave = rw a_free refl
 
-leaving_is_never_refused : (frames : Extent) (items : List Item) → (leave (Some frames) items).refused ≡ None
+leaving_is_never_refused : (frames : RangeView) (items : List Item) → (leave (Some frames) items).refused ≡ None
 leaving_is_never_refused frames items = refl
 
 -- a free may add two records: where 127 of 128 are there, the table grows first, and without a place the free is refused
-free_behind_127 : (range : Extent) (items : List Item) → count which.Reserved items ≡ 127 → room_of which.Reserved items ≡ 128
+free_behind_127 : (range : RangeView) (items : List Item) → count which.Reserved items ≡ 127 → room_of which.Reserved items ≡ 128
     → place_beside range 128 items ≡ None → freed range items ≡ refuse which.Reserved 128 items
 unfolding freed reserved_growth reserved_growth_at
 free_behind_127 range items many room none =

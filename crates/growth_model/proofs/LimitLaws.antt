@@ -1,7 +1,7 @@
 -- A growth of the memory table, wherever a call of it ends, leaves that table where it lay, or in a new place below the limit.
 use Rattle.std.proofs.Common.{◌≡◌, ◌⊎◌, ℕ, ◌+◌, ◌*◌, ◌≤◌, Option, Some, None, List, [], ◌∷◌, ◌++◌, Result, refl, sym, ◌∙◌, ap, inl, inr, arith}
 use Rattle.std.proofs.lemmas.Option.{same_Some}
-use Rattle.bm_base.specs.Extent.{Extent}
+use Rattle.bm_base.specs.Range.{RangeView}
 use Rattle.memblock_model.specs.declared.which.Which.TheVariants as which
 use Rattle.memblock_model.specs.declared.owner.Owner.{Owner}
 use Rattle.memblock_model.specs.declared.owner.Owner.TheVariants as owner
@@ -35,12 +35,12 @@ unfolding reserved_growth_at
 at-stays m n room old None t at = at
 at-stays m n room old (Some place) t at = (at, grew-stays m n room old place t at)
 
-reserved-stays : (m : Option ℕ) (n : ℕ) (a : Extent) (t : List Item) → LiesAt m n t → EachCut (LiesAt m n) t (reserved_growth a t).steps
+reserved-stays : (m : Option ℕ) (n : ℕ) (a : RangeView) (t : List Item) → LiesAt m n t → EachCut (LiesAt m n) t (reserved_growth a t).steps
 unfolding reserved_growth
 reserved-stays m n a t at =
     at-stays m n (room_of which.Reserved t) (moved_to which.Reserved t) (place_beside a (room_of which.Reserved t) t) t at
 
-behind-growths : (m : Option ℕ) (n : ℕ) (a : Extent) (more : List Item → ℕ) (i : Item) (t : List Item)
+behind-growths : (m : Option ℕ) (n : ℕ) (a : RangeView) (more : List Item → ℕ) (i : Item) (t : List Item)
     → ((u : List Item) → LiesAt m n u → LiesAt m n (u ++ i ∷ [])) → LiesAt m n t
     → EachCut (LiesAt m n) t ((grown which.Reserved more (reserved_growth a) >> write i) t).steps
 behind-growths m n a more i t keep at =
@@ -50,20 +50,20 @@ behind-growths m n a more i t keep at =
     let here : LiesAt m n (after t (growths t)) = cuts-last (LiesAt m n) t (growths t).steps throughout in
     cuts-then (LiesAt m n) t growths (write i) throughout (λ _. (here, keep (after t (growths t)) here))
 
-pub claimed-stays : (m : Option ℕ) (n : ℕ) (a : Extent) (o : Owner) (t : List Item) → LiesAt m n t
+pub claimed-stays : (m : Option ℕ) (n : ℕ) (a : RangeView) (o : Owner) (t : List Item) → LiesAt m n t
     → EachCut (LiesAt m n) t (claimed a o t).steps
 unfolding claimed
 claimed-stays m n a o t at =
     behind-growths m n a (new_in which.Reserved a) (item.Claim a o) t
     (λ u here. (moves-of which.Memory u _ ∙ here.0, rooms-of which.Memory u _ ∙ here.1)) at
 
-freed-stays : (m : Option ℕ) (n : ℕ) (a : Extent) (t : List Item) → LiesAt m n t → EachCut (LiesAt m n) t (freed a t).steps
+freed-stays : (m : Option ℕ) (n : ℕ) (a : RangeView) (t : List Item) → LiesAt m n t → EachCut (LiesAt m n) t (freed a t).steps
 unfolding freed
 freed-stays m n a t at =
     behind-growths m n a two (item.Free a) t
     (λ u here. (moves-of which.Memory u _ ∙ here.0, rooms-of which.Memory u _ ∙ here.1)) at
 
-pub leave-stays : (m : Option ℕ) (n : ℕ) (old : Option Extent) (t : List Item) → LiesAt m n t → EachCut (LiesAt m n) t (leave old t).steps
+pub leave-stays : (m : Option ℕ) (n : ℕ) (old : Option RangeView) (t : List Item) → LiesAt m n t → EachCut (LiesAt m n) t (leave old t).steps
 leave-stays m n None t at = at
 leave-stays m n (Some a) t at = freed-stays m n a t at
 

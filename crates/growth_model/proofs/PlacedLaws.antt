@@ -3,7 +3,7 @@ use Rattle.std.proofs.Common.{◌≡◌, ◌⊎◌, ℕ, ◌*◌, ◌%◌, Bool,
 use Rattle.std.specs.Prelude.{unwrap_or}
 use Rattle.std.specs.List.{fold}
 use Rattle.std.proofs.lemmas.List.Sums.{fold-append}
-use Rattle.bm_base.specs.Extent.{Extent}
+use Rattle.bm_base.specs.Range.{RangeView}
 use Rattle.address_runs.specs.Edits.{uncovered, replaced}
 use Rattle.memblock_model.specs.declared.which.Which.{Which}
 use Rattle.memblock_model.specs.declared.which.Which.TheVariants as which
@@ -18,22 +18,22 @@ use Rattle.growth_model.specs.Sound.{keeps, Clear, Unclaimed, Seats, Seated, IsA
 use Rattle.growth_model.proofs.SeatLaws.{frames, Seats-claim, Seats-clear, Seats-free, Seats-move, Seats-leave}
 
 -- where a table lies, by its newest place and its room
-abbrev pub live_by : Which → Extent → Option ℕ → ℕ → Extent
+abbrev pub live_by : Which → RangeView → Option ℕ → ℕ → RangeView
 live_by w kernel place room = record { base = unwrap_or place (built_in w kernel); size = 24 * room }
 
-pub live-is : (w : Which) (kernel : Extent) (items : List Item) (place : Option ℕ) (room : ℕ) → moved_to w items ≡ place
+pub live-is : (w : Which) (kernel : RangeView) (items : List Item) (place : Option ℕ) (room : ℕ) → moved_to w items ≡ place
     → room_of w items ≡ room → live w kernel items ≡ live_by w kernel place room
 live-is w kernel items place room at wide = rw (at, wide) refl
 
-pub live-same : (w : Which) (kernel : Extent) (items t : List Item) → moved_to w t ≡ moved_to w items → room_of w t ≡ room_of w items
+pub live-same : (w : Which) (kernel : RangeView) (items t : List Item) → moved_to w t ≡ moved_to w items → room_of w t ≡ room_of w items
     → live w kernel t ≡ live w kernel items
 live-same w kernel items t at wide = live-is w kernel t (moved_to w items) (room_of w items) at wide
 
-pub Seats-same : (own now : Owners) (m n r s : Extent) → now ≡ own → n ≡ m → s ≡ r → Seats own m r → Seats now n s
+pub Seats-same : (own now : Owners) (m n r s : RangeView) → now ≡ own → n ≡ m → s ≡ r → Seats own m r → Seats now n s
 Seats-same own now m n r s owners memory reserved known = rw (owners, memory, reserved) known
 
 -- further items, and what becomes of the places
-pub placed-more : (kernel : Extent) (items more : List Item) (own : Owners) (m r : Extent) → Seated kernel items
+pub placed-more : (kernel : RangeView) (items more : List Item) (own : Owners) (m r : RangeView) → Seated kernel items
     → owner_of (items ++ more) ≡ own → live which.Memory kernel (items ++ more) ≡ m → live which.Reserved kernel (items ++ more) ≡ r
     → Seats own m r → Seated kernel (items ++ more)
 placed-more kernel items more own m r placed owners memory reserved seats = record {
@@ -57,13 +57,13 @@ pub limits-of : (items more : List Item) → limit_of (items ++ more) ≡ fold l
 limits-of items more = fold-append limit_after 0 items more
 
 -- an item that moves no table
-pub stays : (w : Which) (kernel : Extent) (items : List Item) (i : Item) → moved_after w (moved_to w items) i ≡ moved_to w items
+pub stays : (w : Which) (kernel : RangeView) (items : List Item) (i : Item) → moved_after w (moved_to w items) i ≡ moved_to w items
     → room_after w (room_of w items) i ≡ room_of w items → live w kernel (items ++ i ∷ []) ≡ live w kernel items
 stays w kernel items i at wide = live-same w kernel items (items ++ i ∷ []) (moves-of w items (i ∷ []) ∙ at)
     (rooms-of w items (i ∷ []) ∙ wide)
 
 -- such an item that makes these owners of those before, among which the places are still good
-still-placed : (kernel : Extent) (items : List Item) (i : Item)
+still-placed : (kernel : RangeView) (items : List Item) (i : Item)
     → ((w : Which) → moved_after w (moved_to w items) i ≡ moved_to w items)
     → ((w : Which) → room_after w (room_of w items) i ≡ room_of w items) → Seated kernel items
     → Seats (owners_after (owner_of items) i) (live which.Memory kernel items) (live which.Reserved kernel items)
@@ -75,10 +75,10 @@ still-placed kernel items i at wide placed seats =
     (stays which.Reserved kernel items i (at which.Reserved) (wide which.Reserved)) seats
 
 -- a claim may be made by an owner in whose bytes a table may lie, or of bytes that meet neither table
-abbrev pub MayTake : Extent → List Item → Extent → Owner → Type 0
+abbrev pub MayTake : RangeView → List Item → RangeView → Owner → Type 0
 MayTake kernel items range who = (keeps (Some who) ≡ true) ⊎ IsAway kernel range items
 
-pub claim-placed : (kernel : Extent) (items : List Item) (r : Extent) (o : Owner) → MayTake kernel items r o → Seated kernel items
+pub claim-placed : (kernel : RangeView) (items : List Item) (r : RangeView) (o : Owner) → MayTake kernel items r o → Seated kernel items
     → Seated kernel (items ++ item.Claim r o ∷ [])
 claim-placed kernel items r o may placed =
     still-placed kernel items (item.Claim r o) (λ w. refl) (λ w. refl) placed
@@ -88,44 +88,44 @@ claim-placed kernel items r o may placed =
           placed.seats
     ])
 
-pub free-placed : (kernel : Extent) (items : List Item) (r : Extent) → IsAway kernel r items → Seated kernel items
+pub free-placed : (kernel : RangeView) (items : List Item) (r : RangeView) → IsAway kernel r items → Seated kernel items
     → Seated kernel (items ++ item.Free r ∷ [])
 free-placed kernel items r away placed =
     still-placed kernel items (item.Free r) (λ w. refl) (λ w. refl) placed
     (Seats-free (owner_of items) (live which.Memory kernel items) (live which.Reserved kernel items) r away.0 away.1 placed.seats)
 
-pub mem-placed : (kernel : Extent) (items : List Item) (r : Extent) → Seated kernel items → Seated kernel (items ++ item.Mem r ∷ [])
+pub mem-placed : (kernel : RangeView) (items : List Item) (r : RangeView) → Seated kernel items → Seated kernel (items ++ item.Mem r ∷ [])
 mem-placed kernel items r placed = still-placed kernel items (item.Mem r) (λ w. refl) (λ w. refl) placed placed.seats
 
-pub node-placed : (kernel : Extent) (items : List Item) (r : Extent) (node : ℕ) → Seated kernel items
+pub node-placed : (kernel : RangeView) (items : List Item) (r : RangeView) (node : ℕ) → Seated kernel items
     → Seated kernel (items ++ item.Node r node ∷ [])
 node-placed kernel items r node placed = still-placed kernel items (item.Node r node) (λ w. refl) (λ w. refl) placed placed.seats
 
-pub mirror-placed : (kernel : Extent) (items : List Item) (r : Extent) → Seated kernel items → Seated kernel (items ++ item.Mirror r ∷ [])
+pub mirror-placed : (kernel : RangeView) (items : List Item) (r : RangeView) → Seated kernel items → Seated kernel (items ++ item.Mirror r ∷ [])
 mirror-placed kernel items r placed = still-placed kernel items (item.Mirror r) (λ w. refl) (λ w. refl) placed placed.seats
 
-pub trim-placed : (kernel : Extent) (items : List Item) → Seated kernel items → Seated kernel (items ++ item.Trim ∷ [])
+pub trim-placed : (kernel : RangeView) (items : List Item) → Seated kernel items → Seated kernel (items ++ item.Trim ∷ [])
 trim-placed kernel items placed = still-placed kernel items item.Trim (λ w. refl) (λ w. refl) placed placed.seats
 
-pub limit-placed : (kernel : Extent) (items : List Item) (at : ℕ) → Seated kernel items → Seated kernel (items ++ item.Limit at ∷ [])
+pub limit-placed : (kernel : RangeView) (items : List Item) (at : ℕ) → Seated kernel items → Seated kernel (items ++ item.Limit at ∷ [])
 limit-placed kernel items at placed = still-placed kernel items (item.Limit at) (λ w. refl) (λ w. refl) placed placed.seats
 
-pub upward-placed : (kernel : Extent) (items : List Item) (on : Bool) → Seated kernel items → Seated kernel (items ++ item.Upward on ∷ [])
+pub upward-placed : (kernel : RangeView) (items : List Item) (on : Bool) → Seated kernel items → Seated kernel (items ++ item.Upward on ∷ [])
 upward-placed kernel items on placed = still-placed kernel items (item.Upward on) (λ w. refl) (λ w. refl) placed placed.seats
 
 -- from the items on the reserved table grew beside the range: the memory table and the limit are as they were, and what the range was
 -- clear of it still is
-pub record Aside (kernel a : Extent) (items t : List Item) : Type 0 where
+pub record Aside (kernel a : RangeView) (items t : List Item) : Type 0 where
   pub place : moved_to which.Memory t ≡ moved_to which.Memory items
   pub wide : room_of which.Memory t ≡ room_of which.Memory items
   pub bound : limit_of t ≡ limit_of items
   pub free : Unclaimed (owner_of items) a → Unclaimed (owner_of t) a
   pub clear : Clear a (live which.Reserved kernel items) → Clear a (live which.Reserved kernel t)
 
-pub aside-same : (kernel a : Extent) (items : List Item) → Aside kernel a items items
+pub aside-same : (kernel a : RangeView) (items : List Item) → Aside kernel a items items
 aside-same kernel a items = record { place = refl; wide = refl; bound = refl; free = λ h. h; clear = λ h. h }
 
-pub aside-on : (kernel a : Extent) (items t u : List Item) → Aside kernel a items t → Aside kernel a t u → Aside kernel a items u
+pub aside-on : (kernel a : RangeView) (items t u : List Item) → Aside kernel a items t → Aside kernel a t u → Aside kernel a items u
 aside-on kernel a items t u h k = record {
   place = k.place ∙ h.place;
   wide = k.wide ∙ h.wide;
@@ -134,22 +134,22 @@ aside-on kernel a items t u h k = record {
   clear = λ f. k.clear (h.clear f);
 }
 
-pub record Going (kernel a : Extent) (items t : List Item) : Type 0 where
+pub record Going (kernel a : RangeView) (items t : List Item) : Type 0 where
   pub placed : Seated kernel t
   pub aside : Aside kernel a items t
 
 -- the range is away still, and may be taken still
-pub away-still : (kernel a : Extent) (items t : List Item) → Aside kernel a items t → IsAway kernel a items → IsAway kernel a t
+pub away-still : (kernel a : RangeView) (items t : List Item) → Aside kernel a items t → IsAway kernel a items → IsAway kernel a t
 away-still kernel a items t aside away =
-    (subst (λ (e : Extent). Clear a e) (sym (live-same which.Memory kernel items t aside.place aside.wide)) away.0, aside.clear away.1)
+    (subst (λ (e : RangeView). Clear a e) (sym (live-same which.Memory kernel items t aside.place aside.wide)) away.0, aside.clear away.1)
 
-pub take-still : (kernel a : Extent) (o : Owner) (items t : List Item) → Aside kernel a items t → MayTake kernel items a o
+pub take-still : (kernel a : RangeView) (o : Owner) (items t : List Item) → Aside kernel a items t → MayTake kernel items a o
     → MayTake kernel t a o
 take-still kernel a o items t aside (inl kept) = inl kept
 take-still kernel a o items t aside (inr away) = inr (away-still kernel a items t aside away)
 
 -- the new place of the reserved table, with twice the room: its frames are those that are claimed for it
-abbrev place_for_twice : ℕ → ℕ → Extent
+abbrev place_for_twice : ℕ → ℕ → RangeView
 place_for_twice room place = record { base = place; size = 24 * (2 * room) }
 
 same-frames : (room place : ℕ) → frames (place_for_twice room place) ≡ frames_at place (48 * room)
@@ -158,19 +158,19 @@ same-frames room place = let e : 24 * (2 * room) ≡ 48 * room = omega arith in 
 abbrev pub for_table : Which → Owner
 for_table w = owner.Table w
 
-module _ (own : Owners) (m r : Extent) (w : Which) (room place : ℕ) where
+module _ (own : Owners) (m r : RangeView) (w : Which) (room place : ℕ) where
   free-frames : Unclaimed own (frames_at place (48 * room)) → Unclaimed own (frames (place_for_twice room place))
-  free-frames free = subst (λ (e : Extent). Unclaimed own e) (sym (same-frames room place)) free
+  free-frames free = subst (λ (e : RangeView). Unclaimed own e) (sym (same-frames room place)) free
 
   pub move-seats : place % 4096 ≡ 0 → Unclaimed own (frames_at place (48 * room)) → Seats own m r
       → Seats (replaced (frames_at place (48 * room)) (for_table w) own) m (place_for_twice room place)
   move-seats aligned free seats =
-      subst (λ (e : Extent). Seats (replaced e (for_table w) own) m (place_for_twice room place)) (same-frames room place)
+      subst (λ (e : RangeView). Seats (replaced e (for_table w) own) m (place_for_twice room place)) (same-frames room place)
       (Seats-move own m r (place_for_twice room place) (for_table w) refl aligned (free-frames free) seats)
 
   pub leave-seats : place % 4096 ≡ 0 → Unclaimed own (frames_at place (48 * room)) → Seats own m r
       → Seats (uncovered (frames r) (replaced (frames_at place (48 * room)) (for_table w) own)) m (place_for_twice room place)
   leave-seats aligned free seats =
-      subst (λ (e : Extent). Seats (uncovered (frames r) (replaced e (for_table w) own)) m (place_for_twice room place))
+      subst (λ (e : RangeView). Seats (uncovered (frames r) (replaced e (for_table w) own)) m (place_for_twice room place))
       (same-frames room place)
       (Seats-leave own m r (place_for_twice room place) (for_table w) refl aligned (free-frames free) seats)

@@ -1,6 +1,6 @@
 -- The places of both tables stay good throughout a growth of the memory table, and the changes that may need one.
 use Rattle.std.proofs.Common.{◌≡◌, ℕ, ◌*◌, ◌%◌, true, Option, Some, None, List, [], ◌∷◌, ◌++◌, Ok, refl, sym, ◌∙◌, ap, subst, inl, inr, arith}
-use Rattle.bm_base.specs.Extent.{Extent, covers}
+use Rattle.bm_base.specs.Range.{RangeView, covers}
 use Rattle.address_runs.specs.Edits.{replaced}
 use Rattle.memblock_model.specs.declared.which.Which.TheVariants as which
 use Rattle.memblock_model.specs.declared.owner.Owner.{Owner}
@@ -33,11 +33,11 @@ taken t place = t ++ item.Claim (frames_at place (48 * room_of which.Memory t)) 
 abbrev pub moved : List Item → ℕ → List Item
 moved t place = taken t place ++ item.Grown which.Memory place (2 * room_of which.Memory t) ∷ []
 
-abbrev new_live : List Item → ℕ → Extent
+abbrev new_live : List Item → ℕ → RangeView
 new_live t place = record { base = place; size = 24 * (2 * room_of which.Memory t) }
 
-module _ (kernel : Extent) (t : List Item) (place : ℕ) where
-  abbrev a : Extent
+module _ (kernel : RangeView) (t : List Item) (place : ℕ) where
+  abbrev a : RangeView
   a = frames_at place (48 * room_of which.Memory t)
 
   abbrev u : List Item
@@ -67,8 +67,8 @@ module _ (kernel : Extent) (t : List Item) (place : ℕ) where
   taken-away : IsFree t place → Seated kernel t → IsAway kernel a u
   taken-away new placed =
       let away = unclaimed-away kernel a t placed new.free in (
-        subst (λ (e : Extent). Clear a e) (sym (stays which.Memory kernel t claims refl refl)) away.0,
-        subst (λ (e : Extent). Clear a e) (sym (stays which.Reserved kernel t claims refl refl)) away.1,
+        subst (λ (e : RangeView). Clear a e) (sym (stays which.Memory kernel t claims refl refl)) away.0,
+        subst (λ (e : RangeView). Clear a e) (sym (stays which.Reserved kernel t claims refl refl)) away.1,
       )
 
   pub moved-placed : IsFree t place → Seated kernel t → Seated kernel (moved t place)
@@ -85,11 +85,11 @@ module _ (kernel : Extent) (t : List Item) (place : ℕ) where
       → IsAway kernel (frames_at q (24 * room_of which.Memory t)) (moved t place)
   old-away q was new placed =
       let room = room_of which.Memory t in
-      let before : Extent = live_by which.Memory kernel (Some q) room in
+      let before : RangeView = live_by which.Memory kernel (Some q) room in
       let is : live which.Memory kernel t ≡ before = live-is which.Memory kernel t (Some q) room was refl in
       let seats : Seats (owner_of t) before (live which.Reserved kernel t) =
-      subst (λ (e : Extent). Seats (owner_of t) e (live which.Reserved kernel t)) is placed.seats in
-      let twice : Extent = new_live t place in
+      subst (λ (e : RangeView). Seats (owner_of t) e (live which.Reserved kernel t)) is placed.seats in
+      let twice : RangeView = new_live t place in
       let e : 48 * room ≡ 24 * (2 * room) = omega arith in
       let free : Unclaimed (owner_of t) (frames twice) = subst (λ (n : ℕ). Unclaimed (owner_of t) (frames_at place n)) e new.free in
       let first : Clear (frames before) twice = λ x at_b at_n.
@@ -97,13 +97,13 @@ module _ (kernel : Extent) (t : List Item) (place : ℕ) where
       (subst (λ (n : ℕ). covers (frames_at place n) x ≡ true) e (place-inside room place x at_n)) in
       let second : Clear (frames before) (live which.Reserved kernel t) =
       apart-clear before (live which.Reserved kernel t) seats.first.aligned seats.apart in (
-        subst (λ (n : Extent). Clear (frames before) n) (sym moved-memory) first,
-        subst (λ (n : Extent). Clear (frames before) n) (sym moved-reserved) second,
+        subst (λ (n : RangeView). Clear (frames before) n) (sym moved-memory) first,
+        subst (λ (n : RangeView). Clear (frames before) n) (sym moved-reserved) second,
       )
 
 -- behind the claim of the new place of the memory table, whose room and place were these: what the move and the freeing of the old place
 -- ask for
-pub record IsTaken (kernel : Extent) (u : List Item) (room : ℕ) (old : Option ℕ) (place : ℕ) : Type 0 where
+pub record IsTaken (kernel : RangeView) (u : List Item) (room : ℕ) (old : Option ℕ) (place : ℕ) : Type 0 where
   pub placed : Seated kernel u
   pub wide : room_of which.Memory u ≡ room
   pub was : moved_to which.Memory u ≡ old
@@ -111,7 +111,7 @@ pub record IsTaken (kernel : Extent) (u : List Item) (room : ℕ) (old : Option 
   pub next : Seated kernel (u ++ item.Grown which.Memory place (2 * room) ∷ [])
   pub left : (q : ℕ) → old ≡ Some q → IsAway kernel (frames_at q (24 * room)) (u ++ item.Grown which.Memory place (2 * room) ∷ [])
 
-taken-is : (kernel : Extent) (t : List Item) (place : ℕ) → IsFree t place → Seated kernel t
+taken-is : (kernel : RangeView) (t : List Item) (place : ℕ) → IsFree t place → Seated kernel t
     → IsTaken kernel (taken t place) (room_of which.Memory t) (moved_to which.Memory t) place
 taken-is kernel t place new placed = record {
   placed = taken-placed kernel t place placed;
@@ -122,14 +122,14 @@ taken-is kernel t place new placed = record {
   left = λ q was. old-away kernel t place q was new placed;
 }
 
-taken-along : (kernel : Extent) (t : List Item) (room : ℕ) (old : Option ℕ) (place : ℕ) → room_of which.Memory t ≡ room
+taken-along : (kernel : RangeView) (t : List Item) (room : ℕ) (old : Option ℕ) (place : ℕ) → room_of which.Memory t ≡ room
     → moved_to which.Memory t ≡ old → place % 4096 ≡ 0 → Unclaimed (owner_of t) (frames_at place (48 * room)) → Seated kernel t
     → IsTaken kernel (t ++ item.Claim (frames_at place (48 * room)) (for_table which.Memory) ∷ []) room old place
 taken-along kernel t room old place wide was aligned free placed =
     let new : IsFree t place = record { aligned = aligned; free = rw wide free } in
     rw (sym wide, sym was) (taken-is kernel t place new placed)
 
-pub claimed-taken : {T : Type 0} (x : T) (kernel : Extent) (items u : List Item) (place : ℕ) → Seated kernel items
+pub claimed-taken : {T : Type 0} (x : T) (kernel : RangeView) (items u : List Item) (place : ℕ) → Seated kernel items
     → best items (table_query (room_of which.Memory items) 0 (limit_of items)) ≡ Some place
     → Ends (Ok x) items u (claimed (frames_at place (48 * room_of which.Memory items)) (for_table which.Memory))
     → IsTaken kernel u (room_of which.Memory items) (moved_to which.Memory items) place
@@ -146,20 +146,20 @@ claimed-taken x kernel items u place placed is ends =
     (going.aside.free (found-unclaimed items q place is)) going.placed)
 
 -- so a place that was left is freed, and the move behind the claim keeps both places
-left-cuts : (kernel : Extent) (u : List Item) (room : ℕ) (old : Option ℕ) → Seated kernel u
+left-cuts : (kernel : RangeView) (u : List Item) (room : ℕ) (old : Option ℕ) → Seated kernel u
     → ((q : ℕ) → old ≡ Some q → IsAway kernel (frames_at q (24 * room)) u)
     → EachCut (Seated kernel) u (leave (old_frames room old) u).steps
 left-cuts kernel u room None placed left = placed
 left-cuts kernel u room (Some q) placed left = freed-cuts kernel u (frames_at q (24 * room)) (left q refl) placed
 
-taken-cuts : (kernel : Extent) (u : List Item) (room : ℕ) (old : Option ℕ) (place : ℕ) → IsTaken kernel u room old place
+taken-cuts : (kernel : RangeView) (u : List Item) (room : ℕ) (old : Option ℕ) (place : ℕ) → IsTaken kernel u room old place
     → EachCut (Seated kernel) u ((write (item.Grown which.Memory place (2 * room)) >> leave (old_frames room old)) u).steps
 taken-cuts kernel u room old place known =
     let moves : Item = item.Grown which.Memory place (2 * room) in
     cuts-then (Seated kernel) u (write moves) (leave (old_frames room old)) (known.placed, known.next)
     (λ _. left-cuts kernel (u ++ moves ∷ []) room old known.next known.left)
 
-growth-at : (kernel : Extent) (items : List Item) (found : Option ℕ)
+growth-at : (kernel : RangeView) (items : List Item) (found : Option ℕ)
     → best items (table_query (room_of which.Memory items) 0 (limit_of items)) ≡ found → Seated kernel items
     → EachCut (Seated kernel) items (memory_growth_at (room_of which.Memory items) (moved_to which.Memory items) found items).steps
 unfolding memory_growth_at
@@ -175,19 +175,19 @@ growth-at kernel items (Some place) is placed =
     (claimed-taken {T = Unit {0}} tt kernel items u place placed is (unrefused, refl)))
 
 -- throughout one growth
-pub memory-cuts : (kernel : Extent) (items : List Item) → Seated kernel items → EachCut (Seated kernel) items (memory_growth items).steps
+pub memory-cuts : (kernel : RangeView) (items : List Item) → Seated kernel items → EachCut (Seated kernel) items (memory_growth items).steps
 unfolding memory_growth
 memory-cuts kernel items placed =
     growth-at kernel items (best items (table_query (room_of which.Memory items) 0 (limit_of items))) refl placed
 
 -- the items as growths of the memory table leave them
-grown-placed : (kernel : Extent) (items : List Item) (more : List Item → ℕ) → Seated kernel items
+grown-placed : (kernel : RangeView) (items : List Item) (more : List Item → ℕ) → Seated kernel items
     → Seated kernel (after items (grown which.Memory more memory_growth items))
 grown-placed kernel items more placed = cuts-last (Seated kernel) items (grown which.Memory more memory_growth items).steps
     (cuts-grown (Seated kernel) which.Memory more memory_growth items (memory-cuts kernel) placed)
 
 -- so does each item that is written behind room for its records, and keeps the places
-marked-cuts : (kernel : Extent) (items : List Item) (more : List Item → ℕ) (i : Item)
+marked-cuts : (kernel : RangeView) (items : List Item) (more : List Item → ℕ) (i : Item)
     → ((t : List Item) → Seated kernel t → Seated kernel (t ++ i ∷ [])) → Seated kernel items
     → EachCut (Seated kernel) items ((grown which.Memory more memory_growth >> write i) items).steps
 marked-cuts kernel items more i keeps placed =
@@ -197,25 +197,25 @@ marked-cuts kernel items more i keeps placed =
     (λ _. (here, keeps (after items (grown which.Memory more memory_growth items)) here))
 
 -- throughout the changes of memory
-pub added-cuts : (kernel : Extent) (items : List Item) (r : Extent) → Seated kernel items
+pub added-cuts : (kernel : RangeView) (items : List Item) (r : RangeView) → Seated kernel items
     → EachCut (Seated kernel) items (added r items).steps
 unfolding added
 added-cuts kernel items r placed =
     marked-cuts kernel items (new_in which.Memory r) (item.Mem r) (λ t here. mem-placed kernel t r here) placed
 
-pub noded-cuts : (kernel : Extent) (items : List Item) (r : Extent) (node : ℕ) → Seated kernel items
+pub noded-cuts : (kernel : RangeView) (items : List Item) (r : RangeView) (node : ℕ) → Seated kernel items
     → EachCut (Seated kernel) items (noded r node items).steps
 unfolding noded
 noded-cuts kernel items r node placed =
     marked-cuts kernel items two (item.Node r node) (λ t here. node-placed kernel t r node here) placed
 
-pub mirrored-cuts : (kernel : Extent) (items : List Item) (r : Extent) → Seated kernel items
+pub mirrored-cuts : (kernel : RangeView) (items : List Item) (r : RangeView) → Seated kernel items
     → EachCut (Seated kernel) items (mirrored r items).steps
 unfolding mirrored
 mirrored-cuts kernel items r placed = marked-cuts kernel items two (item.Mirror r) (λ t here. mirror-placed kernel t r here) placed
 
 -- throughout the claim of a place that an allocation found, whoever it is for
-pub allocated-cuts : (kernel : Extent) (items : List Item) (r : Request) (place : ℕ) (o : Owner) → place_for r items ≡ Some place
+pub allocated-cuts : (kernel : RangeView) (items : List Item) (r : Request) (place : ℕ) (o : Owner) → place_for r items ≡ Some place
     → Seated kernel items → EachCut (Seated kernel) items (claimed (record { base = place; size = r.size }) o items).steps
 allocated-cuts kernel items r place o found placed =
     claimed-cuts kernel items (record { base = place; size = r.size }) o

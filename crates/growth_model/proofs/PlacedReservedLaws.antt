@@ -2,7 +2,7 @@
 use Rattle.std.proofs.Common.{◌≡◌, ℕ, ◌*◌, true, Option, Some, None, List, [], ◌∷◌, ◌++◌, refl, sym, subst, inl, inr, arith}
 use Rattle.std.proofs.lemmas.Bool.{cases_Bool, false_from_ne_true}
 use Rattle.std.proofs.lemmas.Bool.Decides.{nat_tests}
-use Rattle.bm_base.specs.Extent.{Extent, covers}
+use Rattle.bm_base.specs.Range.{RangeView, covers}
 use Rattle.address_runs.specs.Edits.{uncovered, replaced}
 use Rattle.memblock_model.specs.declared.which.Which.{Which}
 use Rattle.memblock_model.specs.declared.which.Which.TheVariants as which
@@ -19,10 +19,10 @@ use Rattle.growth_model.proofs.FoundLaws.{IsNew, beside-new}
 use Rattle.growth_model.proofs.PlacedLaws.{live_by, live-is, live-same, placed-more, owners-of, moves-of, rooms-of, limits-of, MayTake, claim-placed, free-placed, Aside, aside-same, aside-on, Going, away-still, take-still, for_table, move-seats, leave-seats}
 
 -- bytes without an owner stay so when others are claimed, and when any are freed
-claim-unclaimed : (own : Owners) (a r : Extent) (o : Owner) → Clear a r → Unclaimed own a → Unclaimed (replaced r o own) a
+claim-unclaimed : (own : Owners) (a r : RangeView) (o : Owner) → Clear a r → Unclaimed own a → Unclaimed (replaced r o own) a
 claim-unclaimed own a r o clear free x at = rw (false_from_ne_true (covers r x) (λ in_r. clear x at in_r)) (free x at)
 
-free-unclaimed : (own : Owners) (a r : Extent) → Unclaimed own a → Unclaimed (uncovered r own) a
+free-unclaimed : (own : Owners) (a r : RangeView) → Unclaimed own a → Unclaimed (uncovered r own) a
 free-unclaimed own a r free x at =
     elim (cases_Bool (covers r x)) as (λ _. uncovered r own x ≡ None) [ inl in_r ↦ rw in_r refl | inr other ↦ rw other (free x at) ]
 
@@ -30,7 +30,7 @@ free-unclaimed own a r free x at =
 abbrev pub grew : List Item → Option ℕ → ℕ → List Item
 grew t old place = t ++ reserved_items (room_of which.Reserved t) old place
 
-abbrev pub new_place : List Item → ℕ → Extent
+abbrev pub new_place : List Item → ℕ → RangeView
 new_place t place = frames_at place (48 * room_of which.Reserved t)
 
 abbrev pub claimed_place : List Item → ℕ → Owners
@@ -49,13 +49,13 @@ unfolding reserved_items
 reserved-rooms w t room None place = rooms-of w t (reserved_items room None place)
 reserved-rooms w t room (Some q) place = rooms-of w t (reserved_items room (Some q) place)
 
-grew-live : (kernel : Extent) (t : List Item) (old : Option ℕ) (place : ℕ)
+grew-live : (kernel : RangeView) (t : List Item) (old : Option ℕ) (place : ℕ)
     → live which.Reserved kernel (grew t old place) ≡ live_by which.Reserved kernel (Some place) (2 * room_of which.Reserved t)
 grew-live kernel t old place = live-is which.Reserved kernel (grew t old place) (Some place) (2 * room_of which.Reserved t)
     (reserved-moves which.Reserved t (room_of which.Reserved t) old place)
     (reserved-rooms which.Reserved t (room_of which.Reserved t) old place)
 
-grew-memory : (kernel : Extent) (t : List Item) (old : Option ℕ) (place : ℕ)
+grew-memory : (kernel : RangeView) (t : List Item) (old : Option ℕ) (place : ℕ)
     → live which.Memory kernel (grew t old place) ≡ live which.Memory kernel t
 grew-memory kernel t old place = live-same which.Memory kernel t (grew t old place)
     (reserved-moves which.Memory t (room_of which.Reserved t) old place)
@@ -80,19 +80,19 @@ pub place-inside : (room place x : ℕ) → covers (record { base = place; size 
     → covers (frames_at place (48 * room)) x ≡ true
 place-inside room place x at = grind (arith, nat_tests, at)
 
-grew-aside : (kernel a : Extent) (t : List Item) (old : Option ℕ) (place : ℕ) → IsNew t a (room_of which.Reserved t) place
+grew-aside : (kernel a : RangeView) (t : List Item) (old : Option ℕ) (place : ℕ) → IsNew t a (room_of which.Reserved t) place
     → (Unclaimed (owner_of t) a → Unclaimed (owner_of (grew t old place)) a) → Aside kernel a t (grew t old place)
 grew-aside kernel a t old place new free = record {
   place = reserved-moves which.Memory t (room_of which.Reserved t) old place;
   wide = reserved-rooms which.Memory t (room_of which.Reserved t) old place;
   bound = grew-limit t old place;
   free = free;
-  clear = λ _. subst (λ (e : Extent). Clear a e) (sym (grew-live kernel t old place))
+  clear = λ _. subst (λ (e : RangeView). Clear a e) (sym (grew-live kernel t old place))
       (λ x at_a at_n. new.clear x at_a (place-inside (room_of which.Reserved t) place x at_n));
 }
 
 -- one growth of the reserved table beside the range, from where it lay
-grew-going : (kernel a : Extent) (t : List Item) (old : Option ℕ) (place : ℕ) → moved_to which.Reserved t ≡ old
+grew-going : (kernel a : RangeView) (t : List Item) (old : Option ℕ) (place : ℕ) → moved_to which.Reserved t ≡ old
     → IsNew t a (room_of which.Reserved t) place → Seated kernel t → Going kernel a t (grew t old place)
 grew-going kernel a t None place was new placed =
     let room = room_of which.Reserved t in
@@ -113,7 +113,7 @@ grew-going kernel a t (Some q) place was new placed =
     let before : live which.Reserved kernel t ≡ live_by which.Reserved kernel (Some q) room =
     live-is which.Reserved kernel t (Some q) room was refl in
     let seats : Seats (owner_of t) memory (live_by which.Reserved kernel (Some q) room) =
-    subst (λ (e : Extent). Seats (owner_of t) memory e) before placed.seats in
+    subst (λ (e : RangeView). Seats (owner_of t) memory e) before placed.seats in
     record {
       placed = placed-more kernel t more (uncovered (frames_at q (24 * room)) (claimed_place t place)) memory
           (live_by which.Reserved kernel (Some place) (2 * room)) placed
@@ -126,10 +126,10 @@ grew-going kernel a t (Some q) place was new placed =
           (claim-unclaimed (owner_of t) a (new_place t place) (for_table which.Reserved) new.clear free)));
     }
 
-going-on : (kernel a : Extent) (items t u : List Item) → Going kernel a items t → Going kernel a t u → Going kernel a items u
+going-on : (kernel a : RangeView) (items t u : List Item) → Going kernel a items t → Going kernel a t u → Going kernel a items u
 going-on kernel a items t u h k = record { placed = k.placed; aside = aside-on kernel a items t u h.aside k.aside }
 
-growth-at : (kernel a : Extent) (items t : List Item) (found : Option ℕ) → place_beside a (room_of which.Reserved t) t ≡ found
+growth-at : (kernel a : RangeView) (items t : List Item) (found : Option ℕ) → place_beside a (room_of which.Reserved t) t ≡ found
     → Going kernel a items t
     → EachCut (Going kernel a items) t (reserved_growth_at (room_of which.Reserved t) (moved_to which.Reserved t) found t).steps
 unfolding reserved_growth_at
@@ -141,36 +141,36 @@ growth-at kernel a items t (Some place) found going = (
 )
 
 -- throughout one growth
-pub reserved-cuts : (kernel a : Extent) (items t : List Item) → Going kernel a items t
+pub reserved-cuts : (kernel a : RangeView) (items t : List Item) → Going kernel a items t
     → EachCut (Going kernel a items) t (reserved_growth a t).steps
 unfolding reserved_growth
 reserved-cuts kernel a items t going = growth-at kernel a items t (place_beside a (room_of which.Reserved t) t) refl going
 
 -- and throughout the growths before a claim or a free
-pub room-cuts : (kernel a : Extent) (more : List Item → ℕ) (items : List Item) → Seated kernel items
+pub room-cuts : (kernel a : RangeView) (more : List Item → ℕ) (items : List Item) → Seated kernel items
     → EachCut (Going kernel a items) items (grown which.Reserved more (reserved_growth a) items).steps
 room-cuts kernel a more items placed =
     cuts-grown (Going kernel a items) which.Reserved more (reserved_growth a) items (λ t going. reserved-cuts kernel a items t going)
     (record { placed = placed; aside = aside-same kernel a items })
 
 -- the items as the growths leave them
-abbrev pub roomy : Extent → (List Item → ℕ) → List Item → List Item
+abbrev pub roomy : RangeView → (List Item → ℕ) → List Item → List Item
 roomy a more items = after items (grown which.Reserved more (reserved_growth a) items)
 
-pub room-going : (kernel a : Extent) (more : List Item → ℕ) (items : List Item) → Seated kernel items
+pub room-going : (kernel a : RangeView) (more : List Item → ℕ) (items : List Item) → Seated kernel items
     → Going kernel a items (roomy a more items)
 room-going kernel a more items placed =
     cuts-last (Going kernel a items) items (grown which.Reserved more (reserved_growth a) items).steps
     (room-cuts kernel a more items placed)
 
-room-placed : (kernel a : Extent) (more : List Item → ℕ) (items : List Item) → Seated kernel items
+room-placed : (kernel a : RangeView) (more : List Item → ℕ) (items : List Item) → Seated kernel items
     → EachCut (Seated kernel) items (grown which.Reserved more (reserved_growth a) items).steps
 room-placed kernel a more items placed =
     cuts-map (Going kernel a items) (Seated kernel) items (grown which.Reserved more (reserved_growth a) items).steps
     (λ t going. going.placed) (room-cuts kernel a more items placed)
 
 -- throughout a claim
-pub claimed-cuts : (kernel : Extent) (items : List Item) (r : Extent) (o : Owner) → MayTake kernel items r o → Seated kernel items
+pub claimed-cuts : (kernel : RangeView) (items : List Item) (r : RangeView) (o : Owner) → MayTake kernel items r o → Seated kernel items
     → EachCut (Seated kernel) items (claimed r o items).steps
 unfolding claimed
 claimed-cuts kernel items r o may placed =
@@ -181,7 +181,7 @@ claimed-cuts kernel items r o may placed =
     (λ _. (going.placed, claim-placed kernel (roomy r more items) r o (take-still kernel r o items _ going.aside may) going.placed))
 
 -- throughout a free
-pub freed-cuts : (kernel : Extent) (items : List Item) (r : Extent) → IsAway kernel r items → Seated kernel items
+pub freed-cuts : (kernel : RangeView) (items : List Item) (r : RangeView) → IsAway kernel r items → Seated kernel items
     → EachCut (Seated kernel) items (freed r items).steps
 unfolding freed
 freed-cuts kernel items r away placed =
@@ -191,7 +191,7 @@ freed-cuts kernel items r away placed =
     (λ _. (going.placed, free-placed kernel (roomy r two items) r (away-still kernel r items _ going.aside away) going.placed))
 
 -- a claim that wasn't refused wrote its item behind growths beside its range
-pub claimed-after : (items : List Item) (r : Extent) (o : Owner) → (claimed r o items).refused ≡ None
+pub claimed-after : (items : List Item) (r : RangeView) (o : Owner) → (claimed r o items).refused ≡ None
     → after items (claimed r o items) ≡ roomy r (new_in which.Reserved r) items ++ item.Claim r o ∷ []
 unfolding claimed
 claimed-after items r o unrefused =

@@ -2,7 +2,7 @@
 use Rattle.std.proofs.Common.{◌≡◌, ℕ, ◌*◌, Bool, List, [], ◌∷◌, ◌++◌, Option, Some, None, refl, ap, ◌∙◌, inl, inr}
 use Rattle.std.proofs.lemmas.Bool.{cases_Bool}
 use Rattle.std.proofs.lemmas.List.{append-nil}
-use Rattle.bm_base.specs.Extent.{Extent}
+use Rattle.bm_base.specs.Range.{RangeView}
 use Rattle.memblock_model.specs.declared.which.Which.{Which}
 use Rattle.memblock_model.specs.declared.which.Which.TheVariants as which
 use Rattle.memblock_model.specs.declared.owner.Owner.{Owner}
@@ -52,20 +52,20 @@ reserved_at-quiet room old None = record { each = λ items. tt }
 reserved_at-quiet room None (Some place) = record { each = λ items. (refl, tt) }
 reserved_at-quiet room (Some from) (Some place) = record { each = λ items. (refl, tt) }
 
-pub reserved_growth-quiet : (avoid : Extent) → IsQuiet (reserved_growth avoid)
+pub reserved_growth-quiet : (avoid : RangeView) → IsQuiet (reserved_growth avoid)
 unfolding reserved_growth
 reserved_growth-quiet avoid = record {
   each = λ items. (reserved_at-quiet (room_of which.Reserved items) (moved_to which.Reserved items)
       (place_beside avoid (room_of which.Reserved items) items)).each items;
 }
 
-pub claimed-quiet : (range : Extent) (who : Owner) → IsQuiet (claimed range who)
+pub claimed-quiet : (range : RangeView) (who : Owner) → IsQuiet (claimed range who)
 unfolding claimed
 claimed-quiet range who =
     quiet-then _ _ (quiet-grown which.Reserved (new_in which.Reserved range) _ (reserved_growth-quiet range))
     (written-quiet (item.Claim range who) refl)
 
-pub freed-quiet : (range : Extent) → IsQuiet (freed range)
+pub freed-quiet : (range : RangeView) → IsQuiet (freed range)
 unfolding freed
 freed-quiet range = quiet-then _ _ (quiet-grown which.Reserved two _ (reserved_growth-quiet range)) (written-quiet (item.Free range) refl)
 

@@ -5,7 +5,7 @@ use Rattle.std.specs.Option.{IsSome}
 use Rattle.std.proofs.lemmas.Bool.{cases_Bool}
 use Rattle.std.proofs.lemmas.Bool.Decides.{nat_tests}
 use Rattle.std.proofs.lemmas.List.{append-nil}
-use Rattle.bm_base.specs.Extent.{Extent, end_of}
+use Rattle.bm_base.specs.Range.{RangeView, end_of}
 use Rattle.address_runs.specs.Edits.{covered, uncovered, NothingFrom}
 use Rattle.address_runs.proofs.EditLaws.{nothing-covered, nothing-uncovered}
 use Rattle.memblock_model.specs.declared.which.Which.{Which}
@@ -91,12 +91,12 @@ module _ (w : Which) (more : List Item → ℕ) (growth : Change)
       ])
 
 -- the reserved table gets the record of its new place, and may be split where the old one is freed
-module _ (avoid : Extent) (t : List Item) (place : ℕ) (new : IsNew t avoid (room_of which.Reserved t) place)
+module _ (avoid : RangeView) (t : List Item) (place : ℕ) (new : IsNew t avoid (room_of which.Reserved t) place)
     (bounded : Bounded which.Reserved t) where
   abbrev table : Labels
   table = table_of which.Reserved t
 
-  abbrev claim : Extent
+  abbrev claim : RangeView
   claim = new_place t place
 
   claim-ends : end_of claim ≤ 2 ^ 64
@@ -121,7 +121,7 @@ module _ (avoid : Extent) (t : List Item) (place : ℕ) (new : IsNew t avoid (ro
   grew-table-is None =
       ap reserved_of (grew-owners-first t place) ∙ reserved_of-replaced claim (for_table which.Reserved) (owner_of t)
   grew-table-is (Some q) =
-      let left : Extent = frames_at q (24 * room_of which.Reserved t) in
+      let left : RangeView = frames_at q (24 * room_of which.Reserved t) in
       ap reserved_of (grew-owners-again t q place) ∙ reserved_of-uncovered left (claimed_place t place)
       ∙ ap (uncovered left) (reserved_of-replaced claim (for_table which.Reserved) (owner_of t))
 
@@ -150,7 +150,7 @@ module _ (avoid : Extent) (t : List Item) (place : ℕ) (new : IsNew t avoid (ro
     };
   }
 
-reserved-at : (avoid : Extent) (t : List Item) (found : Option ℕ) → place_beside avoid (room_of which.Reserved t) t ≡ found
+reserved-at : (avoid : RangeView) (t : List Item) (found : Option ℕ) → place_beside avoid (room_of which.Reserved t) t ≡ found
     → Bounded which.Reserved t
     → (reserved_growth_at (room_of which.Reserved t) (moved_to which.Reserved t) found t).refused ≡ None
     → Well which.Reserved t (after t (reserved_growth_at (room_of which.Reserved t) (moved_to which.Reserved t) found t))
@@ -161,7 +161,7 @@ reserved-at avoid t (Some place) is bounded unrefused =
     subst (λ (s : List Item). Well which.Reserved t (t ++ s)) (sym (append-nil (reserved_items (room_of which.Reserved t) old place)))
     (grew-well-by avoid t place (beside-new t avoid (room_of which.Reserved t) place is) bounded old)
 
-reserved-well : (avoid : Extent) (t : List Item) → Bounded which.Reserved t → (reserved_growth avoid t).refused ≡ None
+reserved-well : (avoid : RangeView) (t : List Item) → Bounded which.Reserved t → (reserved_growth avoid t).refused ≡ None
     → Well which.Reserved t (after t (reserved_growth avoid t))
 unfolding reserved_growth
 reserved-well avoid t bounded unrefused =
@@ -216,7 +216,7 @@ memory-well t bounded unrefused =
 bounded-of : (w : Which) (items : List Item) → IsInSpace items → Bounded w items
 bounded-of w items space = record { ends = space.ends w; limit = space.limit }
 
-pub reserved-doubles : (avoid : Extent) (items : List Item) → IsInSpace items → (reserved_growth avoid items).refused ≡ None
+pub reserved-doubles : (avoid : RangeView) (items : List Item) → IsInSpace items → (reserved_growth avoid items).refused ≡ None
     → HasDoubled which.Reserved items (after items (reserved_growth avoid items))
 reserved-doubles avoid items space unrefused =
     (reserved-well avoid items (bounded-of which.Reserved items space) unrefused).doubled
@@ -225,26 +225,26 @@ pub memory-doubles : (items : List Item) → IsInSpace items → (memory_growth 
     → HasDoubled which.Memory items (after items (memory_growth items))
 memory-doubles items space unrefused = (memory-well items (bounded-of which.Memory items space) unrefused).doubled
 
-few-new : (w : Which) (range : Extent) → end_of range ≤ 2 ^ 64 → (t : List Item) → Bounded w t → new_in w range t ≤ count w t + 2
+few-new : (w : Which) (range : RangeView) → end_of range ≤ 2 ^ 64 → (t : List Item) → Bounded w t → new_in w range t ≤ count w t + 2
 unfolding records_of
 few-new w range ends t bounded = let few = few-pieces range (table_of w t) ends bounded.ends in omega (arith, few)
 
 few-two : (w : Which) (t : List Item) → Bounded w t → two t ≤ count w t + 2
 few-two w t bounded = omega arith
 
-pub enough-claimed : (avoid range : Extent) (items : List Item) → IsInSpace items → Fits items → end_of range ≤ 2 ^ 64
+pub enough-claimed : (avoid range : RangeView) (items : List Item) → IsInSpace items → Fits items → end_of range ≤ 2 ^ 64
     → HasRoomBehind which.Reserved (new_in which.Reserved range) (reserved_growth avoid) items
 enough-claimed avoid range items space fits ends =
     room-behind which.Reserved (new_in which.Reserved range) (reserved_growth avoid) (reserved-well avoid)
     (few-new which.Reserved range ends) items (bounded-of which.Reserved items space) (fits which.Reserved)
 
-pub enough-freed : (avoid : Extent) (items : List Item) → IsInSpace items → Fits items
+pub enough-freed : (avoid : RangeView) (items : List Item) → IsInSpace items → Fits items
     → HasRoomBehind which.Reserved two (reserved_growth avoid) items
 enough-freed avoid items space fits =
     room-behind which.Reserved two (reserved_growth avoid) (reserved-well avoid) (few-two which.Reserved) items
     (bounded-of which.Reserved items space) (fits which.Reserved)
 
-pub enough-added : (range : Extent) (items : List Item) → IsInSpace items → Fits items → end_of range ≤ 2 ^ 64
+pub enough-added : (range : RangeView) (items : List Item) → IsInSpace items → Fits items → end_of range ≤ 2 ^ 64
     → HasRoomBehind which.Memory (new_in which.Memory range) memory_growth items
 enough-added range items space fits ends =
     room-behind which.Memory (new_in which.Memory range) memory_growth memory-well (few-new which.Memory range ends) items
@@ -256,7 +256,7 @@ enough-labelled items space fits =
     (fits which.Memory)
 
 -- behind one growth beside a range of which nobody has a byte, the table has room for it, since it is one piece
-room-for-free : (kernel range : Extent) (items : List Item) → IsInSpace items → Fits items → Seated kernel items → 0 < range.size
+room-for-free : (kernel range : RangeView) (items : List Item) → IsInSpace items → Fits items → Seated kernel items → 0 < range.size
     → end_of range ≤ 2 ^ 64 → Unclaimed (owner_of items) range → (reserved_growth range items).refused ≡ None
     → is_full which.Reserved (new_in which.Reserved range) (after items (reserved_growth range items)) ≡ false
 unfolding records_of
@@ -272,14 +272,14 @@ room-for-free kernel range items space fits placed some ends free unrefused =
     omega (arith, one, room, few, least, fit) in
     grind (arith, nat_tests, all)
 
-found-unrefused : (range : Extent) (items : List Item) (found : Option ℕ) → place_beside range (room_of which.Reserved items) items ≡ found
+found-unrefused : (range : RangeView) (items : List Item) (found : Option ℕ) → place_beside range (room_of which.Reserved items) items ≡ found
     → IsSome found → (reserved_growth range items).refused ≡ None
 unfolding reserved_growth reserved_growth_at
 found-unrefused range items None is some = cc
 found-unrefused range items (Some place) is some = rw is refl
 
 -- so it is claimed, unless the table is full for it and finds no place
-pub free-claimed : (kernel range : Extent) (who : Owner) (items : List Item) → IsInSpace items → Fits items → Seated kernel items
+pub free-claimed : (kernel range : RangeView) (who : Owner) (items : List Item) → IsInSpace items → Fits items → Seated kernel items
     → 0 < range.size → end_of range ≤ 2 ^ 64 → Unclaimed (owner_of items) range
     → (is_full which.Reserved (new_in which.Reserved range) items ≡ false)
     ⊎ IsSome (place_beside range (room_of which.Reserved items) items)

@@ -2,7 +2,7 @@
 use Rattle.std.proofs.Common.{◌≡◌, ℕ, ◌+◌, ◌*◌, ◌/◌, ◌%◌, ◌<◌, ◌≤◌, Bool, true, false, if◌then◌else◌, Option, Some, None, sym, ◌∙◌, ap, arith}
 use Rattle.std.proofs.lemmas.Bool.{true≢false, false_from_ne_true}
 use Rattle.std.proofs.lemmas.Bool.Decides.{nat_tests}
-use Rattle.bm_base.specs.Extent.{Extent, covers}
+use Rattle.bm_base.specs.Range.{RangeView, covers}
 use Rattle.address_runs.specs.Edits.{uncovered, replaced}
 use Rattle.memblock_model.specs.declared.owner.Owner.{Owner}
 use Rattle.memblock_model.specs.Items.{Owners}
@@ -10,50 +10,50 @@ use Rattle.growth_model.specs.Growth.{frames_at}
 use Rattle.growth_model.specs.Sound.{keeps, Seat, ShareNoFrame, Clear, Unclaimed, Seats}
 
 -- the frames of a range that begins with one
-abbrev pub frames : Extent → Extent
+abbrev pub frames : RangeView → RangeView
 frames a = frames_at a.base a.size
 
-pub covers-from : (a : Extent) (x : ℕ) → covers a x ≡ true → (a.base ≤ x) × (x < a.base + a.size)
+pub covers-from : (a : RangeView) (x : ℕ) → covers a x ≡ true → (a.base ≤ x) × (x < a.base + a.size)
 covers-from a x h = grind (arith, nat_tests, h)
 
-pub covers-to : (a : Extent) (x : ℕ) → a.base ≤ x → x < a.base + a.size → covers a x ≡ true
+pub covers-to : (a : RangeView) (x : ℕ) → a.base ≤ x → x < a.base + a.size → covers a x ≡ true
 covers-to a x le lt = grind (arith, nat_tests)
 
 -- the first byte of a frame of theirs is a byte of the range
-frame-first : (a : Extent) (x : ℕ) → a.base % 4096 ≡ 0 → covers (frames a) x ≡ true → covers a (4096 * (x / 4096)) ≡ true
+frame-first : (a : RangeView) (x : ℕ) → a.base % 4096 ≡ 0 → covers (frames a) x ≡ true → covers a (4096 * (x / 4096)) ≡ true
 frame-first a x aligned h = grind (arith, nat_tests, aligned, h)
 
 -- with a byte they have its whole frame
-frame-whole : (a : Extent) (x y : ℕ) → a.base % 4096 ≡ 0 → covers (frames a) x ≡ true → y / 4096 ≡ x / 4096 → covers (frames a) y ≡ true
+frame-whole : (a : RangeView) (x y : ℕ) → a.base % 4096 ≡ 0 → covers (frames a) x ≡ true → y / 4096 ≡ x / 4096 → covers (frames a) y ≡ true
 frame-whole a x y aligned h same = grind (arith, nat_tests, aligned, h, same)
 
 -- they have the range
-pub frames-more : (a : Extent) (x : ℕ) → covers a x ≡ true → covers (frames a) x ≡ true
+pub frames-more : (a : RangeView) (x : ℕ) → covers a x ≡ true → covers (frames a) x ≡ true
 frames-more a x h = grind (arith, nat_tests, h)
 
 first-frame : (x : ℕ) → 4096 * (x / 4096) / 4096 ≡ x / 4096
 first-frame x = omega arith
 
-pub Apart-swap : (a b : Extent) → ShareNoFrame a b → ShareNoFrame b a
+pub Apart-swap : (a b : RangeView) → ShareNoFrame a b → ShareNoFrame b a
 Apart-swap a b apart x y at_x at_y same = apart y x at_y at_x (sym same)
 
 -- the frames of a place miss the other place
-pub apart-clear : (a b : Extent) → a.base % 4096 ≡ 0 → ShareNoFrame a b → Clear (frames a) b
+pub apart-clear : (a b : RangeView) → a.base % 4096 ≡ 0 → ShareNoFrame a b → Clear (frames a) b
 apart-clear a b aligned apart x at_a at_b = apart (4096 * (x / 4096)) x (frame-first a x aligned at_a) at_b (first-frame x)
 
 -- a byte without an owner lies in no place of a table
 unkept : (own : Owners) (x : ℕ) → own x ≡ None → keeps (own x) ≡ true → ⊥
 unkept own x none kept = true≢false (sym kept ∙ ap keeps none)
 
-pub unclaimed-clear : (own : Owners) (a b : Extent) → Unclaimed own a → Seat own b → Clear a b
+pub unclaimed-clear : (own : Owners) (a b : RangeView) → Unclaimed own a → Seat own b → Clear a b
 unclaimed-clear own a b free seat x at_a at_b = unkept own x (free x at_a) (seat.kept x at_b)
 
 -- a new place among bytes without an owner has no frame in common with an old one, and neither have their frames
-pub new-apart : (own : Owners) (n b : Extent) → n.base % 4096 ≡ 0 → Unclaimed own (frames n) → Seat own b → ShareNoFrame n b
+pub new-apart : (own : Owners) (n b : RangeView) → n.base % 4096 ≡ 0 → Unclaimed own (frames n) → Seat own b → ShareNoFrame n b
 new-apart own n b aligned free seat x y at_n at_b same =
     unkept own y (free y (frame-whole n x y aligned (frames-more n x at_n) (sym same))) (seat.kept y at_b)
 
-pub old-clear : (own : Owners) (a n : Extent) → n.base % 4096 ≡ 0 → Unclaimed own (frames n) → Seat own a → Clear (frames a) (frames n)
+pub old-clear : (own : Owners) (a n : RangeView) → n.base % 4096 ≡ 0 → Unclaimed own (frames n) → Seat own a → Clear (frames a) (frames n)
 old-clear own a n aligned free seat x at_a at_n =
     unkept own (4096 * (x / 4096))
     (free (4096 * (x / 4096)) (frame-whole n x (4096 * (x / 4096)) aligned at_n (first-frame x)))
@@ -65,51 +65,51 @@ kept-claim : (b : Bool) (o : Owner) (old : Option Owner) → keeps (Some o) ≡ 
 kept-claim true o old new was = new
 kept-claim false o old new was = was
 
-pub Seat-claim : (own : Owners) (a r : Extent) (o : Owner) → keeps (Some o) ≡ true → Seat own a → Seat (replaced r o own) a
+pub Seat-claim : (own : Owners) (a r : RangeView) (o : Owner) → keeps (Some o) ≡ true → Seat own a → Seat (replaced r o own) a
 Seat-claim own a r o new seat = record {
   aligned = seat.aligned;
   kept = λ x at. kept-claim (covers r x) o (own x) new (seat.kept x at);
 }
 
 -- a claim by anyone, and a free, of other bytes
-pub Seat-clear : (own : Owners) (a r : Extent) (o : Owner) → Clear r a → Seat own a → Seat (replaced r o own) a
+pub Seat-clear : (own : Owners) (a r : RangeView) (o : Owner) → Clear r a → Seat own a → Seat (replaced r o own) a
 Seat-clear own a r o clear seat = record {
   aligned = seat.aligned;
   kept = λ x at. rw (false_from_ne_true (covers r x) (λ in_r. clear x in_r at)) (seat.kept x at);
 }
 
-pub Seat-free : (own : Owners) (a r : Extent) → Clear r a → Seat own a → Seat (uncovered r own) a
+pub Seat-free : (own : Owners) (a r : RangeView) → Clear r a → Seat own a → Seat (uncovered r own) a
 Seat-free own a r clear seat = record {
   aligned = seat.aligned;
   kept = λ x at. rw (false_from_ne_true (covers r x) (λ in_r. clear x in_r at)) (seat.kept x at);
 }
 
 -- a claim makes a place
-pub Seat-new : (own : Owners) (n r : Extent) (o : Owner) → n.base % 4096 ≡ 0 → keeps (Some o) ≡ true
+pub Seat-new : (own : Owners) (n r : RangeView) (o : Owner) → n.base % 4096 ≡ 0 → keeps (Some o) ≡ true
     → ((x : ℕ) → covers n x ≡ true → covers r x ≡ true) → Seat (replaced r o own) n
 Seat-new own n r o aligned new inside = record {
   aligned = aligned;
   kept = λ x at. let here : covers r x ≡ true = inside x at in rw here new;
 }
 
-pub Seats-swap : (own : Owners) (m r : Extent) → Seats own m r → Seats own r m
+pub Seats-swap : (own : Owners) (m r : RangeView) → Seats own m r → Seats own r m
 Seats-swap own m r both = record { first = both.second; second = both.first; apart = Apart-swap m r both.apart }
 
-pub Seats-claim : (own : Owners) (m r a : Extent) (o : Owner) → keeps (Some o) ≡ true → Seats own m r → Seats (replaced a o own) m r
+pub Seats-claim : (own : Owners) (m r a : RangeView) (o : Owner) → keeps (Some o) ≡ true → Seats own m r → Seats (replaced a o own) m r
 Seats-claim own m r a o new both = record {
   first = Seat-claim own m a o new both.first;
   second = Seat-claim own r a o new both.second;
   apart = both.apart;
 }
 
-pub Seats-clear : (own : Owners) (m r a : Extent) (o : Owner) → Clear a m → Clear a r → Seats own m r → Seats (replaced a o own) m r
+pub Seats-clear : (own : Owners) (m r a : RangeView) (o : Owner) → Clear a m → Clear a r → Seats own m r → Seats (replaced a o own) m r
 Seats-clear own m r a o first second both = record {
   first = Seat-clear own m a o first both.first;
   second = Seat-clear own r a o second both.second;
   apart = both.apart;
 }
 
-pub Seats-free : (own : Owners) (m r a : Extent) → Clear a m → Clear a r → Seats own m r → Seats (uncovered a own) m r
+pub Seats-free : (own : Owners) (m r a : RangeView) → Clear a m → Clear a r → Seats own m r → Seats (uncovered a own) m r
 Seats-free own m r a first second both = record {
   first = Seat-free own m a first both.first;
   second = Seat-free own r a second both.second;
@@ -117,7 +117,7 @@ Seats-free own m r a first second both = record {
 }
 
 -- the second table moves to a new place, whose frames are claimed
-pub Seats-move : (own : Owners) (m r n : Extent) (o : Owner) → keeps (Some o) ≡ true → n.base % 4096 ≡ 0 → Unclaimed own (frames n)
+pub Seats-move : (own : Owners) (m r n : RangeView) (o : Owner) → keeps (Some o) ≡ true → n.base % 4096 ≡ 0 → Unclaimed own (frames n)
     → Seats own m r → Seats (replaced (frames n) o own) m n
 Seats-move own m r n o new aligned free both = record {
   first = Seat-claim own m (frames n) o new both.first;
@@ -126,7 +126,7 @@ Seats-move own m r n o new aligned free both = record {
 }
 
 -- and the frames that it left are freed
-pub Seats-leave : (own : Owners) (m r n : Extent) (o : Owner) → keeps (Some o) ≡ true → n.base % 4096 ≡ 0 → Unclaimed own (frames n)
+pub Seats-leave : (own : Owners) (m r n : RangeView) (o : Owner) → keeps (Some o) ≡ true → n.base % 4096 ≡ 0 → Unclaimed own (frames n)
     → Seats own m r → Seats (uncovered (frames r) (replaced (frames n) o own)) m n
 Seats-leave own m r n o new aligned free both =
     Seats-free (replaced (frames n) o own) m n (frames r)

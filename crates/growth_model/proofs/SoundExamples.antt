@@ -5,7 +5,7 @@ use Rattle.memblock_model.specs.declared.which.Which.TheVariants as which
 use Rattle.memblock_model.specs.declared.owner.Owner.TheVariants as owner
 use Rattle.memblock_model.specs.declared.item.Item.{Item}
 use Rattle.memblock_model.specs.declared.item.Item.TheVariants as item
-use Rattle.bm_base.specs.Extent.{covers}
+use Rattle.bm_base.specs.Range.{covers}
 use Rattle.memblock_model.specs.Items.{Owners, owner_of}
 use Rattle.memblock_model.specs.Labels.{plain_label}
 use Rattle.memblock_model.specs.Tables.{table_of, records_of}

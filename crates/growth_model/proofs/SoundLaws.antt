@@ -1,7 +1,7 @@
 -- However a call of memblock ends, both tables lie in good places from the first claim on.
 use Rattle.std.proofs.Common.{◌≡◌, ℕ, ◌^◌, ◌≤◌, Option, Some, None, List, [], ◌∷◌, ◌++◌, take, Bool, true, false, Result, Ok, Err, refl, sym, ◌∙◌, subst, inl, inr}
 use Rattle.std.proofs.lemmas.Bool.{cases_Bool, true≢false}
-use Rattle.bm_base.specs.Extent.{Extent, end_of}
+use Rattle.bm_base.specs.Range.{RangeView, end_of}
 use Rattle.memblock_model.specs.declared.which.Which.TheVariants as which
 use Rattle.memblock_model.specs.declared.owner.Owner.{Owner}
 use Rattle.memblock_model.specs.declared.item.Item.{Item}
@@ -21,15 +21,15 @@ use Rattle.growth_model.proofs.PlacedMemoryLaws.{memory-cuts, added-cuts, noded-
 use Rattle.growth_model.proofs.FirstLaws.{first-full, first-claimed, first-placed}
 
 -- from the first claim on
-abbrev pub Stands : Extent → List Item → Type 0
+abbrev pub Stands : RangeView → List Item → Type 0
 Stands kernel items = HasBegun items → Seated kernel items
 
 -- a change that keeps the places throughout, with something claimed already
-stands-by : {T : Type 0} (kernel : Extent) (r : Result T Refusal) (old new : List Item) (o : Outcome)
+stands-by : {T : Type 0} (kernel : RangeView) (r : Result T Refusal) (old new : List Item) (o : Outcome)
     → (Seated kernel old → EachCut (Seated kernel) old o.steps) → Stands kernel old → HasBegun old → EndsBy r old new o → Stands kernel new
 stands-by kernel r old new o keeps stands begun ends = λ _. cuts-ends (Seated kernel) r old new o (keeps (stands begun)) ends
 
-claim-cuts : (kernel : Extent) (items : List Item) (r : Extent) (o : Owner) → IsImage kernel → end_of r ≤ 2 ^ 64
+claim-cuts : (kernel : RangeView) (items : List Item) (r : RangeView) (o : Owner) → IsImage kernel → end_of r ≤ 2 ^ 64
     → Stands kernel items → MayClaim kernel items r o → EachCut (Stands kernel) items (claimed r o items).steps
 claim-cuts kernel [] r o image small stands may =
     let first : Seated kernel (item.Claim r o ∷ []) = rw (may.0, may.1) (first-placed kernel image) in
@@ -39,56 +39,56 @@ claim-cuts kernel (i ∷ is) r o image small stands may =
     (claimed-cuts kernel (i ∷ is) r o may (stands tt))
 
 -- the calls, one by one
-pub claim-stands : {T : Type 0} (kernel : Extent) (r : Result T Refusal) (old new : List Item) (range : Extent) (who : Owner)
+pub claim-stands : {T : Type 0} (kernel : RangeView) (r : Result T Refusal) (old new : List Item) (range : RangeView) (who : Owner)
     → IsImage kernel → end_of range ≤ 2 ^ 64 → Stands kernel old → MayClaim kernel old range who → Ends r old new (claimed range who)
     → Stands kernel new
 claim-stands kernel r old new range who image small stands may ends =
     cuts-ends (Stands kernel) r old new (claimed range who old) (claim-cuts kernel old range who image small stands may) ends
 
-pub free-stands : {T : Type 0} (kernel : Extent) (r : Result T Refusal) (old new : List Item) (range : Extent)
+pub free-stands : {T : Type 0} (kernel : RangeView) (r : Result T Refusal) (old new : List Item) (range : RangeView)
     → Stands kernel old → HasBegun old → IsAway kernel range old → Ends r old new (freed range) → Stands kernel new
 free-stands kernel r old new range stands begun away ends =
     stands-by kernel r old new (freed range old) (freed-cuts kernel old range away) stands begun ends
 
-pub add-stands : {T : Type 0} (kernel : Extent) (r : Result T Refusal) (old new : List Item) (range : Extent)
+pub add-stands : {T : Type 0} (kernel : RangeView) (r : Result T Refusal) (old new : List Item) (range : RangeView)
     → Stands kernel old → HasBegun old → Ends r old new (added range) → Stands kernel new
 add-stands kernel r old new range stands begun ends =
     stands-by kernel r old new (added range old) (added-cuts kernel old range) stands begun ends
 
-pub node-stands : {T : Type 0} (kernel : Extent) (r : Result T Refusal) (old new : List Item) (range : Extent) (node : ℕ)
+pub node-stands : {T : Type 0} (kernel : RangeView) (r : Result T Refusal) (old new : List Item) (range : RangeView) (node : ℕ)
     → Stands kernel old → HasBegun old → Ends r old new (noded range node) → Stands kernel new
 node-stands kernel r old new range node stands begun ends =
     stands-by kernel r old new (noded range node old) (noded-cuts kernel old range node) stands begun ends
 
-pub mirror-stands : {T : Type 0} (kernel : Extent) (r : Result T Refusal) (old new : List Item) (range : Extent)
+pub mirror-stands : {T : Type 0} (kernel : RangeView) (r : Result T Refusal) (old new : List Item) (range : RangeView)
     → Stands kernel old → HasBegun old → Ends r old new (mirrored range) → Stands kernel new
 mirror-stands kernel r old new range stands begun ends =
     stands-by kernel r old new (mirrored range old) (mirrored-cuts kernel old range) stands begun ends
 
 -- an allocation, whoever it is for
-pub alloc-placed : (kernel : Extent) (r : Result ℕ Refusal) (old new : List Item) (q : Request) (who : Owner)
+pub alloc-placed : (kernel : RangeView) (r : Result ℕ Refusal) (old new : List Item) (q : Request) (who : Owner)
     → Seated kernel old → (found : Option ℕ) → place_for q old ≡ found → Allocates r old new found q.size who → Seated kernel new
 alloc-placed kernel r old new q who placed None is ends = subst (Seated kernel) (sym ends.1) placed
 alloc-placed kernel r old new q who placed (Some place) is ends =
     cuts-ends (Seated kernel) r old new (claimed (record { base = place; size = q.size }) who old)
     (allocated-cuts kernel old q place who is placed) ends.1
 
-pub alloc-stands : (kernel : Extent) (r : Result ℕ Refusal) (old new : List Item) (q : Request) (who : Owner)
+pub alloc-stands : (kernel : RangeView) (r : Result ℕ Refusal) (old new : List Item) (q : Request) (who : Owner)
     → Stands kernel old → HasBegun old → (found : Option ℕ) → place_for q old ≡ found → Allocates r old new found q.size who
     → Stands kernel new
 alloc-stands kernel r old new q who stands begun found is ends =
     λ _. alloc-placed kernel r old new q who (stands begun) found is ends
 
 -- items that are written alone
-pub trim-stands : (kernel : Extent) (old new : List Item) → Stands kernel old → HasBegun old → new ≡ old ++ item.Trim ∷ []
+pub trim-stands : (kernel : RangeView) (old new : List Item) → Stands kernel old → HasBegun old → new ≡ old ++ item.Trim ∷ []
     → Stands kernel new
 trim-stands kernel old new stands begun is = λ _. subst (Seated kernel) (sym is) (trim-placed kernel old (stands begun))
 
-pub limit-stands : (kernel : Extent) (old new : List Item) (at : ℕ) → Stands kernel old → HasBegun old
+pub limit-stands : (kernel : RangeView) (old new : List Item) (at : ℕ) → Stands kernel old → HasBegun old
     → new ≡ old ++ item.Limit at ∷ [] → Stands kernel new
 limit-stands kernel old new at stands begun is = λ _. subst (Seated kernel) (sym is) (limit-placed kernel old at (stands begun))
 
-pub upward-stands : (kernel : Extent) (old new : List Item) (on : Bool) → Stands kernel old → HasBegun old
+pub upward-stands : (kernel : RangeView) (old new : List Item) (on : Bool) → Stands kernel old → HasBegun old
     → new ≡ old ++ item.Upward on ∷ [] → Stands kernel new
 upward-stands kernel old new on stands begun is = λ _. subst (Seated kernel) (sym is) (upward-placed kernel old on (stands begun))
 
@@ -111,44 +111,44 @@ ends-begun r old new change begun ends =
     let more = ends-more r old new (change old) ends in subst HasBegun (sym more.1) (more-begun old more.0 begun)
 
 -- what may be claimed once something was
-pub may-keep : (kernel : Extent) (items : List Item) (range : Extent) (who : Owner) → HasBegun items → keeps (Some who) ≡ true
+pub may-keep : (kernel : RangeView) (items : List Item) (range : RangeView) (who : Owner) → HasBegun items → keeps (Some who) ≡ true
     → MayClaim kernel items range who
 may-keep kernel [] range who begun kept = absurd begun
 may-keep kernel (i ∷ is) range who begun kept = inl kept
 
-pub may-away : (kernel : Extent) (items : List Item) (range : Extent) (who : Owner) → HasBegun items → IsAway kernel range items
+pub may-away : (kernel : RangeView) (items : List Item) (range : RangeView) (who : Owner) → HasBegun items → IsAway kernel range items
     → MayClaim kernel items range who
 may-away kernel [] range who begun away = absurd begun
 may-away kernel (i ∷ is) range who begun away = inr away
 
 -- a table is full only once something was claimed
-pub full-begun : (items : List Item) (range : Extent) → end_of range ≤ 2 ^ 64
+pub full-begun : (items : List Item) (range : RangeView) → end_of range ≤ 2 ^ 64
     → is_full which.Reserved (new_in which.Reserved range) items ≡ true → HasBegun items
 full-begun [] range small full = absurd (true≢false (sym full ∙ first-full range small))
 full-begun (i ∷ is) range small full = tt
 
 -- growths where they are due
-pub once-cuts : (kernel range : Extent) (more : List Item → ℕ) (items : List Item) → Seated kernel items
+pub once-cuts : (kernel range : RangeView) (more : List Item → ℕ) (items : List Item) → Seated kernel items
     → EachCut (Going kernel range items) items (if_due (is_full which.Reserved more) (reserved_growth range) items).steps
 once-cuts kernel range more items placed =
     let here : Going kernel range items items = record { placed = placed; aside = aside-same kernel range items } in
     cuts-due (Going kernel range items) items (is_full which.Reserved more) (reserved_growth range) here
     (reserved-cuts kernel range items items here)
 
-pub once-going : {T : Type 0} (kernel range : Extent) (r : Result T Refusal) (old new : List Item) (more : List Item → ℕ)
+pub once-going : {T : Type 0} (kernel range : RangeView) (r : Result T Refusal) (old new : List Item) (more : List Item → ℕ)
     → Seated kernel old → Ends r old new (if_due (is_full which.Reserved more) (reserved_growth range)) → Going kernel range old new
 once-going kernel range r old new more placed ends =
     cuts-ends (Going kernel range old) r old new (if_due (is_full which.Reserved more) (reserved_growth range) old)
     (once-cuts kernel range more old placed) ends
 
 -- from nothing nothing grows
-idle-stands : {T : Type 0} (kernel : Extent) (r : Result T Refusal) (items new : List Item) (due : List Item → Bool) (change : Change)
+idle-stands : {T : Type 0} (kernel : RangeView) (r : Result T Refusal) (items new : List Item) (due : List Item → Bool) (change : Change)
     → Stands kernel items → due items ≡ false → Ends r items new (if_due due change) → Stands kernel new
 idle-stands kernel r items new due change stands idle ends =
     let none : if_due due change items ≡ nothing items = rw idle refl in
     cuts-ends (Stands kernel) r items new (nothing items) stands (subst (λ (o : Outcome). EndsBy r items new o) none ends)
 
-pub once-stands : {T : Type 0} (kernel range : Extent) (r : Result T Refusal) (old new : List Item) (more : List Item → ℕ)
+pub once-stands : {T : Type 0} (kernel range : RangeView) (r : Result T Refusal) (old new : List Item) (more : List Item → ℕ)
     → (is_full which.Reserved more old ≡ true → HasBegun old) → Stands kernel old
     → Ends r old new (if_due (is_full which.Reserved more) (reserved_growth range)) → Stands kernel new
 once-stands kernel range r old new more begins stands ends =
@@ -157,7 +157,7 @@ once-stands kernel range r old new more begins stands ends =
       | inr idle ↦ idle-stands kernel r old new (is_full which.Reserved more) (reserved_growth range) stands idle ends
     ]
 
-pub memory_once-stands : {T : Type 0} (kernel : Extent) (r : Result T Refusal) (old new : List Item) (due : List Item → Bool)
+pub memory_once-stands : {T : Type 0} (kernel : RangeView) (r : Result T Refusal) (old new : List Item) (due : List Item → Bool)
     → Stands kernel old → HasBegun old → Ends r old new (if_due due memory_growth) → Stands kernel new
 memory_once-stands kernel r old new due stands begun ends =
     stands-by kernel r old new (if_due due memory_growth old)

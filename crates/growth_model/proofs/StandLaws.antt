@@ -3,7 +3,7 @@ use Rattle.std.proofs.Common.{◌≡◌, ℕ, zero, suc, ◌+◌, ◌-◌, ◌*�
 use Rattle.std.proofs.lemmas.Bool.{false_from_ne_true}
 use Rattle.std.proofs.lemmas.Bool.Decides.{nat_tests}
 use Rattle.std.proofs.lemmas.List.{length-replicate}
-use Rattle.bm_base.specs.Extent.{Extent, covers}
+use Rattle.bm_base.specs.Range.{RangeView, covers}
 use Rattle.phys_store.specs.Bytes.{bytes_at}
 use Rattle.phys_store.proofs.ByteLists.{told_bytes}
 use Rattle.address_runs.specs.Runs.{RunOf}
@@ -19,12 +19,12 @@ use Rattle.growth_model.proofs.ToldLaws.{listed-told, chosen}
 use Rattle.growth_model.specs.Bytes.{table_for, spelled_at, AreSpelled}
 
 -- no byte lies in both tables
-pub live-clear : (kernel : Extent) (items : List Item) → Seated kernel items →
+pub live-clear : (kernel : RangeView) (items : List Item) → Seated kernel items →
     Clear (live which.Memory kernel items) (live which.Reserved kernel items)
 live-clear kernel items placed = λ x here too. placed.seats.apart x x here too refl
 
 -- the byte at an address of a table's place is that of the spelling
-pub journal-stands : (w : Which) (kernel : Extent) (items : List Item) (f : ℕ → ℕ) (x : ℕ) → Seated kernel items →
+pub journal-stands : (w : Which) (kernel : RangeView) (items : List Item) (f : ℕ → ℕ) (x : ℕ) → Seated kernel items →
     AreSpelled (table_for which.Memory kernel items) (table_for which.Reserved kernel items) f → covers (live w kernel items) x ≡ true →
     f x ≡ spelled_at (table_for w kernel items) x
 journal-stands which.Memory kernel items f x placed spelled here = spelled x ∙ rw here refl
@@ -34,7 +34,7 @@ journal-stands which.Reserved kernel items f x placed spelled here =
     spelled x ∙ rw (beside, here) refl
 
 -- and the other way round: where the bytes at both places are those of the spellings, the tables lie in their bytes
-pub spelled-from : (kernel : Extent) (items : List Item) (f : ℕ → ℕ) →
+pub spelled-from : (kernel : RangeView) (items : List Item) (f : ℕ → ℕ) →
     ((w : Which) (x : ℕ) → covers (live w kernel items) x ≡ true → f x ≡ spelled_at (table_for w kernel items) x) →
     AreSpelled (table_for which.Memory kernel items) (table_for which.Reserved kernel items) f
 spelled-from kernel items f each = λ x.
@@ -43,7 +43,7 @@ spelled-from kernel items f each = λ x.
     (each which.Memory x) (each which.Reserved x) (λ out too. refl)
 
 -- as lists too
-pub spelled-lists : (kernel : Extent) (items : List Item) (f : ℕ → ℕ) →
+pub spelled-lists : (kernel : RangeView) (items : List Item) (f : ℕ → ℕ) →
     ((w : Which) → bytes_at f (place_of w kernel items) (24 * room_of w items) ≡ spelled_table (records_of w items) (room_of w items)) →
     AreSpelled (table_for which.Memory kernel items) (table_for which.Reserved kernel items) f
 spelled-lists kernel items f lists =
@@ -61,7 +61,7 @@ length-spelled_table (r ∷ rs) (suc n) few =
     ap (λ (k : ℕ). length (spelling_of r ++ spelled_table rs k)) left ∙ length-append (spelling_of r) (spelled_table rs n)
     ∙ omega (arith, first, rest)
 
-spelled_here : (w : Which) (kernel : Extent) (items : List Item) (f : ℕ → ℕ) (k : ℕ) → Seated kernel items →
+spelled_here : (w : Which) (kernel : RangeView) (items : List Item) (f : ℕ → ℕ) (k : ℕ) → Seated kernel items →
     AreSpelled (table_for which.Memory kernel items) (table_for which.Reserved kernel items) f → k < 24 * room_of w items →
     get_or (spelled_table (records_of w items) (room_of w items)) k 0 ≡ f (place_of w kernel items + k)
 spelled_here w kernel items f k placed spelled below =
@@ -71,7 +71,7 @@ spelled_here w kernel items f k placed spelled below =
     ∙ ap (λ (i : ℕ). get_or (spelled_table (records_of w items) (room_of w items)) i 0) back)
 
 -- the same as one list: the bytes at the place of a table are the spelling of its records
-pub list-stands : (w : Which) (kernel : Extent) (items : List Item) (f : ℕ → ℕ) → Seated kernel items → Fits items →
+pub list-stands : (w : Which) (kernel : RangeView) (items : List Item) (f : ℕ → ℕ) → Seated kernel items → Fits items →
     AreSpelled (table_for which.Memory kernel items) (table_for which.Reserved kernel items) f →
     bytes_at f (place_of w kernel items) (24 * room_of w items) ≡ spelled_table (records_of w items) (room_of w items)
 list-stands w kernel items f placed fits spelled =

@@ -1,7 +1,7 @@
 -- The byte at each address: both tables lie in the memory that they describe, what a table leaves becomes 0, a fill writes its byte, and
 -- nothing else is written. And what stands at an address after further items, whatever stood there before.
 use Rattle.std.specs.Prelude.{◌≡◌, ℕ, ◌+◌, ◌-◌, ◌≤◌, ◌==◌, Bool, false, ◌&&◌, ◌||◌, if◌then◌else◌, List, [], ◌∷◌, ◌++◌, drop, length, get_or}
-use Rattle.bm_base.specs.Extent.{Extent, covers}
+use Rattle.bm_base.specs.Range.{RangeView, covers}
 use Rattle.memblock_model.specs.declared.which.Which.{Which}
 use Rattle.memblock_model.specs.declared.which.Which.TheVariants as which
 use Rattle.memblock_model.specs.declared.item.Item.{Item}
@@ -11,7 +11,7 @@ use Rattle.memblock_ranges.specs.Spelling.{spelled_table}
 use Rattle.memblock_ranges.specs.Tables.{Table, bytes_of}
 
 -- the table that the items stand for
-abbrev pub table_for : Which → Extent → List Item → Table
+abbrev pub table_for : Which → RangeView → List Item → Table
 table_for w kernel items = record { records = records_of w items; place = place_of w kernel items; room = room_of w items }
 
 -- the byte at an address inside a table: of its records, and behind them 0
@@ -32,16 +32,16 @@ abbrev pub left_by : Table → ℕ → ℕ → ℕ
 left_by t x b = if covers (bytes_of t) x then 0 else b
 
 -- the byte at an address, of the tables that the items stand for
-abbrev pub shown : Extent → List Item → ℕ → ℕ → ℕ
+abbrev pub shown : RangeView → List Item → ℕ → ℕ → ℕ
 shown kernel items x b = shown_by (table_for which.Memory kernel items) (table_for which.Reserved kernel items) x b
 
 -- whether the item, behind these items, moves a table away from the address
-abbrev pub leaves : Extent → List Item → Item → ℕ → Bool
+abbrev pub leaves : RangeView → List Item → Item → ℕ → Bool
 leaves kernel items (item.Grown w place room) x = covers (live w kernel items) x
 leaves kernel items i x = false
 
 -- whether one of the further items does
-abbrev pub is_left : Extent → List Item → List Item → ℕ → Bool
+abbrev pub is_left : RangeView → List Item → List Item → ℕ → Bool
 is_left kernel items [] x = false
 is_left kernel items (i ∷ is) x = leaves kernel items i x || is_left kernel (items ++ i ∷ []) is x
 
@@ -51,12 +51,12 @@ beyond items longer = drop (length items) longer
 
 -- what stands at the address when the items have become these, where the byte stood before: the byte of a table, else 0 where a table
 -- went away, else that byte
-unfoldable pub byte_after : Extent → List Item → List Item → ℕ → ℕ → ℕ
+unfoldable pub byte_after : RangeView → List Item → List Item → ℕ → ℕ → ℕ
 byte_after kernel items longer x b = shown kernel longer x (if is_left kernel items (beyond items longer) x then 0 else b)
 
 -- a fill: its range, its byte, and how many items there were when it was made
 pub record Filled : Type 0 where
-  pub range : Extent
+  pub range : RangeView
   pub byte : ℕ
   pub at : ℕ
 
@@ -70,13 +70,13 @@ filled n [] x b = b
 filled n (f ∷ fs) x b = filled n fs x (if (f.at == n) && covers f.range x then f.byte else b)
 
 -- what the further items, each with the fills made next, make of a byte outside the tables
-abbrev pub written : Extent → List Filled → List Item → List Item → ℕ → ℕ → ℕ
+abbrev pub written : RangeView → List Filled → List Item → List Item → ℕ → ℕ → ℕ
 written kernel fills items [] x b = b
 written kernel fills items (i ∷ is) x b =
     written kernel fills (items ++ i ∷ []) is x (filled (length items + 1) fills x (if leaves kernel items i x then 0 else b))
 
 -- the byte at an address, of the items and the fills: that of a table which lies there; else what the newest fill or move wrote; else 0
-unfoldable pub byte : Extent → List Item → List Filled → ℕ → ℕ
+unfoldable pub byte : RangeView → List Item → List Filled → ℕ → ℕ
 byte kernel items fills x = shown kernel items x (written kernel fills [] items x (filled 0 fills x 0))
 
 -- each fill was made when there were so many items at most
@@ -85,12 +85,12 @@ AreMadeBy n [] = Unit {0}
 AreMadeBy n (f ∷ fs) = (f.at ≤ n) × AreMadeBy n fs
 
 -- the items went on, and each byte is what they made of it
-pub record Follows (kernel : Extent) (items longer : List Item) (f g : ℕ → ℕ) : Type 0 where
+pub record Follows (kernel : RangeView) (items longer : List Item) (f g : ℕ → ℕ) : Type 0 where
   pub more : List Item
   pub goes_on : longer ≡ items ++ more
   pub each : (x : ℕ) → g x ≡ byte_after kernel items longer x (f x)
 
 -- the bytes are those of the items and the fills
-pub record Holds (kernel : Extent) (items : List Item) (fills : List Filled) (f : ℕ → ℕ) : Type 0 where
+pub record Holds (kernel : RangeView) (items : List Item) (fills : List Filled) (f : ℕ → ℕ) : Type 0 where
   pub made : AreMadeBy (length items) fills
   pub each : (x : ℕ) → f x ≡ byte kernel items fills x

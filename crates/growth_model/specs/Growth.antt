@@ -2,8 +2,8 @@
 -- it frees its old one, and the bytes that it leaves become 0: that order is this project's own.
 use Rattle.std.specs.Prelude.{ℕ, ◌+◌, ◌-◌, ◌*◌, ◌/◌, Bool, nat_lt, min, Option, Some, None, List, [], ◌∷◌, length}
 use Rattle.std.specs.Option.{option_map, option_or}
-use Rattle.bm_base.specs.Extent.{Extent, end_of}
-use Rattle.bm_base.specs.declared.frame.TheConstants.{FRAME_SIZE}
+use Rattle.bm_base.specs.Range.{RangeView, end_of}
+use Rattle.bm_base.specs.declared.range.TheConstants.{FRAME_SIZE}
 use Rattle.memblock_model.specs.declared.which.Which.{Which}
 use Rattle.memblock_model.specs.declared.which.Which.TheVariants as which
 use Rattle.memblock_model.specs.declared.owner.Owner.{Owner}
@@ -21,7 +21,7 @@ abbrev pub in_whole_frames : ℕ → ℕ
 in_whole_frames n = (n + (FRAME_SIZE - 1)) / FRAME_SIZE * FRAME_SIZE
 
 -- the frames from the address on that hold so many bytes
-abbrev pub frames_at : ℕ → ℕ → Extent
+abbrev pub frames_at : ℕ → ℕ → RangeView
 frames_at place n = record { base = place; size = in_whole_frames n }
 
 -- the number of records of a table
@@ -34,7 +34,7 @@ table_query room lo hi = record { lo = lo; hi = hi; size = in_whole_frames (48 *
 
 -- the new place of the reserved table: the best one above the range that is being claimed or freed, else the best one below it; and
 -- below the limit both times
-abbrev pub place_beside : Extent → ℕ → List Item → Option ℕ
+abbrev pub place_beside : RangeView → ℕ → List Item → Option ℕ
 place_beside avoid room items = option_or
     (best items (table_query room (end_of avoid) (limit_of items)))
     (best items (table_query room 0 (min avoid.base (limit_of items))))
@@ -56,7 +56,7 @@ reserved_growth_at room old None = refuse which.Reserved room
 reserved_growth_at room old (Some place) = step (reserved_items room old place)
 
 -- the growth of the reserved table before the range is claimed or freed
-unfoldable pub reserved_growth : Extent → Change
+unfoldable pub reserved_growth : RangeView → Change
 reserved_growth avoid items =
     reserved_growth_at (room_of which.Reserved items) (moved_to which.Reserved items)
     (place_beside avoid (room_of which.Reserved items) items) items
@@ -66,7 +66,7 @@ abbrev pub is_full : Which → (List Item → ℕ) → List Item → Bool
 is_full w more items = nat_lt (room_of w items) (count w items + more items)
 
 -- how many runs of the range's bytes the table doesn't cover yet
-abbrev pub new_in : Which → Extent → List Item → ℕ
+abbrev pub new_in : Which → RangeView → List Item → ℕ
 new_in w range items = pieces range (table_of w items)
 
 -- an edit inside a table may split a record at both ends of its range
@@ -78,19 +78,19 @@ abbrev pub grown : Which → (List Item → ℕ) → Change → Change
 grown w more growth = if_due (is_full w more) growth >> if_due (is_full w more) growth
 
 -- a range is claimed (`memblock_reserve`)
-unfoldable pub claimed : Extent → Owner → Change
+unfoldable pub claimed : RangeView → Owner → Change
 claimed range who = grown which.Reserved (new_in which.Reserved range) (reserved_growth range) >> write (item.Claim range who)
 
 -- a range is freed (`memblock_phys_free`)
-unfoldable pub freed : Extent → Change
+unfoldable pub freed : RangeView → Change
 freed range = grown which.Reserved two (reserved_growth range) >> write (item.Free range)
 
 -- the frames of a table's old place, where it isn't the built-in one
-abbrev pub old_frames : ℕ → Option ℕ → Option Extent
+abbrev pub old_frames : ℕ → Option ℕ → Option RangeView
 old_frames room old = option_map (λ place. frames_at place (24 * room)) old
 
 -- the old place is freed. Where that needs a growth which is refused, the old place stays claimed, and that is all
-abbrev pub leave : Option Extent → Change
+abbrev pub leave : Option RangeView → Change
 leave None = nothing
 leave (Some frames) = whatever_refused (freed frames)
 
@@ -109,13 +109,13 @@ memory_growth items =
     (best items (table_query (room_of which.Memory items) 0 (limit_of items))) items
 
 -- a range becomes memory (`memblock_add`)
-unfoldable pub added : Extent → Change
+unfoldable pub added : RangeView → Change
 added range = grown which.Memory (new_in which.Memory range) memory_growth >> write (item.Mem range)
 
 -- the memory of a range gets the node (`memblock_set_node`)
-unfoldable pub noded : Extent → ℕ → Change
+unfoldable pub noded : RangeView → ℕ → Change
 noded range node = grown which.Memory two memory_growth >> write (item.Node range node)
 
 -- the memory of a range becomes mirrored (`memblock_mark_mirror`)
-unfoldable pub mirrored : Extent → Change
+unfoldable pub mirrored : RangeView → Change
 mirrored range = grown which.Memory two memory_growth >> write (item.Mirror range)

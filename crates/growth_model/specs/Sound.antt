@@ -1,8 +1,8 @@
 -- What holds of the items of a boot after each call: both tables lie in frames that are claimed and that nobody else may have, and each
 -- has room for its records.
 use Rattle.std.specs.Prelude.{◌≡◌, ◌≢◌, ◌⊎◌, ℕ, ◌*◌, ◌/◌, ◌%◌, ◌≤◌, Bool, true, false, Option, Some, None, List, [], ◌∷◌}
-use Rattle.bm_base.specs.Extent.{Extent, end_of, covers}
-use Rattle.bm_base.specs.declared.frame.TheConstants.{FRAME_SIZE}
+use Rattle.bm_base.specs.Range.{RangeView, end_of, covers}
+use Rattle.bm_base.specs.declared.range.TheConstants.{FRAME_SIZE}
 use Rattle.memblock_model.specs.declared.which.Which.{Which}
 use Rattle.memblock_model.specs.declared.which.Which.TheVariants as which
 use Rattle.memblock_model.specs.declared.owner.Owner.{Owner}
@@ -20,30 +20,30 @@ keeps (Some (owner.Script id)) = false
 keeps (Some o) = true
 
 -- a seat of a table: a place that begins with a frame, and each of whose bytes has such an owner
-pub record Seat (own : Owners) (a : Extent) : Type 0 where
+pub record Seat (own : Owners) (a : RangeView) : Type 0 where
   pub aligned : a.base % FRAME_SIZE ≡ 0
   pub kept : (x : ℕ) → covers a x ≡ true → keeps (own x) ≡ true
 
 -- no frame has bytes of both ranges
-abbrev pub ShareNoFrame : Extent → Extent → Type 0
+abbrev pub ShareNoFrame : RangeView → RangeView → Type 0
 ShareNoFrame a b = (x y : ℕ) → covers a x ≡ true → covers b y ≡ true → x / FRAME_SIZE ≢ y / FRAME_SIZE
 
 -- no byte lies in both ranges
-abbrev pub Clear : Extent → Extent → Type 0
+abbrev pub Clear : RangeView → RangeView → Type 0
 Clear a b = (x : ℕ) → covers a x ≡ true → covers b x ≡ true → ⊥
 
 -- no byte of the range has an owner
-abbrev pub Unclaimed : Owners → Extent → Type 0
+abbrev pub Unclaimed : Owners → RangeView → Type 0
 Unclaimed own a = (x : ℕ) → covers a x ≡ true → own x ≡ None
 
 -- the seats of both tables
-pub record Seats (own : Owners) (memory reserved : Extent) : Type 0 where
+pub record Seats (own : Owners) (memory reserved : RangeView) : Type 0 where
   pub first : Seat own memory
   pub second : Seat own reserved
   pub apart : ShareNoFrame memory reserved
 
 -- the kernel's image is claimed first, and both tables lie in seats of theirs
-pub record Seated (kernel : Extent) (items : List Item) : Type 0 where
+pub record Seated (kernel : RangeView) (items : List Item) : Type 0 where
   pub rest : List Item
   pub first : items ≡ item.Claim kernel owner.Kernel ∷ rest
   pub seats : Seats (owner_of items) (live which.Memory kernel items) (live which.Reserved kernel items)
@@ -53,12 +53,12 @@ abbrev pub Fits : List Item → Type 0
 Fits items = (w : Which) → count w items ≤ room_of w items
 
 -- both of these hold
-pub record Sound (kernel : Extent) (items : List Item) : Type 0 where
+pub record Sound (kernel : RangeView) (items : List Item) : Type 0 where
   pub placed : Seated kernel items
   pub fits : Fits items
 
 -- the image holds both built-in places: it ends with a frame, and has two frames at least
-pub record IsImage (kernel : Extent) : Type 0 where
+pub record IsImage (kernel : RangeView) : Type 0 where
   pub whole : end_of kernel % FRAME_SIZE ≡ 0
   pub large : 2 * FRAME_SIZE ≤ kernel.size
 
@@ -68,10 +68,10 @@ HasBegun [] = ⊥
 HasBegun (i ∷ is) = Unit {0}
 
 -- the range meets neither table
-abbrev pub IsAway : Extent → Extent → List Item → Type 0
+abbrev pub IsAway : RangeView → RangeView → List Item → Type 0
 IsAway kernel range items = Clear range (live which.Memory kernel items) × Clear range (live which.Reserved kernel items)
 
 -- what may be claimed: first the kernel's image for the kernel; then any range, but for the script one that meets neither table
-abbrev pub MayClaim : Extent → List Item → Extent → Owner → Type 0
+abbrev pub MayClaim : RangeView → List Item → RangeView → Owner → Type 0
 MayClaim kernel [] range who = (range ≡ kernel) × (who ≡ owner.Kernel)
 MayClaim kernel (i ∷ is) range who = (keeps (Some who) ≡ true) ⊎ IsAway kernel range (i ∷ is)

@@ -4,8 +4,8 @@
 //! for which memory ran out. Nothing is asked of the tables' bytes or records for that, nor of the addresses.
 
 ghost use Rattle.std.specs.Prelude.{◌≡◌, ◌⊎◌, ℕ, ◌+◌, ◌*◌, ◌%◌, ◌^◌, ◌<◌, ◌≤◌, Bool, false, Option, Some, None, IsSome, List, [], ◌∷◌, ◌++◌, Result, Ok, Err};
-ghost use Rattle.bm_base.specs.Extent.{Extent, end_of};
-ghost use Rattle.bm_base.specs.declared.frame.TheConstants.{FRAME_SIZE};
+ghost use Rattle.bm_base.specs.Range.{RangeView, end_of};
+ghost use Rattle.bm_base.specs.declared.range.TheConstants.{FRAME_SIZE};
 ghost use Rattle.memblock_model.specs.declared.which.Which.TheVariants as which;
 ghost use Rattle.memblock_model.specs.declared.owner.Owner.{Owner};
 ghost use Rattle.memblock_model.specs.declared.owner.Owner.TheVariants as owner;
@@ -36,37 +36,37 @@ pub fn ends_add_up()
 /// A law: the first claim, of the kernel's image for the kernel, needs no growth, and both tables lie in
 /// good places behind it.
 pub fn first_claim_places_tables()
-    ensures alone { (kernel : Extent) → end_of kernel ≤ 2 ^ 64 →
+    ensures alone { (kernel : RangeView) → end_of kernel ≤ 2 ^ 64 →
         claimed kernel owner.Kernel [] ≡ write (item.Claim kernel owner.Kernel) [] }
-    ensures placed { (kernel : Extent) → IsImage kernel → Seated kernel (item.Claim kernel owner.Kernel ∷ []) }
+    ensures placed { (kernel : RangeView) → IsImage kernel → Seated kernel (item.Claim kernel owner.Kernel ∷ []) }
 {}
 
 /// A law: however a claim or a free ends, both tables lie in good places from the first claim on.
 pub fn claims_keep_places()
-    ensures claimed { (kernel : Extent) (result : Result (Unit {0}) Refusal) (old new : List Item) (range : Extent) (who : Owner) →
+    ensures claimed { (kernel : RangeView) (result : Result (Unit {0}) Refusal) (old new : List Item) (range : RangeView) (who : Owner) →
         IsImage kernel → end_of range ≤ 2 ^ 64 → (HasBegun old → Seated kernel old) → MayClaim kernel old range who →
         Ends result old new (claimed range who) → HasBegun new → Seated kernel new }
-    ensures freed { (kernel : Extent) (result : Result (Unit {0}) Refusal) (old new : List Item) (range : Extent) →
+    ensures freed { (kernel : RangeView) (result : Result (Unit {0}) Refusal) (old new : List Item) (range : RangeView) →
         Seated kernel old → IsAway kernel range old → Ends result old new (freed range) → Seated kernel new }
 {}
 
 /// A law: so they do however memory is added to, given a node or mirrored, and behind a trim, a new limit and a new direction.
 pub fn memory_keeps_places()
-    ensures added { (kernel : Extent) (result : Result (Unit {0}) Refusal) (old new : List Item) (range : Extent) →
+    ensures added { (kernel : RangeView) (result : Result (Unit {0}) Refusal) (old new : List Item) (range : RangeView) →
         Seated kernel old → Ends result old new (added range) → Seated kernel new }
-    ensures noded { (kernel : Extent) (result : Result (Unit {0}) Refusal) (old new : List Item) (range : Extent) (node : ℕ) →
+    ensures noded { (kernel : RangeView) (result : Result (Unit {0}) Refusal) (old new : List Item) (range : RangeView) (node : ℕ) →
         Seated kernel old → Ends result old new (noded range node) → Seated kernel new }
-    ensures mirrored { (kernel : Extent) (result : Result (Unit {0}) Refusal) (old new : List Item) (range : Extent) →
+    ensures mirrored { (kernel : RangeView) (result : Result (Unit {0}) Refusal) (old new : List Item) (range : RangeView) →
         Seated kernel old → Ends result old new (mirrored range) → Seated kernel new }
-    ensures trim { (kernel : Extent) (items : List Item) → Seated kernel items → Seated kernel (items ++ item.Trim ∷ []) }
-    ensures limit { (kernel : Extent) (items : List Item) (at : ℕ) → Seated kernel items → Seated kernel (items ++ item.Limit at ∷ []) }
-    ensures upward { (kernel : Extent) (items : List Item) (on : Bool) → Seated kernel items →
+    ensures trim { (kernel : RangeView) (items : List Item) → Seated kernel items → Seated kernel (items ++ item.Trim ∷ []) }
+    ensures limit { (kernel : RangeView) (items : List Item) (at : ℕ) → Seated kernel items → Seated kernel (items ++ item.Limit at ∷ []) }
+    ensures upward { (kernel : RangeView) (items : List Item) (on : Bool) → Seated kernel items →
         Seated kernel (items ++ item.Upward on ∷ []) }
 {}
 
 /// A law: so they do however an allocation ends, whoever it is for.
 pub fn allocations_keep_places()
-    ensures { (kernel : Extent) (result : Result ℕ Refusal) (old new : List Item) (request : Request) (who : Owner) →
+    ensures { (kernel : RangeView) (result : Result ℕ Refusal) (old new : List Item) (request : Request) (who : Owner) →
         Seated kernel old → Allocates result old new (place_for request old) request.size who → Seated kernel new }
 {}
 
@@ -76,17 +76,17 @@ pub fn allocations_keep_places()
 pub fn found_places_are_free()
     ensures unclaimed { (items : List Item) (query : Query) (place : ℕ) → best items query ≡ Some place →
         Unclaimed (owner_of items) (record { base = place; size = query.size }) }
-    ensures away { (kernel : Extent) (items : List Item) (query : Query) (place : ℕ) → Seated kernel items → best items query ≡ Some place →
+    ensures away { (kernel : RangeView) (items : List Item) (query : Query) (place : ℕ) → Seated kernel items → best items query ≡ Some place →
         IsAway kernel (record { base = place; size = query.size }) items }
     ensures allocated { (items : List Item) (request : Request) (place : ℕ) → place_for request items ≡ Some place →
         Unclaimed (owner_of items) (record { base = place; size = request.size }) }
     ensures within { (items : List Item) (request : Request) (place : ℕ) → place_for request items ≡ Some place →
         place + request.size ≤ limit_of items }
-    ensures aligned { (avoid : Extent) (room : ℕ) (items : List Item) (place : ℕ) → place_beside avoid room items ≡ Some place →
+    ensures aligned { (avoid : RangeView) (room : ℕ) (items : List Item) (place : ℕ) → place_beside avoid room items ≡ Some place →
         place % FRAME_SIZE ≡ 0 }
-    ensures beside { (avoid : Extent) (room : ℕ) (items : List Item) (place : ℕ) → place_beside avoid room items ≡ Some place →
+    ensures beside { (avoid : RangeView) (room : ℕ) (items : List Item) (place : ℕ) → place_beside avoid room items ≡ Some place →
         Clear avoid (frames_at place (48 * room)) }
-    ensures below { (avoid : Extent) (room : ℕ) (items : List Item) (place : ℕ) → place_beside avoid room items ≡ Some place →
+    ensures below { (avoid : RangeView) (room : ℕ) (items : List Item) (place : ℕ) → place_beside avoid room items ≡ Some place →
         place + in_whole_frames (48 * room) ≤ limit_of items }
     ensures memory { (result : Result (Unit {0}) Refusal) (old new : List Item) (place : ℕ) → Ends result old new memory_growth →
         moved_to which.Memory new ≡ Some place →
@@ -96,7 +96,7 @@ pub fn found_places_are_free()
 /// A law: a growth that isn't refused gives its table twice the room and two records at most: for the claim of the new
 /// place, and where the old one is freed.
 pub fn growth_doubles_room()
-    ensures reserved { (avoid : Extent) (items : List Item) → IsInSpace items → (reserved_growth avoid items).refused ≡ None →
+    ensures reserved { (avoid : RangeView) (items : List Item) → IsInSpace items → (reserved_growth avoid items).refused ≡ None →
         HasDoubled which.Reserved items (after items (reserved_growth avoid items)) }
     ensures memory { (items : List Item) → IsInSpace items → (memory_growth items).refused ≡ None →
         HasDoubled which.Memory items (after items (memory_growth items)) }
@@ -107,14 +107,14 @@ pub fn growth_doubles_room()
 /// edit or nearly so, and one more for that and for what the first one claimed. Before a claim of bytes that nobody has, which are
 /// one piece, one is enough: it is refused only where the table is full for them and finds no place.
 pub fn two_growths_are_enough()
-    ensures claimed { (range : Extent) (items : List Item) → IsInSpace items → Fits items → end_of range ≤ 2 ^ 64 →
+    ensures claimed { (range : RangeView) (items : List Item) → IsInSpace items → Fits items → end_of range ≤ 2 ^ 64 →
         HasRoomBehind which.Reserved (new_in which.Reserved range) (reserved_growth range) items }
-    ensures freed { (range : Extent) (items : List Item) → IsInSpace items → Fits items →
+    ensures freed { (range : RangeView) (items : List Item) → IsInSpace items → Fits items →
         HasRoomBehind which.Reserved two (reserved_growth range) items }
-    ensures added { (range : Extent) (items : List Item) → IsInSpace items → Fits items → end_of range ≤ 2 ^ 64 →
+    ensures added { (range : RangeView) (items : List Item) → IsInSpace items → Fits items → end_of range ≤ 2 ^ 64 →
         HasRoomBehind which.Memory (new_in which.Memory range) memory_growth items }
     ensures labelled { (items : List Item) → IsInSpace items → Fits items → HasRoomBehind which.Memory two memory_growth items }
-    ensures free { (kernel range : Extent) (who : Owner) (items : List Item) → IsInSpace items → Fits items → Seated kernel items →
+    ensures free { (kernel range : RangeView) (who : Owner) (items : List Item) → IsInSpace items → Fits items → Seated kernel items →
         0 < range.size → end_of range ≤ 2 ^ 64 → Unclaimed (owner_of items) range →
         (is_full which.Reserved (new_in which.Reserved range) items ≡ false)
         ⊎ IsSome (place_beside range (room_of which.Reserved items) items) →

@@ -3,7 +3,7 @@
 //! decide alone: so whatever is said of memory is said without growth.
 
 ghost use Rattle.std.specs.Prelude.{◌≡◌, ℕ, List, ◌++◌, take, Ok};
-ghost use Rattle.bm_base.specs.Extent.{Extent as AnyExtent};
+ghost use Rattle.bm_base.specs.Range.{RangeView as AnyExtent};
 ghost use Rattle.memblock_model.specs.declared.item.Item.{Item as AnyItem};
 ghost use Rattle.memblock_model.specs.declared.owner.Owner.{Owner as AnyOwner};
 ghost use Rattle.memblock_model.specs.Items.{limit_of, memory_of};

@@ -1,6 +1,6 @@
 -- A change that makes room and then writes one item: how it ends, wherever it ends.
 use Rattle.std.proofs.Common.{◌≡◌, ℕ, false, List, [], ◌∷◌, ◌++◌, Result, Ok, Err, IsErrAnd, ap, subst, arith}
-use Rattle.bm_base.specs.Extent.{Extent}
+use Rattle.bm_base.specs.Range.{RangeView}
 use Rattle.memblock_model.specs.declared.item.Item.{Item}
 use Rattle.memblock_ranges.specs.Tables.{Contents}
 use Rattle.growth_model.specs.declared.refusal.Refusal.{Refusal}
@@ -37,7 +37,7 @@ change-done growths i old mid new h is =
 
 -- and what it makes of each byte, by an item that leaves no place
 pub change-bytes : (i : Item) {old mid new : List Item} {t : Contents} (u : Contents) {v : Contents} {at : Aim} → new ≡ mid ++ i ∷ []
-    → ((kernel : Extent) (x : ℕ) → leaves kernel mid i x ≡ false) → Keeps old t new v at → AreTold u v → KeepsBytes old t mid u at
+    → ((kernel : RangeView) (x : ℕ) → leaves kernel mid i x ≡ false) → Keeps old t new v at → AreTold u v → KeepsBytes old t mid u at
     → KeepsBytes old t new v at
 change-bytes i {mid} u {v} {at} is stays kept told before = λ kernel known spelled.
     let after = subst (λ (l : List Item). AreKept kernel l v at) is (kept kernel known) in

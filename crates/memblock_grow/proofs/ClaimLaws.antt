@@ -1,7 +1,7 @@
 -- A claim that is refused at once, and one that isn't refused: what it prepares, with a place that was prepared before it.
 use Rattle.std.proofs.Common.{◌≡◌, ◌<◌, true, None, List, length, Result, Ok, Err, OnErr, sym, ◌∙◌, arith}
 use Rattle.std.proofs.lemmas.List.{length-append}
-use Rattle.bm_base.specs.Extent.{Extent}
+use Rattle.bm_base.specs.Range.{RangeView}
 use Rattle.phys_store.specs.Bytes.{Stored}
 use Rattle.memblock_model.specs.declared.which.Which.TheVariants as which
 use Rattle.memblock_model.specs.declared.owner.Owner.{Owner}
@@ -16,7 +16,7 @@ use Rattle.growth_model.proofs.EndLaws.{followed, Ends-first, Ends-due}
 use Rattle.growth_model.proofs.CutLaws.{then-unrefused}
 use Rattle.memblock_grow.specs.Prepared.{PreparesWith, PreparesBy}
 
-pub claim-refused : (e : Refusal) (range : Extent) (who : Owner) (items : List Item)
+pub claim-refused : (e : Refusal) (range : RangeView) (who : Owner) (items : List Item)
     → is_full which.Reserved (new_in which.Reserved range) items ≡ true
     → Ends {T = Unit {0}} (Err e) items items (reserved_growth range) → Ends {T = Unit {0}} (Err e) items items (claimed range who)
 unfolding claimed
@@ -26,7 +26,7 @@ claim-refused e range who items full h =
     (Ends-first (Unit {0}) (Unit {0}) e items items once once
     (Ends-due {T = Unit {0}} (Err e) items items (is_full which.Reserved (new_in which.Reserved range)) (reserved_growth range) full h))
 
-pub claim-begins : (range : Extent) (who : Owner) (items : List Item) → (claimed range who items).refused ≡ None
+pub claim-begins : (range : RangeView) (who : Owner) (items : List Item) → (claimed range who items).refused ≡ None
     → 0 < length (claimed range who items).steps
 unfolding claimed
 claim-begins range who items unrefused =
@@ -35,7 +35,7 @@ claim-begins range who items unrefused =
     let more = length-append (growths items).steps (last (after items (growths items))).steps in
     rw (followed growths last items (then-unrefused items growths last unrefused).0) (omega (arith, more))
 
-pub claim-prepares : (r : Result (Unit {0}) Refusal) (who : Owner) {place : Extent} {items longer : List Item} {s t : List Stored}
+pub claim-prepares : (r : Result (Unit {0}) Refusal) (who : Owner) {place : RangeView} {items longer : List Item} {s t : List Stored}
     → (claimed place who items).refused ≡ None → Ends r items longer (claimed place who) → PreparesWith place items longer s t
     → OnErr r (PreparesBy r items longer s t)
 claim-prepares (Ok x) who unrefused ends h = tt

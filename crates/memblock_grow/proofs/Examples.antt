@@ -3,7 +3,7 @@ use Rattle.std.proofs.Common.{◌≡◌, ℕ, ◌+◌, ◌^◌, ◌<◌, ◌≤�
 use Rattle.std.proofs.lemmas.Bool.{false_from_ne_true, true≢false}
 use Rattle.std.proofs.Math.Bool.{or-false}
 use Rattle.std.proofs.lemmas.Bool.Decides.{nat_tests}
-use Rattle.bm_base.specs.Extent.{Extent, covers}
+use Rattle.bm_base.specs.Range.{RangeView, covers}
 use Rattle.phys_store.specs.Bytes.{Stored, is_ready}
 use Rattle.address_runs.specs.Runs.{value_at}
 use Rattle.memblock_model.specs.declared.which.Which.TheVariants as which
@@ -31,7 +31,7 @@ use Rattle.memblock_grow.specs.Places.{KnowsMirrors, top_of, mirrored_of, best_o
 use Rattle.memblock_grow.specs.More.{more_by, more_in, HasRoom, EndsInSpace}
 use Rattle.memblock_grow.proofs.PlaceLaws.{best_in-large}
 
-abbrev image : Extent
+abbrev image : RangeView
 image = record { base = 65536; size = 16384 }
 
 -- both tables empty, in the last frames of the image
@@ -74,7 +74,7 @@ first_claim : (IsMemblock image [] at_first (aimed 0 false) → AllowsClaim [] a
 first_claim = (λ whole. (image, whole, (refl, refl)), λ allowed. let who = allowed.2.1 in cc)
 
 -- what meets a table isn't freed
-away_from_both : (range : Extent) (whole : IsMemblock image [] at_first (aimed 0 false))
+away_from_both : (range : RangeView) (whole : IsMemblock image [] at_first (aimed 0 false))
     → range.size ≡ 0 → AllowsFree [] at_first (aimed 0 false) range
 away_from_both range whole none = (
   image,

@@ -1,7 +1,7 @@
 -- A memblock that went on twice went on, and so did one that was only looked at. What a search found, and what was claimed there, is away
 -- from the tables.
 use Rattle.std.proofs.Common.{◌≡◌, ℕ, Option, Some, None, List, [], ◌∷◌, ◌++◌, Result, Ok, Err, IfSome, OnOk, refl, sym, ◌∙◌, subst}
-use Rattle.bm_base.specs.Extent.{Extent}
+use Rattle.bm_base.specs.Range.{RangeView}
 use Rattle.phys_store.specs.Bytes.{byte_of}
 use Rattle.memblock_model.specs.declared.which.Which.{Which}
 use Rattle.memblock_model.specs.declared.which.Which.TheVariants as which
@@ -40,13 +40,13 @@ goes-none m memory reserved spelled = record {
   ready = λ x h. h;
 }
 
-pub place-away : (kernel : Extent) (items : List Item) (query : Query) (place : Option ℕ) → Seated kernel items → place ≡ best items query
+pub place-away : (kernel : RangeView) (items : List Item) (query : Query) (place : Option ℕ) → Seated kernel items → place ≡ best items query
     → IfSome place (λ base. IsAway kernel (record { base = base; size = query.size }) items)
 place-away kernel items query None seated same = tt
 place-away kernel items query (Some base) seated same = found-away kernel items query base seated (sym same)
 
 -- a range that met no table meets none once it is claimed: what grew for the claim keeps beside it
-claimed-away : (kernel r : Extent) (items new : List Item) (who : Owner) → Seated kernel items → IsAway kernel r items
+claimed-away : (kernel r : RangeView) (items new : List Item) (who : Owner) → Seated kernel items → IsAway kernel r items
     → Ends {T = Unit {0}} (Ok tt) items new (claimed r who) → IsAway kernel r new
 claimed-away kernel r items new who placed away ends =
     let t : List Item = roomy r (new_in which.Reserved r) items in
@@ -58,7 +58,7 @@ claimed-away kernel r items new who placed away ends =
     subst (Clear r) (sym (live-same w kernel t (t ++ one) (moves-of w t one) (rooms-of w t one))) in
     rw is (clear which.Memory still.0, clear which.Reserved still.1)
 
-pub claim-away : (result : Result (Unit {0}) Refusal) (kernel r : Extent) (items new : List Item) (who : Owner) → Seated kernel items
+pub claim-away : (result : Result (Unit {0}) Refusal) (kernel r : RangeView) (items new : List Item) (who : Owner) → Seated kernel items
     → IsAway kernel r items → Ends result items new (claimed r who) → OnOk result (IsAway kernel r new)
 claim-away (Ok x) kernel r items new who placed away ends = claimed-away kernel r items new who placed away ends
 claim-away (Err e) kernel r items new who placed away ends = tt

@@ -1,7 +1,7 @@
 -- The tables follow the items, one by one.
 use Rattle.std.proofs.Common.{◌≡◌, ℕ, ◌+◌, ◌*◌, ◌^◌, ◌<◌, ◌≤◌, Bool, Option, Some, List, [], ◌∷◌, ◌++◌, length, refl, sym, ◌∙◌, ap, subst, arith}
 use Rattle.std.proofs.lemmas.Option.{same_Some}
-use Rattle.bm_base.specs.Extent.{Extent, end_of}
+use Rattle.bm_base.specs.Range.{RangeView, end_of}
 use Rattle.address_runs.specs.Runs.{RunOf, value_at}
 use Rattle.address_runs.specs.Edits.{covered, uncovered, relabelled, NothingFrom}
 use Rattle.memblock_model.specs.declared.which.Which.{Which}
@@ -25,7 +25,7 @@ use Rattle.memblock_grow.specs.declared.aim.Aim.{Aim}
 use Rattle.memblock_grow.specs.Kept.{AreKept, aimed}
 
 -- each has room for its records, as the tables see it
-fits-by : (kernel : Extent) (items : List Item) (m r : Table) → m ≡ table_for which.Memory kernel items
+fits-by : (kernel : RangeView) (items : List Item) (m r : Table) → m ≡ table_for which.Memory kernel items
     → r ≡ table_for which.Reserved kernel items → length m.records ≤ m.room → length r.records ≤ r.room → Fits items
 fits-by kernel items m r first second few too which.Memory = subst (λ (t : Table). length t.records ≤ t.room) first few
 fits-by kernel items m r first second few too which.Reserved = subst (λ (t : Table). length t.records ≤ t.room) second too
@@ -34,7 +34,7 @@ fits-by kernel items m r first second few too which.Reserved = subst (λ (t : Ta
 abbrev IsQuiet : Item → Type 0
 IsQuiet i = ((w : Which) (n : ℕ) → room_after w n i ≡ n) × ((w : Which) (o : Option ℕ) → moved_after w o i ≡ o)
 
-module _ {kernel : Extent} {items : List Item} {t : Contents} {at : Aim} (kept : AreKept kernel items t at) where
+module _ {kernel : RangeView} {items : List Item} {t : Contents} {at : Aim} (kept : AreKept kernel items t at) where
   -- each table by its word
   pub table-is : (w : Which) → table_in w t ≡ table_for w kernel items
   table-is which.Memory = kept.memory
@@ -66,19 +66,19 @@ module _ {kernel : Extent} {items : List Item} {t : Contents} {at : Aim} (kept :
   few-kept w = omega (arith, kept.fits w, ap length (records-are w), room-is w)
 
   -- how many records a table has after an edit
-  pub few-covered : (w : Which) (range : Extent) → end_of range < 2 ^ 64
+  pub few-covered : (w : Which) (range : RangeView) → end_of range < 2 ^ 64
       → length (records_for (covered range plain_label (value_at (records_in w t))))
       ≤ length (records_in w t) + pieces range (value_at (records_in w t))
   few-covered w range ends =
       let few = length-covered range plain_label (value_at (records_in w t)) (omega arith) (values-end w) in
       omega (arith, few, ap length (records-again w))
 
-  few-uncovered : (w : Which) (range : Extent)
+  few-uncovered : (w : Which) (range : RangeView)
       → length (records_for (uncovered range (value_at (records_in w t)))) ≤ length (records_in w t) + 1
   few-uncovered w range =
       let few = length-uncovered range (value_at (records_in w t)) (values-end w) in omega (arith, few, ap length (records-again w))
 
-  few-relabelled : (range : Extent) (change : Label → Label)
+  few-relabelled : (range : RangeView) (change : Label → Label)
       → length (records_for (relabelled range change (value_at t.memory.records))) ≤ length t.memory.records + 2
   few-relabelled range change =
       let few = length-relabelled range change (value_at t.memory.records) (values-end which.Memory) in
@@ -98,7 +98,7 @@ module _ {kernel : Extent} {items : List Item} {t : Contents} {at : Aim} (kept :
   far-grown which.Reserved which.Memory base room small place is = kept.far which.Reserved place is
   far-grown which.Reserved which.Reserved base room small place is = let here = same_Some base place is in omega (arith, here, small)
 
-module _ {kernel : Extent} {items : List Item} {t : Contents} {at : Aim} (kept : AreKept kernel items t at) (u : Contents) where
+module _ {kernel : RangeView} {items : List Item} {t : Contents} {at : Aim} (kept : AreKept kernel items t at) (u : Contents) where
   -- the same tables
   pub kept-same : u.memory ≡ t.memory → u.reserved ≡ t.reserved → AreKept kernel items u at
   kept-same first second = record {
@@ -182,7 +182,7 @@ module _ {kernel : Extent} {items : List Item} {t : Contents} {at : Aim} (kept :
       kept-by i at space limited directed (table-edited which.Memory i quiet is) (table-quiet which.Reserved i quiet other same)
       (rw is few) (few-stays which.Reserved same) (far-quiet kept i quiet)
 
-  pub kept-claim : (range : Extent) (who : Owner) → end_of range < 2 ^ 64
+  pub kept-claim : (range : RangeView) (who : Owner) → end_of range < 2 ^ 64
       → length t.reserved.records + pieces range (value_at t.reserved.records) ≤ t.reserved.room
       → u.reserved ≡ record t.reserved { records = records_for (covered range plain_label (value_at t.reserved.records)) }
       → u.memory ≡ t.memory → AreKept kernel (items ++ item.Claim range who ∷ []) u at
@@ -191,14 +191,14 @@ module _ {kernel : Extent} {items : List Item} {t : Contents} {at : Aim} (kept :
       kept-reserved (item.Claim range who) (λ w n. refl, λ w o. refl) (omega arith) refl refl (λ f. refl) is same
       (omega (arith, few, room))
 
-  pub kept-free : (range : Extent) → end_of range < 2 ^ 64 → length t.reserved.records + 2 ≤ t.reserved.room
+  pub kept-free : (range : RangeView) → end_of range < 2 ^ 64 → length t.reserved.records + 2 ≤ t.reserved.room
       → u.reserved ≡ record t.reserved { records = records_for (uncovered range (value_at t.reserved.records)) }
       → u.memory ≡ t.memory → AreKept kernel (items ++ item.Free range ∷ []) u at
   kept-free range ends room is same =
       let few = few-uncovered kept which.Reserved range in
       kept-reserved (item.Free range) (λ w n. refl, λ w o. refl) (omega arith) refl refl (λ f. refl) is same (omega (arith, few, room))
 
-  pub kept-mem : (range : Extent) → end_of range < 2 ^ 64
+  pub kept-mem : (range : RangeView) → end_of range < 2 ^ 64
       → length t.memory.records + pieces range (value_at t.memory.records) ≤ t.memory.room
       → u.memory ≡ record t.memory { records = records_for (covered range plain_label (value_at t.memory.records)) }
       → u.reserved ≡ t.reserved → AreKept kernel (items ++ item.Mem range ∷ []) u at
@@ -207,14 +207,14 @@ module _ {kernel : Extent} {items : List Item} {t : Contents} {at : Aim} (kept :
       kept-memory (item.Mem range) (λ w n. refl, λ w o. refl) (omega arith) refl refl (λ f. refl) is same (omega (arith, few, room))
 
   -- a label that changes
-  pub kept-node : (range : Extent) (node : ℕ) → end_of range < 2 ^ 64 → length t.memory.records + 2 ≤ t.memory.room
+  pub kept-node : (range : RangeView) (node : ℕ) → end_of range < 2 ^ 64 → length t.memory.records + 2 ≤ t.memory.room
       → u.memory ≡ record t.memory { records = records_for (relabelled range (with_node (Some node)) (value_at t.memory.records)) }
       → u.reserved ≡ t.reserved → AreKept kernel (items ++ item.Node range node ∷ []) u at
   kept-node range node ends room is same =
       let few = few-relabelled kept range (with_node (Some node)) in
       kept-memory (item.Node range node) (λ w n. refl, λ w o. refl) (omega arith) refl refl (λ f. refl) is same (omega (arith, few, room))
 
-  pub kept-mirror : (range : Extent) → end_of range < 2 ^ 64 → length t.memory.records + 2 ≤ t.memory.room
+  pub kept-mirror : (range : RangeView) → end_of range < 2 ^ 64 → length t.memory.records + 2 ≤ t.memory.room
       → u.memory ≡ record t.memory { records = records_for (relabelled range with_mirror (value_at t.memory.records)) }
       → u.reserved ≡ t.reserved → AreKept kernel (items ++ item.Mirror range ∷ []) u at
   kept-mirror range ends room is same =
@@ -244,7 +244,7 @@ module _ {kernel : Extent} {items : List Item} {t : Contents} {at : Aim} (kept :
       (λ v. far-grown kept v which.Reserved place room small)
 
 -- the limit and the direction are values of their own
-module _ {kernel : Extent} {items : List Item} {t : Contents} {at : Aim} (kept : AreKept kernel items t at) where
+module _ {kernel : RangeView} {items : List Item} {t : Contents} {at : Aim} (kept : AreKept kernel items t at) where
   kept-aimed : (i : Item) (to : Aim) → IsQuiet i → EndsInSpace i → limit_after at.limit i ≡ to.limit
       → upward_after at.upward i ≡ to.upward → ((f : Labels) → table_after which.Memory f i ≡ f)
       → ((f : Labels) → table_after which.Reserved f i ≡ f) → AreKept kernel (items ++ i ∷ []) t to

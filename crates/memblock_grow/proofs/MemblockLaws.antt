@@ -2,7 +2,7 @@
 use Rattle.std.proofs.Common.{◌≡◌, ℕ, ◌-◌, ◌*◌, false, List, [], ◌∷◌, ◌++◌, replicate, get_or, refl, sym, ◌∙◌, subst, arith}
 use Rattle.std.proofs.lemmas.Bool.Decides.{nat_tests}
 use Rattle.std.proofs.lemmas.List.{get_or-replicate, get_or_past, length-replicate}
-use Rattle.bm_base.specs.Extent.{Extent}
+use Rattle.bm_base.specs.Range.{RangeView}
 use Rattle.phys_store.specs.Bytes.{Stored, byte_of, Wrote}
 use Rattle.memblock_model.specs.declared.which.Which.{Which}
 use Rattle.memblock_model.specs.declared.which.Which.TheVariants as which
@@ -36,7 +36,7 @@ shown-empty : (m r : Table) (x : ℕ) → m.records ≡ [] → r.records ≡ [] 
 shown-empty m r x first second = let a = empty_at m x first in let b = empty_at r x second in grind (arith, a, b)
 
 -- at first
-abbrev pub first_table : Which → Extent → Table
+abbrev pub first_table : Which → RangeView → Table
 first_table w kernel = record { records = []; place = built_in w kernel; room = 128 }
 
 no_records_at_first : (w : Which) → records_of w [] ≡ []
@@ -44,10 +44,10 @@ unfolding records_of
 no_records_at_first w = sym (records_for-is (table_of w []) [] (λ x le. nothing_said w x)
     (record { runs = tt; each = λ x. sym (nothing_said w x) }))
 
-first-is : (w : Which) (kernel : Extent) → first_table w kernel ≡ table_for w kernel []
+first-is : (w : Which) (kernel : RangeView) → first_table w kernel ≡ table_for w kernel []
 first-is w kernel = rw (no_records_at_first w) refl
 
-pub whole-new : (kernel : Extent) (items : List Item) (t : Contents) → IsImage kernel → items ≡ []
+pub whole-new : (kernel : RangeView) (items : List Item) (t : Contents) → IsImage kernel → items ≡ []
     → t.memory ≡ first_table which.Memory kernel → t.reserved ≡ first_table which.Reserved kernel
     → ((x : ℕ) → byte_of t.store x ≡ 0) → IsMemblock kernel items t (aimed 0 false)
 whole-new kernel items t image none first second zero = rw none (record {
@@ -65,13 +65,13 @@ whole-new kernel items t image none first second zero = rw none (record {
   spelled = λ x. rw (zero x) (sym (shown-empty t.memory t.reserved x (λ k. (first k).records) (λ k. (second k).records)));
 })
 
-pub bytes-new : (kernel : Extent) (x : ℕ) → byte kernel [] [] x ≡ 0
+pub bytes-new : (kernel : RangeView) (x : ℕ) → byte kernel [] [] x ≡ 0
 unfolding byte
 bytes-new kernel x = shown-empty (table_for which.Memory kernel []) (table_for which.Reserved kernel []) x
     (no_records_at_first which.Memory) (no_records_at_first which.Reserved)
 
 -- behind one item that leaves no place
-module _ (i : Item) {kernel : Extent} {items longer : List Item} {t u : Contents} {at to : Aim} (m : IsMemblock kernel items t at)
+module _ (i : Item) {kernel : RangeView} {items longer : List Item} {t u : Contents} {at to : Aim} (m : IsMemblock kernel items t at)
     (more : longer ≡ items ++ i ∷ []) (now : AreKept kernel (items ++ i ∷ []) u to) (stays : (x : ℕ) → leaves kernel items i x ≡ false)
     (told : AreTold t u) where
   pub follows-one : Follows kernel items longer (byte_of t.store) (byte_of u.store)
@@ -95,7 +95,7 @@ wrote-put old new fill wrote x =
     let outside = wrote.outside x in
     grind (arith, nat_tests, within, outside)
 
-pub whole-fill : {kernel : Extent} {items : List Item} {t : Contents} (u : Contents) {at : Aim} (fill : Filled) → u.memory ≡ t.memory
+pub whole-fill : {kernel : RangeView} {items : List Item} {t : Contents} (u : Contents) {at : Aim} (fill : Filled) → u.memory ≡ t.memory
     → u.reserved ≡ t.reserved → ((x : ℕ) → byte_of u.store x ≡ put fill x (byte_of t.store x)) → IsAway kernel fill.range items
     → IsMemblock kernel items t at → IsMemblock kernel items u at
 whole-fill {t} u fill first second wrote away m =

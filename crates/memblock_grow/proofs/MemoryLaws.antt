@@ -1,7 +1,7 @@
 -- The growth of the memory table: where it goes, what it writes, and what it makes of the tables and of each byte.
 use Rattle.std.proofs.Common.{◌≡◌, ℕ, ◌*◌, ◌^◌, ◌<◌, Option, Some, None, List, [], ◌∷◌, ◌++◌, Result, Ok, Err, IsErrAnd, refl, sym, ◌∙◌, ap, subst, arith}
 use Rattle.std.specs.Option.{option_map, IfSome}
-use Rattle.bm_base.specs.Extent.{Extent, end_of}
+use Rattle.bm_base.specs.Range.{RangeView, end_of}
 use Rattle.phys_store.specs.Bytes.{byte_of}
 use Rattle.memblock_model.specs.declared.which.Which.TheVariants as which
 use Rattle.memblock_model.specs.declared.owner.Owner.TheVariants as owner
@@ -33,17 +33,17 @@ use Rattle.memblock_grow.proofs.PlaceLaws.{mapped-some, mapped-none, between-is}
 use Rattle.memblock_grow.proofs.ReservedLaws.{left-size}
 
 -- the best place below the limit
-pub record IsBest (items : List Item) (place : Extent) : Type 0 where
+pub record IsBest (items : List Item) (place : RangeView) : Type 0 where
   pub found : best items (table_query (room_of which.Memory items) 0 (limit_of items)) ≡ Some place.base
   pub is : place ≡ frames_at place.base (48 * room_of which.Memory items)
 
-module _ {kernel : Extent} {items : List Item} {t : Contents} {at : Aim} (kept : AreKept kernel items t at) where
-  best-along : {head : Head} {o : Option Extent} → head ≡ head_of t.memory → o ≡ frames_between t at.upward head.room 0 at.limit
+module _ {kernel : RangeView} {items : List Item} {t : Contents} {at : Aim} (kept : AreKept kernel items t at) where
+  best-along : {head : Head} {o : Option RangeView} → head ≡ head_of t.memory → o ≡ frames_between t at.upward head.room 0 at.limit
       → o ≡ option_map (λ place. frames_at place (48 * room_of which.Memory items))
       (best items (table_query (room_of which.Memory items) 0 (limit_of items)))
   best-along said is = rw (is, said, sym kept.limit) (between-is kept 0 (limit_of items))
 
-  pub best-found : {head : Head} {o : Option Extent} {place : Extent} → head ≡ head_of t.memory
+  pub best-found : {head : Head} {o : Option RangeView} {place : RangeView} → head ≡ head_of t.memory
       → o ≡ frames_between t at.upward head.room 0 at.limit → o ≡ Some place → IsBest items place
   best-found {place} said is some =
       let n = room_of which.Memory items in
@@ -51,7 +51,7 @@ module _ {kernel : Extent} {items : List Item} {t : Contents} {at : Aim} (kept :
       let known = mapped-some found (48 * n) place (sym (best-along said is) ∙ some) in
       record { found = known.found; is = known.is }
 
-  pub memory-none : {head : Head} {o : Option Extent} → head ≡ head_of t.memory
+  pub memory-none : {head : Head} {o : Option RangeView} → head ≡ head_of t.memory
       → o ≡ frames_between t at.upward head.room 0 at.limit → o ≡ None
       → Ends {T = Unit {0}} (Err (refusal.NoGapForTable which.Memory head.room)) items items memory_growth
   unfolding memory_growth memory_growth_at
@@ -62,16 +62,16 @@ module _ {kernel : Extent} {items : List Item} {t : Contents} {at : Aim} (kept :
       rw (ap (λ (h : Head). h.room) said ∙ room-is kept which.Memory, nowhere) (Ends-refused (Unit {0}) which.Memory n items)
 
 -- the three changes of a growth that found a place
-abbrev taking : Extent → Change
+abbrev taking : RangeView → Change
 taking place = claimed place (owner.Table which.Memory)
 
 abbrev leaving : List Item → Change
 leaving items = leave (old_frames (room_of which.Memory items) (moved_to which.Memory items))
 
-abbrev moving : List Item → Extent → Change
+abbrev moving : List Item → RangeView → Change
 moving items place = write (item.Grown which.Memory place.base (2 * room_of which.Memory items))
 
-module _ {items : List Item} {place : Extent} (known : IsBest items place) where
+module _ {items : List Item} {place : RangeView} (known : IsBest items place) where
   pub best-free : Unclaimed (owner_of items) place
   best-free =
       rw known.is (found-unclaimed items (table_query (room_of which.Memory items) 0 (limit_of items)) place.base known.found)
@@ -79,7 +79,7 @@ module _ {items : List Item} {place : Extent} (known : IsBest items place) where
   memory-some : (taking place >> (moving items place >> leaving items)) items ≡ memory_growth items
   unfolding memory_growth memory_growth_at
   memory-some =
-      ap (λ (e : Extent). (taking e >> (moving items place >> leaving items)) items) known.is
+      ap (λ (e : RangeView). (taking e >> (moving items place >> leaving items)) items) known.is
       ∙ ap (λ (o : Option ℕ). memory_growth_at (room_of which.Memory items) (moved_to which.Memory items) o items) (sym known.found)
 
   by-growth : (new : List Item) (r : Result (Unit {0}) Refusal) → Ends r items new (taking place >> (moving items place >> leaving items))
@@ -99,7 +99,7 @@ module _ {items : List Item} {place : Extent} (known : IsBest items place) where
       (Ends-second {T = Unit {0}} {U = Unit {0}} tt (Err refusal.Memory) items mid mid (taking place) rest h
       (Ends-wanting (Unit {0}) mid rest (omega arith))))
 
-  pub memory-done : (mid next new : List Item) (base room : ℕ) (old : Option Extent) (r : Result (Unit {0}) Refusal) → base ≡ place.base
+  pub memory-done : (mid next new : List Item) (base room : ℕ) (old : Option RangeView) (r : Result (Unit {0}) Refusal) → base ≡ place.base
       → room ≡ 2 * room_of which.Memory items → old ≡ old_frames (room_of which.Memory items) (moved_to which.Memory items)
       → Ends {T = Unit {0}} (Ok tt) items mid (claimed place (owner.Table which.Memory))
       → next ≡ mid ++ item.Grown which.Memory base room ∷ [] → Ends r next new (leave old) → Ends r items new memory_growth
@@ -107,21 +107,21 @@ module _ {items : List Item} {place : Extent} (known : IsBest items place) where
       let i : Item = item.Grown which.Memory place.base (2 * room_of which.Memory items) in
       let same : next ≡ mid ++ i ∷ [] = rw (is, here, twice) refl in
       let last : Ends r (mid ++ i ∷ []) new (leaving items) =
-      subst (λ (l : List Item). Ends r l new (leaving items)) same (subst (λ (o : Option Extent). Ends r next new (leave o)) left h) in
+      subst (λ (l : List Item). Ends r l new (leaving items)) same (subst (λ (o : Option RangeView). Ends r next new (leave o)) left h) in
       by-growth new r (Ends-second {T = Unit {0}} tt r items mid new (taking place) (moving items place >> leaving items) was
       (Ends-second {T = Unit {0}} tt r mid (mid ++ i ∷ []) new (moving items place) (leaving items)
       (Ends-step {T = Unit {0}} tt mid (i ∷ [])) last))
 
   -- behind the claim of the new place
-  pub best-taken : (kernel : Extent) (mid : List Item) → Seated kernel items
+  pub best-taken : (kernel : RangeView) (mid : List Item) → Seated kernel items
       → Ends {T = Unit {0}} (Ok tt) items mid (claimed place (owner.Table which.Memory))
       → IsTaken kernel mid (room_of which.Memory items) (moved_to which.Memory items) place.base
   best-taken kernel mid placed was =
       claimed-taken {T = Unit {0}} tt kernel items mid place.base placed known.found
-      (subst (λ (e : Extent). Ends {T = Unit {0}} (Ok tt) items mid (claimed e (owner.Table which.Memory))) known.is was)
+      (subst (λ (e : RangeView). Ends {T = Unit {0}} (Ok tt) items mid (claimed e (owner.Table which.Memory))) known.is was)
 
 -- the tables behind the claim of the place, and behind the move
-pub record MovedMemory (items : List Item) (t k r : Contents) (base : ℕ) (place : Extent) : Type 0 where
+pub record MovedMemory (items : List Item) (t k r : Contents) (base : ℕ) (place : RangeView) : Type 0 where
   pub claimed : k.memory ≡ t.memory
   pub table : r.memory ≡ record k.memory { place = base; room = 2 * k.memory.room }
   pub other : r.reserved ≡ k.reserved
@@ -130,25 +130,25 @@ pub record MovedMemory (items : List Item) (t k r : Contents) (base : ℕ) (plac
   pub is : place ≡ frames_at place.base (48 * room_of which.Memory items)
   pub ends : end_of place < 2 ^ 64
 
-pub memory-apart : {kernel : Extent} {items mid : List Item} {t k : Contents} {at : Aim} {base : ℕ} (place : Extent)
+pub memory-apart : {kernel : RangeView} {items mid : List Item} {t k : Contents} {at : Aim} {base : ℕ} (place : RangeView)
     → AreKept kernel items t at → AreKept kernel mid k at → k.memory ≡ t.memory → base ≡ place.base
     → IsTaken kernel mid (room_of which.Memory items) (moved_to which.Memory items) place.base
     → ¬ Overlaps k (record { base = base; size = 48 * room_in which.Memory k })
 memory-apart {kernel} {items} {mid} {k} {base} place kept after same here taken =
     let n = room_of which.Memory items in
-    let small : Extent = record { base = place.base; size = 48 * n } in
+    let small : RangeView = record { base = place.base; size = 48 * n } in
     let room : room_in which.Memory k ≡ n = ap (λ (s : Table). s.room) same ∙ room-is kept which.Memory in
     subst (λ (m : ℕ). ¬ Overlaps k (record { base = base; size = 48 * m })) (sym room)
     (rw here (away-apart kernel small mid k after.memory after.reserved
     (away-within kernel (frames_at place.base (48 * n)) small mid (frames-more small) taken.away)))
 
-module _ {kernel : Extent} {items mid : List Item} {t k r : Contents} {at : Aim} {base : ℕ} {place : Extent}
+module _ {kernel : RangeView} {items mid : List Item} {t k r : Contents} {at : Aim} {base : ℕ} {place : RangeView}
     (kept : AreKept kernel items t at) (m : MovedMemory items t k r base place) (keeps : Keeps items t mid k at) (room : ℕ) where
   memory-kept : AreKept kernel (mid ++ item.Grown which.Memory base room ∷ []) r at
   memory-kept =
       let after = keeps kernel kept in
       let same = sym (room-is after which.Memory) ∙ ap (λ (s : Table). s.room) m.claimed ∙ room-is kept which.Memory in
-      let size : place.size ≡ in_whole_frames (48 * room_of which.Memory items) = ap (λ (e : Extent). e.size) m.is in
+      let size : place.size ≡ in_whole_frames (48 * room_of which.Memory items) = ap (λ (e : RangeView). e.size) m.is in
       let ends = m.ends in
       let here = m.here in
       kept-grown after r which.Memory base room (rw same (omega (arith, size, ends, here))) m.table m.other
@@ -161,14 +161,14 @@ module _ {kernel : Extent} {items mid : List Item} {t k r : Contents} {at : Aim}
       memory-kept.reserved m.told)
 
 -- what a table leaves may be freed, where it is away from both tables
-free-by : {kernel : Extent} {is : List Item} {t : Contents} {at : Aim} (n : ℕ) (o : Option ℕ) {left : Option Extent}
+free-by : {kernel : RangeView} {is : List Item} {t : Contents} {at : Aim} (n : ℕ) (o : Option ℕ) {left : Option RangeView}
     → IsMemblock kernel is t at → ((q : ℕ) → o ≡ Some q → IsAway kernel (frames_at q (24 * n)) is) → left ≡ old_frames n o
     → IfSome left (λ range. AllowsFree is t at range)
 free-by n None whole away h = rw h tt
 free-by {kernel} n (Some q) whole away h = rw h (kernel, whole, away q refl)
 
 -- the same where the items are told by an equation
-module _ (base room : ℕ) {items mid next : List Item} {t k r : Contents} {at : Aim} {place : Extent}
+module _ (base room : ℕ) {items mid next : List Item} {t k r : Contents} {at : Aim} {place : RangeView}
     (m : MovedMemory items t k r base place) (keeps : Keeps items t mid k at)
     (is : next ≡ mid ++ item.Grown which.Memory base room ∷ []) where
   pub memory-keeps : Keeps items t next r at
@@ -178,7 +178,7 @@ module _ (base room : ℕ) {items mid next : List Item} {t k r : Contents} {at :
   memory-tells bytes = λ kernel kept spelled. rw is (memory-bytes kept m keeps room spelled bytes)
 
   -- what stands before the old place is freed
-  module _ (bytes : KeepsBytes items t mid k at) (twice : room ≡ 2 * room_of which.Memory items) {kernel : Extent}
+  module _ (bytes : KeepsBytes items t mid k at) (twice : room ≡ 2 * room_of which.Memory items) {kernel : RangeView}
       (whole : IsMemblock kernel items t at)
       (taken : IsTaken kernel mid (room_of which.Memory items) (moved_to which.Memory items) place.base) where
     memory-stands : IsMemblock kernel next r at
@@ -191,13 +191,13 @@ module _ (base room : ℕ) {items mid next : List Item} {t k r : Contents} {at :
           spelled = follows-stands _ _ _ _ _ _ _ moved.memory moved.reserved (memory-tells bytes kernel whole.kept whole.spelled);
         }
 
-    pub memory-free : (left : Option Extent) → left ≡ old_frames (room_of which.Memory items) (moved_to which.Memory items)
+    pub memory-free : (left : Option RangeView) → left ≡ old_frames (room_of which.Memory items) (moved_to which.Memory items)
         → IfSome left (λ range. AllowsFree next r at range)
     memory-free left old =
         free-by (room_of which.Memory items) (moved_to which.Memory items) memory-stands
         (λ q was. rw (is, twice, m.here) (taken.left q was)) old
 
-pub left-some : (items : List Item) (left : Option Extent) → left ≡ old_frames (room_of which.Memory items) (moved_to which.Memory items)
+pub left-some : (items : List Item) (left : Option RangeView) → left ≡ old_frames (room_of which.Memory items) (moved_to which.Memory items)
     → IfSome left (λ range. 0 < range.size)
 left-some items None h = tt
 left-some items (Some range) h = left-size which.Memory items (moved_to which.Memory items) range (sym h)

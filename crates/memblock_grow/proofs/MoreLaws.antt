@@ -1,7 +1,7 @@
 -- Whether a table is full, by the tables and by the items; and two growths are enough.
 use Rattle.std.proofs.Common.{◌≡◌, ℕ, ◌+◌, ◌^◌, ◌<◌, ◌≤◌, true, false, nat_lt, List, [], ◌∷◌, length, Result, Ok, Err, OnOk, refl, sym, ◌∙◌, ap, subst, arith}
 use Rattle.std.proofs.lemmas.Bool.Decides.{nat_tests}
-use Rattle.bm_base.specs.Extent.{Extent}
+use Rattle.bm_base.specs.Range.{RangeView}
 use Rattle.memblock_model.specs.declared.which.Which.{Which}
 use Rattle.memblock_model.specs.declared.which.Which.TheVariants as which
 use Rattle.memblock_model.specs.declared.item.Item.{Item}
@@ -24,7 +24,7 @@ use Rattle.memblock_grow.specs.Kept.{AreKept}
 use Rattle.memblock_grow.specs.More.{more_by, more_in, HasRoom, EndsInSpace}
 use Rattle.memblock_grow.proofs.KeptLaws.{records-are, room-is, values-are}
 
-module _ {kernel : Extent} {items : List Item} {t : Contents} {at : Aim} (kept : AreKept kernel items t at) where
+module _ {kernel : RangeView} {items : List Item} {t : Contents} {at : Aim} (kept : AreKept kernel items t at) where
   more-is : (w : Which) (m : More) → more_in m (table_in w t) ≡ more_by w m items
   more-is w (more.PiecesOf range) = ap (λ (f : Labels). pieces range f) (values-are kept w)
   more-is w more.Two = refl
@@ -58,11 +58,11 @@ full-begun m [] ends h =
 full-begun m (i ∷ is) ends h = tt
 
 -- two growths are enough, as the law over items has it
-module _ {kernel : Extent} {items : List Item} {t : Contents} {at : Aim} (kept : AreKept kernel items t at) (low : at.limit ≤ 2 ^ 64) where
+module _ {kernel : RangeView} {items : List Item} {t : Contents} {at : Aim} (kept : AreKept kernel items t at) (low : at.limit ≤ 2 ^ 64) where
   pub space-of : IsInSpace items
   space-of = record { ends = kept.ends; limit = subst (λ (n : ℕ). n ≤ 2 ^ 64) (sym kept.limit) low }
 
-  pub reserved-enough : (m : More) (avoid : Extent) → EndsInSpace m
+  pub reserved-enough : (m : More) (avoid : RangeView) → EndsInSpace m
       → HasRoomBehind which.Reserved (more_by which.Reserved m) (reserved_growth avoid) items
   reserved-enough (more.PiecesOf range) avoid ends = enough-claimed avoid range items space-of kept.fits (omega arith)
   reserved-enough more.Two avoid ends = enough-freed avoid items space-of kept.fits
@@ -71,7 +71,7 @@ module _ {kernel : Extent} {items : List Item} {t : Contents} {at : Aim} (kept :
   memory-enough (more.PiecesOf range) ends = enough-added range items space-of kept.fits (omega arith)
   memory-enough more.Two ends = enough-labelled items space-of kept.fits
 
-pub room-behind : (w : Which) (m : More) (growth : Change) (items : List Item) {kernel : Extent} {longer : List Item} {u : Contents}
+pub room-behind : (w : Which) (m : More) (growth : Change) (items : List Item) {kernel : RangeView} {longer : List Item} {u : Contents}
     {at : Aim} (r : Result (Unit {0}) Refusal) → HasRoomBehind w (more_by w m) growth items
     → Ends r items longer (grown w (more_by w m) growth) → AreKept kernel longer u at → OnOk r (HasRoom m (table_in w u))
 room-behind w m growth items (Ok x) law ends kept = room-of kept w m (ap (is_full w (more_by w m)) ends.1 ∙ law ends.0)

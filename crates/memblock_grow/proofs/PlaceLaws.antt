@@ -4,7 +4,7 @@ use Rattle.std.proofs.lemmas.Bool.{false_from_ne_true, eq-eqb}
 use Rattle.std.proofs.lemmas.Bool.Decides.{nat_tests}
 use Rattle.std.specs.Prelude.{unwrap_or}
 use Rattle.std.specs.Option.{option_map, SomeIff}
-use Rattle.bm_base.specs.Extent.{Extent}
+use Rattle.bm_base.specs.Range.{RangeView}
 use Rattle.address_runs.specs.Runs.{value_at}
 use Rattle.memblock_model.specs.declared.which.Which.{Which}
 use Rattle.memblock_model.specs.declared.which.Which.TheVariants as which
@@ -44,7 +44,7 @@ pub top-mirrorless : (items : List Item) (t : Contents) (up : Bool) (q : Query) 
 top-mirrorless items t up q knows none =
     top_in-mirrorless up (value_at t.memory.records) (value_at t.reserved.records) q (knows none)
 
-module _ {kernel : Extent} {items : List Item} {t : Contents} {at : Aim} (kept : AreKept kernel items t at) where
+module _ {kernel : RangeView} {items : List Item} {t : Contents} {at : Aim} (kept : AreKept kernel items t at) where
   -- the tables know of each mirror
   pub knows-mirrors : KnowsMirrors items t
   knows-mirrors none x = ap (λ (f : Labels). suits true (f x)) (values-are kept which.Memory) ∙ unmirrored items none x
@@ -63,21 +63,21 @@ module _ {kernel : Extent} {items : List Item} {t : Contents} {at : Aim} (kept :
       (best items (table_query (room_of which.Memory items) lo hi))
   between-is lo hi = rw (room-is kept which.Memory, best-is (table_query (room_of which.Memory items) lo hi)) refl
 
-  pub beside-is : (avoid : Extent) → frames_beside t at (room_in which.Reserved t) avoid
+  pub beside-is : (avoid : RangeView) → frames_beside t at (room_in which.Reserved t) avoid
       ≡ option_map (λ place. frames_at place (48 * room_of which.Reserved items))
       (place_beside avoid (room_of which.Reserved items) items)
   beside-is avoid = rw (room-is kept which.Reserved, best-is, best-is, kept.limit) refl
 
 -- what is found among frames is found
-pub record IsPlaceOf (o : Option ℕ) (n : ℕ) (place : Extent) : Type 0 where
+pub record IsPlaceOf (o : Option ℕ) (n : ℕ) (place : RangeView) : Type 0 where
   pub found : o ≡ Some place.base
   pub is : place ≡ frames_at place.base n
 
-pub mapped-some : (o : Option ℕ) (n : ℕ) (place : Extent) → option_map (λ (p : ℕ). frames_at p n) o ≡ Some place → IsPlaceOf o n place
+pub mapped-some : (o : Option ℕ) (n : ℕ) (place : RangeView) → option_map (λ (p : ℕ). frames_at p n) o ≡ Some place → IsPlaceOf o n place
 mapped-some None n place h = cc
 mapped-some (Some p) n place h =
     let is : frames_at p n ≡ place = cc in
-    let base : p ≡ place.base = ap (λ (e : Extent). e.base) is in
+    let base : p ≡ place.base = ap (λ (e : RangeView). e.base) is in
     record {
       found = ap (λ (x : ℕ). Some x) base;
       is = sym is ∙ ap (λ (x : ℕ). frames_at x n) base;
@@ -122,7 +122,7 @@ unfolding Moved
 far-by n built None h other far = absurd (other h)
 far-by n built (Some p) h other far = far p refl
 
-module _ {kernel : Extent} {items : List Item} {t : Contents} {at : Aim} (kept : AreKept kernel items t at) where
+module _ {kernel : RangeView} {items : List Item} {t : Contents} {at : Aim} (kept : AreKept kernel items t at) where
   -- what a table leaves is what the items say of its old place
   pub left-is : (w : Which) → left_frames (place_in w t) (room_in w t) ≡ old_frames (room_of w items) (moved_to w items)
   left-is w =
@@ -144,12 +144,12 @@ between-none t up room lo hi small large =
 abbrev sized : ℕ → ℕ → ℕ → Query
 sized lo hi size = record { lo = lo; hi = hi; size = size; align = 4096; node = None }
 
-new_some : (o : Option Extent) (base size : ℕ) → SomeIff o (base + size < 2 ^ 64) (record { base = base; size = size })
+new_some : (o : Option RangeView) (base size : ℕ) → SomeIff o (base + size < 2 ^ 64) (record { base = base; size = size })
     → base + size < 2 ^ 64 → o ≡ Some (record { base = base; size = size })
 new_some None base size h small = absurd (h small)
-new_some (Some e) base size h small = ap (λ (x : Extent). Some x) h.1
+new_some (Some e) base size h small = ap (λ (x : RangeView). Some x) h.1
 
-pub between-some : (t : Contents) (up : Bool) (room lo hi size base : ℕ) (o : Option Extent) → size ≡ in_whole_frames (48 * room)
+pub between-some : (t : Contents) (up : Bool) (room lo hi size base : ℕ) (o : Option RangeView) → size ≡ in_whole_frames (48 * room)
     → best_of t up (sized lo hi size) ≡ Some base → SomeIff o (base + size < 2 ^ 64) (record { base = base; size = size }) → hi < 2 ^ 64
     → o ≡ frames_between t up room lo hi
 between-some t up room lo hi size base o is found new small =

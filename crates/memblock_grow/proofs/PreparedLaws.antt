@@ -3,7 +3,7 @@ use Rattle.std.proofs.Common.{◌≡◌, ℕ, ◌*◌, Bool, false, ◌||◌, Li
 use Rattle.std.proofs.lemmas.Bool.Decides.{nat_tests}
 use Rattle.std.proofs.lemmas.List.{append-nil}
 use Rattle.std.proofs.Math.Bool.{or_assoc}
-use Rattle.bm_base.specs.Extent.{Extent, covers}
+use Rattle.bm_base.specs.Range.{RangeView, covers}
 use Rattle.phys_store.specs.Bytes.{Stored, is_ready}
 use Rattle.memblock_model.specs.declared.which.Which.{Which}
 use Rattle.memblock_model.specs.declared.item.Item.{Item}
@@ -38,7 +38,7 @@ prepares-item i first is none same =
     prepares-then first (record { more = i ∷ []; goes_on = is; each = λ x. rw (none x) (same x) })
 
 -- and with one place more
-pub prepares-with : {place : Extent} {items longer : List Item} {s p t : List Stored}
+pub prepares-with : {place : RangeView} {items longer : List Item} {s p t : List Stored}
     → ((x : ℕ) → is_ready p x ≡ (covers place x || is_ready s x)) → Prepares items longer p t → PreparesWith place items longer s t
 prepares-with first h = record {
   more = h.more;
@@ -46,7 +46,7 @@ prepares-with first h = record {
   each = λ x. rw (h.each x, first x) refl;
 }
 
-with-then : {place : Extent} {items mid last : List Item} {s t u : List Stored} → Prepares items mid s t
+with-then : {place : RangeView} {items mid last : List Item} {s t u : List Stored} → Prepares items mid s t
     → PreparesWith place mid last t u → PreparesWith place items last s u
 with-then {place} {s} first second = record {
   more = first.more ++ second.more;
@@ -59,7 +59,7 @@ with-then {place} {s} first second = record {
 join : (g c s : Bool) → (g || (c || s)) ≡ ((g || (c || false)) || s)
 join g c s = grind arith
 
-pub with-growth : (w : Which) (n : ℕ) {items mid longer : List Item} {base room : ℕ} {place : Extent} {s t u : List Stored}
+pub with-growth : (w : Which) (n : ℕ) {items mid longer : List Item} {base room : ℕ} {place : RangeView} {s t u : List Stored}
     → PreparesWith place items mid s t → longer ≡ mid ++ item.Grown w base room ∷ [] → base ≡ place.base → room ≡ 2 * n
     → place ≡ frames_at place.base (48 * n) → ((x : ℕ) → is_ready u x ≡ is_ready t x) → Prepares items longer s u
 with-growth w n {base} {room} {place} {s} h is here twice frames same =
@@ -74,7 +74,7 @@ with-growth w n {base} {room} {place} {s} h is here twice frames same =
           (join (is_grown_over h.more x) (grows_over i x) (is_ready s x));
     }
 
-pub prepares-growth : (w : Which) (n : ℕ) {items longer : List Item} {base room : ℕ} {place : Extent} {s t : List Stored}
+pub prepares-growth : (w : Which) (n : ℕ) {items longer : List Item} {base room : ℕ} {place : RangeView} {s t : List Stored}
     → longer ≡ items ++ item.Grown w base room ∷ [] → base ≡ place.base → room ≡ 2 * n → place ≡ frames_at place.base (48 * n)
     → ((x : ℕ) → is_ready t x ≡ (covers place x || is_ready s x)) → Prepares items longer s t
 prepares-growth w n {items} {t} is here twice frames each =
@@ -82,7 +82,7 @@ prepares-growth w n {items} {t} is here twice frames each =
     (λ x. refl)
 
 -- by the end of a call: what is exact is so at each end
-abbrev nowhere : Extent
+abbrev nowhere : RangeView
 nowhere = record { base = 0; size = 0 }
 
 pub by-exact : {T : Type 0} (r : Result T Refusal) {items longer : List Item} {s t : List Stored} → Prepares items longer s t

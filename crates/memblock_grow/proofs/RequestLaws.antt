@@ -1,6 +1,6 @@
 -- The place that an allocation finds by the tables is the one that the items say, and how the claim of it ends.
 use Rattle.std.proofs.Common.{◌≡◌, ℕ, ◌+◌, ◌^◌, ◌<◌, Bool, true, false, Option, Some, None, List, [], ◌∷◌, Result, Ok, Err, IsErrAnd, refl, sym, ◌∙◌, ap, arith}
-use Rattle.bm_base.specs.Extent.{Extent}
+use Rattle.bm_base.specs.Range.{RangeView}
 use Rattle.memblock_model.specs.declared.owner.Owner.{Owner}
 use Rattle.memblock_model.specs.declared.item.Item.{Item}
 use Rattle.memblock_model.specs.Items.{limit_of}
@@ -35,7 +35,7 @@ nodes-mirrorless items t up r limit lo knows none =
     rw (top-mirrorless items t up (attempt r limit lo true r.node).query knows none)
     (anywhere-mirrorless items t up r limit lo r.node knows none)
 
-module _ {kernel : Extent} {items : List Item} {t : Contents} {at : Aim} (kept : AreKept kernel items t at) where
+module _ {kernel : RangeView} {items : List Item} {t : Contents} {at : Aim} (kept : AreKept kernel items t at) where
   first-is : (all : List Attempt) → first_of t at.upward all ≡ first_top items all
   first-is [] = refl
   first-is (a ∷ rest) = rw (top-is kept a, first-is rest) refl
@@ -49,11 +49,11 @@ module _ {kernel : Extent} {items : List Item} {t : Contents} {at : Aim} (kept :
   place-small r {place} found small =
       let high = place-within r items place found in let limit = kept.limit in omega (arith, high, limit, small)
 
-pub place-allowed : {kernel : Extent} {items : List Item} {t : Contents} {at : Aim} (r : Request) {place : ℕ} (who : Owner)
+pub place-allowed : {kernel : RangeView} {items : List Item} {t : Contents} {at : Aim} (r : Request) {place : ℕ} (who : Owner)
     → IsMemblock kernel items t at → HasBegun items → place_for r items ≡ Some place
     → AllowsClaim items t at (record { base = place; size = r.size }) who
 place-allowed {kernel} {items} r {place} who whole begun found =
-    let range : Extent = record { base = place; size = r.size } in (
+    let range : RangeView = record { base = place; size = r.size } in (
       kernel,
       whole,
       may-away kernel items range who begun

@@ -1,7 +1,7 @@
 -- The growth of the reserved table: where it goes, what it writes, and what it makes of the tables and of each byte.
 use Rattle.std.proofs.Common.{◌≡◌, ℕ, ◌+◌, ◌*◌, ◌^◌, ◌<◌, ◌≤◌, ◌||◌, Option, Some, None, List, [], ◌∷◌, ◌++◌, length, Result, Ok, Err, IsErrAnd, refl, sym, ◌∙◌, ap, subst, append_assoc, arith}
 use Rattle.std.specs.Option.{option_map}
-use Rattle.bm_base.specs.Extent.{Extent, end_of, covers}
+use Rattle.bm_base.specs.Range.{RangeView, end_of, covers}
 use Rattle.phys_store.specs.Bytes.{Stored, byte_of, is_ready}
 use Rattle.address_runs.specs.Runs.{value_at}
 use Rattle.address_runs.specs.Edits.{covered, uncovered}
@@ -38,28 +38,28 @@ use Rattle.memblock_grow.proofs.ChangeLaws.{handed}
 use Rattle.memblock_grow.proofs.PreparedLaws.{prepares-growth, prepares-item}
 
 -- frames of a table aren't empty
-pub frames-some : (w : Which) (items : List Item) {place : Extent} → place ≡ frames_at place.base (48 * room_of w items) → 0 < place.size
+pub frames-some : (w : Which) (items : List Item) {place : RangeView} → place ≡ frames_at place.base (48 * room_of w items) → 0 < place.size
 frames-some w items {place} is =
     let least = room_of-least w items in
-    let size : place.size ≡ in_whole_frames (48 * room_of w items) = ap (λ (e : Extent). e.size) is in
+    let size : place.size ≡ in_whole_frames (48 * room_of w items) = ap (λ (e : RangeView). e.size) is in
     omega (arith, least, size)
 
 -- what a table leaves, where it leaves anything
-pub left-size : (w : Which) (items : List Item) (o : Option ℕ) (range : Extent) → old_frames (room_of w items) o ≡ Some range
+pub left-size : (w : Which) (items : List Item) (o : Option ℕ) (range : RangeView) → old_frames (room_of w items) o ≡ Some range
     → 0 < range.size
 left-size w items None range h = cc
 left-size w items (Some p) range h =
     let is : frames_at p (24 * room_of w items) ≡ range = cc in
-    let size : in_whole_frames (24 * room_of w items) ≡ range.size = ap (λ (e : Extent). e.size) is in
+    let size : in_whole_frames (24 * room_of w items) ≡ range.size = ap (λ (e : RangeView). e.size) is in
     let least = room_of-least w items in
     omega (arith, size, least)
 
 -- the place that the search found beside the range
-pub record IsBeside (items : List Item) (avoid place : Extent) : Type 0 where
+pub record IsBeside (items : List Item) (avoid place : RangeView) : Type 0 where
   pub found : place_beside avoid (room_of which.Reserved items) items ≡ Some place.base
   pub is : place ≡ frames_at place.base (48 * room_of which.Reserved items)
 
-module _ {kernel : Extent} {items : List Item} {t : Contents} {at : Aim} (kept : AreKept kernel items t at) where
+module _ {kernel : RangeView} {items : List Item} {t : Contents} {at : Aim} (kept : AreKept kernel items t at) where
   room-least : (w : Which) → 128 ≤ room_in w t
   room-least w = omega (arith, room-is kept w, room_of-least w items)
 
@@ -69,19 +69,19 @@ module _ {kernel : Extent} {items : List Item} {t : Contents} {at : Aim} (kept :
   pub twice-is : (w : Which) {head : Head} → head ≡ head_of (table_in w t) → 2 * head.room ≡ 2 * room_of w items
   twice-is w is = ap (λ (h : Head). 2 * h.room) is ∙ ap (λ (n : ℕ). 2 * n) (room-is kept w)
 
-  pub left-found : (w : Which) {head : Head} {o : Option Extent} → head ≡ head_of (table_in w t) → o ≡ left_frames head.place head.room
+  pub left-found : (w : Which) {head : Head} {o : Option RangeView} → head ≡ head_of (table_in w t) → o ≡ left_frames head.place head.room
       → o ≡ old_frames (room_of w items) (moved_to w items)
   left-found w said is = is ∙ ap (λ (h : Head). left_frames h.place h.room) said ∙ left-is kept w
 
   -- a place that nobody has is one piece
-  place-one : (place : Extent) → Unclaimed (owner_of items) place → 0 < place.size → end_of place < 2 ^ 64
+  place-one : (place : RangeView) → Unclaimed (owner_of items) place → 0 < place.size → end_of place < 2 ^ 64
       → pieces place (value_at t.reserved.records) ≡ 1
   place-one place free some ends =
       one-piece place (value_at t.reserved.records) (omega arith) some
       (λ x low high. ap (λ (f : Labels). f x) (values-are kept which.Reserved) ∙ ap without_owner (free x (covers-to place x low high)))
 
   -- there is room for the claim of such a place, and for two records more
-  pub claim-room : (p r : Contents) {base : ℕ} (place : Extent) → p.reserved ≡ t.reserved
+  pub claim-room : (p r : Contents) {base : ℕ} (place : RangeView) → p.reserved ≡ t.reserved
       → r.reserved ≡ record p.reserved { place = base; room = 2 * p.reserved.room } → Unclaimed (owner_of items) place → 0 < place.size
       → end_of place < 2 ^ 64 → length r.reserved.records + pieces place (value_at r.reserved.records) + 2 ≤ r.reserved.room
   claim-room p r place second table free some ends =
@@ -91,12 +91,12 @@ module _ {kernel : Extent} {items : List Item} {t : Contents} {at : Aim} (kept :
       rw (table, second) (omega (arith, one, few, least))
 
   -- the place beside the range, by the tables and by the items
-  beside-along : (avoid : Extent) {head : Head} {o : Option Extent} → head ≡ head_of t.reserved → o ≡ frames_beside t at head.room avoid
+  beside-along : (avoid : RangeView) {head : Head} {o : Option RangeView} → head ≡ head_of t.reserved → o ≡ frames_beside t at head.room avoid
       → o ≡ option_map (λ place. frames_at place (48 * room_of which.Reserved items))
       (place_beside avoid (room_of which.Reserved items) items)
   beside-along avoid said is = is ∙ ap (λ (h : Head). frames_beside t at h.room avoid) said ∙ beside-is kept avoid
 
-  pub beside-found : {avoid place : Extent} {head : Head} {o : Option Extent} → head ≡ head_of t.reserved
+  pub beside-found : {avoid place : RangeView} {head : Head} {o : Option RangeView} → head ≡ head_of t.reserved
       → o ≡ frames_beside t at head.room avoid → o ≡ Some place → IsBeside items avoid place
   beside-found {avoid} {place} said is some =
       let n = room_of which.Reserved items in
@@ -104,7 +104,7 @@ module _ {kernel : Extent} {items : List Item} {t : Contents} {at : Aim} (kept :
       record { found = known.found; is = known.is }
 
   -- where no place was found
-  pub growth-none : (avoid : Extent) {head : Head} {o : Option Extent} → head ≡ head_of t.reserved
+  pub growth-none : (avoid : RangeView) {head : Head} {o : Option RangeView} → head ≡ head_of t.reserved
       → o ≡ frames_beside t at head.room avoid → o ≡ None
       → Ends {T = Unit {0}} (Err (refusal.NoGapForTable which.Reserved head.room)) items items (reserved_growth avoid)
   unfolding reserved_growth reserved_growth_at
@@ -115,11 +115,11 @@ module _ {kernel : Extent} {items : List Item} {t : Contents} {at : Aim} (kept :
       rw (ap (λ (h : Head). h.room) said ∙ room-is kept which.Reserved, nowhere) (Ends-refused (Unit {0}) which.Reserved m items)
 
 -- where one was: the items of the growth
-abbrev pub moved_items : List Item → ℕ → ℕ → Extent → List Item
+abbrev pub moved_items : List Item → ℕ → ℕ → RangeView → List Item
 moved_items items base room place =
     (items ++ item.Grown which.Reserved base room ∷ []) ++ item.Claim place (owner.Table which.Reserved) ∷ []
 
-abbrev pub freed_by : Option Extent → List Item
+abbrev pub freed_by : Option RangeView → List Item
 freed_by None = []
 freed_by (Some range) = item.Free range ∷ []
 
@@ -127,12 +127,12 @@ left-by : (n : ℕ) (o : Option ℕ) → left n o ≡ freed_by (old_frames n o)
 left-by n None = refl
 left-by n (Some p) = refl
 
-module _ {items : List Item} {avoid place : Extent} (known : IsBeside items avoid place) where
+module _ {items : List Item} {avoid place : RangeView} (known : IsBeside items avoid place) where
   pub beside-free : Unclaimed (owner_of items) place
   beside-free = rw known.is (beside-new items avoid (room_of which.Reserved items) place.base known.found).free
 
   -- it may be moved to
-  pub beside-apart : {kernel : Extent} {t : Contents} {at : Aim} (p : Contents) {base : ℕ} → AreKept kernel items t at
+  pub beside-apart : {kernel : RangeView} {t : Contents} {at : Aim} (p : Contents) {base : ℕ} → AreKept kernel items t at
       → Seated kernel items → base ≡ place.base → p.memory ≡ t.memory → p.reserved ≡ t.reserved
       → ¬ Overlaps p (record { base = base; size = 48 * room_in which.Reserved p })
   beside-apart {kernel} p {base} kept placed here first second =
@@ -155,7 +155,7 @@ module _ {items : List Item} {avoid place : Extent} (known : IsBeside items avoi
       rw (handed r refusal.Memory is, same, growth-some) (Ends-wanting (Unit {0}) items
       (step (reserved_items (room_of which.Reserved items) (moved_to which.Reserved items) place.base)) (omega arith))
 
-  pub written : (new : List Item) (base room : ℕ) (old : Option Extent) → base ≡ place.base → room ≡ 2 * room_of which.Reserved items
+  pub written : (new : List Item) (base room : ℕ) (old : Option RangeView) → base ≡ place.base → room ≡ 2 * room_of which.Reserved items
       → old ≡ old_frames (room_of which.Reserved items) (moved_to which.Reserved items)
       → new ≡ moved_items items base room place ++ freed_by old → Ends {T = Unit {0}} (Ok tt) items new (reserved_growth avoid)
   unfolding reserved_items
@@ -165,12 +165,12 @@ module _ {items : List Item} {avoid place : Extent} (known : IsBeside items avoi
       let c : Item = item.Claim place (owner.Table which.Reserved) in
       let all : new ≡ items ++ reserved_items n (moved_to which.Reserved items) place.base =
       is ∙ append_assoc (items ++ g ∷ []) (c ∷ []) (freed_by old) ∙ append_assoc items (g ∷ []) (c ∷ freed_by old)
-      ∙ rw (here, twice, left, left-by n (moved_to which.Reserved items)) (ap (λ (e : Extent). items ++ item.Grown which.Reserved place.base
+      ∙ rw (here, twice, left, left-by n (moved_to which.Reserved items)) (ap (λ (e : RangeView). items ++ item.Grown which.Reserved place.base
       (2 * n) ∷ (item.Claim e (owner.Table which.Reserved) ∷ freed_by (old_frames n (moved_to which.Reserved items)))) known.is) in
       rw (growth-some, all) (Ends-step {T = Unit {0}} tt items (reserved_items n (moved_to which.Reserved items) place.base))
 
 -- the tables after the move, and after the claim of the new place
-pub record Moved (items : List Item) (t p r v : Contents) (base : ℕ) (place : Extent) : Type 0 where
+pub record Moved (items : List Item) (t p r v : Contents) (base : ℕ) (place : RangeView) : Type 0 where
   pub first : p.memory ≡ t.memory
   pub second : p.reserved ≡ t.reserved
   pub bytes : (x : ℕ) → byte_of p.store x ≡ byte_of t.store x
@@ -184,7 +184,7 @@ pub record Moved (items : List Item) (t p r v : Contents) (base : ℕ) (place : 
   pub is : place ≡ frames_at place.base (48 * room_of which.Reserved items)
   pub ends : end_of place < 2 ^ 64
 
-module _ {kernel : Extent} {items : List Item} {t p r v : Contents} {at : Aim} {base : ℕ} {place : Extent}
+module _ {kernel : RangeView} {items : List Item} {t p r v : Contents} {at : Aim} {base : ℕ} {place : RangeView}
     (kept : AreKept kernel items t at) (m : Moved items t p r v base place) (free : Unclaimed (owner_of items) place) (room : ℕ) where
   before : AreKept kernel items p at
   before = kept-same kept p m.first m.second
@@ -194,7 +194,7 @@ module _ {kernel : Extent} {items : List Item} {t p r v : Contents} {at : Aim} {
 
   moved-kept : AreKept kernel (items ++ item.Grown which.Reserved base room ∷ []) r at
   moved-kept =
-      let size : place.size ≡ in_whole_frames (48 * room_of which.Reserved items) = ap (λ (e : Extent). e.size) m.is in
+      let size : place.size ≡ in_whole_frames (48 * room_of which.Reserved items) = ap (λ (e : RangeView). e.size) m.is in
       let ends = m.ends in
       let here = m.here in
       kept-grown before r which.Reserved base room (omega (arith, size, ends, here)) m.table m.other
@@ -218,9 +218,9 @@ module _ {kernel : Extent} {items : List Item} {t p r v : Contents} {at : Aim} {
 pub record Claimed (items longer : List Item) (t v : Contents) (at : Aim) : Type 0 where
   pub kept : Keeps items t longer v at
   pub bytes : KeepsBytes items t longer v at
-  pub room : (kernel : Extent) → AreKept kernel items t at → length v.reserved.records + 2 ≤ v.reserved.room
+  pub room : (kernel : RangeView) → AreKept kernel items t at → length v.reserved.records + 2 ≤ v.reserved.room
 
-pub claimed : (room : ℕ) {items longer : List Item} {t p r v : Contents} {at : Aim} {base : ℕ} {place : Extent}
+pub claimed : (room : ℕ) {items longer : List Item} {t p r v : Contents} {at : Aim} {base : ℕ} {place : RangeView}
     → longer ≡ moved_items items base room place → Moved items t p r v base place → Unclaimed (owner_of items) place
     → Claimed items longer t v at
 claimed room is m free = record {
@@ -230,11 +230,11 @@ claimed room is m free = record {
 }
 
 -- what stands once the old place is freed, too
-module _ (range : Extent) {items longer new : List Item} {t v : Contents} (u : Contents) {at : Aim}
+module _ (range : RangeView) {items longer new : List Item} {t v : Contents} (u : Contents) {at : Aim}
     (is : new ≡ longer ++ item.Free range ∷ []) (c : Claimed items longer t v at)
     (table : u.reserved ≡ record v.reserved { records = records_for (uncovered range (value_at v.reserved.records)) })
     (other : u.memory ≡ v.memory) (ends : end_of range < 2 ^ 64) where
-  freed-kept : (kernel : Extent) → AreKept kernel items t at → AreKept kernel (longer ++ item.Free range ∷ []) u at
+  freed-kept : (kernel : RangeView) → AreKept kernel items t at → AreKept kernel (longer ++ item.Free range ∷ []) u at
   freed-kept kernel kept = kept-free (c.kept kernel kept) u range ends (c.room kernel kept) table other
 
   pub freed-keeps : Keeps items t new u at
@@ -252,7 +252,7 @@ pub still-bytes : {items longer : List Item} {t : Contents} (p : Contents) {at :
 still-bytes p none same = λ kernel kept spelled. rw none (follows-still _ _ _ _ _ _ kept.memory kept.reserved spelled same)
 
 -- the move prepares the frames of the place, and the claim of them nothing
-pub prepares-moved : (base room : ℕ) {items longer : List Item} {place : Extent} {s t : List Stored}
+pub prepares-moved : (base room : ℕ) {items longer : List Item} {place : RangeView} {s t : List Stored}
     → longer ≡ moved_items items base room place → base ≡ place.base → room ≡ 2 * room_of which.Reserved items
     → place ≡ frames_at place.base (48 * room_of which.Reserved items)
     → ((x : ℕ) → is_ready t x ≡ (covers place x || is_ready s x)) → Prepares items longer s t

@@ -1,7 +1,7 @@
 -- Small ranges over the built-in places and beside them, computed.
 use Rattle.std.proofs.Common.{List, [], ◌∷◌, refl, arith}
 use Rattle.std.proofs.lemmas.Bool.Decides.{nat_tests}
-use Rattle.bm_base.specs.Extent.{Extent}
+use Rattle.bm_base.specs.Range.{RangeView}
 use Rattle.memblock_model.specs.declared.owner.Owner.TheVariants as owner
 use Rattle.memblock_model.specs.declared.which.Which.TheVariants as which
 use Rattle.memblock_model.specs.declared.item.Item.{Item}
@@ -9,7 +9,7 @@ use Rattle.memblock_model.specs.declared.item.Item.TheVariants as item
 use Rattle.memblock_grow.specs.Touch.{TouchesTable}
 
 -- four frames from 64 KiB on, of which the tables have the last two
-abbrev image : Extent
+abbrev image : RangeView
 image = record { base = 65536; size = 16384 }
 
 abbrev begun : List Item

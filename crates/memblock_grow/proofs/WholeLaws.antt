@@ -1,6 +1,6 @@
 -- What holds between calls holds behind each.
 use Rattle.std.proofs.Common.{List}
-use Rattle.bm_base.specs.Extent.{Extent}
+use Rattle.bm_base.specs.Range.{RangeView}
 use Rattle.memblock_model.specs.declared.item.Item.{Item}
 use Rattle.memblock_ranges.specs.Tables.{Contents}
 use Rattle.growth_model.proofs.SoundLaws.{Stands}
@@ -8,7 +8,7 @@ use Rattle.growth_model.proofs.FollowLaws.{follows-stands, follows-then}
 use Rattle.memblock_grow.specs.declared.aim.Aim.{Aim}
 use Rattle.memblock_grow.specs.Kept.{IsMemblock, Keeps, KeepsBytes}
 
-pub whole-on : {kernel : Extent} {items longer : List Item} {t u : Contents} {at : Aim} → IsMemblock kernel items t at
+pub whole-on : {kernel : RangeView} {items longer : List Item} {t u : Contents} {at : Aim} → IsMemblock kernel items t at
     → Keeps items t longer u at → KeepsBytes items t longer u at → Stands kernel longer → IsMemblock kernel longer u at
 whole-on {kernel} m keeps bytes stands =
     let kept = keeps kernel m.kept in

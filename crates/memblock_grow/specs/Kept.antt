@@ -1,6 +1,6 @@
 -- The tables are those that the items stand for, and lie in memory soundly: what holds between calls, and what each call keeps.
 use Rattle.std.specs.Prelude.{◌≡◌, ℕ, ◌+◌, ◌*◌, ◌^◌, ◌<◌, Bool, Some, List, IsTrue}
-use Rattle.bm_base.specs.Extent.{Extent}
+use Rattle.bm_base.specs.Range.{RangeView}
 use Rattle.address_runs.specs.Edits.{NothingFrom}
 use Rattle.phys_store.specs.Bytes.{Stored, byte_of, is_ready}
 use Rattle.memblock_model.specs.declared.which.Which.{Which}
@@ -21,7 +21,7 @@ aimed limit upward = record { limit = limit; upward = upward }
 
 -- the tables, the limit and the direction of searches are those of the items, each table has room for its records, and the frames of a
 -- place that a table moved to end in the address space
-pub record AreKept (kernel : Extent) (items : List Item) (t : Contents) (at : Aim) : Type 0 where
+pub record AreKept (kernel : RangeView) (items : List Item) (t : Contents) (at : Aim) : Type 0 where
   pub memory : t.memory ≡ table_for which.Memory kernel items
   pub reserved : t.reserved ≡ table_for which.Reserved kernel items
   pub limit : limit_of items ≡ at.limit
@@ -31,7 +31,7 @@ pub record AreKept (kernel : Extent) (items : List Item) (t : Contents) (at : Ai
   pub far : (w : Which) (place : ℕ) → moved_to w items ≡ Some place → place + in_whole_frames (24 * room_of w items) < 2 ^ 64
 
 -- and they lie in the kernel's image or in places of their own, in the bytes that spell them
-pub record IsMemblock (kernel : Extent) (items : List Item) (t : Contents) (at : Aim) : Type 0 where
+pub record IsMemblock (kernel : RangeView) (items : List Item) (t : Contents) (at : Aim) : Type 0 where
   pub image : IsImage kernel
   pub kept : AreKept kernel items t at
   pub placed : HasBegun items → Seated kernel items
@@ -39,22 +39,22 @@ pub record IsMemblock (kernel : Extent) (items : List Item) (t : Contents) (at :
 
 -- this holds of some range as the kernel's image; of one by which the claim, or the freeing, is allowed
 abbrev pub IsKept : List Item → Contents → Aim → Type 0
-IsKept items t at = (kernel : Extent) × IsMemblock kernel items t at
+IsKept items t at = (kernel : RangeView) × IsMemblock kernel items t at
 
-abbrev pub AllowsClaim : List Item → Contents → Aim → Extent → Owner → Type 0
-AllowsClaim items t at range who = (kernel : Extent) × IsMemblock kernel items t at × MayClaim kernel items range who
+abbrev pub AllowsClaim : List Item → Contents → Aim → RangeView → Owner → Type 0
+AllowsClaim items t at range who = (kernel : RangeView) × IsMemblock kernel items t at × MayClaim kernel items range who
 
-abbrev pub AllowsFree : List Item → Contents → Aim → Extent → Type 0
-AllowsFree items t at range = (kernel : Extent) × IsMemblock kernel items t at × IsAway kernel range items
+abbrev pub AllowsFree : List Item → Contents → Aim → RangeView → Type 0
+AllowsFree items t at range = (kernel : RangeView) × IsMemblock kernel items t at × IsAway kernel range items
 
 -- the tables stay those of the items, wherever the kernel's image lies
 abbrev pub Keeps : List Item → Contents → List Item → Contents → Aim → Type 0
-Keeps items t longer u at = (kernel : Extent) → AreKept kernel items t at → AreKept kernel longer u at
+Keeps items t longer u at = (kernel : RangeView) → AreKept kernel items t at → AreKept kernel longer u at
 
 -- each byte becomes what the further items make of it
 abbrev pub KeepsBytes : List Item → Contents → List Item → Contents → Aim → Type 0
 KeepsBytes items t longer u at =
-    (kernel : Extent) → AreKept kernel items t at → AreSpelled t.memory t.reserved (byte_of t.store)
+    (kernel : RangeView) → AreKept kernel items t at → AreSpelled t.memory t.reserved (byte_of t.store)
     → Follows kernel items longer (byte_of t.store) (byte_of u.store)
 
 -- each byte outside the tables is as it was

@@ -1,6 +1,6 @@
 -- How many records an edit may add, and whether a table has room for them.
 use Rattle.std.specs.Prelude.{ℕ, ◌+◌, ◌^◌, ◌<◌, ◌≤◌, List, length}
-use Rattle.bm_base.specs.Extent.{end_of}
+use Rattle.bm_base.specs.Range.{end_of}
 use Rattle.address_runs.specs.Runs.{value_at}
 use Rattle.memblock_model.specs.declared.which.Which.{Which}
 use Rattle.memblock_model.specs.declared.item.Item.{Item}

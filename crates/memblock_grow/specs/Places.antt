@@ -1,7 +1,7 @@
 -- The searches of an allocation and of a table that grows, said of the tables themselves.
 use Rattle.std.specs.Prelude.{◌≡◌, ℕ, ◌*◌, ◌==◌, Bool, true, false, min, if◌then◌else◌, Option, Some, None, List, [], ◌∷◌}
 use Rattle.std.specs.Option.{option_map, option_or}
-use Rattle.bm_base.specs.Extent.{Extent, end_of}
+use Rattle.bm_base.specs.Range.{RangeView, end_of}
 use Rattle.address_runs.specs.Runs.{value_at}
 use Rattle.memblock_model.specs.declared.query.Query.{Query}
 use Rattle.memblock_model.specs.declared.item.Item.{Item}
@@ -28,17 +28,17 @@ abbrev pub best_of : Contents → Bool → Query → Option ℕ
 best_of t up q = best_in up (value_at t.memory.records) (value_at t.reserved.records) q
 
 -- the frames of twice as many records at the best place in a window
-abbrev pub frames_between : Contents → Bool → ℕ → ℕ → ℕ → Option Extent
+abbrev pub frames_between : Contents → Bool → ℕ → ℕ → ℕ → Option RangeView
 frames_between t up room lo hi = option_map (λ place. frames_at place (48 * room)) (best_of t up (table_query room lo hi))
 
 -- above the range, else below it
-abbrev pub frames_beside : Contents → Aim → ℕ → Extent → Option Extent
+abbrev pub frames_beside : Contents → Aim → ℕ → RangeView → Option RangeView
 frames_beside t aim room avoid = option_map (λ place. frames_at place (48 * room)) (option_or
     (best_of t aim.upward (table_query room (end_of avoid) aim.limit))
     (best_of t aim.upward (table_query room 0 (min avoid.base aim.limit))))
 
 -- the frames that a table leaves when it moves. A table with room for 128 records never moved
-abbrev pub left_frames : ℕ → ℕ → Option Extent
+abbrev pub left_frames : ℕ → ℕ → Option RangeView
 left_frames place room = if room == 128 then None else Some (frames_at place (24 * room))
 
 -- the place of the first search that has one

@@ -1,6 +1,6 @@
 -- Which addresses are prepared behind a call, to be written without wanting memory: those that were, and the frames that tables grew into.
 use Rattle.std.specs.Prelude.{◌≡◌, ℕ, ◌*◌, Bool, false, ◌||◌, List, [], ◌∷◌, ◌++◌, Result, Ok, Err}
-use Rattle.bm_base.specs.Extent.{Extent, covers}
+use Rattle.bm_base.specs.Range.{RangeView, covers}
 use Rattle.phys_store.specs.Bytes.{Stored, is_ready}
 use Rattle.memblock_model.specs.declared.item.Item.{Item}
 use Rattle.memblock_model.specs.declared.item.Item.TheVariants as item
@@ -25,7 +25,7 @@ pub record Prepares (items longer : List Item) (s t : List Stored) : Type 0 wher
   pub each : (x : ℕ) → is_ready t x ≡ (is_grown_over more x || is_ready s x)
 
 -- the same, and one place more
-pub record PreparesWith (place : Extent) (items longer : List Item) (s t : List Stored) : Type 0 where
+pub record PreparesWith (place : RangeView) (items longer : List Item) (s t : List Stored) : Type 0 where
   pub more : List Item
   pub goes_on : longer ≡ items ++ more
   pub each : (x : ℕ) → is_ready t x ≡ (is_grown_over more x || (covers place x || is_ready s x))
@@ -36,4 +36,4 @@ abbrev pub PreparesBy : {T : Type 0} → Result T Refusal → List Item → List
 PreparesBy (Ok x) items longer s t = Prepares items longer s t
 PreparesBy (Err refusal.NoGap) items longer s t = Prepares items longer s t
 PreparesBy (Err (refusal.NoGapForTable w room)) items longer s t = Prepares items longer s t
-PreparesBy (Err refusal.Memory) items longer s t = (place : Extent) × PreparesWith place items longer s t
+PreparesBy (Err refusal.Memory) items longer s t = (place : RangeView) × PreparesWith place items longer s t

@@ -6,7 +6,7 @@ ghost use Rattle.phys_store.specs.Bytes.{byte_of, is_ready, AreReady};
 ghost use Rattle.memblock_model.specs.Labels.{plain_label, with_node, with_mirror};
 ghost use Rattle.memblock_model.specs.Items.{trimmed};
 ghost use Rattle.memblock_model.specs.Tables.{records_for, pieces};
-ghost use Rattle.bm_base.specs.Extent.{end_of};
+ghost use Rattle.bm_base.specs.Range.{end_of};
 ghost use Rattle.memblock_ranges.specs.Tables.{table_in, other_in, records_in, room_in, Overlaps, StandsIn};
 ghost use Rattle.growth_model.specs.Bytes.{shown_by, left_by};
 ghost use Rattle.memblock_grow.specs.Kept.{AreTold};

@@ -7,7 +7,7 @@
 //! A call that takes memory of the program's own may want it for any of its steps. It ends then before that step, with all of
 //! that true.
 ghost use Rattle.std.specs.Prelude.{◌≡◌, ℕ, ◌+◌, ◌-◌, ◌*◌, ◌^◌, ◌<◌, ◌≤◌, ◌↔◌, ◌||◌, Bool, false, max, Some, [], ◌++◌, length, OnOk, OnErr, IfOk, IfSome, IsOk, IsTrue};
-ghost use Rattle.bm_base.specs.Extent.{covers};
+ghost use Rattle.bm_base.specs.Range.{covers};
 ghost use Rattle.address_runs.specs.Edits.{NothingFrom};
 ghost use Rattle.phys_store.specs.Bytes.{AreReady, byte_of, is_ready, bytes_at};
 ghost use Rattle.memblock_model.specs.declared.which.Which.{Which as AnyWhich};

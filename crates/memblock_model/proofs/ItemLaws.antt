@@ -4,7 +4,7 @@ use Rattle.std.proofs.lemmas.List.Sums.{fold-append}
 use Rattle.std.specs.List.{fold}
 use Rattle.std.specs.Prelude.{unwrap_or}
 use Rattle.std.specs.Option.{option_map}
-use Rattle.bm_base.specs.Extent.{Extent, covers}
+use Rattle.bm_base.specs.Range.{RangeView, covers}
 use Rattle.memblock_model.specs.declared.owner.Owner.{Owner}
 use Rattle.memblock_model.specs.declared.which.Which.{Which}
 use Rattle.memblock_model.specs.declared.which.Which.TheVariants as which
@@ -45,10 +45,10 @@ free_at : (b : Bool) (old : Option Owner) → without_owner (if b then None else
 free_at true old = refl
 free_at false old = refl
 
-pub reserved_of-replaced : (r : Extent) (o : Owner) (f : Owners) → reserved_of (replaced r o f) ≡ covered r plain_label (reserved_of f)
+pub reserved_of-replaced : (r : RangeView) (o : Owner) (f : Owners) → reserved_of (replaced r o f) ≡ covered r plain_label (reserved_of f)
 reserved_of-replaced r o f = λ k x. claim_at (covers r x) o (f x) k
 
-pub reserved_of-uncovered : (r : Extent) (f : Owners) → reserved_of (uncovered r f) ≡ uncovered r (reserved_of f)
+pub reserved_of-uncovered : (r : RangeView) (f : Owners) → reserved_of (uncovered r f) ≡ uncovered r (reserved_of f)
 reserved_of-uncovered r f = λ k x. free_at (covers r x) (f x) k
 
 reserved_of-after : (f : Owners) (i : Item) → reserved_of (owners_after f i) ≡ reserved_after (reserved_of f) i
@@ -62,10 +62,10 @@ table_of-push which.Memory items i = memory_of-push items i
 table_of-push which.Reserved items i = ap reserved_of (owner_of-push items i) ∙ reserved_of-after (owner_of items) i
 
 -- what memory is in a frame depends on what it was there
-covers_alike : (r : Extent) (v : Label) (f g : Labels) (y : ℕ) → f y ≡ g y → covered r v f y ≡ covered r v g y
+covers_alike : (r : RangeView) (v : Label) (f g : Labels) (y : ℕ) → f y ≡ g y → covered r v f y ≡ covered r v g y
 covers_alike r v f g y e = ap (λ o. if covers r y then Some (unwrap_or o v) else o) e
 
-relabels_alike : (r : Extent) (change : Label → Label) (f g : Labels) (y : ℕ) → f y ≡ g y → relabelled r change f y
+relabels_alike : (r : RangeView) (change : Label → Label) (f g : Labels) (y : ℕ) → f y ≡ g y → relabelled r change f y
     ≡ relabelled r change g y
 relabels_alike r change f g y e = ap (λ o. if covers r y then option_map change o else o) e
 

@@ -1,10 +1,10 @@
 -- Small labels, computed.
 use Rattle.std.proofs.Common.{◌≡◌, ℕ, true, false, Some, None, refl}
-use Rattle.bm_base.specs.Extent.{Extent}
+use Rattle.bm_base.specs.Range.{RangeView}
 use Rattle.memblock_model.specs.Labels.{plain_label, with_node, with_mirror, tag_for, node_of_tag}
 use Rattle.memblock_model.specs.declared.tag.Tag.TheVariants as tag
 
-abbrev pub bytes : ℕ → ℕ → Extent
+abbrev pub bytes : ℕ → ℕ → RangeView
 bytes base size = record { base = base; size = size }
 
 -- new memory has no node and no mirror

@@ -5,7 +5,7 @@ use Rattle.std.proofs.lemmas.Bool.{cases_Bool, cases_lt, true≢false, false_fro
 use Rattle.std.proofs.lemmas.Option.{same_Some, cond_some}
 use Rattle.std.specs.Option.{option_or}
 use Rattle.memblock_model.specs.declared.query.Query.{Query}
-use Rattle.bm_base.specs.Extent.{Extent}
+use Rattle.bm_base.specs.Range.{RangeView}
 use Rattle.address_runs.specs.Edits.{agree}
 use Rattle.address_runs.proofs.EditLaws.{agree-yes, agree-same}
 use Rattle.bm_base.specs.Each.{each_in}
@@ -114,7 +114,7 @@ fits_in-parts mirror memory reserved q a h =
     let held = and_parts _ _ allowed.0 in
     let high = and_parts _ _ held.0 in
     let bounds : ((a % q.align == 0) && nat_le q.lo a && nat_le 4096 a && nat_le (a + q.size) q.hi) ≡ true = high.0 in
-    let place : Extent = record { base = a; size = q.size } in
+    let place : RangeView = record { base = a; size = q.size } in
     let test : ℕ → Bool = λ x. agree same_label (memory x) (memory a) && is_none (reserved x) in
     let each : (x : ℕ) → a ≤ x → x < a + q.size → test x ≡ true = each_in-each place test suited.1 in
     record {

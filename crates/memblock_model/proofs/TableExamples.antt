@@ -1,7 +1,7 @@
 -- Small tables, computed: their records, their room and their places.
 use Rattle.std.proofs.Common.{◌≡◌, ◌^◌, Some, None, List, [], ◌∷◌, length, refl, sym, ap, arith}
 use Rattle.std.proofs.lemmas.Bool.Decides.{nat_tests}
-use Rattle.bm_base.specs.Extent.{Extent}
+use Rattle.bm_base.specs.Range.{RangeView}
 use Rattle.address_runs.specs.Edits.{bare, NothingFrom}
 use Rattle.address_runs.specs.Runs.{RunOf, runs_from}
 use Rattle.memblock_model.specs.declared.owner.Owner.TheVariants as owner
@@ -158,7 +158,7 @@ moved_after_examples : (moved_after which.Memory (Some 8192) (item.Grown which.M
 moved_after_examples = (refl, refl)
 
 -- the kernel's image lies from 16 MiB to 48 MiB
-abbrev kernel : Extent
+abbrev kernel : RangeView
 kernel = bytes 0x1000000 0x2000000
 
 -- the built-in places are its last two frames

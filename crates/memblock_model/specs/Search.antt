@@ -4,7 +4,7 @@ use Rattle.std.specs.Prelude.{ℕ, zero, suc, ◌+◌, ◌%◌, ◌^◌, ◌==�
 use Rattle.std.specs.Option.{option_or}
 use Rattle.address_runs.specs.Edits.{agree}
 use Rattle.bm_base.specs.Each.{each_in}
-use Rattle.bm_base.specs.declared.frame.TheConstants.{FRAME_SIZE}
+use Rattle.bm_base.specs.declared.range.TheConstants.{FRAME_SIZE}
 use Rattle.memblock_model.specs.Labels.{Label, Labels}
 use Rattle.memblock_model.specs.Same.{same_node, same_label}
 use Rattle.memblock_model.specs.Items.{upward_of}

@@ -1,7 +1,7 @@
 -- The two tables that a list of items stands for (`struct memblock_type`): their records, their room and their places.
 use Rattle.std.specs.Prelude.{ℕ, ◌-◌, ◌*◌, if◌then◌else◌, Option, Some, None, List, fold, length, unwrap_or}
-use Rattle.bm_base.specs.Extent.{Extent, end_of}
-use Rattle.bm_base.specs.declared.frame.TheConstants.{FRAME_SIZE}
+use Rattle.bm_base.specs.Range.{RangeView, end_of}
+use Rattle.bm_base.specs.declared.range.TheConstants.{FRAME_SIZE}
 use Rattle.address_runs.specs.Runs.{RunOf, runs_of}
 use Rattle.address_runs.specs.Edits.{covered, uncovered, bare}
 use Rattle.memblock_model.specs.Labels.{Label, Labels, plain_label}
@@ -46,7 +46,7 @@ unfoldable pub records_of : Which → List Item → List (RunOf Label)
 records_of w items = records_for (table_of w items)
 
 -- the number of records that covering the range adds before any are merged (`memblock_add_range`, its count)
-unfoldable pub pieces : Extent → Labels → ℕ
+unfoldable pub pieces : RangeView → Labels → ℕ
 pieces r f = length (records_for (bare r plain_label f))
 
 -- how many records there is room for: 128 (`INIT_MEMBLOCK_REGIONS`), doubled each time that the table grew, whatever number the item has
@@ -67,14 +67,14 @@ moved_to w items = fold (moved_after w) None items
 
 -- where the table lies at first: in the last two frames of the kernel's image. There the kernel has its arrays too
 -- (`memblock_memory_init_regions`, `memblock_reserved_init_regions`); the places are this project's own
-abbrev pub built_in : Which → Extent → ℕ
+abbrev pub built_in : Which → RangeView → ℕ
 built_in which.Memory kernel = end_of kernel - 2 * FRAME_SIZE
 built_in which.Reserved kernel = end_of kernel - FRAME_SIZE
 
 -- where the table lies
-abbrev pub place_of : Which → Extent → List Item → ℕ
+abbrev pub place_of : Which → RangeView → List Item → ℕ
 place_of w kernel items = unwrap_or (moved_to w items) (built_in w kernel)
 
 -- the bytes of the table: 24 for each record that there is room for (`struct memblock_region`)
-abbrev pub live : Which → Extent → List Item → Extent
+abbrev pub live : Which → RangeView → List Item → RangeView
 live w kernel items = record { base = place_of w kernel items; size = 24 * room_of w items }

@@ -3,7 +3,7 @@
 //! A law that no function's contract names could stay unproved; so each stands here as one.
 
 ghost use Rattle.std.specs.Prelude.{◌≡◌, ℕ, ◌^◌, ◌<◌, ◌≤◌, Bool, true, false, Option, Some, None, List, [], ◌∷◌, ◌++◌};
-ghost use Rattle.bm_base.specs.Extent.{covers};
+ghost use Rattle.bm_base.specs.Range.{covers};
 ghost use Rattle.address_runs.specs.Runs.{Tells, IsRunsOf};
 ghost use Rattle.memblock_model.specs.declared.item.Item.{Item};
 ghost use Rattle.memblock_model.specs.declared.which.Which.{Which};

@@ -3,7 +3,7 @@ use Rattle.std.proofs.Common.{◌≡◌, ℕ, zero, suc, ◌+◌, ◌-◌, ◌%�
 use Rattle.std.specs.Prelude.{is_none}
 use Rattle.std.proofs.lemmas.Bool.{cases_Bool}
 use Rattle.std.proofs.lemmas.Bool.Decides.{nat_tests}
-use Rattle.bm_base.specs.Extent.{Extent, covers, end_of}
+use Rattle.bm_base.specs.Range.{RangeView, covers, end_of}
 use Rattle.address_runs.specs.Runs.{RunOf, run_end, value_at, IsRunsOf}
 use Rattle.address_runs.specs.Edits.{covered, uncovered, relabelled, bare, NothingFrom}
 use Rattle.address_runs.specs.Sweep.{IsSweptTo}
@@ -22,17 +22,17 @@ use Rattle.memblock_ranges.proofs.EditLaws.{pieces_are}
 use Rattle.memblock_ranges.proofs.PieceLaws.{edge_bare, one_at_most}
 use Rattle.memblock_ranges.proofs.TrimLaws.{Turns, turns_all, turns_next, trim_step, trim_all}
 
-pub length-covered : (r : Extent) (v : Label) (f : Labels) → end_of r ≤ 2 ^ 64 → NothingFrom (2 ^ 64) f →
+pub length-covered : (r : RangeView) (v : Label) (f : Labels) → end_of r ≤ 2 ^ 64 → NothingFrom (2 ^ 64) f →
     length (records_for (covered r v f)) ≤ length (records_for f) + pieces r f
 unfolding records_for pieces
 length-covered r v f ends none = covered_length same_label label_tells r v plain_label f ends none
 
-pub length-uncovered : (r : Extent) (f : Labels) → NothingFrom (2 ^ 64) f →
+pub length-uncovered : (r : RangeView) (f : Labels) → NothingFrom (2 ^ 64) f →
     length (records_for (uncovered r f)) ≤ length (records_for f) + 1
 unfolding records_for
 length-uncovered r f none = uncovered_length same_label label_tells r f none
 
-pub length-relabelled : (r : Extent) (change : Label → Label) (f : Labels) → NothingFrom (2 ^ 64) f →
+pub length-relabelled : (r : RangeView) (change : Label → Label) (f : Labels) → NothingFrom (2 ^ 64) f →
     length (records_for (relabelled r change f)) ≤ length (records_for f) + 2
 unfolding records_for
 length-relabelled r change f none = relabelled_length same_label label_tells r change f none
@@ -103,11 +103,11 @@ begin_at true true None b s first = omega arith
 begin_at true true (Some v) None s first = omega arith
 begin_at true true (Some v) (Some w) s first = omega arith
 
-range_begins : (r : Extent) (x : ℕ) → covers r x ≡ false → covers r (x + 1) ≡ true → spike r.base x ≡ 1
+range_begins : (r : RangeView) (x : ℕ) → covers r x ≡ false → covers r (x + 1) ≡ true → spike r.base x ≡ 1
 range_begins r x out lies = let here : (x + 1 == r.base) ≡ true = grind (arith, nat_tests) in rw here refl
 
 -- a piece at address 0 begins where the range does
-first_or_spike : (r : Extent) (f : Labels) (n : ℕ) → one (covers r 0 && is_none (f 0)) + total (spike r.base) 0 n ≤ 1
+first_or_spike : (r : RangeView) (f : Labels) (n : ℕ) → one (covers r 0 && is_none (f 0)) + total (spike r.base) 0 n ≤ 1
 first_or_spike r f n = elim (cases_Bool (covers r 0)) as (λ _. one (covers r 0 && is_none (f 0)) + total (spike r.base) 0 n ≤ 1) [
   | inl lies ↦
       let base : r.base ≡ 0 = grind (arith, nat_tests) in
@@ -118,7 +118,7 @@ first_or_spike r f n = elim (cases_Bool (covers r 0)) as (λ _. one (covers r 0 
   | inr out ↦ let few = spikes_few r.base 0 n in rw out (omega (arith, few))
 ]
 
-pub few-pieces : (r : Extent) (f : Labels) → end_of r ≤ 2 ^ 64 → NothingFrom (2 ^ 64) f → pieces r f ≤ length (records_for f) + 1
+pub few-pieces : (r : RangeView) (f : Labels) → end_of r ≤ 2 ^ 64 → NothingFrom (2 ^ 64) f → pieces r f ≤ length (records_for f) + 1
 few-pieces r f ends none =
     let h : ℕ → Bool = λ x. covers r x && is_none (f x) in
     let known = records_for-runs f none in
@@ -137,7 +137,7 @@ few-pieces r f ends none =
     omega (arith, count, is, ended, begun, few, parts, first)
 
 -- where nothing of the range is covered it is one piece
-pub one-piece : (r : Extent) (f : Labels) → end_of r ≤ 2 ^ 64 → 0 < r.size → ((x : ℕ) → r.base ≤ x → x < end_of r → f x ≡ None) →
+pub one-piece : (r : RangeView) (f : Labels) → end_of r ≤ 2 ^ 64 → 0 < r.size → ((x : ℕ) → r.base ≤ x → x < end_of r → f x ≡ None) →
     pieces r f ≡ 1
 unfolding pieces
 one-piece r f ends some blank =

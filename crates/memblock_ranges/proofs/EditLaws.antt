@@ -1,7 +1,7 @@
 -- The edits of records: their room, and that the runs that they leave are the records.
 use Rattle.std.proofs.Common.{◌≡◌, ℕ, ◌+◌, ◌-◌, ◌^◌, ◌≤◌, false, Option, List, length, refl, sym, ◌∙◌, arith}
 use Rattle.std.proofs.lemmas.Bool.Decides.{nat_tests}
-use Rattle.bm_base.specs.Extent.{Extent, covers}
+use Rattle.bm_base.specs.Range.{RangeView, covers}
 use Rattle.address_runs.specs.Runs.{RunOf, value_at, IsRunsOf}
 use Rattle.address_runs.specs.Edits.{amended, covered, bare}
 use Rattle.run_edits.specs.Ends.{edges, total, HasRoom}
@@ -16,13 +16,13 @@ use Rattle.memblock_model.proofs.TableLaws.{records_for-is}
 use Rattle.memblock_ranges.specs.Tables.{AreRecords}
 
 -- the pieces of a range are as many as the runs of its bare bytes that end
-pub pieces_are : (r : Extent) (f : Labels) → r.base + r.size ≤ 2 ^ 64 →
+pub pieces_are : (r : RangeView) (f : Labels) → r.base + r.size ≤ 2 ^ 64 →
     pieces r f ≡ total (edges same_label (bare r plain_label f)) 0 (2 ^ 64)
 unfolding pieces records_for
 pieces_are r f ends = pieces_ends same_label label_tells r plain_label f ends
 
 -- there is room to cover a range where there is room for its pieces
-pub cover_room : (rs : List (RunOf Label)) (r : Extent) (v : Label) (room : ℕ) → AreRecords rs → r.base + r.size ≤ 2 ^ 64 →
+pub cover_room : (rs : List (RunOf Label)) (r : RangeView) (v : Label) (room : ℕ) → AreRecords rs → r.base + r.size ≤ 2 ^ 64 →
     length rs + pieces r (value_at rs) ≤ room → HasRoom same_label (value_at rs) (covered r v (value_at rs)) room
 cover_room rs r v room known ends fits =
     let f = value_at rs in
@@ -36,14 +36,14 @@ cover_room rs r v room known ends fits =
     (omega (arith, count, fits))
 
 -- what an edit leaves are the records of what the addresses carry then
-pub edited_list : (change : Option Label → Option Label) (r : Extent) (rs now : List (RunOf Label)) → AreRecords rs →
+pub edited_list : (change : Option Label → Option Label) (r : RangeView) (rs now : List (RunOf Label)) → AreRecords rs →
     r.base + r.size ≤ 2 ^ 64 →
     IsRunsOf (amended change r (value_at rs)) now → now ≡ records_for (amended change r (value_at rs))
 edited_list change r rs now known ends runs =
     records_for-is (amended change r (value_at rs)) now (amended_ends change r (value_at rs) (2 ^ 64) ends known.within) runs
 
 -- an empty range changes nothing
-pub no_edit : (change : Option Label → Option Label) (r : Extent) (rs : List (RunOf Label)) → AreRecords rs → r.size ≡ 0 →
+pub no_edit : (change : Option Label → Option Label) (r : RangeView) (rs : List (RunOf Label)) → AreRecords rs → r.size ≡ 0 →
     rs ≡ records_for (amended change r (value_at rs))
 no_edit change r rs known empty =
     let f = value_at rs in

@@ -1,6 +1,6 @@
 -- Small tables, computed or by the laws: what the definitions say of bytes, of one table and of both.
 use Rattle.std.proofs.Common.{◌≡◌, ℕ, ◌-◌, ◌^◌, ◌<◌, ◌≤◌, ◌&&◌, true, false, Some, None, List, [], ◌∷◌, ◌++◌, length, replicate, refl, sym, ◌∙◌, ap, arith, IsTrue}
-use Rattle.bm_base.specs.Extent.{covers}
+use Rattle.bm_base.specs.Range.{covers}
 use Rattle.address_runs.proofs.RunsLaws.{behind}
 use Rattle.std.proofs.lemmas.Bool.Decides.{nat_tests}
 use Rattle.phys_store.specs.Bytes.{Stored, byte_of, bytes_at}

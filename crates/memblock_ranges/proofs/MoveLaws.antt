@@ -2,18 +2,18 @@
 use Rattle.std.proofs.Common.{◌≡◌, ℕ, ◌+◌, ◌-◌, ◌*◌, ◌^◌, ◌<◌, ◌≤◌, List, ◌||◌, max, nat_le, nat_lt, refl, sym, ◌∙◌, ap, arith, IsTrue}
 use Rattle.std.proofs.lemmas.Bool.{true_from_ne_false}
 use Rattle.std.proofs.lemmas.Bool.Decides.{nat_tests}
-use Rattle.bm_base.specs.Extent.{Extent, Meet}
+use Rattle.bm_base.specs.Range.{RangeView, Meet}
 use Rattle.phys_store.specs.Bytes.{Stored, byte_of, is_ready, AreReady, Wrote}
 use Rattle.memblock_ranges.specs.declared.region.Head.{Head}
 use Rattle.memblock_ranges.specs.Tables.{HasTable, bytes_by, Moves}
 use Rattle.memblock_ranges.proofs.SpellLaws.{same_records}
 use Rattle.memblock_ranges.proofs.ByteEdits.{record_there}
 
-abbrev bytes : ℕ → ℕ → Extent
+abbrev bytes : ℕ → ℕ → RangeView
 bytes base size = record { base = base; size = size }
 
 -- an address of both ranges
-both : (r s : Extent) (x : ℕ) → r.base ≤ x → x < r.base + r.size → s.base ≤ x → x < s.base + s.size → Meet r s
+both : (r s : RangeView) (x : ℕ) → r.base ≤ x → x < r.base + r.size → s.base ≤ x → x < s.base + s.size → Meet r s
 both r s x a b c d = (x, grind (arith, nat_tests))
 
 -- what is copied lies apart from where it is copied to

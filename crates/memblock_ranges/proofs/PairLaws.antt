@@ -3,7 +3,7 @@ use Rattle.std.proofs.Common.{◌≡◌, ℕ, ◌+◌, ◌*◌, ◌^◌, ◌<◌
 use Rattle.std.specs.Prelude.{unwrap_or}
 use Rattle.std.proofs.lemmas.Bool.{cases_Bool, false_from_ne_true, and_from, or_right}
 use Rattle.std.proofs.lemmas.Bool.Decides.{nat_tests}
-use Rattle.bm_base.specs.Extent.{Extent, covers, Meet}
+use Rattle.bm_base.specs.Range.{RangeView, covers, Meet}
 use Rattle.phys_store.specs.Bytes.{Stored, byte_of, is_ready, Wrote}
 use Rattle.address_runs.specs.Runs.{RunOf, value_at}
 use Rattle.address_runs.specs.Edits.{amended, covered, uncovered}
@@ -17,13 +17,13 @@ use Rattle.memblock_ranges.specs.Tables.{HasTable, list_in, Contents, Overlaps, 
 use Rattle.memblock_ranges.proofs.SpellLaws.{same_records}
 use Rattle.memblock_ranges.proofs.ByteEdits.{record_there}
 
-pub beside : (r s : Extent) (x : ℕ) → ¬ Meet r s → covers s x ≡ true → covers r x ≡ false
+pub beside : (r s : RangeView) (x : ℕ) → ¬ Meet r s → covers s x ≡ true → covers r x ≡ false
 beside r s x apart lies = false_from_ne_true (covers r x) (λ both. apart (x, and_from (covers r x) (covers s x) both lies))
 
-swapped : (r s : Extent) → Meet r s → Meet s r
+swapped : (r s : RangeView) → Meet r s → Meet s r
 swapped r s both = (both.0, grind (arith, nat_tests, both.1))
 
-pub turned : (r s : Extent) → ¬ Meet r s → ¬ Meet s r
+pub turned : (r s : RangeView) → ¬ Meet r s → ¬ Meet s r
 turned r s apart both = apart (swapped s r both)
 
 -- a table whose bytes stay stays
@@ -81,7 +81,7 @@ pair_memory s t m r h list both e known =
     let other = stays s t r (λ x lies. edited_at s t m h list e x (beside (bytes_by m) (bytes_by r) x both.apart lies))
     (λ x was. edited_ready s t m h list e x ∙ was) both.reserved in
     beside_memory s t m r h both other e.table
-    (λ meet. both.apart (subst (λ (q : Extent). Meet q (bytes_by r)) (same_bytes_by s t m h list e) meet)) known
+    (λ meet. both.apart (subst (λ (q : RangeView). Meet q (bytes_by r)) (same_bytes_by s t m h list e) meet)) known
 
 pub pair_reserved : (s t : List Stored) (m r h : Head) (list : List (RunOf Label)) → AreTables s m r → Edits s t r h list →
     AreRecords (list_in t h) →
@@ -94,7 +94,7 @@ pair_reserved s t m r h list both e known plain =
       record {
         memory = other.0;
         reserved = e.table;
-        apart = λ meet. both.apart (subst (λ (q : Extent). Meet (bytes_by m) q) (same_bytes_by s t r h list e) meet);
+        apart = λ meet. both.apart (subst (λ (q : RangeView). Meet (bytes_by m) q) (same_bytes_by s t r h list e) meet);
         memory_records = rw same both.memory_records;
         reserved_records = known;
         plain = rw e.list_is plain;
@@ -105,7 +105,7 @@ pair_reserved s t m r h list both e known plain =
 -- no edit of the reserved table gives a record a node, where what it writes has none
 plain_amended : (change : Option Label → Option Label)
     → ((o : Option Label) (label : Label) → ((l : Label) → o ≡ Some l → l ≡ plain_label) → change o ≡ Some label → label ≡ plain_label)
-    → (r : Extent) (rs : List (RunOf Label)) → AreRecords rs → HaveNoNode rs → r.base + r.size ≤ 2 ^ 64 →
+    → (r : RangeView) (rs : List (RunOf Label)) → AreRecords rs → HaveNoNode rs → r.base + r.size ≤ 2 ^ 64 →
     HaveNoNode (records_for (amended change r (value_at rs)))
 plain_amended change written r rs known plain ends x label is =
     let f = value_at rs in
@@ -122,11 +122,11 @@ plain_or : (o : Option Label) (label : Label) → ((l : Label) → o ≡ Some l 
 plain_or None label plain is = sym (cc is)
 plain_or (Some l) label plain is = plain label is
 
-pub plain_covered : (r : Extent) (rs : List (RunOf Label)) → AreRecords rs → HaveNoNode rs → r.base + r.size ≤ 2 ^ 64 →
+pub plain_covered : (r : RangeView) (rs : List (RunOf Label)) → AreRecords rs → HaveNoNode rs → r.base + r.size ≤ 2 ^ 64 →
     HaveNoNode (records_for (covered r plain_label (value_at rs)))
 plain_covered = plain_amended (λ carried. Some (unwrap_or carried plain_label)) plain_or
 
-pub plain_uncovered : (r : Extent) (rs : List (RunOf Label)) → AreRecords rs → HaveNoNode rs → r.base + r.size ≤ 2 ^ 64 →
+pub plain_uncovered : (r : RangeView) (rs : List (RunOf Label)) → AreRecords rs → HaveNoNode rs → r.base + r.size ≤ 2 ^ 64 →
     HaveNoNode (records_for (uncovered r (value_at rs)))
 plain_uncovered = plain_amended (λ (carried : Option Label). None) (λ o label plain is. cc is)
 
@@ -135,7 +135,7 @@ moved_apart : (s t : List Stored) (g h o : Head) (place : ℕ) → Moves s t g h
     ¬ Meet (bytes_by o) (record { base = place; size = 48 * g.room }) → ¬ Meet (bytes_by o) (bytes_by h)
 moved_apart s t g h o place e apart both =
     let size : 24 * h.room ≡ 48 * g.room = omega (arith, e.room_is) in
-    apart (subst (λ (r : Extent). Meet (bytes_by o) r)
+    apart (subst (λ (r : RangeView). Meet (bytes_by o) r)
     (let at : bytes_by h ≡ record { base = place; size = 48 * g.room } = rw (e.place_is, size) refl in at) both)
 
 moved_other : (s t : List Stored) (g h o : Head) (place : ℕ) → Moves s t g h place → ¬ Meet (bytes_by o) (bytes_by g) →
@@ -181,7 +181,7 @@ both_stay s t m r both at_memory at_reserved ready =
     (tables.0, first.1, tables.1)
 
 -- bytes that belong to no table are filled
-pub filled_stay : (s t : List Stored) (m r : Head) (range : Extent) (g : ℕ → ℕ) → AreTables s m r → Wrote s t range.base range.size g →
+pub filled_stay : (s t : List Stored) (m r : Head) (range : RangeView) (g : ℕ → ℕ) → AreTables s m r → Wrote s t range.base range.size g →
     ¬ Overlaps (let v : Contents = record { memory = table_by s m; reserved = table_by s r; store = s } in v) range →
     AreTables t m r × (table_by t m ≡ table_by s m) × (table_by t r ≡ table_by s r)
 filled_stay s t m r range g both w apart =
@@ -195,7 +195,7 @@ filled_stay s t m r range g both w apart =
     (λ x was. w.ready x ∙ was)
 
 -- more is prepared, and no byte changes
-pub prepared_stay : (s t : List Stored) (m r : Head) (range : Extent) → AreTables s m r → ((x : ℕ) → byte_of t x ≡ byte_of s x) →
+pub prepared_stay : (s t : List Stored) (m r : Head) (range : RangeView) → AreTables s m r → ((x : ℕ) → byte_of t x ≡ byte_of s x) →
     ((x : ℕ) → is_ready t x ≡ (covers range x || is_ready s x)) → AreTables t m r × (table_by t m ≡ table_by s m)
     × (table_by t r ≡ table_by s r)
 prepared_stay s t m r range both bytes ready =

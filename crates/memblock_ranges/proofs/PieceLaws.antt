@@ -3,7 +3,7 @@ use Rattle.std.proofs.Common.{◌≡◌, ℕ, ◌+◌, ◌-◌, ◌^◌, ◌<◌
 use Rattle.std.specs.Prelude.{is_none, is_some}
 use Rattle.std.proofs.lemmas.Bool.{false≢true}
 use Rattle.std.proofs.lemmas.Bool.Decides.{nat_tests}
-use Rattle.bm_base.specs.Extent.{Extent, covers}
+use Rattle.bm_base.specs.Range.{RangeView, covers}
 use Rattle.address_runs.specs.Runs.{Tells}
 use Rattle.address_runs.specs.Edits.{bare}
 use Rattle.address_runs.specs.Sweep.{Stays}
@@ -40,7 +40,7 @@ edge_bare true true = refl
 edge_bare true false = refl
 edge_bare false b = refl
 
-module _ (r : Extent) (f : Labels) where
+module _ (r : RangeView) (f : Labels) where
   bare_inside : (x : ℕ) → r.base ≤ x → x < r.base + r.size → bare r plain_label f x ≡ bare_label (is_none (f x))
   bare_inside x low high = let lies : covers r x ≡ true = grind (arith, nat_tests) in rw lies refl
 

@@ -1,6 +1,6 @@
 -- What an item needs, that a table may follow it.
 use Rattle.std.specs.Prelude.{◌^◌, ◌≤◌}
-use Rattle.bm_base.specs.Extent.{end_of}
+use Rattle.bm_base.specs.Range.{end_of}
 use Rattle.memblock_model.specs.declared.item.Item.{Item}
 use Rattle.memblock_model.specs.declared.item.Item.TheVariants as item
 

@@ -1,6 +1,6 @@
 -- A table in the bytes that it describes, and both of them.
 use Rattle.std.specs.Prelude.{◌≡◌, ℕ, ◌+◌, ◌*◌, ◌^◌, ◌<◌, ◌≤◌, Bool, true, false, if◌then◌else◌, Some, List, length, get_or, IsTrue}
-use Rattle.bm_base.specs.Extent.{Extent, covers, Meet}
+use Rattle.bm_base.specs.Range.{RangeView, covers, Meet}
 use Rattle.phys_store.specs.Bytes.{Stored, byte_of, is_ready, AreReady, bytes_at}
 use Rattle.address_runs.specs.Runs.{RunOf, AreRuns, value_at}
 use Rattle.address_runs.specs.Edits.{NothingFrom}
@@ -84,14 +84,14 @@ abbrev pub room_in : Which → Contents → ℕ
 room_in w t = (table_in w t).room
 
 -- the bytes of a table: 24 for each record that there is room for
-abbrev pub bytes_of : Table → Extent
+abbrev pub bytes_of : Table → RangeView
 bytes_of t = record { base = t.place; size = 24 * t.room }
 
-abbrev pub bytes_in : Which → Contents → Extent
+abbrev pub bytes_in : Which → Contents → RangeView
 bytes_in w t = bytes_of (table_in w t)
 
 -- some address of the range belongs to a table
-abbrev pub Overlaps : Contents → Extent → Type 0
+abbrev pub Overlaps : Contents → RangeView → Type 0
 Overlaps t r = (w : Which) × Meet (bytes_in w t) r
 
 -- where a table lies and how full it is
@@ -122,7 +122,7 @@ HaveNoNode rs = (x : ℕ) (label : Label) → value_at rs x ≡ Some label → l
 abbrev pub table_by : List Stored → Head → Table
 table_by s h = record { records = list_in s h; place = h.place; room = h.room }
 
-abbrev pub bytes_by : Head → Extent
+abbrev pub bytes_by : Head → RangeView
 bytes_by h = record { base = h.place; size = 24 * h.room }
 
 -- two heads in one store: both tables stand there, in order, and have no byte in common

@@ -1,7 +1,7 @@
 //! What the layer above needs beside the calls: how many records an edit may add, and that tables which are
 //! those of a list of items stay so when the edit of one more item is carried out.
 ghost use Rattle.std.specs.Prelude.{◌≡◌, ℕ, ◌+◌, ◌^◌, ◌<◌, ◌≤◌, None, List, [], ◌∷◌, ◌++◌, length};
-ghost use Rattle.bm_base.specs.Extent.{Extent, end_of};
+ghost use Rattle.bm_base.specs.Range.{RangeView, end_of};
 ghost use Rattle.address_runs.specs.Runs.{RunOf, value_at};
 ghost use Rattle.address_runs.specs.Edits.{covered, uncovered, relabelled, NothingFrom};
 ghost use Rattle.memblock_model.specs.declared.which.Which.{Which};
@@ -15,11 +15,11 @@ ghost use Rattle.memblock_ranges.specs.Steps.{EndsInSpace};
 /// (`memblock_add_range`, its count), to uncover one adds one, to give it a node two
 /// (`memblock_isolate_range`), and to trim none.
 pub fn edits_add_few_records()
-    ensures covered { (r : Extent) (label : Label) (f : Labels) → end_of r ≤ 2 ^ 64 → NothingFrom (2 ^ 64) f →
+    ensures covered { (r : RangeView) (label : Label) (f : Labels) → end_of r ≤ 2 ^ 64 → NothingFrom (2 ^ 64) f →
         length (records_for (covered r label f)) ≤ length (records_for f) + pieces r f }
-    ensures uncovered { (r : Extent) (f : Labels) → NothingFrom (2 ^ 64) f →
+    ensures uncovered { (r : RangeView) (f : Labels) → NothingFrom (2 ^ 64) f →
         length (records_for (uncovered r f)) ≤ length (records_for f) + 1 }
-    ensures relabelled { (r : Extent) (change : Label → Label) (f : Labels) → NothingFrom (2 ^ 64) f →
+    ensures relabelled { (r : RangeView) (change : Label → Label) (f : Labels) → NothingFrom (2 ^ 64) f →
         length (records_for (relabelled r change f)) ≤ length (records_for f) + 2 }
     ensures trimmed { (f : Labels) → NothingFrom (2 ^ 64) f →
         length (records_for (trimmed f)) ≤ length (records_for f) }
@@ -28,9 +28,9 @@ pub fn edits_add_few_records()
 /// A law: a range has at most one piece more than there are records, and one piece where nothing of it
 /// is covered.
 pub fn pieces_are_few()
-    ensures few { (r : Extent) (f : Labels) → end_of r ≤ 2 ^ 64 → NothingFrom (2 ^ 64) f →
+    ensures few { (r : RangeView) (f : Labels) → end_of r ≤ 2 ^ 64 → NothingFrom (2 ^ 64) f →
         pieces r f ≤ length (records_for f) + 1 }
-    ensures one { (r : Extent) (f : Labels) → end_of r ≤ 2 ^ 64 → 0 < r.size →
+    ensures one { (r : RangeView) (f : Labels) → end_of r ≤ 2 ^ 64 → 0 < r.size →
         ((x : ℕ) → r.base ≤ x → x < end_of r → f x ≡ None) → pieces r f ≡ 1 }
 {}
 

@@ -1,7 +1,7 @@
 //! The calls on one table of a store, for the time that store and head are lent: what each makes of its
 //! records, and that nothing else in the store changes.
 ghost use Rattle.std.specs.Prelude.{◌≡◌, ◌+◌, ◌*◌, ◌^◌, ◌<◌, ◌≤◌, Some, length, get_or};
-ghost use Rattle.bm_base.specs.Extent.{Meet};
+ghost use Rattle.bm_base.specs.Range.{Meet};
 ghost use Rattle.phys_store.specs.Bytes.{AreReady};
 ghost use Rattle.address_runs.specs.Runs.{RunOf, value_at};
 ghost use Rattle.address_runs.specs.Edits.{covered, uncovered, relabelled};

@@ -1,6 +1,6 @@
 //! Both tables in one store. Each call is that of one table; what is argued here is that the other stays.
 ghost use Rattle.std.specs.Prelude.{◌≡◌, ℕ, ◌+◌, ◌-◌, ◌*◌, ◌^◌, ◌<◌, ◌≤◌, ◌↔◌, ◌||◌, Bool, true, false, Some, [], length, get_or, OnOk, OnErr, IfOk, IsTrue};
-ghost use Rattle.bm_base.specs.Extent.{covers, end_of, Meet};
+ghost use Rattle.bm_base.specs.Range.{covers, end_of, Meet};
 ghost use Rattle.phys_store.specs.Bytes.{byte_of, is_ready, AreReady, Wrote, bytes_at};
 ghost use Rattle.address_runs.specs.Runs.{RunOf, value_at};
 ghost use Rattle.address_runs.specs.Edits.{covered, uncovered, relabelled};

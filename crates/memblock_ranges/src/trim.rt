@@ -1,7 +1,7 @@
 //! Trimming: each record is cut to whole frames where it stands, in one pass from the lowest on. A record
 //! never needs two, so the pass wants no room.
 ghost use Rattle.std.specs.Prelude.{◌≡◌, ◌+◌, ◌-◌, ◌%◌, ◌<◌, ◌≤◌};
-ghost use Rattle.bm_base.specs.Extent.{end_of};
+ghost use Rattle.bm_base.specs.Range.{end_of};
 ghost use Rattle.address_runs.specs.Runs.{value_at};
 ghost use Rattle.memblock_model.specs.Items.{trimmed};
 ghost use Rattle.memblock_model.specs.Tables.{records_for};

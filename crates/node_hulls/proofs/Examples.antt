@@ -4,7 +4,7 @@ use Rattle.std.specs.Prelude.{◌==◌, nat_lt, ◌||◌, replicate}
 use Rattle.std.specs.List.{range_with_len}
 use Rattle.address_runs.specs.Runs.{AreRuns, runs_from, value_at}
 use Rattle.bm_base.specs.Each.{each_from, each_in}
-use Rattle.bm_base.specs.Extent.{Extent}
+use Rattle.bm_base.specs.Range.{RangeView}
 use Rattle.srat_reader.specs.declared.table.SratBlock.{SratBlock}
 use Rattle.srat_reader.specs.Table.{Affinity}
 use Rattle.node_hulls.specs.declared.kept.KeptBlock.{KeptBlock}
@@ -98,7 +98,7 @@ in_any_examples = (refl, refl, refl, refl)
 frame_base_examples : (frame_base 0x1FFF ≡ 0x1000) × (frame_base 0x2000 ≡ 0x2000)
 frame_base_examples = (refl, refl)
 
-abbrev range : ℕ → ℕ → Extent
+abbrev range : ℕ → ℕ → RangeView
 range base size = record { base = base; size = size }
 
 -- both ends are rounded down, so a range inside a frame becomes empty

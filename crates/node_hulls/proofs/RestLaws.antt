@@ -12,7 +12,7 @@ use Rattle.address_runs.specs.Runs.{RunOf, run_end, lies_in, value_at, AreRuns, 
 use Rattle.address_runs.specs.Sweep.{StartFrom}
 use Rattle.address_runs.proofs.OverlayLaws.{all_append}
 use Rattle.address_runs.proofs.RunsLaws.{none_below, rest_from, other_behind, inside, behind}
-use Rattle.bm_base.specs.Extent.{Extent, covers}
+use Rattle.bm_base.specs.Range.{RangeView, covers}
 use Rattle.e820_model.specs.Usable.{count_below}
 use Rattle.e820_model.proofs.UsableLaws.{count_same, count_none, count_either, count_interval, count_at_most}
 use Rattle.std.specs.Option.{option_or}
@@ -23,7 +23,7 @@ use Rattle.node_hulls.specs.Kept.{in_any, HaveBytes}
 use Rattle.node_hulls.specs.Steps.{nodeless, noded, bare_runs, with_node, begun_before, EndInSpace}
 
 -- what memory alone gives, and what the runs with a node alone give
-pub bare_given : (memory : List Extent) (x : ℕ) → all_overlaid option_or (map nodeless memory) x
+pub bare_given : (memory : List RangeView) (x : ℕ) → all_overlaid option_or (map nodeless memory) x
     ≡ (if in_any memory x then Some false else None)
 bare_given [] x = refl
 bare_given (r ∷ rs) x = elim (cases_Bool (covers r x)) as (λ _. all_overlaid option_or (map nodeless (r ∷ rs)) x
@@ -43,7 +43,7 @@ noded_given (r ∷ rs) x =
     ]
 
 -- none of these runs is empty
-pub bare_addresses : (memory : List Extent) → HaveBytes memory → HaveAddresses (map nodeless memory)
+pub bare_addresses : (memory : List RangeView) → HaveBytes memory → HaveAddresses (map nodeless memory)
 bare_addresses [] some = tt
 bare_addresses (r ∷ rs) some = (some.0, bare_addresses rs some.1)
 
@@ -52,7 +52,7 @@ noded_addresses : (joined : List NumaBlock) (ss : List (RunOf Bool)) → AreRuns
 noded_addresses [] ss runs behind_some = behind_some
 noded_addresses (r ∷ rs) ss runs behind_some = (runs.0, noded_addresses rs ss runs.2 behind_some)
 
-pub told_addresses : (memory : List Extent) (joined : List NumaBlock) → HaveBytes memory → AreRuns joined
+pub told_addresses : (memory : List RangeView) (joined : List NumaBlock) → HaveBytes memory → AreRuns joined
     → HaveAddresses (map noded joined ++ map nodeless memory)
 told_addresses memory joined some runs = noded_addresses joined (map nodeless memory) runs (bare_addresses memory some)
 
@@ -63,7 +63,7 @@ bare_of n (Some true) = None
 bare_of n (Some false) = Some n
 
 -- overlaying both gives memory without a node
-told_over : (memory : List Extent) (joined : List NumaBlock) (n x : ℕ)
+told_over : (memory : List RangeView) (joined : List NumaBlock) (n x : ℕ)
     → bare_of n (all_overlaid option_or (map noded joined ++ map nodeless memory) x) ≡ left_over (in_any memory) (value_at joined) n x
 told_over memory joined n x =
     rw (
@@ -134,7 +134,7 @@ bare_canonical n (c ∷ cs) runs =
     cond_both c.value _ _ (λ (ds : List NumaBlock). AreRuns ds) (λ noded. rest)
     (λ bare. (runs.0, bare_before n c cs runs bare (bare_runs n cs) refl rest, rest))
 
-pub left_runs : (memory : List Extent) (joined : List NumaBlock) (n : ℕ) (cs : List (RunOf Bool))
+pub left_runs : (memory : List RangeView) (joined : List NumaBlock) (n : ℕ) (cs : List (RunOf Bool))
     → IsRunsOf (all_overlaid option_or (map noded joined ++ map nodeless memory)) cs
     → IsRunsOf (left_over (in_any memory) (value_at joined) n) (bare_runs n cs)
 left_runs memory joined n cs known = record {

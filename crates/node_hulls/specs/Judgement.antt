@@ -2,7 +2,7 @@
 -- if it is (`numa_init`, `numa_cleanup_meminfo`, `numa_meminfo_cover_memory`).
 use Rattle.std.specs.Prelude.{ℕ, ◌*◌, ◌^◌, Bool, ◌&&◌, not, nat_le, nat_lt, min, if◌then◌else◌, Option, Some, None, List, [], ◌∷◌, fold, length, is_some, is_none}
 use Rattle.address_runs.specs.Runs.{runs_of}
-use Rattle.bm_base.specs.declared.frame.TheConstants.{FRAME_SIZE}
+use Rattle.bm_base.specs.declared.range.TheConstants.{FRAME_SIZE}
 use Rattle.e820_model.specs.Usable.{count_below}
 use Rattle.srat_reader.specs.Table.{Affinity}
 use Rattle.node_hulls.specs.declared.kept.KeptBlock.{KeptBlock}

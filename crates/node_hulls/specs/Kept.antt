@@ -5,7 +5,7 @@ use Rattle.std.specs.List.{list_any}
 use Rattle.std.specs.Option.{option_map, option_or}
 use Rattle.address_runs.specs.Runs.{run_end, extent_of}
 use Rattle.bm_base.specs.Each.{each_in}
-use Rattle.bm_base.specs.Extent.{Extent, covers, end_of}
+use Rattle.bm_base.specs.Range.{RangeView, covers, end_of}
 use Rattle.bm_base.specs.Frames.{frame_around}
 use Rattle.srat_reader.specs.declared.table.SratBlock.{SratBlock}
 use Rattle.node_hulls.specs.declared.kept.KeptBlock.{KeptBlock}
@@ -13,10 +13,10 @@ use Rattle.node_hulls.specs.Domains.{node_of}
 use Rattle.node_hulls.specs.Hulls.{NumaBlock, meets}
 
 -- memory as a list of ranges: an address is memory if one of them has it; none of them is empty
-abbrev pub in_any : List Extent → ℕ → Bool
+abbrev pub in_any : List RangeView → ℕ → Bool
 in_any ranges x = list_any (λ r. covers r x) ranges
 
-abbrev pub HaveBytes : List Extent → Type 0
+abbrev pub HaveBytes : List RangeView → Type 0
 HaveBytes [] = Unit {0}
 HaveBytes (r ∷ rs) = (0 < r.size) × HaveBytes rs
 
@@ -25,11 +25,11 @@ abbrev pub frame_base : ℕ → ℕ
 frame_base x = (frame_around x).base
 
 -- a range with both ends rounded down to frames
-abbrev pub framed : Extent → Extent
+abbrev pub framed : RangeView → RangeView
 framed r = record { base = frame_base r.base; size = frame_base (end_of r) - frame_base r.base }
 
 -- some byte of the range is memory
-abbrev pub meets_memory : (ℕ → Bool) → Extent → Bool
+abbrev pub meets_memory : (ℕ → Bool) → RangeView → Bool
 meets_memory memory r = not (each_in r (λ y. not (memory y)))
 
 -- a block of the table in whole frames, with the node of its domain

@@ -1,8 +1,8 @@
 -- Definitions of the steps of the code, which only private clauses and proofs cite.
 use Rattle.std.specs.Prelude.{ℕ, ◌+◌, ◌/◌, ◌-◌, ◌^◌, ◌<◌, ◌==◌, Bool, true, false, nat_le, is_some, if◌then◌else◌, List, [], ◌∷◌, length}
 use Rattle.address_runs.specs.Runs.{RunOf, run_end, value_at}
-use Rattle.bm_base.specs.Extent.{Extent}
-use Rattle.bm_base.specs.declared.frame.TheConstants.{FRAME_SIZE}
+use Rattle.bm_base.specs.Range.{RangeView}
+use Rattle.bm_base.specs.declared.range.TheConstants.{FRAME_SIZE}
 use Rattle.srat_reader.specs.declared.table.SratBlock.{SratBlock}
 use Rattle.node_hulls.specs.Domains.{with_name}
 use Rattle.node_hulls.specs.Hulls.{NumaBlock}
@@ -27,7 +27,7 @@ filled (r ∷ rs) = led_by_run r (filled rs)
 
 -- a range of memory as a run without a node, and a run with a node: the value says whether it has
 -- one
-abbrev pub nodeless : Extent → RunOf Bool
+abbrev pub nodeless : RangeView → RunOf Bool
 nodeless r = record { base = r.base; size = r.size; value = false }
 
 abbrev pub noded : NumaBlock → RunOf Bool

@@ -1,7 +1,7 @@
 -- The parts of the stage, one behind another; and what of the memory table they are told.
 use Rattle.std.proofs.Common.{◌≡◌, ◌^◌, ◌<◌, ℕ, Bool, is_some, Option, List, [], ◌∷◌, ◌++◌, Result, Ok, Err, refl, ◌∙◌, ap, arith}
 use Rattle.std.proofs.lemmas.List.Elements.{All-cons}
-use Rattle.bm_base.specs.Extent.{Extent}
+use Rattle.bm_base.specs.Range.{RangeView}
 use Rattle.address_runs.specs.Runs.{RunOf, value_at}
 use Rattle.address_runs.specs.Edits.{NothingFrom}
 use Rattle.memblock_model.specs.declared.which.Which.TheVariants as which
@@ -102,13 +102,13 @@ unfolding assigned
 assigned-is table off items = refl
 
 -- the records of the memory table tell memory
-pub records-tell : (kernel : Extent) (items : List Item) (records : List (RunOf Label)) (t : Table) → records ≡ t.records
+pub records-tell : (kernel : RangeView) (items : List Item) (records : List (RunOf Label)) (t : Table) → records ≡ t.records
     → t ≡ table_for which.Memory kernel items → NothingFrom (2 ^ 64) (memory_of items) → value_at records ≡ memory_of items
 unfolding records_of
 records-tell kernel items records t is table within =
     ap value_at (is ∙ ap (λ (s : Table). s.records) table) ∙ value_at-records (memory_of items) within
 
-pub ranges-tell : (items : List Item) (ranges : List Extent) (records : List (RunOf Label))
+pub ranges-tell : (items : List Item) (ranges : List RangeView) (records : List (RunOf Label))
     → ((x : ℕ) → in_any ranges x ≡ is_some (value_at records x)) → value_at records ≡ memory_of items → in_any ranges ≡ is_memory items
 ranges-tell items ranges records each same = λ i x. (each x ∙ ap (λ (f : Labels). is_some (f x)) same) i
 

@@ -4,7 +4,7 @@ use Rattle.std.proofs.lemmas.Bool.{cases_Bool}
 use Rattle.std.specs.Option.{option_map}
 use Rattle.std.proofs.lemmas.List.{append-nil}
 use Rattle.std.proofs.lemmas.List.Sums.{fold-append}
-use Rattle.bm_base.specs.Extent.{Extent, covers}
+use Rattle.bm_base.specs.Range.{RangeView, covers}
 use Rattle.address_runs.specs.Edits.{relabelled}
 use Rattle.address_runs.specs.Runs.{extent_of}
 use Rattle.srat_reader.specs.Table.{Affinity}
@@ -82,7 +82,7 @@ map-some : (change : Label → Label) (o : Option Label) → is_some (option_map
 map-some change None = refl
 map-some change (Some label) = refl
 
-pub relabelled-some : (range : Extent) (change : Label → Label) (f : Labels) (x : ℕ) → is_some (relabelled range change f x) ≡ is_some (f x)
+pub relabelled-some : (range : RangeView) (change : Label → Label) (f : Labels) (x : ℕ) → is_some (relabelled range change f x) ≡ is_some (f x)
 relabelled-some range change f x = elim (cases_Bool (covers range x)) as (λ _. is_some (relabelled range change f x) ≡ is_some (f x)) [
   | inl here ↦ rw here (map-some change (f x))
   | inr not_here ↦ rw not_here refl

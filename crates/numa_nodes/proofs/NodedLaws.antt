@@ -6,7 +6,7 @@ use Rattle.std.proofs.Math.Seq.{drop-append_seam, take-append_seam}
 use Rattle.std.proofs.lemmas.List.Elements.{All-drop, All-tail, All-take}
 use Rattle.std.proofs.lemmas.Option.{none-some, same_Some}
 use Rattle.std.specs.Option.{option_map, option_or}
-use Rattle.bm_base.specs.Extent.{covers}
+use Rattle.bm_base.specs.Range.{covers}
 use Rattle.address_runs.specs.Edits.{NothingFrom, relabelled}
 use Rattle.address_runs.specs.Runs.{AreRuns, extent_of, lies_in, run_end, value_at}
 use Rattle.address_runs.proofs.RunsLaws.{none_below, rest_from}

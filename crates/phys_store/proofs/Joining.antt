@@ -4,7 +4,7 @@ use Rattle.std.proofs.lemmas.Bool.{cases_Bool, cases_lt, or_right}
 use Rattle.std.proofs.lemmas.Bool.Decides.{nat_tests}
 use Rattle.std.proofs.lemmas.List.{get_or_default, get_or-map, get_or-take, get_or-drop, length-take, take-map, drop-map, drop-drop}
 use Rattle.std.specs.List.{remove}
-use Rattle.bm_base.specs.Extent.{Extent, end_of, covers}
+use Rattle.bm_base.specs.Range.{RangeView, end_of, covers}
 use Rattle.phys_store.specs.declared.extents.Held.{Held}
 use Rattle.phys_store.specs.Bytes.{Stored, past, inside, byte_of, is_ready, AreReady}
 use Rattle.phys_store.specs.Extents.{stored, Apart, nth, Joins, covering, as_one}
@@ -129,7 +129,7 @@ pub nth-fits : (ps : List Stored) (i : ℕ) → Apart 0 ps → i < length ps →
 nth-fits ps i apart count = (placed 0 ps i (nth ps i) apart count (there ps i count)).2
 
 -- the extents so far, and the addresses that they and the range make up
-pub record Hull (ps : List Stored) (r : Extent) (first behind from to : ℕ) : Type 0 where
+pub record Hull (ps : List Stored) (r : RangeView) (first behind from to : ℕ) : Type 0 where
   pub order : first ≤ behind
   pub most : behind ≤ length ps
   pub least : from ≤ r.base
@@ -149,7 +149,7 @@ ends_rise ps i j apart order count =
     ]
 
 -- the next extent is joined to those so far if it begins at or below their end
-pub hull_more : (ps : List Stored) (r : Extent) (first behind from to : ℕ) → Apart 0 ps → behind < length ps →
+pub hull_more : (ps : List Stored) (r : RangeView) (first behind from to : ℕ) → Apart 0 ps → behind < length ps →
     r.base ≤ past (nth ps first) → (nth ps behind).base ≤ to → Hull ps r first behind from to →
     Hull ps r first (behind + 1) (min from (nth ps behind).base) (max to (past (nth ps behind)))
 hull_more ps r first behind from to apart count reach touches h =
@@ -183,7 +183,7 @@ hull_more ps r first behind from to apart count reach touches h =
     }
 
 -- if no further extent is joined, they are those that the range overlaps or touches
-pub hull_joins : (ps : List Stored) (r : Extent) (first behind from to : ℕ) → Apart 0 ps → Hull ps r first behind from to →
+pub hull_joins : (ps : List Stored) (r : RangeView) (first behind from to : ℕ) → Apart 0 ps → Hull ps r first behind from to →
     (behind < length ps → to < (nth ps behind).base) → Joins ps first behind from to
 hull_joins ps r first behind from to apart h stop = record {
   order = h.order;
@@ -222,16 +222,16 @@ removed_behind es new now x f k most was is =
     ∙ removed (take f es) (drop k es) x ∙ ap (λ (l : List Held). take f es ++ x ∷ l) (drop-drop 1 k es)
 
 -- what is true after a range has been prepared
-pub record Prepared (ps new : List Stored) (r : Extent) : Type 0 where
+pub record Prepared (ps new : List Stored) (r : RangeView) : Type 0 where
   pub apart : Apart 0 new
   pub bytes : (x : ℕ) → byte_of new x ≡ byte_of ps x
   pub ready : (x : ℕ) → is_ready new x ≡ (covers r x || is_ready ps x)
 
-some_size : (ps : List Stored) (r : Extent) → (AreReady ps r.base r.size → ⊥) → 0 < r.size
+some_size : (ps : List Stored) (r : RangeView) → (AreReady ps r.base r.size → ⊥) → 0 < r.size
 some_size ps r not_ready = elim (cases_lt 0 r.size) [ inl some ↦ some | inr none ↦ absurd (not_ready (λ x low high. absurd (omega arith))) ]
 
 -- the new extent has exactly the addresses of the range and of the extents that it replaces
-exact : (ps : List Stored) (r : Extent) (p : Stored) → p.base ≤ r.base → end_of r ≤ past p →
+exact : (ps : List Stored) (r : RangeView) (p : Stored) → p.base ≤ r.base → end_of r ≤ past p →
     ((x : ℕ) → p.base ≤ x → x < past p → IsTrue (covers r x || is_ready ps x)) → (x : ℕ) →
     (inside p x || is_ready ps x) ≡ (covers r x || is_ready ps x)
 exact ps r p low high ready x = elim (cases_Bool (inside p x)) [
@@ -239,7 +239,7 @@ exact ps r p low high ready x = elim (cases_Bool (inside p x)) [
   | inr out ↦ let off : covers r x ≡ false = grind (arith, nat_tests) in rw (out, off) refl
 ]
 
-pub prepared : (ps new : List Stored) (r : Extent) (f b from to : ℕ) → Apart 0 ps → Joins ps f b from to →
+pub prepared : (ps new : List Stored) (r : RangeView) (f b from to : ℕ) → Apart 0 ps → Joins ps f b from to →
     from ≤ r.base → end_of r ≤ to → to < 2 ^ 64 → (AreReady ps r.base r.size → ⊥) →
     ((x : ℕ) → from ≤ x → x < to → IsTrue (covers r x || is_ready ps x)) →
     new ≡ as_one ps f b from to → Prepared ps new r

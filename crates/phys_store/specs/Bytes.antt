@@ -2,7 +2,7 @@
 -- be written without allocating. Physical memory itself has neither gaps nor a lack of memory; a
 -- program that stands for it has both.
 use Rattle.std.specs.Prelude.{◌≡◌, ℕ, zero, suc, ◌+◌, ◌-◌, ◌<◌, ◌≤◌, Bool, false, ◌||◌, nat_le, nat_lt, if◌then◌else◌, List, [], ◌∷◌, length, slice_index, IsTrue}
-use Rattle.bm_base.specs.Extent.{covers}
+use Rattle.bm_base.specs.Range.{covers}
 
 -- consecutive bytes: the address of the first, and the bytes
 pub record Stored : Type 0 where

@@ -6,7 +6,7 @@
 //! byte or address changes. A failure may leave more spare room before an extent, and changes
 //! nothing else.
 ghost use Rattle.std.specs.Prelude.{◌≡◌, ℕ, ◌+◌, ◌-◌, ◌^◌, ◌<◌, ◌≤◌, ◌||◌, IsTrue, ◌++◌, ◌∷◌, [], take, drop, map, replicate, length, slice_range, OnOk, OnErr};
-ghost use Rattle.bm_base.specs.Extent.{end_of, covers};
+ghost use Rattle.bm_base.specs.Range.{end_of, covers};
 ghost use Rattle.phys_store.specs.Bytes.{past, byte_of, is_ready, AreReady};
 ghost use Rattle.phys_store.specs.Extents.{stored, nth, Apart, Joins, covering, as_one};
 

@@ -2,7 +2,7 @@
 //! method makes one call to `extents` or `prepare`. The invariant of the type is that the extents
 //! don't touch.
 ghost use Rattle.std.specs.Prelude.{◌≡◌, ℕ, ◌+◌, ◌-◌, ◌^◌, ◌<◌, ◌≤◌, ◌↔◌, Bool, true, ◌||◌, nat_le, min, max, List, [], length, slice_index, IsTrue, OnOk, OnErr};
-ghost use Rattle.bm_base.specs.Extent.{covers};
+ghost use Rattle.bm_base.specs.Range.{covers};
 ghost use Rattle.phys_store.specs.Bytes.{byte_of, is_ready, AreReady, Wrote, bytes_at};
 
 use crate::extents::Held;

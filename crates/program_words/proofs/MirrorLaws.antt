@@ -1,7 +1,7 @@
 -- What is left of a list of ranges.
 use Rattle.std.proofs.Common.{◌≡◌, ◌∙◌, ℕ, ◌+◌, Bool, ◌&&◌, is_some, nat_le, List, [], ◌∷◌, ◌++◌, Option, Some, None, length, append_assoc, refl, ap}
 use Rattle.std.specs.List.{filter_map, list_all}
-use Rattle.bm_base.specs.Extent.{Extent}
+use Rattle.bm_base.specs.Range.{RangeView}
 use Rattle.program_words.specs.Mirrors.{frames_by}
 use Rattle.program_words.specs.Range.{range_in}
 
@@ -15,7 +15,7 @@ abbrev pub judged : ℕ → List (List ℕ) → Bool
 judged before pieces = nat_le (before + length pieces) 64 && list_all (λ piece. is_some (range_in piece)) pieces
 
 -- the frames of the first piece that is left stand behind those so far
-pub frames_onward : (found : List Extent) (frames : Extent) (piece : List ℕ) (pieces rest : List (List ℕ)) → pieces ≡ piece ∷ rest
+pub frames_onward : (found : List RangeView) (frames : RangeView) (piece : List ℕ) (pieces rest : List (List ℕ)) → pieces ≡ piece ∷ rest
     → Some frames ≡ frames_by piece → (found ++ frames ∷ []) ++ filter_map frames_by rest ≡ found ++ filter_map frames_by pieces
 frames_onward found frames piece pieces rest are is =
     append_assoc found (frames ∷ []) (filter_map frames_by rest) ∙ ap (λ more. found ++ more) (rw (are, ← is) refl)

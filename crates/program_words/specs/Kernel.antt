@@ -1,22 +1,22 @@
 -- Where the kernel's image lies, by the value of `--kernel`.
 use Rattle.std.specs.Prelude.{ℕ, if◌then◌else◌, List, Option, Some, None}
-use Rattle.bm_base.specs.Extent.{Extent}
+use Rattle.bm_base.specs.Range.{RangeView}
 use Rattle.bm_base.specs.OptionSteps.{◌>>=◌}
 use Rattle.bm_base.specs.declared.width.Width.{Width}
 use Rattle.boot_model.specs.Kernel.{is_kernel}
 use Rattle.program_words.specs.Range.{range_in}
 
 -- 32 MiB from 16 MiB on, where the option isn't given (`CONFIG_PHYSICAL_START`)
-abbrev pub default_kernel : Extent
+abbrev pub default_kernel : RangeView
 default_kernel = record { base = 0x1000000; size = 0x2000000 }
 
-abbrev pub if_kernel : Width → Extent → Option Extent
+abbrev pub if_kernel : Width → RangeView → Option RangeView
 if_kernel width image = if is_kernel width image then Some image else None
 
 -- a value `BASE,SIZE` whose range is one for a kernel's image
-abbrev pub kernel_in : Width → List ℕ → Option Extent
+abbrev pub kernel_in : Width → List ℕ → Option RangeView
 kernel_in width text = range_in text >>= if_kernel width
 
-abbrev pub kernel_of : Width → Option (List ℕ) → Option Extent
+abbrev pub kernel_of : Width → Option (List ℕ) → Option RangeView
 kernel_of width None = Some default_kernel
 kernel_of width (Some text) = kernel_in width text

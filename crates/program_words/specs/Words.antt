@@ -3,7 +3,7 @@ use Rattle.std.specs.Prelude.{ℕ, Bool, true, false, ◌&&◌, is_some, not, if
 use Rattle.std.specs.Str.{bytes_eq}
 use Rattle.std.specs.declared.alloc.Global.{Global}
 use Rattle.clap.specs.Words.{Row, first_of, matches_of}
-use Rattle.bm_base.specs.Extent.{Extent}
+use Rattle.bm_base.specs.Range.{RangeView}
 use Rattle.bm_base.specs.declared.width.Width.{Width}
 use Rattle.bm_base.specs.declared.width.Width.TheVariants.{Bits46, Bits52}
 use Rattle.bm_base.specs.OptionSteps.{◌>>=◌}
@@ -80,7 +80,7 @@ list_in value = if are_reports (list_asked value) then Some (list_asked value) e
 
 -- what a boot is given by words: how far addresses reach, where the kernel lies, the whole frames that are mirrored, and whether places are
 -- looked for from below
-abbrev pub begun_by : Width → Extent → List Extent → Bool → Given
+abbrev pub begun_by : Width → RangeView → List RangeView → Bool → Given
 begun_by width kernel mirrors upward = record (begun width kernel) { mirrors = map frames_in mirrors; upward = upward }
 
 -- the test holds

@@ -2,7 +2,7 @@
 //! those of `clap`'s walk over them. A law takes nothing and does nothing; its clause is what it says.
 
 ghost use Rattle.std.specs.Prelude.{◌≡◌, ℕ, ◌+◌, ◌*◌, ◌/◌, ◌≤◌, ◌↔◌, List};
-ghost use Rattle.bm_base.specs.Extent.{Extent, end_of};
+ghost use Rattle.bm_base.specs.Range.{RangeView, end_of};
 ghost use Rattle.bm_base.specs.Frames.{frames_within};
 ghost use Rattle.program_words.specs.Mirrors.{lies_in};
 ghost use Rattle.program_words.specs.Spelling.{AreSpellings, Spelling, spelled_values, spelled};
@@ -17,6 +17,6 @@ pub fn words_of_spelling()
 
 /// A law: an address lies in the mirrored frames of a range exactly where each byte of its frame lies in the range.
 pub fn frames_of_ranges()
-    ensures { (range : Extent) (x : ℕ) → lies_in (frames_within range) x
+    ensures { (range : RangeView) (x : ℕ) → lies_in (frames_within range) x
         ↔ ((range.base ≤ 4096 * (x / 4096)) × (4096 * (x / 4096) + 4096 ≤ end_of range)) }
 {}

@@ -1,7 +1,7 @@
 -- Worked examples of reports and their parts.
 use Rattle.std.proofs.Common.{◌≡◌, ℕ, true, false, List, [], ◌∷◌, ◌++◌, codes, None, Some, decimal, refl, ap, arith}
 use Rattle.std.specs.Fmt.{digits}
-use Rattle.bm_base.specs.Extent.{Extent}
+use Rattle.bm_base.specs.Range.{RangeView}
 use Rattle.address_runs.specs.Runs.{RunOf}
 use Rattle.e820_model.specs.declared.edit.Edit.TheVariants as edits
 use Rattle.boot_options.specs.declared.crash.CrashRange.{CrashRange}
@@ -46,7 +46,7 @@ unfolding ram_at_1M reserved_behind digits
 map_examples = (refl, refl, refl, refl, refl, refl, refl)
 
 -- the options; those of the crash area are `crashkernel=1G-2G:64M,2G-:128M@16M`
-first_MiB : Extent
+first_MiB : RangeView
 first_MiB = record { base = 0; size = 0x100000 }
 
 edit_examples : (edit_text (edits.Add first_MiB 12) ≡ codes "add 12 0x0000000000000000..0x00000000000fffff")

@@ -1,6 +1,6 @@
 -- The parts of reports: lines, and what they consist of.
 use Rattle.std.specs.Prelude.{ℕ, ◌+◌, ◌-◌, List, [], ◌∷◌, ◌++◌, codes}
-use Rattle.bm_base.specs.Extent.{Extent, end_of}
+use Rattle.bm_base.specs.Range.{RangeView, end_of}
 use Rattle.bm_base.specs.Text.{hex_text, padded_decimal}
 
 -- the line of each element with its index; the first has the index n
@@ -10,7 +10,7 @@ lines_from line n (x ∷ xs) = line n x ++ lines_from line (n + 1) xs
 
 -- a range: its first and its last byte. An empty range is `0x0..0x0` if it begins at 0; else its
 -- last byte is below its first.
-abbrev pub range_text : Extent → List ℕ
+abbrev pub range_text : RangeView → List ℕ
 range_text r = hex_text r.base ++ codes ".." ++ hex_text (end_of r - 1)
 
 -- the index at the start of a line, from 0 on, right-aligned in four columns

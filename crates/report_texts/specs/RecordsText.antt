@@ -1,14 +1,14 @@
 -- The records of a table, as lines in the format of `/sys/kernel/debug/memblock`
 -- (`memblock_debug_show`).
 use Rattle.std.specs.Prelude.{ℕ, List, ◌++◌, codes}
-use Rattle.bm_base.specs.Extent.{Extent}
+use Rattle.bm_base.specs.Range.{RangeView}
 use Rattle.address_runs.specs.Runs.{RunOf, extent_of}
 use Rattle.memblock_model.specs.Labels.{Label}
 use Rattle.memblock_ranges.specs.declared.region.Region.{Region}
 use Rattle.report_texts.specs.Lines.{index_text, lines_from, range_text}
 
 -- the line of a range with its index
-abbrev pub extent_line : ℕ → Extent → List ℕ
+abbrev pub extent_line : ℕ → RangeView → List ℕ
 extent_line n r = index_text n ++ range_text r ++ codes "\n"
 
 -- the line of a record: its index and its range, without its flags and its node; and that of a

@@ -3,7 +3,7 @@ use Rattle.std.proofs.Common.{◌≡◌, ℕ, ◌+◌, ◌-◌, ◌^◌, ◌<◌
 use Rattle.std.specs.Prelude.{is_some}
 use Rattle.std.proofs.lemmas.Bool.Decides.{nat_tests}
 use Rattle.std.proofs.lemmas.List.{length-take-le, length-drop}
-use Rattle.bm_base.specs.Extent.{Extent, covers}
+use Rattle.bm_base.specs.Range.{RangeView, covers}
 use Rattle.address_runs.specs.Runs.{RunOf, Tells}
 use Rattle.address_runs.specs.Edits.{amended, NothingFrom}
 use Rattle.address_runs.specs.Sweep.{Stays, IsRestFrom, IsBuiltTo}
@@ -11,39 +11,39 @@ use Rattle.address_runs.proofs.EditLaws.{not_covered}
 use Rattle.run_edits.specs.Ends.{HasRoom}
 use Rattle.run_edits.proofs.JoinLaws.{swept_stretch, room_for}
 
-below_range : (r : Extent) (x : ℕ) → x < r.base → covers r x ≡ false
+below_range : (r : RangeView) (x : ℕ) → x < r.base → covers r x ≡ false
 below_range r x under = grind (arith, nat_tests)
 
-in_range : (r : Extent) (x : ℕ) → r.base ≤ x → x < r.base + r.size → covers r x ≡ true
+in_range : (r : RangeView) (x : ℕ) → r.base ≤ x → x < r.base + r.size → covers r x ≡ true
 in_range r x above under = grind (arith, nat_tests)
 
 module _ {X : Type 0} where
-  pub amended_below : (change : Option X → Option X) (r : Extent) (f : ℕ → Option X) (x : ℕ) → x < r.base → amended change r f x ≡ f x
+  pub amended_below : (change : Option X → Option X) (r : RangeView) (f : ℕ → Option X) (x : ℕ) → x < r.base → amended change r f x ≡ f x
   amended_below change r f x under = rw (below_range r x under) refl
 
-  pub amended_inside : (change : Option X → Option X) (r : Extent) (f : ℕ → Option X) (x : ℕ) → r.base ≤ x → x < r.base + r.size
+  pub amended_inside : (change : Option X → Option X) (r : RangeView) (f : ℕ → Option X) (x : ℕ) → r.base ≤ x → x < r.base + r.size
       → amended change r f x ≡ change (f x)
   amended_inside change r f x above under = rw (in_range r x above under) refl
 
-  pub amended_behind : (change : Option X → Option X) (r : Extent) (f : ℕ → Option X) (x : ℕ) → r.base + r.size ≤ x → amended change r f x
+  pub amended_behind : (change : Option X → Option X) (r : RangeView) (f : ℕ → Option X) (x : ℕ) → r.base + r.size ≤ x → amended change r f x
       ≡ f x
   amended_behind change r f x past = rw (not_covered r x past) refl
 
   -- where a function stays inside the range, the changed one does
-  pub amended_stays : (change : Option X → Option X) (r : Extent) (f : ℕ → Option X) (from to next : ℕ) (v : Option X) → r.base ≤ from
+  pub amended_stays : (change : Option X → Option X) (r : RangeView) (f : ℕ → Option X) (from to next : ℕ) (v : Option X) → r.base ≤ from
       → to ≤ r.base + r.size → to ≤ next
       → Stays f from next (f from) → v ≡ change (f from) → Stays (amended change r f) from to v
   amended_stays change r f from to next v first last order stays is x above under =
       amended_inside change r f x (omega arith) (omega arith) ∙ ap change (stays x above (omega arith)) ∙ sym is
 
-  pub amended_stays_behind : (change : Option X → Option X) (r : Extent) (f : ℕ → Option X) (from next : ℕ) (v : Option X)
+  pub amended_stays_behind : (change : Option X → Option X) (r : RangeView) (f : ℕ → Option X) (from next : ℕ) (v : Option X)
       → r.base + r.size ≤ from
       → Stays f from next (f from) → v ≡ f from → Stays (amended change r f) from next v
   amended_stays_behind change r f from next v past stays is x above under = amended_behind change r f x (omega arith)
       ∙ stays x above under ∙ sym is
 
   -- nothing is changed far behind the range
-  pub amended_ends : (change : Option X → Option X) (r : Extent) (f : ℕ → Option X) (at : ℕ) → r.base + r.size ≤ at → NothingFrom at f
+  pub amended_ends : (change : Option X → Option X) (r : RangeView) (f : ℕ → Option X) (at : ℕ) → r.base + r.size ≤ at → NothingFrom at f
       → NothingFrom at (amended change r f)
   amended_ends change r f at ends none x le = amended_behind change r f x (omega arith) ∙ none x le
 

@@ -4,7 +4,7 @@ use Rattle.std.specs.Prelude.{unwrap_or}
 use Rattle.std.specs.Option.{option_map}
 use Rattle.std.proofs.lemmas.Bool.Decides.{nat_tests}
 use Rattle.std.proofs.lemmas.Bool.{cases_Bool}
-use Rattle.bm_base.specs.Extent.{Extent, covers}
+use Rattle.bm_base.specs.Range.{RangeView, covers}
 use Rattle.address_runs.specs.Runs.{RunOf, Tells, value_at, AreRuns, IsRunsOf, runs_of}
 use Rattle.address_runs.specs.Edits.{amended, covered, uncovered, relabelled, replaced, bare, NothingFrom}
 use Rattle.address_runs.proofs.RunsLaws.{by_address}
@@ -14,13 +14,13 @@ use Rattle.run_edits.specs.Ends.{total, edge, edges, spike, HasRoom}
 use Rattle.run_edits.proofs.EndLaws.{total-fewer, total-add, total-split, spikes_few, edge-self, edge-few, all_ends}
 
 -- where a range begins or ends between two neighbours
-begins_here : (r : Extent) (x : ℕ) → covers r x ≡ false → covers r (x + 1) ≡ true → (x + 1 == r.base) ≡ true
+begins_here : (r : RangeView) (x : ℕ) → covers r x ≡ false → covers r (x + 1) ≡ true → (x + 1 == r.base) ≡ true
 begins_here r x out in_it = grind (arith, nat_tests)
 
-ends_here : (r : Extent) (x : ℕ) → covers r x ≡ true → covers r (x + 1) ≡ false → (x + 1 == r.base + r.size) ≡ true
+ends_here : (r : RangeView) (x : ℕ) → covers r x ≡ true → covers r (x + 1) ≡ false → (x + 1 == r.base + r.size) ≡ true
 ends_here r x in_it out = grind (arith, nat_tests)
 
-pub spikes_two : (r : Extent) (n : ℕ) → total (λ x. spike r.base x + spike (r.base + r.size) x) 0 n ≤ 2
+pub spikes_two : (r : RangeView) (n : ℕ) → total (λ x. spike r.base x + spike (r.base + r.size) x) 0 n ≤ 2
 spikes_two r n =
     let both = total-add (spike r.base) (spike (r.base + r.size)) 0 n in
     let one = spikes_few r.base 0 n in
@@ -71,7 +71,7 @@ module _ {X : Type 0} where
 
   -- so it ends one at the start of the range and one at its end
   pub amended_edges : (same : X → X → Bool) → Tells same → (change : Option X → Option X) → EndsNoRun change
-      → (r : Extent) (f : ℕ → Option X) (x : ℕ)
+      → (r : RangeView) (f : ℕ → Option X) (x : ℕ)
       → edges same (amended change r f) x ≤ edges same f x + (spike r.base x + spike (r.base + r.size) x)
   amended_edges same tells change plain r f x =
       let Few : Type 0 = edges same (amended change r f) x ≤ edges same f x + (spike r.base x + spike (r.base + r.size) x) in
@@ -88,7 +88,7 @@ module _ {X : Type 0} where
       ]
 
   -- a range that is taken out ends no run at its end
-  pub uncovered_edges : (same : X → X → Bool) (r : Extent) (f : ℕ → Option X) (x : ℕ)
+  pub uncovered_edges : (same : X → X → Bool) (r : RangeView) (f : ℕ → Option X) (x : ℕ)
       → edges same (uncovered r f) x ≤ edges same f x + spike r.base x
   uncovered_edges same r f x =
       elim (cases_Bool (covers r x)) as (λ _. edges same (uncovered r f) x ≤ edges same f x + spike r.base x) [
@@ -114,12 +114,12 @@ module _ {X : Type 0} where
   cover_at same tells v w false true (Some p) (Some q) = omega arith
   cover_at same tells v w false false a b = omega arith
 
-  pub covered_edges : (same : X → X → Bool) → Tells same → (r : Extent) (v w : X) (f : ℕ → Option X) (x : ℕ)
+  pub covered_edges : (same : X → X → Bool) → Tells same → (r : RangeView) (v w : X) (f : ℕ → Option X) (x : ℕ)
       → edges same (covered r v f) x ≤ edges same f x + edges same (bare r w f) x
   covered_edges same tells r v w f x = cover_at same tells v w (covers r x) (covers r (x + 1)) (f x) (f (x + 1))
 
   -- the bare pieces of a range, counted by their ends
-  bare_ends : (r : Extent) (w : X) (f : ℕ → Option X) → r.base + r.size ≤ 2 ^ 64 → NothingFrom (2 ^ 64) (bare r w f)
+  bare_ends : (r : RangeView) (w : X) (f : ℕ → Option X) → r.base + r.size ≤ 2 ^ 64 → NothingFrom (2 ^ 64) (bare r w f)
   bare_ends r w f ends x le = let past : r.base + r.size ≤ x = omega arith in rw (not_covered r x past) refl
 
   -- how many runs there are of a function
@@ -131,7 +131,7 @@ module _ {X : Type 0} where
       all_ends same tells (runs_of same f) known.runs (λ x le. known.each x ∙ none x le)
       ∙ ap (λ (h : ℕ → Option X). total (edges same h) 0 (2 ^ 64)) told
 
-  pub pieces_ends : (same : X → X → Bool) → Tells same → (r : Extent) (w : X) (f : ℕ → Option X) → r.base + r.size ≤ 2 ^ 64
+  pub pieces_ends : (same : X → X → Bool) → Tells same → (r : RangeView) (w : X) (f : ℕ → Option X) → r.base + r.size ≤ 2 ^ 64
       → length (runs_of same (bare r w f)) ≡ total (edges same (bare r w f)) 0 (2 ^ 64)
   pieces_ends same tells r w f ends = runs_told same tells (bare r w f) (bare_ends r w f ends)
 
@@ -146,7 +146,7 @@ module _ {X : Type 0} where
       let sums = total-more same f g s few 0 (2 ^ 64) each some in
       omega (arith, first, second, sums)
 
-  pub covered_length : (same : X → X → Bool) → Tells same → (r : Extent) (v w : X) (f : ℕ → Option X) → r.base + r.size ≤ 2 ^ 64
+  pub covered_length : (same : X → X → Bool) → Tells same → (r : RangeView) (v w : X) (f : ℕ → Option X) → r.base + r.size ≤ 2 ^ 64
       → NothingFrom (2 ^ 64) f
       → length (runs_of same (covered r v f)) ≤ length (runs_of same f) + length (runs_of same (bare r w f))
   covered_length same tells r v w f ends none =
@@ -155,25 +155,25 @@ module _ {X : Type 0} where
       (nothing-covered (2 ^ 64) r v f ends none)
       (covered_edges same tells r v w f) (omega (arith, pieces))
 
-  pub uncovered_length : (same : X → X → Bool) → Tells same → (r : Extent) (f : ℕ → Option X) → NothingFrom (2 ^ 64) f
+  pub uncovered_length : (same : X → X → Bool) → Tells same → (r : RangeView) (f : ℕ → Option X) → NothingFrom (2 ^ 64) f
       → length (runs_of same (uncovered r f)) ≤ length (runs_of same f) + 1
   uncovered_length same tells r f none =
       runs_more same tells f (uncovered r f) (spike r.base) 1 none (nothing-uncovered (2 ^ 64) r f none) (uncovered_edges same r f)
       (spikes_few r.base 0 (2 ^ 64))
 
   pub amended_length : (same : X → X → Bool) → Tells same → (change : Option X → Option X) → EndsNoRun change
-      → (r : Extent) (f : ℕ → Option X) → NothingFrom (2 ^ 64) f
+      → (r : RangeView) (f : ℕ → Option X) → NothingFrom (2 ^ 64) f
       → NothingFrom (2 ^ 64) (amended change r f) → length (runs_of same (amended change r f)) ≤ length (runs_of same f) + 2
   amended_length same tells change plain r f none none_too =
       runs_more same tells f (amended change r f) (λ x. spike r.base x + spike (r.base + r.size) x) 2 none none_too
       (amended_edges same tells change plain r f) (spikes_two r (2 ^ 64))
 
-  pub relabelled_length : (same : X → X → Bool) → Tells same → (r : Extent) (change : X → X) (f : ℕ → Option X) → NothingFrom (2 ^ 64) f
+  pub relabelled_length : (same : X → X → Bool) → Tells same → (r : RangeView) (change : X → X) (f : ℕ → Option X) → NothingFrom (2 ^ 64) f
       → length (runs_of same (relabelled r change f)) ≤ length (runs_of same f) + 2
   relabelled_length same tells r change f none = amended_length same tells (option_map change) (inl refl) r f none
       (nothing-relabelled (2 ^ 64) r change f none)
 
-  pub replaced_length : (same : X → X → Bool) → Tells same → (r : Extent) (v : X) (f : ℕ → Option X) → r.base + r.size ≤ 2 ^ 64
+  pub replaced_length : (same : X → X → Bool) → Tells same → (r : RangeView) (v : X) (f : ℕ → Option X) → r.base + r.size ≤ 2 ^ 64
       → NothingFrom (2 ^ 64) f
       → length (runs_of same (replaced r v f)) ≤ length (runs_of same f) + 2
   replaced_length same tells r v f ends none = amended_length same tells (λ carried. Some v) (inr (λ carried. refl)) r f none

@@ -4,7 +4,7 @@
 //! look-ups and whatever walks over a table are made of these.
 
 ghost use Rattle.std.specs.Prelude.{◌≡◌, ◌+◌, ◌-◌, ◌^◌, ◌<◌, ◌≤◌, ℕ, Option, Some, None, [], ◌∷◌, length, take, drop, IsTrue, ◌↔◌, MatchOption};
-ghost use Rattle.bm_base.specs.Extent.{end_of};
+ghost use Rattle.bm_base.specs.Range.{end_of};
 ghost use Rattle.address_runs.specs.Runs.{AreRuns, value_at};
 ghost use Rattle.address_runs.specs.Sweep.{IsRestFrom, StartFrom, EndsBehind, EndsFrom, Stays};
 ghost use Rattle.run_edits.specs.Records.{EndBefore, IsUncut};

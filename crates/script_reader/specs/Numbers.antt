@@ -2,7 +2,7 @@
 use Rattle.std.specs.Prelude.{◌≡◌, ◌⊎◌, ℕ, ◌+◌, ◌^◌, ◌==◌, nat_le, nat_lt, if◌then◌else◌, List, [], ◌∷◌, length, Option, Some, None, Result, Ok, Err}
 use Rattle.std.specs.Int.{is_power_of_two}
 use Rattle.std.specs.Str.{bytes_eq}
-use Rattle.bm_base.specs.Extent.{Extent}
+use Rattle.bm_base.specs.Range.{RangeView}
 use Rattle.bm_base.specs.ResultSteps.{◌>>=◌}
 use Rattle.bm_base.specs.Size.{size_of}
 use Rattle.bm_base.specs.declared.size.NumFault.{NumFault}
@@ -82,5 +82,5 @@ power n = if is_power_of_two n then Ok n else Err wrong.Align
 abbrev pub some : ℕ → Result ℕ Wrong
 some n = if n == 0 then Err wrong.ZeroSize else Ok n
 
-abbrev pub range_at : ℕ → ℕ → Result Extent Wrong
+abbrev pub range_at : ℕ → ℕ → Result RangeView Wrong
 range_at base size = if nat_lt (base + size) (2 ^ 64) then Ok (record { base = base; size = size }) else Err wrong.TooFar

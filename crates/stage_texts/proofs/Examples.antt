@@ -2,7 +2,7 @@
 use Rattle.std.proofs.Common.{◌≡◌, [], ◌∷◌, codes, Some, None, refl}
 use Rattle.std.specs.Fmt.{digits}
 use Rattle.hex.specs.Hex.{encode_with}
-use Rattle.bm_base.specs.Extent.{Extent}
+use Rattle.bm_base.specs.Range.{RangeView}
 use Rattle.bm_base.specs.declared.zone.Zone.TheVariants as zone
 use Rattle.memblock_model.specs.declared.item.Item.TheVariants as item
 use Rattle.memblock_model.specs.declared.owner.Owner.TheVariants as owner
@@ -59,7 +59,7 @@ unfolding digits
 list_examples = (refl, refl, refl, refl, refl)
 
 -- the nodes
-first_MiB : Extent
+first_MiB : RangeView
 first_MiB = record { base = 0; size = 0x100000 }
 
 -- items that give no node have no line
@@ -81,10 +81,10 @@ unfolding digits first_MiB
 node_examples = (refl, refl, refl, refl, refl, refl, refl, refl, refl, refl, refl, refl, refl, refl, refl)
 
 -- the crash area
-above_4G : Extent
+above_4G : RangeView
 above_4G = record { base = 0x100000000; size = 0x20000000 }
 
-low_part : Extent
+low_part : RangeView
 low_part = record { base = 0x6F000000; size = 0x10000000 }
 
 crash_examples : (low_line (Some low_part) ≡ codes "crash low 0x000000006f000000..0x000000007effffff\n") × (low_line None ≡ [])

@@ -1,12 +1,12 @@
 -- The outcome of the crash area, as lines of this project's own.
 use Rattle.std.specs.Prelude.{ℕ, Option, Some, None, List, [], ◌++◌, codes}
-use Rattle.bm_base.specs.Extent.{Extent}
+use Rattle.bm_base.specs.Range.{RangeView}
 use Rattle.crash_kernel.specs.declared.crash.Crash.{Crash}
 use Rattle.crash_kernel.specs.declared.crash.Crash.TheVariants as crash
 use Rattle.report_texts.specs.Lines.{range_text}
 
 -- the line of the low part, if there is one
-abbrev pub low_line : Option Extent → List ℕ
+abbrev pub low_line : Option RangeView → List ℕ
 low_line None = []
 low_line (Some low) = codes "crash low " ++ range_text low ++ codes "\n"
 

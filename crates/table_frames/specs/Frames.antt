@@ -2,7 +2,7 @@
 use Rattle.std.specs.Prelude.{◌≡◌, ℕ, ◌+◌, ◌-◌, ◌*◌, ◌/◌, ◌≤◌, Bool, ◌&&◌, nat_lt, is_some, is_none, if◌then◌else◌, Option, Some, None, List, drop}
 use Rattle.bm_base.specs.Each.{each_in}
 use Rattle.bm_base.specs.Frames.{bytes_of_frame}
-use Rattle.bm_base.specs.declared.frame.TheConstants.{FRAME_SIZE}
+use Rattle.bm_base.specs.declared.range.TheConstants.{FRAME_SIZE}
 use Rattle.address_runs.specs.Runs.{RunOf, value_at}
 use Rattle.memblock_model.specs.Labels.{Label, Labels}
 use Rattle.table_frames.specs.declared.frames.RecordFrames.{RecordFrames}

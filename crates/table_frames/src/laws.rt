@@ -3,7 +3,7 @@
 //! results.
 
 ghost use Rattle.std.specs.Prelude.{◌≡◌, ℕ, ◌*◌, ◌/◌, ◌^◌, List};
-ghost use Rattle.bm_base.specs.declared.frame.TheConstants.{FRAME_SIZE};
+ghost use Rattle.bm_base.specs.declared.range.TheConstants.{FRAME_SIZE};
 ghost use Rattle.address_runs.specs.Runs.{value_at};
 ghost use Rattle.address_runs.specs.Edits.{NothingFrom};
 ghost use Rattle.phys_store.specs.Bytes.{Stored};

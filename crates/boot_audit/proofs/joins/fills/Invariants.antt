@@ -1,5 +1,5 @@
 use Rattle.std.proofs.Common.{◌≡◌, drop}
-use Rattle.bm_base.specs.Extent.{end_of}
+use Rattle.bm_base.specs.Range.{end_of}
 use Rattle.boot_audit.specs.Frames.{frames_of_block}
 use Rattle.boot_audit.specs.Walk.{fills}
 use Rattle.boot_audit.proofs.joins.fills.Given as goal

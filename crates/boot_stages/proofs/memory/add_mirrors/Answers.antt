@@ -1,7 +1,7 @@
 -- Each range's item is the first of those that are left.
 use Rattle.std.proofs.Common.{List, ◌∷◌, [], Ok, map, arith}
 use Rattle.std.proofs.lemmas.List.{at_drop_all}
-use Rattle.bm_base.specs.Extent.{Extent}
+use Rattle.bm_base.specs.Range.{RangeView}
 use Rattle.memblock_model.specs.declared.item.Item.TheVariants as item
 use Rattle.growth_model.specs.Growth.{mirrored}
 use Rattle.growth_model.proofs.SoundLaws.{ends-begun}
@@ -25,7 +25,7 @@ loop-mirror-init c = record { left = leaves-all _ _; begun = c.requires.begun; g
 
 pub loop-mirror-preserved : goal.loop-mirror-preserved
 loop-mirror-preserved c =
-    let range : Extent = c.mirror-item.result in
+    let range : RangeView = c.mirror-item.result in
     let next = mirrors_next c.args.mirrors.now c.loop-mirror.mirror-index range (omega (arith, c.loop-mirror-test.true))
     c.mirror-item.is c.requires.whole in
     record {
@@ -38,7 +38,7 @@ loop-mirror-preserved c =
 
 pub returns-clause-ends : goal.returns-clause-ends
 returns-clause-ends c =
-    let none = at_drop_all (λ (rs : List Extent). mirror_items (map frames_in rs)) c.args.mirrors.now c.loop-mirror.mirror-index
+    let none = at_drop_all (λ (rs : List RangeView). mirror_items (map frames_in rs)) c.args.mirrors.now c.loop-mirror.mirror-index
     (omega (arith, c.loop-mirror-test.false)) in
     c.loop-mirror.invariant.left.ends (Ok tt) _ (rw none (carries-nothing c.loop-mirror.memblock.journal.items))
 

@@ -1,6 +1,6 @@
 -- By the run's type and place it is one item, or none.
 use Rattle.std.proofs.Common.{◌≡◌, ℕ, ◌<◌, Some, true, Ok, ap, sym, ◌∙◌, subst, inl, inr, arith}
-use Rattle.bm_base.specs.Extent.{Extent}
+use Rattle.bm_base.specs.Range.{RangeView}
 use Rattle.address_runs.specs.Runs.{RunOf}
 use Rattle.e820_model.specs.Usable.{is_memory}
 use Rattle.memblock_model.specs.declared.owner.Owner.TheVariants as owner
@@ -27,14 +27,14 @@ returns-then-not-is_memory-clause-ends c =
     subst Ends c.run.view_is (elim c.then-not-is_memory.either as (λ _. Ends run) [
       | inl other ↦ rw (other_run c.args.reach run c.if-run.false (sym c.is_memory.ensures ∙ other)) (carries-nothing old)
       | inr high ↦
-          let same : c.range.inside.base ≡ run.base = ap (λ (e : Extent). e.base) c.range.view_is in
+          let same : c.range.inside.base ≡ run.base = ap (λ (e : RangeView). e.base) c.range.view_is in
           rw (high_run c.args.reach run c.if-run.false (omega (arith, same, high.1))) (carries-nothing old)
     ])
 
 pub returns-clause-ends : goal.returns-clause-ends
 returns-clause-ends c =
     let run : RunOf ℕ = record { base = c.run.inside.range.base; size = c.run.inside.range.size; value = c.run.inside.kind } in
-    let same : c.range.inside.base ≡ run.base = ap (λ (e : Extent). e.base) c.range.view_is in
+    let same : c.range.inside.base ≡ run.base = ap (λ (e : RangeView). e.base) c.range.view_is in
     let low : run.base < c.args.reach = omega (arith, same, c.if-range-reach.false) in
     let memory : is_memory (Some run.value) ≡ true = sym c.is_memory.ensures ∙ c.if-not-is_memory.false in
     rw (← c.run.view_is, memory_run c.args.reach run c.if-run.false memory low, ← c.below_limit.ensures)

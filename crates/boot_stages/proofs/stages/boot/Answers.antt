@@ -3,7 +3,7 @@
 use Rattle.std.proofs.Common.{◌≡◌, ℕ, List, [], ◌^◌, Ok, ap, subst, sym, ◌∙◌}
 use Rattle.address_runs.specs.Runs.{RunOf}
 use Rattle.boot_journal.specs.Contents.{Contents}
-use Rattle.bm_base.specs.Extent.{Extent}
+use Rattle.bm_base.specs.Range.{RangeView}
 use Rattle.address_runs.specs.Edits.{NothingFrom}
 use Rattle.memblock_model.specs.declared.which.Which.TheVariants as which
 use Rattle.memblock_model.specs.Items.{memory_of, owner_of}
@@ -47,7 +47,7 @@ run_stages-requires-clause-bytes c =
     let m : Memblock = c.in_ok-memblock.memblock in
     record {
       made = tt;
-      each = λ x. c.in_ok-memblock.ensures.bytes x ∙ ap (λ (k : Extent). byte k [] [] x) (sym c.in_ok-memblock.ensures.kernel)
+      each = λ x. c.in_ok-memblock.ensures.bytes x ∙ ap (λ (k : RangeView). byte k [] [] x) (sym c.in_ok-memblock.ensures.kernel)
           ∙ ap (λ (j : Contents). byte m.kernel j.items [] x) (sym c.in_ok-memblock.ensures.journal);
     }
 
@@ -109,7 +109,7 @@ returns-clause-bytes c = λ final ends x. (
     let told : Ok behind ≡ Ok final = sym known.boots ∙ ends in
     let is : behind ≡ final = cc in
     ap (λ (s : List Stored). byte_of s x) c.in_ok-hand_over_memory.ensures.store ∙ known.run.holds.each x
-    ∙ ap (λ (k : Extent). byte k last.journal.items known.run.fills x) known.run.kernel
+    ∙ ap (λ (k : RangeView). byte k last.journal.items known.run.fills x) known.run.kernel
     ∙ ap (λ (n : BootSoFar). byte given.kernel n.items n.fills x) is)
 
 pub returns-clause-each : goal.returns-clause-each

@@ -1,6 +1,6 @@
 use Rattle.std.proofs.Common.{rules, ◌≡◌, ◌<◌, Some, None, ◌++◌, OnOk, ap, ◌∙◌, arith}
 use Rattle.std.proofs.lemmas.Result.{on_ok_weaker}
-use Rattle.bm_base.specs.Extent.{end_of}
+use Rattle.bm_base.specs.Range.{end_of}
 use Rattle.e820_model.specs.Map.{claims_of}
 use Rattle.e820_sanitise.specs.Cuts.{between}
 use Rattle.e820_sanitise.proofs.CutLaws.{add_same, remove_same, remove_all_same, change_same, are_cut, are_either}

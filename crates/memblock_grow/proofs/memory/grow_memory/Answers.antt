@@ -1,5 +1,5 @@
 use Rattle.std.proofs.Common.{◌≡◌, ◌*◌, ◌^◌, ◌<◌, refl, ap, subst}
-use Rattle.bm_base.specs.Extent.{Extent, end_of}
+use Rattle.bm_base.specs.Range.{RangeView, end_of}
 use Rattle.memblock_model.specs.declared.which.Which.TheVariants as which
 use Rattle.memblock_model.specs.Tables.{room_of, moved_to}
 use Rattle.growth_model.specs.Growth.{old_frames}
@@ -45,9 +45,9 @@ moved c known =
       table = c.relocate.ensures.table;
       other = c.relocate.ensures.other;
       told = c.relocate.ensures.bytes;
-      here = ap (λ (e : Extent). e.base) c.place.view_is;
+      here = ap (λ (e : RangeView). e.base) c.place.view_is;
       is = known.is;
-      ends = subst (λ (e : Extent). end_of e < 2 ^ 64) c.place.view_is c.place.invariant;
+      ends = subst (λ (e : RangeView). end_of e < 2 ^ 64) c.place.view_is c.place.invariant;
     } in
     let twice = twice-is c.requires.kept.1.kept which.Memory c.head-head.ensures.head in
     let room = 2 * c.head-head.result.room in
@@ -100,7 +100,7 @@ pub relocate-requires-clause-apart : goal.relocate-requires-clause-apart
 relocate-requires-clause-apart c =
     let at = goal.at.relocate-requires-clause-apart c in
     memory-apart c.in-Some.place c.requires.kept.1.kept (c.take_place.ensures.kept c.requires.kept.0 c.requires.kept.1.kept)
-    c.take_place.ensures.memory (ap (λ (e : Extent). e.base) c.place.view_is) (taken at.In_ok-take_place (found at.In-Some))
+    c.take_place.ensures.memory (ap (λ (e : RangeView). e.base) c.place.view_is) (taken at.In_ok-take_place (found at.In-Some))
 
 pub leave-requires-clause-some : goal.leave-requires-clause-some
 leave-requires-clause-some c =

@@ -1,6 +1,6 @@
 use Rattle.std.proofs.Common.{◌≡◌, ◌*◌, ◌^◌, ◌<◌, Some, None, refl, sym, ◌∙◌, ap, subst, arith}
 use Rattle.std.proofs.lemmas.List.{append-nil}
-use Rattle.bm_base.specs.Extent.{Extent, end_of}
+use Rattle.bm_base.specs.Range.{RangeView, end_of}
 use Rattle.memblock_model.specs.declared.which.Which.TheVariants as which
 use Rattle.memblock_model.specs.declared.item.Item.TheVariants as item
 use Rattle.memblock_model.specs.Tables.{room_of, moved_to}
@@ -27,7 +27,7 @@ record Stands (c : After-cover) : Type 0 where
 
 stands : (c : After-cover) → IsBeside c.args.journal.now.items c.args.avoid c.in-Some.place → Stands c
 stands c at =
-    let here : c.place.inside.base ≡ c.in-Some.place.base = ap (λ (e : Extent). e.base) c.place.view_is in
+    let here : c.place.inside.base ≡ c.in-Some.place.base = ap (λ (e : RangeView). e.base) c.place.view_is in
     let twice = twice-is c.requires.kept.1.kept which.Reserved c.head-head.ensures.head in
     let two : c.push_ready-2.new.self.items
     ≡ moved_items c.args.journal.now.items c.place.inside.base (2 * c.head-head.result.room) c.in-Some.place =
@@ -92,7 +92,7 @@ returns-in_err-prepare-clause-bytes c = still-bytes c.prepare.new.self c.in_ok-r
 pub relocate-requires-clause-apart : goal.relocate-requires-clause-apart
 relocate-requires-clause-apart c =
     beside-apart (known (goal.at.relocate-requires-clause-apart c).In-Some) c.prepare.new.self c.requires.kept.1.kept
-    (c.requires.kept.1.placed c.requires.begun) (ap (λ (e : Extent). e.base) c.place.view_is) c.in_ok-prepare.ensures.memory
+    (c.requires.kept.1.placed c.requires.begun) (ap (λ (e : RangeView). e.base) c.place.view_is) c.in_ok-prepare.ensures.memory
     c.in_ok-prepare.ensures.reserved
 
 pub push_ready-requires-2-clause-item : goal.push_ready-requires-2-clause-item
@@ -109,7 +109,7 @@ cover-requires-clause-room c =
     let room = claim-room c.requires.kept.1.kept c.prepare.new.self c.relocate.new.tables c.in-Some.place
     c.in_ok-prepare.ensures.reserved c.relocate.ensures.table (beside-free at)
     (frames-some which.Reserved c.args.journal.now.items at.is)
-    (subst (λ (e : Extent). end_of e < 2 ^ 64) c.place.view_is c.place.invariant) in
+    (subst (λ (e : RangeView). end_of e < 2 ^ 64) c.place.view_is c.place.invariant) in
     omega (arith, room)
 
 pub push_ready-requires-in-Some-left-clause-item : goal.push_ready-requires-in-Some-left-clause-item

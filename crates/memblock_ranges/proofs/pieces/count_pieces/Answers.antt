@@ -1,6 +1,6 @@
 use Rattle.std.proofs.Common.{◌≡◌, ℕ, ◌+◌, ◌^◌, ◌<◌, ◌≤◌, min, not, ◌&&◌, nat_lt, if◌then◌else◌, Option, drop, sym, ◌∙◌, ap, arith}
 use Rattle.std.specs.Prelude.{is_none}
-use Rattle.bm_base.specs.Extent.{Extent, end_of}
+use Rattle.bm_base.specs.Range.{RangeView, end_of}
 use Rattle.address_runs.specs.Runs.{value_at}
 use Rattle.address_runs.specs.Edits.{bare}
 use Rattle.address_runs.specs.Sweep.{IsRestFrom}
@@ -14,8 +14,8 @@ use Rattle.memblock_ranges.proofs.pieces.count_pieces.Goals as goal
 pub loop-from-init : goal.loop-from-init
 loop-from-init g c =
     let f : ℕ → Option Label = value_at (g.T.Rows.list c.args.table.now) in
-    let r : Extent = c.args.range.now in
-    let base : c.range.inside.base ≡ r.base = ap (λ (e : Extent). e.base) c.range.view_is in
+    let r : RangeView = c.args.range.now in
+    let base : c.range.inside.base ≡ r.base = ap (λ (e : RangeView). e.base) c.range.view_is in
     let rest = c.seek-read.ensures.rest in
     record {
       first = omega (arith, base);
@@ -32,7 +32,7 @@ loop-from-init g c =
 pub loop-from-preserved : goal.loop-from-preserved
 loop-from-preserved g c =
     let f : ℕ → Option Label = value_at (g.T.Rows.list c.args.table.now) in
-    let r : Extent = c.args.range.now in
+    let r : RangeView = c.args.range.now in
     let i = c.loop-from.invariant in
     let from : ℕ = c.loop-from.from in
     let next : ℕ = c.loop-from.next in
@@ -69,7 +69,7 @@ loop-from-preserved g c =
 pub returns : goal.returns
 returns g c =
     let f : ℕ → Option Label = value_at (g.T.Rows.list c.args.table.now) in
-    let r : Extent = c.args.range.now in
+    let r : RangeView = c.args.range.now in
     let i = c.loop-from.invariant in
     let at : c.loop-from.from ≡ r.base + r.size = omega (arith, i.last, c.loop-from-test.false, c.end-until.ensures.value) in
     all_pieces r f c.loop-from.count (omega (arith, c.end-until.ensures.small))

@@ -1,7 +1,7 @@
 use Rattle.std.proofs.Common.{◌≡◌, Some, map, ap, subst, arith}
 use Rattle.std.proofs.lemmas.Bool.{leb-true, le-leb, false≢true}
 use Rattle.std.specs.List.{position}
-use Rattle.bm_base.specs.Extent.{Extent}
+use Rattle.bm_base.specs.Range.{RangeView}
 use Rattle.phys_store.specs.Bytes.{inside}
 use Rattle.phys_store.specs.Extents.{stored}
 use Rattle.phys_store.proofs.Lookup.{Holds, holds_one, whole, read-at, none_ready}
@@ -12,7 +12,7 @@ use Rattle.phys_store.proofs.extents.are_ready.Goals.{In-Some}
 has_base : (c : In-Some) → Holds c.args.extents.now c.args.range.base 0 c.in-Some.ensures.0 c.in-Some.extent.now
 has_base c =
     let (i, found, is) = c.in-Some.ensures in
-    let base : c.range.inside.base ≡ c.args.range.base = ap (λ (r : Extent). r.base) c.range.view_is in
+    let base : c.range.inside.base ≡ c.args.range.base = ap (λ (r : RangeView). r.base) c.range.view_is in
     holds_one c.args.extents.now c.args.range.base i c.in-Some.extent.now c.requires
     (subst (λ a. position (λ d. inside (stored d) a) c.args.extents.now ≡ Some i) base found) is
 

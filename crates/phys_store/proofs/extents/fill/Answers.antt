@@ -1,7 +1,7 @@
 use Rattle.std.proofs.Common.{◌≡◌, ◌+◌, ◌-◌, length, get_or, set, map, refl, sym, ◌∙◌, ap, subst, arith}
 use Rattle.std.specs.Vec.{with_items}
 use borrow.Rule.Slice.PartMut.{put_mid}
-use Rattle.bm_base.specs.Extent.{Extent}
+use Rattle.bm_base.specs.Range.{RangeView}
 use Rattle.phys_store.specs.declared.extents.Held.{Held}
 use Rattle.phys_store.specs.Bytes.{AreReady, Wrote}
 use Rattle.phys_store.specs.Extents.{stored, Apart}
@@ -16,7 +16,7 @@ has_range : (c : After-index-extents-i) → Holds c.args.extents.now c.range.ins
 has_range c =
     holds c.args.extents.now c.range.inside.base c.range.inside.size c.in-Some.i
     (get_or c.args.extents.now c.in-Some.i c.index-extents-i.result) c.requires.apart
-    (subst (λ (r : Extent). AreReady (map stored c.args.extents.now) r.base r.size) (sym c.range.view_is) c.requires.prepared)
+    (subst (λ (r : RangeView). AreReady (map stored c.args.extents.now) r.base r.size) (sym c.range.view_is) c.requires.prepared)
     (sym c.place_of.ensures ∙ c.in-Some.is) (ap (λ (d : Held). get_or c.args.extents.now c.in-Some.i d) c.index-extents-i.is)
 
 pub overflow_sub-from : goal.overflow_sub-from
@@ -72,6 +72,6 @@ returns-in-Some-clause-wrote c =
 
 pub returns-in_default-clause-wrote : goal.returns-in_default-clause-wrote
 returns-in_default-clause-wrote c =
-    let ready = subst (λ (r : Extent). AreReady (map stored c.args.extents.now) r.base r.size) (sym c.range.view_is) c.requires.prepared in
+    let ready = subst (λ (r : RangeView). AreReady (map stored c.args.extents.now) r.base r.size) (sym c.range.view_is) c.requires.prepared in
     rw (← c.range.view_is) (wrote-none (map stored c.args.extents.now) c.range.inside.base c.range.inside.size (λ _. c.args.byte)
     (none_ready c.args.extents.now c.range.inside.base c.range.inside.size (sym c.place_of.ensures ∙ c.in_default.is) ready))

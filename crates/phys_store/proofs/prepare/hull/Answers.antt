@@ -1,6 +1,6 @@
 use Rattle.std.proofs.Common.{◌≡◌, ◌<◌, ◌≤◌, map, min, max, ap, sym, ◌∙◌, subst, ◌^◌, arith}
 use Rattle.std.proofs.lemmas.List.{length-map}
-use Rattle.bm_base.specs.Extent.{Extent}
+use Rattle.bm_base.specs.Range.{RangeView}
 use Rattle.phys_store.specs.declared.extents.Held.{Held}
 use Rattle.phys_store.specs.Bytes.{Stored, past}
 use Rattle.phys_store.specs.Extents.{stored, nth}
@@ -43,7 +43,7 @@ loop-behind-preserved c =
     let e = c.index-extents-behind-in-loop-behind.result in
     let is = nth_piece es b e c.loop-behind-test.true c.index-extents-behind-in-loop-behind.is in
     let first = nth_piece es b c.index-extents-behind.result c.loop-behind-test.true c.index-extents-behind.is in
-    let base : c.range.inside.base ≡ c.args.range.base = ap (λ (r : Extent). r.base) c.range.view_is in
+    let base : c.range.inside.base ≡ c.args.range.base = ap (λ (r : RangeView). r.base) c.range.view_is in
     let touches : (nth (map stored es) b).base ≤ c.loop-behind.high = rw first
     (subst (λ (d : Held). d.base ≤ c.loop-behind.high) (sym c.index-extents-behind.is) c.if-extents-behind.true) in
     let reach : c.args.range.base ≤ past (nth (map stored es) c.first_reaching-first.result) = rw (← base)

@@ -1,5 +1,5 @@
 use Rattle.std.proofs.Common.{ℕ, ◌-◌, ◌^◌, ◌<◌, ◌≤◌, ◌||◌, IsTrue, map, length}
-use Rattle.bm_base.specs.Extent.{end_of, covers}
+use Rattle.bm_base.specs.Range.{end_of, covers}
 use Rattle.phys_store.specs.Bytes.{past, is_ready}
 use Rattle.phys_store.specs.Extents.{stored, nth}
 use Rattle.phys_store.proofs.prepare.hull.Given as goal

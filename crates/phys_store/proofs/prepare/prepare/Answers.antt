@@ -1,6 +1,6 @@
 use Rattle.std.proofs.Common.{ℕ, ◌<◌, ◌≤◌, ◌||◌, List, map, subst, IsTrue}
 use Rattle.std.proofs.lemmas.Bool.{false≢true}
-use Rattle.bm_base.specs.Extent.{covers}
+use Rattle.bm_base.specs.Range.{covers}
 use Rattle.phys_store.specs.declared.extents.Held.{Held}
 use Rattle.phys_store.specs.Bytes.{is_ready, AreReady}
 use Rattle.phys_store.specs.Extents.{stored, Joins}

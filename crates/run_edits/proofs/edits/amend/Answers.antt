@@ -1,6 +1,6 @@
 use Rattle.std.proofs.Common.{◌≡◌, ◌+◌, ◌^◌, ℕ, Option, length, ◌∙◌, arith}
 use Rattle.std.proofs.lemmas.Grind.{common_steps}
-use Rattle.bm_base.specs.Extent.{Extent}
+use Rattle.bm_base.specs.Range.{RangeView}
 use Rattle.address_runs.specs.Runs.{value_at}
 use Rattle.address_runs.specs.Edits.{amended, NothingFrom}
 use Rattle.run_edits.specs.Ends.{spike, edges, total}
@@ -13,7 +13,7 @@ pub rewrite-requires-clause-room : goal.rewrite-requires-clause-room
 rewrite-requires-clause-room g c =
     let f : ℕ → Option g.row.S-Value.Denot = value_at (g.T.Rows.list c.args.table.now) in
     let change = g.C.Change.makes c.args.change in
-    let r : Extent = c.args.range.now in
+    let r : RangeView = c.args.range.now in
     let same = c.requires.tells.0 in
     let tells = c.requires.tells.1 in
     let count : length (g.T.Rows.list c.args.table.now) ≡ total (edges same f) 0 (2 ^ 64) = all_ends same tells
@@ -28,7 +28,7 @@ pub returns-clause-few : goal.returns-clause-few
 returns-clause-few g c =
     let f : ℕ → Option g.row.S-Value.Denot = value_at (g.T.Rows.list c.args.table.now) in
     let change = g.C.Change.makes c.args.change in
-    let r : Extent = c.args.range.now in
+    let r : RangeView = c.args.range.now in
     let same = c.requires.tells.0 in
     let tells = c.requires.tells.1 in
     let now : NothingFrom (2 ^ 64) (value_at (g.T.Rows.list c.rewrite.new.table)) = λ x le. c.rewrite.ensures.list.each x

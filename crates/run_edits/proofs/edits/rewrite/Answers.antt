@@ -1,6 +1,6 @@
 use Rattle.std.proofs.Common.{◌≡◌, ℕ, suc, ◌+◌, ◌-◌, ◌^◌, ◌<◌, ◌≤◌, Option, ◌++◌, length, take, drop, sym, ◌∙◌, ap, subst, arith}
 use Rattle.std.proofs.lemmas.Grind.{common_steps}
-use Rattle.bm_base.specs.Extent.{Extent, end_of}
+use Rattle.bm_base.specs.Range.{RangeView, end_of}
 use Rattle.address_runs.specs.Runs.{value_at}
 use Rattle.address_runs.specs.Edits.{amended}
 use Rattle.address_runs.specs.Sweep.{StartFrom, EndsFrom, Stays, IsRestFrom, IsSweptTo, IsBuiltTo}
@@ -29,7 +29,7 @@ pub advance-sweep-requires-clause-room : goal.advance-sweep-requires-clause-room
 advance-sweep-requires-clause-room g c = λ free lt some other.
     let f : ℕ → Option g.row.S-Value.Denot = value_at (g.T.Rows.list c.args.table.now) in
     let change = g.C.Change.makes c.args.change in
-    let r : Extent = c.args.range.now in
+    let r : RangeView = c.args.range.now in
     let from : ℕ = c.loop-from.from in
     let h = amended change r f in
     let i = c.loop-from.invariant in
@@ -55,7 +55,7 @@ pub loop-from-preserved : goal.loop-from-preserved
 loop-from-preserved g c =
     let f : ℕ → Option g.row.S-Value.Denot = value_at (g.T.Rows.list c.args.table.now) in
     let change = g.C.Change.makes c.args.change in
-    let r : Extent = c.args.range.now in
+    let r : RangeView = c.args.range.now in
     let from : ℕ = c.loop-from.from in
     let to : ℕ = c.min-to.result in
     let h = amended change r f in
@@ -87,7 +87,7 @@ pub advance-sweep-requires-2-clause-room : goal.advance-sweep-requires-2-clause-
 advance-sweep-requires-2-clause-room g c = λ free lt some other.
     let f : ℕ → Option g.row.S-Value.Denot = value_at (g.T.Rows.list c.args.table.now) in
     let change = g.C.Change.makes c.args.change in
-    let r : Extent = c.args.range.now in
+    let r : RangeView = c.args.range.now in
     let until : ℕ = c.end-until.result in
     let h = amended change r f in
     let i = c.loop-from.invariant in
@@ -116,7 +116,7 @@ pub emit-write-requires-clause-room : goal.emit-write-requires-clause-room
 emit-write-requires-clause-room g c = λ free lt some.
     let f : ℕ → Option g.row.S-Value.Denot = value_at (g.T.Rows.list c.args.table.now) in
     let change = g.C.Change.makes c.args.change in
-    let r : Extent = c.args.range.now in
+    let r : RangeView = c.args.range.now in
     let until : ℕ = c.end-until.result in
     let next : ℕ = c.look-here-2.result.1 in
     let h = amended change r f in
@@ -154,7 +154,7 @@ pub returns-clause-list : goal.returns-clause-list
 returns-clause-list g c =
     let f : ℕ → Option g.row.S-Value.Denot = value_at (g.T.Rows.list c.args.table.now) in
     let change = g.C.Change.makes c.args.change in
-    let r : Extent = c.args.range.now in
+    let r : RangeView = c.args.range.now in
     let until : ℕ = c.end-until.result in
     let next : ℕ = c.look-here-2.result.1 in
     let h = amended change r f in

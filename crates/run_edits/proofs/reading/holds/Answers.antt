@@ -1,7 +1,7 @@
 use Rattle.std.proofs.Common.{◌≡◌, ◌<◌, ◌≤◌, ◌^◌, ℕ, Option, Some, true, false, sym, ◌∙◌, arith}
 use Rattle.std.proofs.lemmas.Bool.Decides.{nat_tests}
 use Rattle.std.proofs.lemmas.Grind.{common_steps}
-use Rattle.bm_base.specs.Extent.{end_of}
+use Rattle.bm_base.specs.Range.{end_of}
 use Rattle.address_runs.specs.Runs.{value_at}
 use Rattle.run_edits.proofs.HoldLaws.{holds_so_far, holds_no_further}
 use Rattle.run_edits.proofs.reading.holds.Goals as goal

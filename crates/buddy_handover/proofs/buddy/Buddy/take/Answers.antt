@@ -1,5 +1,5 @@
 use Rattle.std.proofs.Common.{◌≡◌, ◌+◌, ◌^◌, is_some, Result, Ok, Err, IfErr, ◌∙◌, ap, subst, arith}
-use Rattle.bm_base.specs.Extent.{Extent}
+use Rattle.bm_base.specs.Range.{RangeView}
 use Rattle.address_runs.specs.Runs.{value_at, IsRunsOf}
 use Rattle.address_runs.specs.Edits.{NothingFrom}
 use Rattle.frame_blocks.specs.declared.run.TheConstants.{MAX_FRAMES}
@@ -31,8 +31,8 @@ invariant_of-self-2 c =
     rw (view ∙ ready ∙ stays) at (rw c.set_around-2.ensures.frames at c.cut.ensures.runs) in
     let is = c.in-Some.ensures f c.in-Ok.ensures.areas in
     let aligned = is.block.aligned in
-    let base = ap (λ (r : Extent). r.base) c.set_around.ensures.frames in
-    let size = ap (λ (r : Extent). r.size) c.set_around.ensures.frames in
+    let base = ap (λ (r : RangeView). r.base) c.set_around.ensures.frames in
+    let size = ap (λ (r : RangeView). r.size) c.set_around.ensures.frames in
     let end : c.end.result ≡ b.first + 2 ^ b.order = omega (arith, base, size, aligned) in
     let behind : c.block_of-behind.result ≡ block_of f (b.first + 2 ^ b.order) = rw (← end, ← ready ∙ stays) c.block_of-behind.ensures in (
       omega (arith, spare, room),

@@ -1,7 +1,7 @@
 -- The range's bytes are filled, and nobody else had one.
 use Rattle.std.proofs.Common.{◌≡◌, ◌≤◌, false, nat_lt, Ok, [], ◌∷◌, ◌++◌, length, refl, ap, subst, arith}
 use Rattle.std.proofs.lemmas.Bool.Decides.{nat_tests}
-use Rattle.bm_base.specs.Extent.{Extent}
+use Rattle.bm_base.specs.Range.{RangeView}
 use Rattle.boot_journal.specs.Contents.{Contents as Journal}
 use Rattle.growth_model.specs.Bytes.{Filled}
 use Rattle.growth_model.proofs.FillLaws.{holds-fill}
@@ -17,7 +17,7 @@ returns-clause-holds c = λ fills holds.
     let next = c.fill.new.self in
     let old = state_of c.args.self.now m in
     let f : Filled = record { range = c.in-Ok.range; byte = c.args.byte; at = length m.journal.items } in
-    let size = subst (λ (r : Extent). r.size ≤ 65536) c.range.view_is c.if-range-gt-MOST_FILLED.false in
+    let size = subst (λ (r : RangeView). r.size ≤ 65536) c.range.view_is c.if-range-gt-MOST_FILLED.false in
     let few : nat_lt 65536 c.in-Ok.range.size ≡ false = grind (arith, nat_tests) in
     let same = rw few at (c.in-Ok.ensures.range (fill_whole old c.args.byte)) in
     holds-by (Ok outcomes.Done) (state_of c.args.self.now next) (fill_deed old c.args.id c.args.byte) _ (bytes_in next) fills same

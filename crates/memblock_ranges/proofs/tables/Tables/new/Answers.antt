@@ -1,6 +1,6 @@
 use Rattle.std.proofs.Common.{◌≡◌, ℕ, ◌-◌, Bool, ◌||◌, List, sym, ◌∙◌, ap, subst, arith}
 use Rattle.std.proofs.Math.Bool.{or-false}
-use Rattle.bm_base.specs.Extent.{Extent, covers, end_of}
+use Rattle.bm_base.specs.Range.{RangeView, covers, end_of}
 use Rattle.phys_store.specs.Bytes.{Stored, byte_of, is_ready}
 use Rattle.memblock_ranges.specs.declared.region.Head.{Head}
 use Rattle.memblock_ranges.specs.Tables.{bytes_by, AreTables}
@@ -21,11 +21,11 @@ invariant_of-result c =
     ∙ ap (λ (l : List Stored). byte_of l x) none in
     let one : (x : ℕ) → is_ready t x ≡ covers (bytes_by (first_head (end - 8192))) x = λ x.
     c.in_ok-prepare.ensures.ready x ∙ ap (λ (l : List Stored). covers c.bytes.result x || is_ready l x) none
-    ∙ or-false (covers c.bytes.result x) ∙ ap (λ (e : Extent). covers e x) first in
+    ∙ or-false (covers c.bytes.result x) ∙ ap (λ (e : RangeView). covers e x) first in
     let two : (x : ℕ) → is_ready s x ≡ (covers (bytes_by (first_head (end - 4096))) x || covers (bytes_by (first_head (end - 8192))) x) =
     λ x.
     c.in_ok-prepare-2.ensures.ready x ∙ ap (λ (b : Bool). covers c.bytes-2.result x || b) (one x)
-    ∙ ap (λ (e : Extent). covers e x || covers (bytes_by (first_head (end - 8192))) x) second in
+    ∙ ap (λ (e : RangeView). covers e x || covers (bytes_by (first_head (end - 8192))) x) second in
     let known : AreTables s (first_head (end - 8192)) (first_head (end - 4096)) =
     new_tables s end (omega (arith, c.requires)) c.built_in.ensures.small zeros two in
     subst (λ (h : Head). AreTables s h c.built_in-2.result) (sym m)

@@ -2,18 +2,18 @@
 use Rattle.std.specs.Prelude.{ℕ, ◌+◌, Bool, ◌&&◌, nat_le, nat_lt, IsTrue}
 
 -- a range of addresses: its first address and its number of bytes
-pub record Extent : Type 0 where
+pub record RangeView : Type 0 where
   pub base : ℕ
   pub size : ℕ
 
 -- the address behind the last byte
-abbrev pub end_of : Extent → ℕ
+abbrev pub end_of : RangeView → ℕ
 end_of r = r.base + r.size
 
 -- whether the address lies in the range
-abbrev pub covers : Extent → ℕ → Bool
+abbrev pub covers : RangeView → ℕ → Bool
 covers r x = nat_le r.base x && nat_lt x (r.base + r.size)
 
 -- some address lies in both ranges
-abbrev pub Meet : Extent → Extent → Type 0
+abbrev pub Meet : RangeView → RangeView → Type 0
 Meet r s = (x : ℕ) × IsTrue (covers r x && covers s x)

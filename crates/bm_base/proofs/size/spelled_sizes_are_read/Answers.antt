@@ -1,5 +1,5 @@
 use Rattle.bm_base.proofs.SizeLaws.{size_of-mark, number_of-mark, size_of-decimal}
-use Rattle.bm_base.proofs.size.sizes_of_spelling.Goals as goal
+use Rattle.bm_base.proofs.size.spelled_sizes_are_read.Goals as goal
 
 pub returns-clause-size : goal.returns-clause-size
 returns-clause-size c = size_of-mark
