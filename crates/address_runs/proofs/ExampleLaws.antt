@@ -1,9 +1,9 @@
 -- Small lists of runs, computed.
 use Rattle.std.proofs.Common.{◌≡◌, ℕ, ◌+◌, ◌^◌, ◌<◌, ◌≤◌, ◌==◌, nat_lt, true, false, if◌then◌else◌, Option, Some, None, [], ◌∷◌, refl, arith}
 use Rattle.std.proofs.lemmas.Bool.Decides.{nat_tests}
-use Rattle.address_runs.specs.Runs.{RunOf, Tells, run_end, lies_in, value_at, IsBefore, AreRuns, IsRunsOf, one_address, led_by, runs_from, runs_of}
-use Rattle.address_runs.specs.Sweep.{Stays, StartFrom, EndBy, EndsBehind, EndsFrom, IsSweptTo, IsRestFrom, IsBuiltTo}
-use Rattle.address_runs.specs.Overlay.{overlaid, given_by, all_overlaid, HaveAddresses}
+use Rattle.address_runs.specs.Runs.{RunOf, DecidesEquality, run_end, lies_in, value_at, IsBefore, AreRuns, IsRunsOf, one_address, prepend_address, runs_from, runs_of}
+use Rattle.address_runs.specs.Sweep.{Stays, StartAtOrPast, EndBy, FirstEndsPast, FirstEndsAtOrPast, IsSweptTo, IsRestFrom, IsBuiltTo}
+use Rattle.address_runs.specs.Overlay.{overlay_values, value_in_run, overlay_runs, HaveAddresses}
 use Rattle.address_runs.proofs.RunsLaws.{the_list}
 
 run : ℕ → ℕ → ℕ → RunOf ℕ
@@ -64,10 +64,10 @@ not_canonical = (
 )
 
 -- an address in front of the runs behind it lengthens the first, begins one, or has no value
-led_examples : (led_by (λ a b. a == b) 3 (Some 1) (run 4 2 1 ∷ []) ≡ run 3 3 1 ∷ [])
-    × (led_by (λ a b. a == b) 3 (Some 2) (run 4 2 1 ∷ []) ≡ run 3 1 2 ∷ (run 4 2 1 ∷ []))
-    × (led_by (λ a b. a == b) 2 (Some 1) (run 4 2 1 ∷ []) ≡ run 2 1 1 ∷ (run 4 2 1 ∷ []))
-    × (led_by (λ a b. a == b) 3 None (run 4 2 1 ∷ []) ≡ run 4 2 1 ∷ [])
+led_examples : (prepend_address (λ a b. a == b) 3 (Some 1) (run 4 2 1 ∷ []) ≡ run 3 3 1 ∷ [])
+    × (prepend_address (λ a b. a == b) 3 (Some 2) (run 4 2 1 ∷ []) ≡ run 3 1 2 ∷ (run 4 2 1 ∷ []))
+    × (prepend_address (λ a b. a == b) 2 (Some 1) (run 4 2 1 ∷ []) ≡ run 2 1 1 ∷ (run 4 2 1 ∷ []))
+    × (prepend_address (λ a b. a == b) 3 None (run 4 2 1 ∷ []) ≡ run 4 2 1 ∷ [])
 unfolding run
 led_examples = (refl, refl, refl, refl)
 
@@ -82,10 +82,10 @@ unfolding run
 is_not_of_another known = let none : None ≡ Some 1 = known.each 2 in cc none
 
 -- the runs of all addresses below 2^64: one page of RAM, and nothing at all
-tells_numbers : Tells {X = ℕ} (λ a b. a == b)
+tells_numbers : DecidesEquality {X = ℕ} (λ a b. a == b)
 tells_numbers = record { true_is_equal = λ a b h. grind (arith, nat_tests); equal_is_true = λ a b h. grind (arith, nat_tests) }
 
-not_telling : ¬ Tells {X = ℕ} (λ a b. true)
+not_telling : ¬ DecidesEquality {X = ℕ} (λ a b. true)
 not_telling tells = let same : 1 ≡ 2 = tells.true_is_equal 1 2 refl in absurd (omega (arith, same))
 
 one_page : ℕ → Option ℕ
@@ -109,16 +109,16 @@ sum_of None l = l
 sum_of (Some k) None = Some k
 sum_of (Some k) (Some l) = Some (k + l)
 
-overlaid_examples : (overlaid sum_of gaps (λ x. Some 10) 1 ≡ Some 11) × (overlaid sum_of gaps (λ x. Some 10) 2 ≡ Some 10)
-    × (overlaid sum_of gaps (λ x. None) 2 ≡ None)
+overlaid_examples : (overlay_values sum_of gaps (λ x. Some 10) 1 ≡ Some 11) × (overlay_values sum_of gaps (λ x. Some 10) 2 ≡ Some 10)
+    × (overlay_values sum_of gaps (λ x. None) 2 ≡ None)
 overlaid_examples = (refl, refl, refl)
 
-given_examples : (given_by (run 4 2 1) 5 ≡ Some 1) × (given_by (run 4 2 1) 6 ≡ None)
+given_examples : (value_in_run (run 4 2 1) 5 ≡ Some 1) × (value_in_run (run 4 2 1) 6 ≡ None)
 unfolding run
 given_examples = (refl, refl)
 
-all_overlaid_examples : (all_overlaid sum_of (run 0 4 1 ∷ (run 2 4 3 ∷ [])) 3 ≡ Some 4)
-    × (all_overlaid sum_of (run 0 4 1 ∷ (run 2 4 3 ∷ [])) 5 ≡ Some 3) × (all_overlaid sum_of (run 0 4 1 ∷ (run 2 4 3 ∷ [])) 6 ≡ None)
+all_overlaid_examples : (overlay_runs sum_of (run 0 4 1 ∷ (run 2 4 3 ∷ [])) 3 ≡ Some 4)
+    × (overlay_runs sum_of (run 0 4 1 ∷ (run 2 4 3 ∷ [])) 5 ≡ Some 3) × (overlay_runs sum_of (run 0 4 1 ∷ (run 2 4 3 ∷ [])) 6 ≡ None)
 unfolding run
 all_overlaid_examples = (refl, refl, refl)
 
@@ -130,8 +130,8 @@ changes_at_two : ¬ Stays gaps 0 3 (Some 1)
 changes_at_two stays = let at_two : None ≡ Some 1 = stays 2 (omega arith) (omega arith) in absurd (cc at_two)
 
 -- where a list begins and where it ends; a run that ends right at the address must have another value
-start_examples : StartFrom 4 (run 4 2 1 ∷ []) × EndBy 6 (Some 2) (run 4 2 1 ∷ []) × EndsBehind 5 (run 4 2 1 ∷ [])
-    × EndsFrom 6 (run 4 2 1 ∷ [])
+start_examples : StartAtOrPast 4 (run 4 2 1 ∷ []) × EndBy 6 (Some 2) (run 4 2 1 ∷ []) × FirstEndsPast 5 (run 4 2 1 ∷ [])
+    × FirstEndsAtOrPast 6 (run 4 2 1 ∷ [])
 unfolding run
 start_examples = (omega arith, (omega arith, λ touch same. absurd (cc same), tt), omega arith, omega arith)
 
@@ -139,11 +139,11 @@ goes_on_with_the_value : ¬ EndBy 6 (Some 1) (run 4 2 1 ∷ [])
 unfolding run
 goes_on_with_the_value ends = ends.1 refl refl
 
-ends_right_there : (¬ EndsBehind 6 (run 4 2 1 ∷ [])) × (¬ EndsFrom 7 (run 4 2 1 ∷ []))
+ends_right_there : (¬ FirstEndsPast 6 (run 4 2 1 ∷ [])) × (¬ FirstEndsAtOrPast 7 (run 4 2 1 ∷ []))
 unfolding run
 ends_right_there = ((λ behind. let more : 6 < 6 = behind in absurd (omega arith)), λ from. let more : 7 ≤ 6 = from in absurd (omega arith))
 
-begins_lower : ¬ StartFrom 5 (run 4 2 1 ∷ [])
+begins_lower : ¬ StartAtOrPast 5 (run 4 2 1 ∷ [])
 unfolding run
 begins_lower start = let higher : 5 ≤ 4 = start in absurd (omega arith)
 

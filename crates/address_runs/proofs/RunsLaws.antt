@@ -2,8 +2,8 @@
 use Rattle.std.proofs.Common.{◌≡◌, ◌≢◌, ℕ, zero, suc, ◌+◌, ◌^◌, ◌<◌, ◌≤◌, ◌==◌, Bool, true, false, ◌&&◌, if◌then◌else◌, Option, Some, None, List, [], ◌∷◌, refl, sym, ◌∙◌, ap, inl, inr, arith}
 use Rattle.std.proofs.lemmas.Bool.Decides.{nat_tests}
 use Rattle.std.proofs.lemmas.Bool.{cases_lt, true≢false}
-use Rattle.address_runs.specs.Runs.{RunOf, Tells, run_end, lies_in, value_at, IsBefore, AreRuns, IsRunsOf, one_address, led_by, runs_from, runs_of}
-use Rattle.address_runs.specs.Sweep.{StartFrom}
+use Rattle.address_runs.specs.Runs.{RunOf, DecidesEquality, run_end, lies_in, value_at, IsBefore, AreRuns, IsRunsOf, one_address, prepend_address, runs_from, runs_of}
+use Rattle.address_runs.specs.Sweep.{StartAtOrPast}
 
 -- an address from the base up to the end lies in the run
 pub inside : {X : Type 0} (r : RunOf X) (x : ℕ) → r.base ≤ x → x < r.base + r.size → lies_in r x ≡ true
@@ -16,7 +16,7 @@ pub behind : {X : Type 0} (r : RunOf X) (x : ℕ) → r.base + r.size ≤ x → 
 behind r x h = grind (arith, nat_tests)
 
 -- nothing stands below the first run
-pub none_below : {X : Type 0} (at x : ℕ) (rs : List (RunOf X)) → AreRuns rs → StartFrom at rs → x < at → value_at rs x ≡ None
+pub none_below : {X : Type 0} (at x : ℕ) (rs : List (RunOf X)) → AreRuns rs → StartAtOrPast at rs → x < at → value_at rs x ≡ None
 none_below at x [] runs start h = refl
 none_below at x (r ∷ []) runs start h = let lt : x < r.base = omega arith in rw (below r x lt) refl
 none_below at x (r ∷ (s ∷ ss)) runs start h =
@@ -25,12 +25,12 @@ none_below at x (r ∷ (s ∷ ss)) runs start h =
     rw (below r x lt) (none_below r.base x (s ∷ ss) runs.2 from lt)
 
 -- no run begins before address 0
-pub start_zero : {X : Type 0} (rs : List (RunOf X)) → StartFrom 0 rs
+pub start_zero : {X : Type 0} (rs : List (RunOf X)) → StartAtOrPast 0 rs
 start_zero [] = tt
 start_zero (r ∷ rs) = omega arith
 
 -- the runs behind the first one begin behind its base, and at its end or behind it
-pub rest_from : {X : Type 0} (r : RunOf X) (rs : List (RunOf X)) → AreRuns (r ∷ rs) → StartFrom (run_end r) rs
+pub rest_from : {X : Type 0} (r : RunOf X) (rs : List (RunOf X)) → AreRuns (r ∷ rs) → StartAtOrPast (run_end r) rs
 rest_from r [] runs = tt
 rest_from r (s ∷ ss) runs = runs.1.0
 
@@ -38,7 +38,7 @@ rest_from r (s ∷ ss) runs = runs.1.0
 pub other_behind : {X : Type 0} (r : RunOf X) (rs : List (RunOf X)) → AreRuns (r ∷ rs) → value_at rs (run_end r) ≢ Some r.value
 other_behind r [] runs = λ same. cc
 other_behind r (s ∷ ss) runs =
-    let starts : StartFrom s.base (s ∷ ss) = omega arith in
+    let starts : StartAtOrPast s.base (s ∷ ss) = omega arith in
     elim (cases_lt (run_end r) s.base) as (λ _. value_at (s ∷ ss) (run_end r) ≢ Some r.value) [
       | inl lt ↦ rw (none_below s.base (run_end r) (s ∷ ss) runs.2 starts lt) (λ same. cc)
       | inr ge ↦
@@ -128,8 +128,8 @@ before_longer x n v r (s ∷ ss) ends values before =
     (omega arith, λ touch equal. let at : run_end r ≡ s.base = omega arith in before.1 at (cc (values, equal)))
 
 -- an address with a value in front of a list behind it: canonical again
-runs_led_some : {X : Type 0} (same : X → X → Bool) → Tells same → (x : ℕ) (v : X) (r : RunOf X) (rs : List (RunOf X))
-    → AreRuns (r ∷ rs) → x + 1 ≤ r.base → AreRuns (led_by same x (Some v) (r ∷ rs))
+runs_led_some : {X : Type 0} (same : X → X → Bool) → DecidesEquality same → (x : ℕ) (v : X) (r : RunOf X) (rs : List (RunOf X))
+    → AreRuns (r ∷ rs) → x + 1 ≤ r.base → AreRuns (prepend_address same x (Some v) (r ∷ rs))
 runs_led_some same tells x v r rs runs start = by_test ((r.base == x + 1) && same v r.value) refl
   where
     by_test : (t : Bool) → ((r.base == x + 1) && same v r.value) ≡ t
@@ -144,26 +144,26 @@ runs_led_some same tells x v r rs runs start = by_test ((r.base == x + 1) && sam
         ∙ touches_not (same v r.value) r.base (x + 1) fails (sym touch)) in
         (omega arith, (start, other), runs)
 
-runs_led : {X : Type 0} (same : X → X → Bool) → Tells same → (x : ℕ) (v : Option X) (rs : List (RunOf X))
-    → AreRuns rs → StartFrom (x + 1) rs → AreRuns (led_by same x v rs)
+runs_led : {X : Type 0} (same : X → X → Bool) → DecidesEquality same → (x : ℕ) (v : Option X) (rs : List (RunOf X))
+    → AreRuns rs → StartAtOrPast (x + 1) rs → AreRuns (prepend_address same x v rs)
 runs_led same tells x None rs runs start = runs
 runs_led same tells x (Some v) [] runs start = (omega arith, tt, tt)
 runs_led same tells x (Some v) (r ∷ rs) runs start = runs_led_some same tells x v r rs runs start
 
-start_led : {X : Type 0} (same : X → X → Bool) (x : ℕ) (v : Option X) (rs : List (RunOf X)) → StartFrom (x + 1) rs
-    → StartFrom x (led_by same x v rs)
+start_led : {X : Type 0} (same : X → X → Bool) (x : ℕ) (v : Option X) (rs : List (RunOf X)) → StartAtOrPast (x + 1) rs
+    → StartAtOrPast x (prepend_address same x v rs)
 start_led same x None [] start = tt
 start_led same x None (r ∷ rs) start = omega arith
 start_led same x (Some v) [] start = omega arith
 start_led same x (Some v) (r ∷ rs) start = by_test ((r.base == x + 1) && same v r.value)
   where
-    by_test : (t : Bool) → StartFrom x (if t then record { base = x; size = r.size + 1; value = v } ∷ rs else one_address x v ∷ (r ∷ rs))
+    by_test : (t : Bool) → StartAtOrPast x (if t then record { base = x; size = r.size + 1; value = v } ∷ rs else one_address x v ∷ (r ∷ rs))
     by_test true = omega arith
     by_test false = omega arith
 
 -- at the address itself the value leads, elsewhere the list behind it gives what it gave
-value_led : {X : Type 0} (same : X → X → Bool) → Tells same → (x : ℕ) (v : Option X) (rs : List (RunOf X)) (y : ℕ)
-    → AreRuns rs → StartFrom (x + 1) rs → value_at (led_by same x v rs) y ≡ (if y == x then v else value_at rs y)
+value_led : {X : Type 0} (same : X → X → Bool) → DecidesEquality same → (x : ℕ) (v : Option X) (rs : List (RunOf X)) (y : ℕ)
+    → AreRuns rs → StartAtOrPast (x + 1) rs → value_at (prepend_address same x v rs) y ≡ (if y == x then v else value_at rs y)
 value_led same tells x None rs y runs start =
     elim (cases_lt x y) as (λ _. value_at rs y ≡ (if y == x then None else value_at rs y)) [
       | inl lt ↦ let not_here : (y == x) ≡ false = grind (arith, nat_tests) in rw not_here refl
@@ -185,12 +185,12 @@ value_led same tells x (Some v) (r ∷ rs) y runs start = by_test ((r.base == x 
 -- the n addresses from x on, as `runs_from` lists them
 pub record IsRunsBetween {X : Type 0} (f : ℕ → Option X) (x n : ℕ) (rs : List (RunOf X)) : Type 0 where
   pub runs : AreRuns rs
-  pub start : StartFrom x rs
+  pub start : StartAtOrPast x rs
   pub within : (y : ℕ) → x ≤ y → y < x + n → value_at rs y ≡ f y
   pub past : (y : ℕ) → x + n ≤ y → value_at rs y ≡ None
 
-between_led : {X : Type 0} (same : X → X → Bool) → Tells same → (f : ℕ → Option X) (x n : ℕ) (rs : List (RunOf X))
-    → IsRunsBetween f (x + 1) n rs → IsRunsBetween f x (suc n) (led_by same x (f x) rs)
+between_led : {X : Type 0} (same : X → X → Bool) → DecidesEquality same → (f : ℕ → Option X) (x n : ℕ) (rs : List (RunOf X))
+    → IsRunsBetween f (x + 1) n rs → IsRunsBetween f x (suc n) (prepend_address same x (f x) rs)
 between_led {X} same tells f x n rs known = record {
   runs = runs_led same tells x (f x) rs known.runs known.start;
   start = start_led same x (f x) rs known.start;
@@ -217,18 +217,18 @@ all_runs f rs known none = record {
 }
 
 -- `runs_from` lists the runs of its addresses
-pub from_runs : {X : Type 0} (same : X → X → Bool) → Tells same → (f : ℕ → Option X) (n x : ℕ) → IsRunsBetween f x n (runs_from same f x n)
+pub from_runs : {X : Type 0} (same : X → X → Bool) → DecidesEquality same → (f : ℕ → Option X) (n x : ℕ) → IsRunsBetween f x n (runs_from same f x n)
 unfolding runs_from
 from_runs same tells f zero x = record { runs = tt; start = tt; within = λ y above below_end. absurd (omega arith); past = λ y h. refl }
 from_runs same tells f (suc n) x = between_led same tells f x n (runs_from same f (x + 1) n) (from_runs same tells f n (x + 1))
 
 -- `runs_of` is the list of runs of a function without a value from 2^64 on
-pub by_address : {X : Type 0} (same : X → X → Bool) → Tells same → (f : ℕ → Option X) → ((x : ℕ) → 2 ^ 64 ≤ x → f x ≡ None)
+pub by_address : {X : Type 0} (same : X → X → Bool) → DecidesEquality same → (f : ℕ → Option X) → ((x : ℕ) → 2 ^ 64 ≤ x → f x ≡ None)
     → IsRunsOf f (runs_of same f)
 unfolding runs_of
 by_address same tells f none = all_runs f (runs_from same f 0 (2 ^ 64)) (from_runs same tells f (2 ^ 64) 0) none
 
 -- so each list of its runs is this one
-pub the_list : {X : Type 0} (same : X → X → Bool) → Tells same → (f : ℕ → Option X) (rs : List (RunOf X))
+pub the_list : {X : Type 0} (same : X → X → Bool) → DecidesEquality same → (f : ℕ → Option X) (rs : List (RunOf X))
     → ((x : ℕ) → 2 ^ 64 ≤ x → f x ≡ None) → IsRunsOf f rs → rs ≡ runs_of same f
 the_list same tells f rs none known = one_list f rs (runs_of same f) known (by_address same tells f none)

@@ -5,28 +5,28 @@ use Rattle.bm_base.specs.Range.{RangeView, covers}
 
 module _ {X : Type 0} where
   -- the addresses of the range carry what the change makes of what they carried, if anything; the others keep theirs
-  abbrev pub amended : (Option X → Option X) → RangeView → (ℕ → Option X) → ℕ → Option X
-  amended change r f x = if covers r x then change (f x) else f x
+  abbrev pub change_range : (Option X → Option X) → RangeView → (ℕ → Option X) → ℕ → Option X
+  change_range change r f x = if covers r x then change (f x) else f x
 
   -- the addresses of the range that carry nothing get the value; the others keep theirs (`memblock_add_range`)
-  abbrev pub covered : RangeView → X → (ℕ → Option X) → ℕ → Option X
-  covered r v f x = amended (λ carried. Some (unwrap_or carried v)) r f x
+  abbrev pub cover_range : RangeView → X → (ℕ → Option X) → ℕ → Option X
+  cover_range r v f x = change_range (λ carried. Some (unwrap_or carried v)) r f x
 
   -- the addresses of the range carry nothing any more (`memblock_remove_range`)
-  abbrev pub uncovered : RangeView → (ℕ → Option X) → ℕ → Option X
-  uncovered r f x = amended (λ carried. None) r f x
+  abbrev pub uncover_range : RangeView → (ℕ → Option X) → ℕ → Option X
+  uncover_range r f x = change_range (λ carried. None) r f x
 
   -- what the addresses of the range carry is changed; those that carry nothing stay so (`memblock_set_node`)
-  abbrev pub relabelled : RangeView → (X → X) → (ℕ → Option X) → ℕ → Option X
-  relabelled r change f x = amended (option_map change) r f x
+  abbrev pub relabel_range : RangeView → (X → X) → (ℕ → Option X) → ℕ → Option X
+  relabel_range r change f x = change_range (option_map change) r f x
 
   -- all addresses of the range get the value, whatever they carry
-  abbrev pub replaced : RangeView → X → (ℕ → Option X) → ℕ → Option X
-  replaced r v f x = amended (λ carried. Some v) r f x
+  abbrev pub replace_in_range : RangeView → X → (ℕ → Option X) → ℕ → Option X
+  replace_in_range r v f x = change_range (λ carried. Some v) r f x
 
   -- the addresses of the range that carry nothing, with the value, and no others
-  abbrev pub bare : RangeView → X → (ℕ → Option X) → ℕ → Option X
-  bare r v f x = if covers r x && is_none (f x) then Some v else None
+  abbrev pub gaps_in_range : RangeView → X → (ℕ → Option X) → ℕ → Option X
+  gaps_in_range r v f x = if covers r x && is_none (f x) then Some v else None
 
   -- both carry nothing, or the same
   abbrev pub agree : (X → X → Bool) → Option X → Option X → Bool

@@ -11,7 +11,7 @@ pub record RunOf (X : Type 0) : Type 0 where
   pub value : X
 
 -- a test that tells whether two values are equal
-pub record Tells {X : Type 0} (same : X → X → Bool) : Type 0 where
+pub record DecidesEquality {X : Type 0} (same : X → X → Bool) : Type 0 where
   pub true_is_equal : (a b : X) → same a b ≡ true → a ≡ b
   pub equal_is_true : (a b : X) → a ≡ b → same a b ≡ true
 
@@ -53,10 +53,10 @@ module _ {X : Type 0} where
   one_address x v = record { base = x; size = 1; value = v }
 
   -- the address and its value in front of the runs behind it: it lengthens the first, or begins one
-  abbrev pub led_by : (X → X → Bool) → ℕ → Option X → List (RunOf X) → List (RunOf X)
-  led_by same x None rs = rs
-  led_by same x (Some v) [] = one_address x v ∷ []
-  led_by same x (Some v) (r ∷ rs) =
+  abbrev pub prepend_address : (X → X → Bool) → ℕ → Option X → List (RunOf X) → List (RunOf X)
+  prepend_address same x None rs = rs
+  prepend_address same x (Some v) [] = one_address x v ∷ []
+  prepend_address same x (Some v) (r ∷ rs) =
       if (r.base == x + 1) && same v r.value
       then record { base = x; size = r.size + 1; value = v } ∷ rs
       else (one_address x v ∷ (r ∷ rs))
@@ -64,7 +64,7 @@ module _ {X : Type 0} where
   -- the runs of the n addresses from x on
   unfoldable pub runs_from : (X → X → Bool) → (ℕ → Option X) → ℕ → ℕ → List (RunOf X)
   runs_from same f x zero = []
-  runs_from same f x (suc n) = led_by same x (f x) (runs_from same f (x + 1) n)
+  runs_from same f x (suc n) = prepend_address same x (f x) (runs_from same f (x + 1) n)
 
   -- the runs of a function over all addresses below 2^64
   unfoldable pub runs_of : (X → X → Bool) → (ℕ → Option X) → List (RunOf X)

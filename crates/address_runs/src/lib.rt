@@ -14,20 +14,19 @@
 //! it is (`order.rt`); another one is laid over itself by halves (`layers.rt`), which takes n log n
 //! steps where the stretches overlap little.
 //!
-//! [`one_list_of_runs`] and [`runs_by_address`] are the laws that tie relation and function: a
+//! [`runs_are_unique`] and [`runs_of_gives_the_runs`] are the laws that tie relation and function: a
 //! function has exactly one list of runs, and `runs_of` is it. The layers above may rest on them,
 //! and on the lemmas of `proofs/RunsLaws.antt` and `proofs/SweepLaws.antt`.
 #![tactic(auto)]
 
 mod builder;
-mod laws;
 mod layers;
 mod order;
 mod run;
 mod stretch;
 
 pub use builder::agree;
-pub use laws::{one_list_of_runs, runs_by_address};
 pub use layers::overlay_all;
-pub use run::{RunOf, Told};
+pub use order::{runs_are_unique, runs_of_gives_the_runs};
+pub use run::{RunOf, RunValue};
 pub use stretch::{Overlay, Stretch};

@@ -5,8 +5,8 @@
 //! is. A look at each stretch and the one behind it tells, and of two lists of runs a look at the last
 //! of the one and the first of the other; then nothing has to be laid over anything.
 
-ghost use Rattle.std.specs.Prelude.{◌↔◌, ◌++◌, List, map, IsTrue};
-ghost use Rattle.address_runs.specs.Runs.{AreRuns, IsBefore};
+ghost use Rattle.std.specs.Prelude.{◌≡◌, ◌↔◌, ◌++◌, ℕ, ◌^◌, ◌≤◌, Bool, Option, None, List, map, IsTrue};
+ghost use Rattle.address_runs.specs.Runs.{RunOf, AreRuns, IsBefore, IsRunsOf, DecidesEquality, runs_of};
 ghost use Rattle.address_runs.specs.Overlay.{HaveAddresses};
 
 use crate::stretch::Stretch;
@@ -50,3 +50,15 @@ pub fn are_apart<S: Stretch>(first: &[S], second: &[S]) -> bool
     };
     is_before(last, second)
 }
+
+/// A law: a function has one list of runs, so what a caller reads of one list holds of each.
+pub fn runs_are_unique<T>()
+    ensures { (f : ℕ → Option T) (rs ss : List (RunOf T)) → IsRunsOf f rs → IsRunsOf f ss → rs ≡ ss }
+{}
+
+/// A law: `runs_of` is the list of runs of a function that has no value from 2^64 on, for each
+/// test that tells equal values from others.
+pub fn runs_of_gives_the_runs<T>()
+    ensures { (same : T → T → Bool) (f : ℕ → Option T) → DecidesEquality same →
+        ((x : ℕ) → 2 ^ 64 ≤ x → f x ≡ None) → IsRunsOf f (runs_of same f) }
+{}

@@ -10,19 +10,19 @@ use bm_base::Range;
 use std::marker::Model;
 
 /// A value that runs are made of: a test tells equal ones from others.
-pub trait Told: Copy {
+pub trait RunValue: Copy {
     /// Whether both are the same.
     fn is_same(first: Self, second: Self) -> bool
         ensures { IsTrue result ↔ (first ≡ second) };
 }
 
-impl Told for u32 {
+impl RunValue for u32 {
     fn is_same(first: u32, second: u32) -> bool {
         first == second
     }
 }
 
-impl Told for bool {
+impl RunValue for bool {
     fn is_same(first: bool, second: bool) -> bool {
         first == second
     }
@@ -51,7 +51,7 @@ impl<V> Model for RunOf<V> {
     ghost inverse = { λ r. record { range = record { base = r.base; size = r.size }; value = r.value } };
 }
 
-impl<V: Told> Stretch for RunOf<V> {
+impl<V: RunValue> Stretch for RunOf<V> {
     type Value = V;
 
     ghost run = { λ r. r };
@@ -73,8 +73,8 @@ impl<V: Told> Stretch for RunOf<V> {
     }
 }
 
-impl<V: Told> Overlay for RunOf<V> {
-    ghost joined = { option_or };
+impl<V: RunValue> Overlay for RunOf<V> {
+    ghost join_of = { option_or };
 
     fn join(first: Option<V>, second: Option<V>) -> Option<V>
         ensures { result ≡ option_or first second }
@@ -82,9 +82,9 @@ impl<V: Told> Overlay for RunOf<V> {
         first.or(second)
     }
 
-    ghost before_none = { first_none };
+    ghost left_identity = { first_none };
 
-    ghost behind_none = { first_alone };
+    ghost right_identity = { first_alone };
 
-    ghost grouped = { first_grouped };
+    ghost associative = { first_grouped };
 }

@@ -38,16 +38,16 @@ pub trait Stretch: Copy {
 /// A stretch whose values can be laid over one another.
 pub trait Overlay: Stretch {
     // what `join` gives
-    ghost joined: { Option Self.Value → Option Self.Value → Option Self.Value };
+    ghost join_of: { Option Self.Value → Option Self.Value → Option Self.Value };
 
     /// What holds where the one says `first` and the other `second`: what the one says alone where
     /// the other says nothing. Of several, how they are grouped doesn't matter.
     fn join(first: Option<Self::Value>, second: Option<Self::Value>) -> Option<Self::Value>
-        ensures { result ≡ joined first second };
+        ensures { result ≡ join_of first second };
 
-    ghost before_none: { (v : Option Self.Value) → joined None v ≡ v };
+    ghost left_identity: { (v : Option Self.Value) → join_of None v ≡ v };
 
-    ghost behind_none: { (v : Option Self.Value) → joined v None ≡ v };
+    ghost right_identity: { (v : Option Self.Value) → join_of v None ≡ v };
 
-    ghost grouped: { (u v w : Option Self.Value) → joined (joined u v) w ≡ joined u (joined v w) };
+    ghost associative: { (u v w : Option Self.Value) → join_of (join_of u v) w ≡ join_of u (join_of v w) };
 }

@@ -6,7 +6,7 @@
 
 ghost use Rattle.std.specs.Prelude.{◌+◌, ◌^◌, ◌<◌, ◌≤◌, length};
 ghost use Rattle.address_runs.specs.Runs.{AreRuns, IsRunsOf, value_at};
-ghost use Rattle.address_runs.specs.Edits.{amended, NothingFrom};
+ghost use Rattle.address_runs.specs.Edits.{change_range, NothingFrom};
 ghost use Rattle.memblock_model.specs.Items.{IsItem, owners_after};
 ghost use Rattle.run_edits.specs.Records.{EndsNoRun};
 
@@ -42,7 +42,7 @@ fn change<C: Change<Owner>>(owners: &mut RunList, range: &Range, change: C)
     requires within { NothingFrom (2 ^ 64) (value_at owners.old.items) }
     requires change { EndsNoRun (C.makes change) }
     requires room { length owners.old.items + 2 ≤ owners.old.room }
-    ensures runs { IsRunsOf (amended (C.makes change) range.now (value_at owners.old.items)) owners.new.items }
+    ensures runs { IsRunsOf (change_range (C.makes change) range.now (value_at owners.old.items)) owners.new.items }
     ensures within { NothingFrom (2 ^ 64) (value_at owners.new.items) }
     ensures len { length owners.new.items ≤ length owners.old.items + 2 }
     ensures room { owners.old.room ≤ owners.new.room }

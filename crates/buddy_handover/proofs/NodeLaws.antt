@@ -1,10 +1,10 @@
 -- The test of nodes tells.
 use Rattle.std.proofs.Common.{ℕ, Bool, ◌==◌}
 use Rattle.std.proofs.lemmas.Bool.{eqb-true, eq-eqb}
-use Rattle.address_runs.specs.Runs.{Tells}
+use Rattle.address_runs.specs.Runs.{DecidesEquality}
 
 abbrev pub same_number : ℕ → ℕ → Bool
 same_number a b = a == b
 
-pub number_tells : Tells same_number
+pub number_tells : DecidesEquality same_number
 number_tells = record { true_is_equal = eqb-true; equal_is_true = eq-eqb }

@@ -6,7 +6,7 @@
 
 ghost use Rattle.std.specs.Prelude.{◌≡◌, ℕ, ◌+◌, ◌-◌, ◌%◌, ◌^◌, ◌<◌, ◌≤◌, max, is_some, Some, None, IsSome, [], IsOk, OnOk, OnErr, IfOk, IfErr, vec_len, vec_capacity};
 ghost use Rattle.address_runs.specs.Runs.{IsRunsOf};
-ghost use Rattle.address_runs.specs.Edits.{replaced, NothingFrom};
+ghost use Rattle.address_runs.specs.Edits.{replace_in_range, NothingFrom};
 ghost use Rattle.frame_blocks.specs.Listed.{block_of, blocks_of, count_of};
 ghost use Rattle.frame_blocks.specs.Rows.{blocks_of_rows, AreRows};
 ghost use Rattle.frame_blocks.specs.Frames.{IsInSet};
@@ -107,7 +107,7 @@ impl Buddy {
     pub fn free_frames(&mut self, first: u64, count: u64, node: u32) -> Result<(), Memory>
         requires low { first + count ≤ MAX_FRAMES }
         requires held { (x : ℕ) → first ≤ x → x < first + count → free self.old x ≡ None }
-        ensures runs { OnOk result (IsRunsOf (replaced (record { base = first; size = count }) node (free self.old)) self.new.runs) }
+        ensures runs { OnOk result (IsRunsOf (replace_in_range (record { base = first; size = count }) node (free self.old)) self.new.runs) }
         ensures enough { 32 ≤ self.old.spare → IsOk result }
         ensures spare { OnOk result (self.new.spare ≡ max self.old.spare 2 - 2) }
         ensures err { OnErr result (self.new ≡ self.old) }
@@ -118,7 +118,7 @@ impl Buddy {
     /// The same, whatever the frames were before.
     pub(crate) fn note(&mut self, first: u64, count: u64, node: u32) -> Result<(), Memory>
         requires low { first + count ≤ MAX_FRAMES }
-        ensures runs { OnOk result (IsRunsOf (replaced (record { base = first; size = count }) node (free self.old)) self.new.runs) }
+        ensures runs { OnOk result (IsRunsOf (replace_in_range (record { base = first; size = count }) node (free self.old)) self.new.runs) }
         ensures memory { OnErr result (self.old.spare < 2) }
         ensures spare { OnOk result (self.new.spare ≡ max self.old.spare 2 - 2) }
         ensures err { OnErr result (self.new ≡ self.old) }

@@ -5,7 +5,7 @@
 
 ghost use Rattle.std.specs.Prelude.{◌≡◌, ◌+◌, ◌^◌, ◌<◌, ◌≤◌, vec_len, vec_capacity};
 ghost use Rattle.address_runs.specs.Runs.{AreRuns, IsRunsOf, value_at};
-ghost use Rattle.address_runs.specs.Edits.{replaced, uncovered, NothingFrom};
+ghost use Rattle.address_runs.specs.Edits.{replace_in_range, uncover_range, NothingFrom};
 ghost use Rattle.frame_blocks.specs.Listed.{set_around};
 
 use bm_base::Range;
@@ -19,7 +19,7 @@ pub fn put(runs: &mut Vec<FrameRun>, frames: &Range, node: u32)
     requires runs { AreRuns runs.old.items }
     requires within { NothingFrom MAX_FRAMES (value_at runs.old.items) }
     requires room { vec_len runs.old + 2 ≤ vec_capacity runs.old }
-    ensures runs { IsRunsOf (replaced frames.now node (value_at runs.old.items)) runs.new.items }
+    ensures runs { IsRunsOf (replace_in_range frames.now node (value_at runs.old.items)) runs.new.items }
     ensures within { NothingFrom MAX_FRAMES (value_at runs.new.items) }
     ensures len { vec_len runs.new ≤ vec_len runs.old + 2 }
     ensures capacity { vec_capacity runs.old ≤ vec_capacity runs.new }
@@ -36,7 +36,7 @@ pub fn cut(runs: &mut Vec<FrameRun>, frames: &Range)
     requires runs { AreRuns runs.old.items }
     requires within { NothingFrom MAX_FRAMES (value_at runs.old.items) }
     requires room { vec_len runs.old + 2 ≤ vec_capacity runs.old }
-    ensures runs { IsRunsOf (uncovered frames.now (value_at runs.old.items)) runs.new.items }
+    ensures runs { IsRunsOf (uncover_range frames.now (value_at runs.old.items)) runs.new.items }
     ensures within { NothingFrom MAX_FRAMES (value_at runs.new.items) }
     ensures len { vec_len runs.new ≤ vec_len runs.old + 2 }
     ensures capacity { vec_capacity runs.old ≤ vec_capacity runs.new }

@@ -5,7 +5,7 @@ use Rattle.std.proofs.lemmas.Bool.Decides.{nat_tests}
 use Rattle.std.proofs.lemmas.List.Sums.{sum_by-cons}
 use Rattle.address_runs.specs.Runs.{RunOf, run_end, lies_in, value_at, AreRuns}
 use Rattle.address_runs.specs.Edits.{NothingFrom}
-use Rattle.address_runs.specs.Sweep.{StartFrom}
+use Rattle.address_runs.specs.Sweep.{StartAtOrPast}
 use Rattle.address_runs.proofs.RunsLaws.{inside, behind, none_below, rest_from, start_zero}
 use Rattle.e820_model.specs.Usable.{count_below}
 use Rattle.e820_model.proofs.UsableLaws.{count_same, count_none, count_either, count_interval}
@@ -23,7 +23,7 @@ module _ {X : Type 0} where
   sizes rs = sum_by (λ r. r.size) rs
 
   -- those of the runs before one come to its base at most
-  sizes_below : (at i : ℕ) (rs : List (RunOf X)) (d : RunOf X) → StartFrom at rs → AreRuns rs → i < length rs
+  sizes_below : (at i : ℕ) (rs : List (RunOf X)) (d : RunOf X) → StartAtOrPast at rs → AreRuns rs → i < length rs
       → at + sizes (take i rs) ≤ (get_or rs i d).base
   sizes_below at i [] d start runs lt = absurd (omega arith)
   sizes_below at zero (r ∷ rs) d start runs lt = let from : at ≤ r.base = start in omega arith

@@ -4,7 +4,7 @@ use Rattle.std.proofs.Math.Bool.{or-false}
 use Rattle.std.proofs.lemmas.Bool.Decides.{nat_tests}
 use Rattle.std.proofs.lemmas.Bool.{cases_lt, cases_Bool}
 use Rattle.std.proofs.Math.Bool.{or_assoc}
-use Rattle.address_runs.specs.Runs.{RunOf, Tells, run_end, lies_in, value_at, AreRuns, IsRunsOf}
+use Rattle.address_runs.specs.Runs.{RunOf, DecidesEquality, run_end, lies_in, value_at, AreRuns, IsRunsOf}
 use Rattle.address_runs.proofs.RunsLaws.{inside, behind, none_below, rest_from, by_address, one_list}
 use Rattle.e820_model.specs.Claims.{Types, Claims, greatest_below, greatest, type_of, settled, with_claims, claims_of_entries, after_edits, of_zero_page, with_extension, bios_trimmed, finished}
 use Rattle.e820_model.specs.Map.{some_kind, kinds, same_kind, map_of, claims_of, AreClaims}
@@ -205,7 +205,7 @@ none_past rs x claims far =
     rw none refl
 
 -- the test that tells types apart
-pub tells_kinds : Tells same_kind
+pub tells_kinds : DecidesEquality same_kind
 tells_kinds = record { true_is_equal = λ a b h. grind (arith, nat_tests); equal_is_true = λ a b h. grind (arith, nat_tests) }
 
 -- the map of claims that give out is their list of runs

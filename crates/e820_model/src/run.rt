@@ -54,7 +54,7 @@ impl Stretch for Run {
 
 /// Where two ranges with types lie over one another the greater type holds.
 impl Overlay for Run {
-    ghost joined = { greater };
+    ghost join_of = { greater };
 
     fn join(first: Option<u32>, second: Option<u32>) -> Option<u32>
         ensures { result ≡ greater first second }
@@ -66,9 +66,9 @@ impl Overlay for Run {
         }
     }
 
-    ghost before_none = { greater_none };
+    ghost left_identity = { greater_none };
 
-    ghost behind_none = { greater_alone };
+    ghost right_identity = { greater_alone };
 
-    ghost grouped = { greater_grouped };
+    ghost associative = { greater_grouped };
 }

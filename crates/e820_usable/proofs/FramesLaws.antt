@@ -3,7 +3,7 @@ use Rattle.std.proofs.Common.{◌≡◌, ℕ, ◌+◌, ◌-◌, ◌*◌, ◌/◌
 use Rattle.std.proofs.lemmas.Bool.{cases_Bool, cases_eq}
 use Rattle.std.proofs.lemmas.Bool.Decides.{nat_tests}
 use Rattle.address_runs.specs.Runs.{RunOf, run_end, lies_in, value_at, AreRuns}
-use Rattle.address_runs.specs.Sweep.{StartFrom}
+use Rattle.address_runs.specs.Sweep.{StartAtOrPast}
 use Rattle.address_runs.proofs.RunsLaws.{below, rest_from, start_zero}
 use Rattle.e820_model.specs.Usable.{is_memory, count_below, reachable, usable_frames}
 use Rattle.e820_model.proofs.UsableLaws.{all_bytes, count_same, count_interval, count_frames_between, IsGap, count_split, usable_count, memory_reached}
@@ -40,7 +40,7 @@ abbrev pub memory_after : ℕ → ℕ → List (RunOf ℕ) → ℕ → Bool
 memory_after from until rs x = (nat_le from x && nat_lt x until) || is_memory (value_at rs x)
 
 -- runs that begin at or above an address begin at or above each lower address
-pub start_earlier : (x y : ℕ) (rs : List (RunOf ℕ)) → x ≤ y → StartFrom y rs → StartFrom x rs
+pub start_earlier : (x y : ℕ) (rs : List (RunOf ℕ)) → x ≤ y → StartAtOrPast y rs → StartAtOrPast x rs
 start_earlier x y [] le start = tt
 start_earlier x y (r ∷ rs) le start = omega arith
 
@@ -50,7 +50,7 @@ runs_ascend [] runs = tt
 runs_ascend (r ∷ rs) runs = (runs.0, rest_from r rs runs, runs_ascend rs runs.2)
 
 -- runs that begin at or above an address give no value below it
-none_before : (at x : ℕ) (rs : List (RunOf ℕ)) → Ascend rs → StartFrom at rs → x < at → value_at rs x ≡ None
+none_before : (at x : ℕ) (rs : List (RunOf ℕ)) → Ascend rs → StartAtOrPast at rs → x < at → value_at rs x ≡ None
 none_before at x [] order start low = refl
 none_before at x (r ∷ rs) order start low =
     rw (below r x (omega arith)) (none_before (run_end r) x rs order.2 order.1 (omega arith))
@@ -134,14 +134,14 @@ both_frames limit p q gap apart =
     ap (λ t. count_below (all_bytes t) (2 ^ 52)) (λ i x. either x i) ∙ count_split near far gap (2 ^ 52) still
 
 -- the count along the runs is the number of whole frames of memory
-pub frames_counted : (limit : ℕ) → limit < 2 ^ 64 → (rs : List (RunOf ℕ)) (from until : ℕ) → from ≤ until → StartFrom until rs → Ascend rs
+pub frames_counted : (limit : ℕ) → limit < 2 ^ 64 → (rs : List (RunOf ℕ)) (from until : ℕ) → from ≤ until → StartAtOrPast until rs → Ascend rs
     → frames_from limit from until rs ≡ frames_of limit (memory_after from until rs)
 frames_counted limit space [] from until order start runs =
     stretch_frames limit from until space
     ∙ frames_same limit (λ x. nat_le from x && nat_lt x until) (memory_after from until []) (memory_last from until)
 frames_counted limit space (r ∷ rs) from until order start runs =
     let goal : Type 0 = frames_from limit from until (r ∷ rs) ≡ frames_of limit (memory_after from until (r ∷ rs)) in
-    let behind : StartFrom (run_end r) rs = runs.1 in
+    let behind : StartAtOrPast (run_end r) rs = runs.1 in
     elim (cases_Bool (is_memory (Some r.value))) as (λ _. goal) [
       | inr other ↦
           (let rest : frames_from limit from until rs ≡ frames_of limit (memory_after from until rs) =

@@ -4,7 +4,7 @@ use Rattle.std.proofs.lemmas.Bool.Decides.{nat_tests}
 use Rattle.std.proofs.Math.Nat.{le_antisymm}
 use Rattle.std.proofs.lemmas.Bool.{cases_lt, true≢false}
 use Rattle.address_runs.specs.Runs.{RunOf, run_end, value_at, AreRuns, IsRunsOf}
-use Rattle.address_runs.specs.Sweep.{StartFrom}
+use Rattle.address_runs.specs.Sweep.{StartAtOrPast}
 use Rattle.address_runs.proofs.RunsLaws.{inside, behind, rest_from, start_zero}
 use Rattle.e820_model.specs.Map.{TypeAt}
 use Rattle.e820_model.specs.Usable.{is_usable, reachable}
@@ -81,7 +81,7 @@ record EndsAt {X : Type 0} (rs : List (RunOf X)) (from at : ℕ) : Type 0 where
   past : (x : ℕ) → at ≤ x → value_at rs x ≡ None
   last : from < at → (v : X) × (value_at rs (at - 1) ≡ Some v)
 
-ends_at : {X : Type 0} (from : ℕ) (rs : List (RunOf X)) → AreRuns rs → StartFrom from rs → EndsAt rs from (end_behind from rs)
+ends_at : {X : Type 0} (from : ℕ) (rs : List (RunOf X)) → AreRuns rs → StartAtOrPast from rs → EndsAt rs from (end_behind from rs)
 ends_at from [] runs start = record { later = omega arith; past = λ x past. refl; last = λ some. absurd (omega (arith, some)) }
 ends_at {X} from (r ∷ rs) runs start =
     let at : ℕ = end_behind (run_end r) rs in

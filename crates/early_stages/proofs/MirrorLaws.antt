@@ -8,7 +8,7 @@ use Rattle.e820_model.specs.Map.{TypeAt}
 use Rattle.e820_model.specs.Usable.{is_usable, reachable}
 use Rattle.memblock_model.specs.Labels.{Label, Labels, plain_label, with_mirror}
 use Rattle.memblock_model.specs.Items.{memory_after}
-use Rattle.address_runs.specs.Edits.{relabelled}
+use Rattle.address_runs.specs.Edits.{relabel_range}
 use Rattle.early_stages.specs.Early.{FrameRange, bytes_of_frames}
 use Rattle.early_stages.specs.Memory.{is_mirrored, mirrored_memory, usable_memory}
 use Rattle.early_stages.specs.Wanted.{mirror_items}
@@ -28,7 +28,7 @@ pub mirrors-memory : (mirrors : List FrameRange) (f : Labels) (x : ℕ)
     → fold memory_after f (mirror_items mirrors) x ≡ mirrored_memory mirrors f x
 mirrors-memory [] f x = refl
 mirrors-memory (r ∷ rs) f x =
-    mirrors-memory rs (relabelled (bytes_of_frames r) with_mirror f) x
+    mirrors-memory rs (relabel_range (bytes_of_frames r) with_mirror f) x
     ∙ one_more (covers (bytes_of_frames r) x) (is_mirrored rs x) (f x)
 
 -- what is usable is memory, and nothing else, whatever of it is mirrored

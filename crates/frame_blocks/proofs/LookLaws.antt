@@ -5,7 +5,7 @@ use Rattle.std.proofs.lemmas.Bool.{cases_lt}
 use Rattle.std.proofs.lemmas.List.{at_drop_all, at_drop_more}
 use Rattle.bm_base.specs.Zones.{zone_of}
 use Rattle.address_runs.specs.Runs.{RunOf, run_end, value_at, AreRuns}
-use Rattle.address_runs.specs.Sweep.{StartFrom, EndsBehind, IsRestFrom}
+use Rattle.address_runs.specs.Sweep.{StartAtOrPast, FirstEndsPast, IsRestFrom}
 use Rattle.address_runs.specs.Edits.{NothingFrom}
 use Rattle.address_runs.proofs.RunsLaws.{inside, behind, none_below, rest_from, other_behind, start_zero}
 use Rattle.frame_blocks.specs.declared.block.Block.{Block}
@@ -27,7 +27,7 @@ some_size [] i d runs few = absurd (omega arith)
 some_size (r ∷ rs) zero d runs few = runs.0
 some_size (r ∷ rs) (suc i) d runs few = some_size rs i d runs.2 (omega arith)
 
-all_start : (at : ℕ) (rs : List (RunOf ℕ)) (i : ℕ) (d : RunOf ℕ) → AreRuns rs → StartFrom at rs → i < length rs → at ≤ (get_or rs i d).base
+all_start : (at : ℕ) (rs : List (RunOf ℕ)) (i : ℕ) (d : RunOf ℕ) → AreRuns rs → StartAtOrPast at rs → i < length rs → at ≤ (get_or rs i d).base
 all_start at [] i d runs start few = absurd (omega arith)
 all_start at (r ∷ rs) zero d runs start few = start
 all_start at (r ∷ rs) (suc i) d runs start few =
@@ -64,7 +64,7 @@ run_of_list (q ∷ rs) (suc i) d runs few =
 -- frame
 pub looked_up : (rs : List (RunOf ℕ)) (i x : ℕ) (d : RunOf ℕ) → i < length rs → IsRestFrom (value_at rs) x (drop i rs)
     → x < run_end (get_or rs i d)
-looked_up rs i x d few rest = subst (λ (ss : List (RunOf ℕ)). EndsBehind x ss) (drop-cons rs i d few) rest.ends
+looked_up rs i x d few rest = subst (λ (ss : List (RunOf ℕ)). FirstEndsPast x ss) (drop-cons rs i d few) rest.ends
 
 pub begins_later : (rs : List (RunOf ℕ)) (i x : ℕ) (d : RunOf ℕ) → i < length rs → IsRestFrom (value_at rs) x (drop i rs)
     → x < (get_or rs i d).base → None ≡ block_of (value_at rs) x
@@ -103,7 +103,7 @@ nothing_behind b r rs runs none =
     cc (sym last ∙ none (run_end r - 1) (omega arith)))) in (low, λ x high. sym (value_behind r rs x (omega arith)) ∙ none x high)
 
 -- they are the blocks of all frames
-listed_from : (f : Frames) (b at : ℕ) (rs : List (RunOf ℕ)) → AreRuns rs → StartFrom at rs → NothingFrom b (value_at rs) → at ≤ b
+listed_from : (f : Frames) (b at : ℕ) (rs : List (RunOf ℕ)) → AreRuns rs → StartAtOrPast at rs → NothingFrom b (value_at rs) → at ≤ b
     → ((x : ℕ) → at ≤ x → f x ≡ value_at rs x) → blocks_from f at (b - at) ≡ listed f rs
 unfolding listed
 listed_from f b at [] runs start none low same =

@@ -2,18 +2,18 @@
 -- order from the set's to below the block's (`expand`). If the set is added back, they are merged
 -- again (`__free_one_page`).
 use Rattle.std.specs.Prelude.{◌≡◌, ℕ, ◌+◌, ◌-◌, ◌*◌, ◌/◌, ◌%◌, ◌^◌, ◌<◌, ◌≤◌, ◌==◌, if◌then◌else◌, None}
-use Rattle.address_runs.specs.Edits.{uncovered, replaced}
+use Rattle.address_runs.specs.Edits.{uncover_range, replace_in_range}
 use Rattle.frame_blocks.specs.declared.block.Block.{Block}
 use Rattle.frame_blocks.specs.Frames.{Frames, IsInSet}
 use Rattle.frame_blocks.specs.Listed.{set_around}
 
 -- the frames of the aligned set of this order that has x are no longer free
 abbrev pub without_set : ℕ → ℕ → Frames → Frames
-without_set order x f = uncovered (set_around order x) f
+without_set order x f = uncover_range (set_around order x) f
 
 -- the frames of that set are free, on the node
 abbrev pub with_set : ℕ → ℕ → ℕ → Frames → Frames
-with_set order x node f = replaced (set_around order x) node f
+with_set order x node f = replace_in_range (set_around order x) node f
 
 -- g has the same free frames as f, except those of the set, which aren't free in g
 pub record IsWithout (f g : Frames) (order x : ℕ) : Type 0 where

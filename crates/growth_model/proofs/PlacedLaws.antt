@@ -4,7 +4,7 @@ use Rattle.std.specs.Prelude.{unwrap_or}
 use Rattle.std.specs.List.{fold}
 use Rattle.std.proofs.lemmas.List.Sums.{fold-append}
 use Rattle.bm_base.specs.Range.{RangeView}
-use Rattle.address_runs.specs.Edits.{uncovered, replaced}
+use Rattle.address_runs.specs.Edits.{uncover_range, replace_in_range}
 use Rattle.memblock_model.specs.declared.which.Which.{Which}
 use Rattle.memblock_model.specs.declared.which.Which.TheVariants as which
 use Rattle.memblock_model.specs.declared.owner.Owner.{Owner}
@@ -82,7 +82,7 @@ pub claim-placed : (kernel : RangeView) (items : List Item) (r : RangeView) (o :
     → Seated kernel (items ++ item.Claim r o ∷ [])
 claim-placed kernel items r o may placed =
     still-placed kernel items (item.Claim r o) (λ w. refl) (λ w. refl) placed
-    (elim may as (λ _. Seats (replaced r o (owner_of items)) (live which.Memory kernel items) (live which.Reserved kernel items)) [
+    (elim may as (λ _. Seats (replace_in_range r o (owner_of items)) (live which.Memory kernel items) (live which.Reserved kernel items)) [
       | inl kept ↦ Seats-claim (owner_of items) (live which.Memory kernel items) (live which.Reserved kernel items) r o kept placed.seats
       | inr away ↦ Seats-clear (owner_of items) (live which.Memory kernel items) (live which.Reserved kernel items) r o away.0 away.1
           placed.seats
@@ -163,14 +163,14 @@ module _ (own : Owners) (m r : RangeView) (w : Which) (room place : ℕ) where
   free-frames free = subst (λ (e : RangeView). Unclaimed own e) (sym (same-frames room place)) free
 
   pub move-seats : place % 4096 ≡ 0 → Unclaimed own (frames_at place (48 * room)) → Seats own m r
-      → Seats (replaced (frames_at place (48 * room)) (for_table w) own) m (place_for_twice room place)
+      → Seats (replace_in_range (frames_at place (48 * room)) (for_table w) own) m (place_for_twice room place)
   move-seats aligned free seats =
-      subst (λ (e : RangeView). Seats (replaced e (for_table w) own) m (place_for_twice room place)) (same-frames room place)
+      subst (λ (e : RangeView). Seats (replace_in_range e (for_table w) own) m (place_for_twice room place)) (same-frames room place)
       (Seats-move own m r (place_for_twice room place) (for_table w) refl aligned (free-frames free) seats)
 
   pub leave-seats : place % 4096 ≡ 0 → Unclaimed own (frames_at place (48 * room)) → Seats own m r
-      → Seats (uncovered (frames r) (replaced (frames_at place (48 * room)) (for_table w) own)) m (place_for_twice room place)
+      → Seats (uncover_range (frames r) (replace_in_range (frames_at place (48 * room)) (for_table w) own)) m (place_for_twice room place)
   leave-seats aligned free seats =
-      subst (λ (e : RangeView). Seats (uncovered (frames r) (replaced e (for_table w) own)) m (place_for_twice room place))
+      subst (λ (e : RangeView). Seats (uncover_range (frames r) (replace_in_range e (for_table w) own)) m (place_for_twice room place))
       (same-frames room place)
       (Seats-leave own m r (place_for_twice room place) (for_table w) refl aligned (free-frames free) seats)

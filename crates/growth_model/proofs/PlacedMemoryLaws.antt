@@ -1,7 +1,7 @@
 -- The places of both tables stay good throughout a growth of the memory table, and the changes that may need one.
 use Rattle.std.proofs.Common.{◌≡◌, ℕ, ◌*◌, ◌%◌, true, Option, Some, None, List, [], ◌∷◌, ◌++◌, Ok, refl, sym, ◌∙◌, ap, subst, inl, inr, arith}
 use Rattle.bm_base.specs.Range.{RangeView, covers}
-use Rattle.address_runs.specs.Edits.{replaced}
+use Rattle.address_runs.specs.Edits.{replace_in_range}
 use Rattle.memblock_model.specs.declared.which.Which.TheVariants as which
 use Rattle.memblock_model.specs.declared.owner.Owner.{Owner}
 use Rattle.memblock_model.specs.declared.item.Item.{Item}
@@ -49,7 +49,7 @@ module _ (kernel : RangeView) (t : List Item) (place : ℕ) where
   abbrev grows : Item
   grows = item.Grown which.Memory place (2 * room_of which.Memory t)
 
-  moved-owners : owner_of (moved t place) ≡ replaced a (for_table which.Memory) (owner_of t)
+  moved-owners : owner_of (moved t place) ≡ replace_in_range a (for_table which.Memory) (owner_of t)
   moved-owners = owners-of u (grows ∷ []) ∙ owners-of t (claims ∷ [])
 
   moved-memory : live which.Memory kernel (moved t place) ≡ new_live t place
@@ -73,9 +73,9 @@ module _ (kernel : RangeView) (t : List Item) (place : ℕ) where
 
   pub moved-placed : IsFree t place → Seated kernel t → Seated kernel (moved t place)
   moved-placed new placed =
-      placed-more kernel u (grows ∷ []) (replaced a (for_table which.Memory) (owner_of t)) (new_live t place)
+      placed-more kernel u (grows ∷ []) (replace_in_range a (for_table which.Memory) (owner_of t)) (new_live t place)
       (live which.Reserved kernel t) (taken-placed placed) moved-owners moved-memory moved-reserved
-      (Seats-swap (replaced a (for_table which.Memory) (owner_of t)) (live which.Reserved kernel t) (new_live t place)
+      (Seats-swap (replace_in_range a (for_table which.Memory) (owner_of t)) (live which.Reserved kernel t) (new_live t place)
       (move-seats (owner_of t) (live which.Reserved kernel t) (live which.Memory kernel t) which.Memory (room_of which.Memory t) place
       new.aligned new.free
       (Seats-swap (owner_of t) (live which.Memory kernel t) (live which.Reserved kernel t) placed.seats)))

@@ -3,7 +3,7 @@ use Rattle.std.proofs.Common.{◌≡◌, ℕ, ◌*◌, true, Option, Some, None,
 use Rattle.std.proofs.lemmas.Bool.{cases_Bool, false_from_ne_true}
 use Rattle.std.proofs.lemmas.Bool.Decides.{nat_tests}
 use Rattle.bm_base.specs.Range.{RangeView, covers}
-use Rattle.address_runs.specs.Edits.{uncovered, replaced}
+use Rattle.address_runs.specs.Edits.{uncover_range, replace_in_range}
 use Rattle.memblock_model.specs.declared.which.Which.{Which}
 use Rattle.memblock_model.specs.declared.which.Which.TheVariants as which
 use Rattle.memblock_model.specs.declared.owner.Owner.{Owner}
@@ -19,12 +19,12 @@ use Rattle.growth_model.proofs.FoundLaws.{IsNew, beside-new}
 use Rattle.growth_model.proofs.PlacedLaws.{live_by, live-is, live-same, placed-more, owners-of, moves-of, rooms-of, limits-of, MayTake, claim-placed, free-placed, Aside, aside-same, aside-on, Going, away-still, take-still, for_table, move-seats, leave-seats}
 
 -- bytes without an owner stay so when others are claimed, and when any are freed
-claim-unclaimed : (own : Owners) (a r : RangeView) (o : Owner) → Clear a r → Unclaimed own a → Unclaimed (replaced r o own) a
+claim-unclaimed : (own : Owners) (a r : RangeView) (o : Owner) → Clear a r → Unclaimed own a → Unclaimed (replace_in_range r o own) a
 claim-unclaimed own a r o clear free x at = rw (false_from_ne_true (covers r x) (λ in_r. clear x at in_r)) (free x at)
 
-free-unclaimed : (own : Owners) (a r : RangeView) → Unclaimed own a → Unclaimed (uncovered r own) a
+free-unclaimed : (own : Owners) (a r : RangeView) → Unclaimed own a → Unclaimed (uncover_range r own) a
 free-unclaimed own a r free x at =
-    elim (cases_Bool (covers r x)) as (λ _. uncovered r own x ≡ None) [ inl in_r ↦ rw in_r refl | inr other ↦ rw other (free x at) ]
+    elim (cases_Bool (covers r x)) as (λ _. uncover_range r own x ≡ None) [ inl in_r ↦ rw in_r refl | inr other ↦ rw other (free x at) ]
 
 -- the items of one growth of the reserved table, from its place before
 abbrev pub grew : List Item → Option ℕ → ℕ → List Item
@@ -34,7 +34,7 @@ abbrev pub new_place : List Item → ℕ → RangeView
 new_place t place = frames_at place (48 * room_of which.Reserved t)
 
 abbrev pub claimed_place : List Item → ℕ → Owners
-claimed_place t place = replaced (new_place t place) (for_table which.Reserved) (owner_of t)
+claimed_place t place = replace_in_range (new_place t place) (for_table which.Reserved) (owner_of t)
 
 -- such a growth moves that table and doubles its room, and leaves the other
 pub reserved-moves : (w : Which) (t : List Item) (room : ℕ) (old : Option ℕ) (place : ℕ)
@@ -71,7 +71,7 @@ unfolding reserved_items
 grew-owners-first t place = owners-of t (reserved_items (room_of which.Reserved t) None place)
 
 pub grew-owners-again : (t : List Item) (q place : ℕ)
-    → owner_of (grew t (Some q) place) ≡ uncovered (frames_at q (24 * room_of which.Reserved t)) (claimed_place t place)
+    → owner_of (grew t (Some q) place) ≡ uncover_range (frames_at q (24 * room_of which.Reserved t)) (claimed_place t place)
 unfolding reserved_items
 grew-owners-again t q place = owners-of t (reserved_items (room_of which.Reserved t) (Some q) place)
 
@@ -115,7 +115,7 @@ grew-going kernel a t (Some q) place was new placed =
     let seats : Seats (owner_of t) memory (live_by which.Reserved kernel (Some q) room) =
     subst (λ (e : RangeView). Seats (owner_of t) memory e) before placed.seats in
     record {
-      placed = placed-more kernel t more (uncovered (frames_at q (24 * room)) (claimed_place t place)) memory
+      placed = placed-more kernel t more (uncover_range (frames_at q (24 * room)) (claimed_place t place)) memory
           (live_by which.Reserved kernel (Some place) (2 * room)) placed
           (grew-owners-again t q place) (grew-memory kernel t (Some q) place) (grew-live kernel t (Some q) place)
           (leave-seats (owner_of t) memory (live_by which.Reserved kernel (Some q) room) which.Reserved room place new.aligned new.free

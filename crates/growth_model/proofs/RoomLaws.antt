@@ -6,7 +6,7 @@ use Rattle.std.proofs.lemmas.Bool.{cases_Bool}
 use Rattle.std.proofs.lemmas.Bool.Decides.{nat_tests}
 use Rattle.std.proofs.lemmas.List.{append-nil}
 use Rattle.bm_base.specs.Range.{RangeView, end_of}
-use Rattle.address_runs.specs.Edits.{covered, uncovered, NothingFrom}
+use Rattle.address_runs.specs.Edits.{cover_range, uncover_range, NothingFrom}
 use Rattle.address_runs.proofs.EditLaws.{nothing-covered, nothing-uncovered}
 use Rattle.memblock_model.specs.declared.which.Which.{Which}
 use Rattle.memblock_model.specs.declared.which.Which.TheVariants as which
@@ -102,7 +102,7 @@ module _ (avoid : RangeView) (t : List Item) (place : ℕ) (new : IsNew t avoid 
   claim-ends : end_of claim ≤ 2 ^ 64
   claim-ends = let a = new.within in let b = bounded.limit in omega arith
 
-  claimed-few : length (records_for (covered claim plain_label table)) ≤ length (records_for table) + 1
+  claimed-few : length (records_for (cover_range claim plain_label table)) ≤ length (records_for table) + 1
   claimed-few =
       let least = room_of-least which.Reserved t in
       let one = one-piece claim table claim-ends (omega arith)
@@ -110,12 +110,12 @@ module _ (avoid : RangeView) (t : List Item) (place : ℕ) (new : IsNew t avoid 
       let all = length-covered claim plain_label table claim-ends bounded.ends in
       omega (arith, one, all)
 
-  claimed-bounded : NothingFrom (2 ^ 64) (covered claim plain_label table)
+  claimed-bounded : NothingFrom (2 ^ 64) (cover_range claim plain_label table)
   claimed-bounded = nothing-covered (2 ^ 64) claim plain_label table claim-ends bounded.ends
 
   abbrev grew-table : Option ℕ → Labels
-  grew-table None = covered claim plain_label table
-  grew-table (Some q) = uncovered (frames_at q (24 * room_of which.Reserved t)) (covered claim plain_label table)
+  grew-table None = cover_range claim plain_label table
+  grew-table (Some q) = uncover_range (frames_at q (24 * room_of which.Reserved t)) (cover_range claim plain_label table)
 
   grew-table-is : (old : Option ℕ) → table_of which.Reserved (grew t old place) ≡ grew-table old
   grew-table-is None =
@@ -123,19 +123,19 @@ module _ (avoid : RangeView) (t : List Item) (place : ℕ) (new : IsNew t avoid 
   grew-table-is (Some q) =
       let left : RangeView = frames_at q (24 * room_of which.Reserved t) in
       ap reserved_of (grew-owners-again t q place) ∙ reserved_of-uncovered left (claimed_place t place)
-      ∙ ap (uncovered left) (reserved_of-replaced claim (for_table which.Reserved) (owner_of t))
+      ∙ ap (uncover_range left) (reserved_of-replaced claim (for_table which.Reserved) (owner_of t))
 
   grew-few : (old : Option ℕ) → length (records_for (grew-table old)) ≤ length (records_for table) + 2
   grew-few None = let few = claimed-few in omega (arith, few)
   grew-few (Some q) =
       let few = claimed-few in
-      let one = length-uncovered (frames_at q (24 * room_of which.Reserved t)) (covered claim plain_label table) claimed-bounded in
+      let one = length-uncovered (frames_at q (24 * room_of which.Reserved t)) (cover_range claim plain_label table) claimed-bounded in
       omega (arith, few, one)
 
   grew-bounded : (old : Option ℕ) → NothingFrom (2 ^ 64) (grew-table old)
   grew-bounded None = claimed-bounded
   grew-bounded (Some q) =
-      nothing-uncovered (2 ^ 64) (frames_at q (24 * room_of which.Reserved t)) (covered claim plain_label table) claimed-bounded
+      nothing-uncovered (2 ^ 64) (frames_at q (24 * room_of which.Reserved t)) (cover_range claim plain_label table) claimed-bounded
 
   grew-well-by : (old : Option ℕ) → Well which.Reserved t (grew t old place)
   unfolding records_of

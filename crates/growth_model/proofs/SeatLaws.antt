@@ -3,7 +3,7 @@ use Rattle.std.proofs.Common.{◌≡◌, ℕ, ◌+◌, ◌*◌, ◌/◌, ◌%◌
 use Rattle.std.proofs.lemmas.Bool.{true≢false, false_from_ne_true}
 use Rattle.std.proofs.lemmas.Bool.Decides.{nat_tests}
 use Rattle.bm_base.specs.Range.{RangeView, covers}
-use Rattle.address_runs.specs.Edits.{uncovered, replaced}
+use Rattle.address_runs.specs.Edits.{uncover_range, replace_in_range}
 use Rattle.memblock_model.specs.declared.owner.Owner.{Owner}
 use Rattle.memblock_model.specs.Items.{Owners}
 use Rattle.growth_model.specs.Growth.{frames_at}
@@ -65,20 +65,20 @@ kept-claim : (b : Bool) (o : Owner) (old : Option Owner) → keeps (Some o) ≡ 
 kept-claim true o old new was = new
 kept-claim false o old new was = was
 
-pub Seat-claim : (own : Owners) (a r : RangeView) (o : Owner) → keeps (Some o) ≡ true → Seat own a → Seat (replaced r o own) a
+pub Seat-claim : (own : Owners) (a r : RangeView) (o : Owner) → keeps (Some o) ≡ true → Seat own a → Seat (replace_in_range r o own) a
 Seat-claim own a r o new seat = record {
   aligned = seat.aligned;
   kept = λ x at. kept-claim (covers r x) o (own x) new (seat.kept x at);
 }
 
 -- a claim by anyone, and a free, of other bytes
-pub Seat-clear : (own : Owners) (a r : RangeView) (o : Owner) → Clear r a → Seat own a → Seat (replaced r o own) a
+pub Seat-clear : (own : Owners) (a r : RangeView) (o : Owner) → Clear r a → Seat own a → Seat (replace_in_range r o own) a
 Seat-clear own a r o clear seat = record {
   aligned = seat.aligned;
   kept = λ x at. rw (false_from_ne_true (covers r x) (λ in_r. clear x in_r at)) (seat.kept x at);
 }
 
-pub Seat-free : (own : Owners) (a r : RangeView) → Clear r a → Seat own a → Seat (uncovered r own) a
+pub Seat-free : (own : Owners) (a r : RangeView) → Clear r a → Seat own a → Seat (uncover_range r own) a
 Seat-free own a r clear seat = record {
   aligned = seat.aligned;
   kept = λ x at. rw (false_from_ne_true (covers r x) (λ in_r. clear x in_r at)) (seat.kept x at);
@@ -86,7 +86,7 @@ Seat-free own a r clear seat = record {
 
 -- a claim makes a place
 pub Seat-new : (own : Owners) (n r : RangeView) (o : Owner) → n.base % 4096 ≡ 0 → keeps (Some o) ≡ true
-    → ((x : ℕ) → covers n x ≡ true → covers r x ≡ true) → Seat (replaced r o own) n
+    → ((x : ℕ) → covers n x ≡ true → covers r x ≡ true) → Seat (replace_in_range r o own) n
 Seat-new own n r o aligned new inside = record {
   aligned = aligned;
   kept = λ x at. let here : covers r x ≡ true = inside x at in rw here new;
@@ -95,21 +95,21 @@ Seat-new own n r o aligned new inside = record {
 pub Seats-swap : (own : Owners) (m r : RangeView) → Seats own m r → Seats own r m
 Seats-swap own m r both = record { first = both.second; second = both.first; apart = Apart-swap m r both.apart }
 
-pub Seats-claim : (own : Owners) (m r a : RangeView) (o : Owner) → keeps (Some o) ≡ true → Seats own m r → Seats (replaced a o own) m r
+pub Seats-claim : (own : Owners) (m r a : RangeView) (o : Owner) → keeps (Some o) ≡ true → Seats own m r → Seats (replace_in_range a o own) m r
 Seats-claim own m r a o new both = record {
   first = Seat-claim own m a o new both.first;
   second = Seat-claim own r a o new both.second;
   apart = both.apart;
 }
 
-pub Seats-clear : (own : Owners) (m r a : RangeView) (o : Owner) → Clear a m → Clear a r → Seats own m r → Seats (replaced a o own) m r
+pub Seats-clear : (own : Owners) (m r a : RangeView) (o : Owner) → Clear a m → Clear a r → Seats own m r → Seats (replace_in_range a o own) m r
 Seats-clear own m r a o first second both = record {
   first = Seat-clear own m a o first both.first;
   second = Seat-clear own r a o second both.second;
   apart = both.apart;
 }
 
-pub Seats-free : (own : Owners) (m r a : RangeView) → Clear a m → Clear a r → Seats own m r → Seats (uncovered a own) m r
+pub Seats-free : (own : Owners) (m r a : RangeView) → Clear a m → Clear a r → Seats own m r → Seats (uncover_range a own) m r
 Seats-free own m r a first second both = record {
   first = Seat-free own m a first both.first;
   second = Seat-free own r a second both.second;
@@ -118,7 +118,7 @@ Seats-free own m r a first second both = record {
 
 -- the second table moves to a new place, whose frames are claimed
 pub Seats-move : (own : Owners) (m r n : RangeView) (o : Owner) → keeps (Some o) ≡ true → n.base % 4096 ≡ 0 → Unclaimed own (frames n)
-    → Seats own m r → Seats (replaced (frames n) o own) m n
+    → Seats own m r → Seats (replace_in_range (frames n) o own) m n
 Seats-move own m r n o new aligned free both = record {
   first = Seat-claim own m (frames n) o new both.first;
   second = Seat-new own n (frames n) o aligned new (frames-more n);
@@ -127,9 +127,9 @@ Seats-move own m r n o new aligned free both = record {
 
 -- and the frames that it left are freed
 pub Seats-leave : (own : Owners) (m r n : RangeView) (o : Owner) → keeps (Some o) ≡ true → n.base % 4096 ≡ 0 → Unclaimed own (frames n)
-    → Seats own m r → Seats (uncovered (frames r) (replaced (frames n) o own)) m n
+    → Seats own m r → Seats (uncover_range (frames r) (replace_in_range (frames n) o own)) m n
 Seats-leave own m r n o new aligned free both =
-    Seats-free (replaced (frames n) o own) m n (frames r)
+    Seats-free (replace_in_range (frames n) o own) m n (frames r)
     (apart-clear r m both.second.aligned (Apart-swap m r both.apart))
     (λ x at_r at_n. old-clear own r n aligned free both.second x at_r (frames-more n x at_n))
     (Seats-move own m r n o new aligned free both)

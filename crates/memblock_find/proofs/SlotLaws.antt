@@ -3,7 +3,7 @@ use Rattle.std.proofs.Common.{◌≡◌, ◌≢◌, ◌⊎◌, ℕ, zero, suc, �
 use Rattle.std.proofs.lemmas.Bool.{cases_lt}
 use Rattle.address_runs.specs.Runs.{RunOf, run_end, value_at, AreRuns}
 use Rattle.address_runs.specs.Edits.{NothingFrom}
-use Rattle.address_runs.specs.Sweep.{StartFrom}
+use Rattle.address_runs.specs.Sweep.{StartAtOrPast}
 use Rattle.address_runs.proofs.RunsLaws.{inside, below, behind, none_below, rest_from, other_behind}
 use Rattle.memblock_model.specs.Labels.{Label}
 use Rattle.memblock_ranges.specs.declared.region.Region.{Region}
@@ -14,11 +14,11 @@ use Rattle.memblock_find.specs.Walk.{run_at}
 pub read_of : (g : Region) (r : RunOf Label) → g ≡ region_of r → (g.base ≡ r.base) × (g.size ≡ r.size)
 read_of g r is = (ap (λ (h : Region). h.base) is, ap (λ (h : Region). h.size) is)
 
-start_sooner : (at from : ℕ) (rs : List (RunOf Label)) → at ≤ from → StartFrom from rs → StartFrom at rs
+start_sooner : (at from : ℕ) (rs : List (RunOf Label)) → at ≤ from → StartAtOrPast from rs → StartAtOrPast at rs
 start_sooner at from [] le start = tt
 start_sooner at from (r ∷ rs) le start = omega arith
 
-start_at : (at i : ℕ) (rs : List (RunOf Label)) → AreRuns rs → StartFrom at rs → i < length rs → at ≤ (run_at rs i).base
+start_at : (at i : ℕ) (rs : List (RunOf Label)) → AreRuns rs → StartAtOrPast at rs → i < length rs → at ≤ (run_at rs i).base
 start_at at i [] runs start less = absurd (omega arith)
 start_at at zero (r ∷ rs) runs start less = start
 start_at at (suc i) (r ∷ rs) runs start less =

@@ -3,7 +3,7 @@ use Rattle.std.proofs.Common.{◌≡◌, ℕ, ◌+◌, ◌*◌, ◌^◌, ◌<◌
 use Rattle.std.proofs.lemmas.Option.{same_Some}
 use Rattle.bm_base.specs.Range.{RangeView, end_of}
 use Rattle.address_runs.specs.Runs.{RunOf, value_at}
-use Rattle.address_runs.specs.Edits.{covered, uncovered, relabelled, NothingFrom}
+use Rattle.address_runs.specs.Edits.{cover_range, uncover_range, relabel_range, NothingFrom}
 use Rattle.memblock_model.specs.declared.which.Which.{Which}
 use Rattle.memblock_model.specs.declared.which.Which.TheVariants as which
 use Rattle.memblock_model.specs.declared.owner.Owner.{Owner}
@@ -67,19 +67,19 @@ module _ {kernel : RangeView} {items : List Item} {t : Contents} {at : Aim} (kep
 
   -- how many records a table has after an edit
   pub few-covered : (w : Which) (range : RangeView) → end_of range < 2 ^ 64
-      → length (records_for (covered range plain_label (value_at (records_in w t))))
+      → length (records_for (cover_range range plain_label (value_at (records_in w t))))
       ≤ length (records_in w t) + pieces range (value_at (records_in w t))
   few-covered w range ends =
       let few = length-covered range plain_label (value_at (records_in w t)) (omega arith) (values-end w) in
       omega (arith, few, ap length (records-again w))
 
   few-uncovered : (w : Which) (range : RangeView)
-      → length (records_for (uncovered range (value_at (records_in w t)))) ≤ length (records_in w t) + 1
+      → length (records_for (uncover_range range (value_at (records_in w t)))) ≤ length (records_in w t) + 1
   few-uncovered w range =
       let few = length-uncovered range (value_at (records_in w t)) (values-end w) in omega (arith, few, ap length (records-again w))
 
   few-relabelled : (range : RangeView) (change : Label → Label)
-      → length (records_for (relabelled range change (value_at t.memory.records))) ≤ length t.memory.records + 2
+      → length (records_for (relabel_range range change (value_at t.memory.records))) ≤ length t.memory.records + 2
   few-relabelled range change =
       let few = length-relabelled range change (value_at t.memory.records) (values-end which.Memory) in
       omega (arith, few, ap length (records-again which.Memory))
@@ -184,7 +184,7 @@ module _ {kernel : RangeView} {items : List Item} {t : Contents} {at : Aim} (kep
 
   pub kept-claim : (range : RangeView) (who : Owner) → end_of range < 2 ^ 64
       → length t.reserved.records + pieces range (value_at t.reserved.records) ≤ t.reserved.room
-      → u.reserved ≡ record t.reserved { records = records_for (covered range plain_label (value_at t.reserved.records)) }
+      → u.reserved ≡ record t.reserved { records = records_for (cover_range range plain_label (value_at t.reserved.records)) }
       → u.memory ≡ t.memory → AreKept kernel (items ++ item.Claim range who ∷ []) u at
   kept-claim range who ends room is same =
       let few = few-covered kept which.Reserved range ends in
@@ -192,7 +192,7 @@ module _ {kernel : RangeView} {items : List Item} {t : Contents} {at : Aim} (kep
       (omega (arith, few, room))
 
   pub kept-free : (range : RangeView) → end_of range < 2 ^ 64 → length t.reserved.records + 2 ≤ t.reserved.room
-      → u.reserved ≡ record t.reserved { records = records_for (uncovered range (value_at t.reserved.records)) }
+      → u.reserved ≡ record t.reserved { records = records_for (uncover_range range (value_at t.reserved.records)) }
       → u.memory ≡ t.memory → AreKept kernel (items ++ item.Free range ∷ []) u at
   kept-free range ends room is same =
       let few = few-uncovered kept which.Reserved range in
@@ -200,7 +200,7 @@ module _ {kernel : RangeView} {items : List Item} {t : Contents} {at : Aim} (kep
 
   pub kept-mem : (range : RangeView) → end_of range < 2 ^ 64
       → length t.memory.records + pieces range (value_at t.memory.records) ≤ t.memory.room
-      → u.memory ≡ record t.memory { records = records_for (covered range plain_label (value_at t.memory.records)) }
+      → u.memory ≡ record t.memory { records = records_for (cover_range range plain_label (value_at t.memory.records)) }
       → u.reserved ≡ t.reserved → AreKept kernel (items ++ item.Mem range ∷ []) u at
   kept-mem range ends room is same =
       let few = few-covered kept which.Memory range ends in
@@ -208,14 +208,14 @@ module _ {kernel : RangeView} {items : List Item} {t : Contents} {at : Aim} (kep
 
   -- a label that changes
   pub kept-node : (range : RangeView) (node : ℕ) → end_of range < 2 ^ 64 → length t.memory.records + 2 ≤ t.memory.room
-      → u.memory ≡ record t.memory { records = records_for (relabelled range (with_node (Some node)) (value_at t.memory.records)) }
+      → u.memory ≡ record t.memory { records = records_for (relabel_range range (with_node (Some node)) (value_at t.memory.records)) }
       → u.reserved ≡ t.reserved → AreKept kernel (items ++ item.Node range node ∷ []) u at
   kept-node range node ends room is same =
       let few = few-relabelled kept range (with_node (Some node)) in
       kept-memory (item.Node range node) (λ w n. refl, λ w o. refl) (omega arith) refl refl (λ f. refl) is same (omega (arith, few, room))
 
   pub kept-mirror : (range : RangeView) → end_of range < 2 ^ 64 → length t.memory.records + 2 ≤ t.memory.room
-      → u.memory ≡ record t.memory { records = records_for (relabelled range with_mirror (value_at t.memory.records)) }
+      → u.memory ≡ record t.memory { records = records_for (relabel_range range with_mirror (value_at t.memory.records)) }
       → u.reserved ≡ t.reserved → AreKept kernel (items ++ item.Mirror range ∷ []) u at
   kept-mirror range ends room is same =
       let few = few-relabelled kept range with_mirror in

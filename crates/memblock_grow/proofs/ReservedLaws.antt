@@ -4,7 +4,7 @@ use Rattle.std.specs.Option.{option_map}
 use Rattle.bm_base.specs.Range.{RangeView, end_of, covers}
 use Rattle.phys_store.specs.Bytes.{Stored, byte_of, is_ready}
 use Rattle.address_runs.specs.Runs.{value_at}
-use Rattle.address_runs.specs.Edits.{covered, uncovered}
+use Rattle.address_runs.specs.Edits.{cover_range, uncover_range}
 use Rattle.memblock_model.specs.declared.which.Which.{Which}
 use Rattle.memblock_model.specs.declared.which.Which.TheVariants as which
 use Rattle.memblock_model.specs.declared.owner.Owner.TheVariants as owner
@@ -177,7 +177,7 @@ pub record Moved (items : List Item) (t p r v : Contents) (base : ℕ) (place : 
   pub table : r.reserved ≡ record p.reserved { place = base; room = 2 * p.reserved.room }
   pub other : r.memory ≡ p.memory
   pub told : (x : ℕ) → byte_of r.store x ≡ shown_by r.memory r.reserved x (left_by p.reserved x (byte_of p.store x))
-  pub claimed : v.reserved ≡ record r.reserved { records = records_for (covered place plain_label (value_at r.reserved.records)) }
+  pub claimed : v.reserved ≡ record r.reserved { records = records_for (cover_range place plain_label (value_at r.reserved.records)) }
   pub still : v.memory ≡ r.memory
   pub after : AreTold r v
   pub here : base ≡ place.base
@@ -232,7 +232,7 @@ claimed room is m free = record {
 -- what stands once the old place is freed, too
 module _ (range : RangeView) {items longer new : List Item} {t v : Contents} (u : Contents) {at : Aim}
     (is : new ≡ longer ++ item.Free range ∷ []) (c : Claimed items longer t v at)
-    (table : u.reserved ≡ record v.reserved { records = records_for (uncovered range (value_at v.reserved.records)) })
+    (table : u.reserved ≡ record v.reserved { records = records_for (uncover_range range (value_at v.reserved.records)) })
     (other : u.memory ≡ v.memory) (ends : end_of range < 2 ^ 64) where
   freed-kept : (kernel : RangeView) → AreKept kernel items t at → AreKept kernel (longer ++ item.Free range ∷ []) u at
   freed-kept kernel kept = kept-free (c.kept kernel kept) u range ends (c.room kernel kept) table other

@@ -1,7 +1,7 @@
 //! The edits of the tables as growth needs them: beside what becomes of the records, what becomes of each byte, as one equation.
 ghost use Rattle.std.specs.Prelude.{◌≡◌, ℕ, ◌+◌, ◌*◌, ◌^◌, ◌<◌, ◌≤◌, Some, length};
 ghost use Rattle.address_runs.specs.Runs.{value_at};
-ghost use Rattle.address_runs.specs.Edits.{covered, uncovered, relabelled};
+ghost use Rattle.address_runs.specs.Edits.{cover_range, uncover_range, relabel_range};
 ghost use Rattle.phys_store.specs.Bytes.{byte_of, is_ready, AreReady};
 ghost use Rattle.memblock_model.specs.Labels.{plain_label, with_node, with_mirror};
 ghost use Rattle.memblock_model.specs.Items.{trimmed};
@@ -31,7 +31,7 @@ pub fn cover(tables: &mut Tables, which: Which, range: Range)
     requires room { length (records_in which tables.old) + pieces range (value_at (records_in which tables.old))
         ≤ room_in which tables.old }
     ensures table { table_in which tables.new ≡ record (table_in which tables.old) {
-      records = records_for (covered range plain_label (value_at (records_in which tables.old)));
+      records = records_for (cover_range range plain_label (value_at (records_in which tables.old)));
     } }
     ensures other { other_in which tables.new ≡ other_in which tables.old }
     ensures bytes { AreTold tables.old tables.new }
@@ -47,7 +47,7 @@ pub fn cover(tables: &mut Tables, which: Which, range: Range)
 pub fn uncover(tables: &mut Tables, range: Range)
     requires { length tables.old.reserved.records + 2 ≤ tables.old.reserved.room }
     ensures reserved { tables.new.reserved ≡ record tables.old.reserved {
-      records = records_for (uncovered range (value_at tables.old.reserved.records));
+      records = records_for (uncover_range range (value_at tables.old.reserved.records));
     } }
     ensures memory { tables.new.memory ≡ tables.old.memory }
     ensures bytes { AreTold tables.old tables.new }
@@ -64,7 +64,7 @@ pub fn relabel(tables: &mut Tables, range: Range, node: u32)
     requires node { node < 1024 }
     requires room { length tables.old.memory.records + 2 ≤ tables.old.memory.room }
     ensures memory { tables.new.memory ≡ record tables.old.memory {
-      records = records_for (relabelled range (with_node (Some node)) (value_at tables.old.memory.records));
+      records = records_for (relabel_range range (with_node (Some node)) (value_at tables.old.memory.records));
     } }
     ensures reserved { tables.new.reserved ≡ tables.old.reserved }
     ensures bytes { AreTold tables.old tables.new }
@@ -80,7 +80,7 @@ pub fn relabel(tables: &mut Tables, range: Range, node: u32)
 pub fn mirror(tables: &mut Tables, range: Range)
     requires { length tables.old.memory.records + 2 ≤ tables.old.memory.room }
     ensures memory { tables.new.memory ≡ record tables.old.memory {
-      records = records_for (relabelled range with_mirror (value_at tables.old.memory.records));
+      records = records_for (relabel_range range with_mirror (value_at tables.old.memory.records));
     } }
     ensures reserved { tables.new.reserved ≡ tables.old.reserved }
     ensures bytes { AreTold tables.old tables.new }

@@ -10,7 +10,7 @@ use Rattle.memblock_model.specs.declared.which.Which.{Which}
 use Rattle.memblock_model.specs.declared.which.Which.TheVariants as which
 use Rattle.memblock_model.specs.declared.item.Item.{Item}
 use Rattle.memblock_model.specs.declared.item.Item.TheVariants as item
-use Rattle.address_runs.specs.Edits.{covered, uncovered, relabelled, replaced}
+use Rattle.address_runs.specs.Edits.{cover_range, uncover_range, relabel_range, replace_in_range}
 use Rattle.memblock_model.specs.Labels.{Label, Labels, plain_label, with_node, with_mirror}
 use Rattle.memblock_model.specs.Items.{IsItem, AreItems, Owners, owners_after, no_owners, owner_of, memory_after, no_memory, memory_of, limit_after, limit_of, upward_after, upward_of}
 use Rattle.memblock_model.specs.Tables.{without_owner, reserved_of, reserved_after, table_of, table_after, room_after, room_of, moved_after, moved_to}
@@ -45,10 +45,10 @@ free_at : (b : Bool) (old : Option Owner) → without_owner (if b then None else
 free_at true old = refl
 free_at false old = refl
 
-pub reserved_of-replaced : (r : RangeView) (o : Owner) (f : Owners) → reserved_of (replaced r o f) ≡ covered r plain_label (reserved_of f)
+pub reserved_of-replaced : (r : RangeView) (o : Owner) (f : Owners) → reserved_of (replace_in_range r o f) ≡ cover_range r plain_label (reserved_of f)
 reserved_of-replaced r o f = λ k x. claim_at (covers r x) o (f x) k
 
-pub reserved_of-uncovered : (r : RangeView) (f : Owners) → reserved_of (uncovered r f) ≡ uncovered r (reserved_of f)
+pub reserved_of-uncovered : (r : RangeView) (f : Owners) → reserved_of (uncover_range r f) ≡ uncover_range r (reserved_of f)
 reserved_of-uncovered r f = λ k x. free_at (covers r x) (f x) k
 
 reserved_of-after : (f : Owners) (i : Item) → reserved_of (owners_after f i) ≡ reserved_after (reserved_of f) i
@@ -62,11 +62,11 @@ table_of-push which.Memory items i = memory_of-push items i
 table_of-push which.Reserved items i = ap reserved_of (owner_of-push items i) ∙ reserved_of-after (owner_of items) i
 
 -- what memory is in a frame depends on what it was there
-covers_alike : (r : RangeView) (v : Label) (f g : Labels) (y : ℕ) → f y ≡ g y → covered r v f y ≡ covered r v g y
+covers_alike : (r : RangeView) (v : Label) (f g : Labels) (y : ℕ) → f y ≡ g y → cover_range r v f y ≡ cover_range r v g y
 covers_alike r v f g y e = ap (λ o. if covers r y then Some (unwrap_or o v) else o) e
 
-relabels_alike : (r : RangeView) (change : Label → Label) (f g : Labels) (y : ℕ) → f y ≡ g y → relabelled r change f y
-    ≡ relabelled r change g y
+relabels_alike : (r : RangeView) (change : Label → Label) (f g : Labels) (y : ℕ) → f y ≡ g y → relabel_range r change f y
+    ≡ relabel_range r change g y
 relabels_alike r change f g y e = ap (λ o. if covers r y then option_map change o else o) e
 
 pub memory_after-local : (f g : Labels) (i : Item) (x : ℕ) → ((y : ℕ) → IsInFrame x y → f y ≡ g y) → (y : ℕ) → IsInFrame x y

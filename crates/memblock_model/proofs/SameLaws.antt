@@ -1,7 +1,7 @@
 -- The tests of sameness tell.
 use Rattle.std.proofs.Common.{◌≡◌, ℕ, ◌==◌, Bool, true, false, if◌then◌else◌, Option, Some, None, refl, sym, ◌∙◌, ap}
 use Rattle.std.proofs.lemmas.Bool.{eqb-true, eq-eqb, and_parts, and_from}
-use Rattle.address_runs.specs.Runs.{Tells}
+use Rattle.address_runs.specs.Runs.{DecidesEquality}
 use Rattle.memblock_model.specs.declared.which.Which.TheVariants as which
 use Rattle.memblock_model.specs.declared.owner.Owner.{Owner}
 use Rattle.memblock_model.specs.declared.owner.Owner.TheVariants as owner
@@ -38,7 +38,7 @@ label_yes a b h =
 pub label_self : (a : Label) → same_label a a ≡ true
 label_self a = and_from (same_node a.node a.node) (same_switch a.mirror a.mirror) (node_self a.node) (switch_self a.mirror)
 
-pub label_tells : Tells same_label
+pub label_tells : DecidesEquality same_label
 label_tells = record { true_is_equal = label_yes; equal_is_true = λ a b e. ap (λ (l : Label). same_label a l) (sym e) ∙ label_self a }
 
 -- the owner of the variant that carries the number
@@ -77,5 +77,5 @@ owner_yes a b h =
 pub owner_self : (a : Owner) → same_owner a a ≡ true
 owner_self a = and_from _ _ (eq-eqb (variant_of a) _ refl) (eq-eqb (owner_number a) _ refl)
 
-pub owner_tells : Tells same_owner
+pub owner_tells : DecidesEquality same_owner
 owner_tells = record { true_is_equal = owner_yes; equal_is_true = λ a b e. ap (λ (o : Owner). same_owner a o) (sym e) ∙ owner_self a }

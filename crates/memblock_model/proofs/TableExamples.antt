@@ -2,7 +2,7 @@
 use Rattle.std.proofs.Common.{◌≡◌, ◌^◌, Some, None, List, [], ◌∷◌, length, refl, sym, ap, arith}
 use Rattle.std.proofs.lemmas.Bool.Decides.{nat_tests}
 use Rattle.bm_base.specs.Range.{RangeView}
-use Rattle.address_runs.specs.Edits.{bare, NothingFrom}
+use Rattle.address_runs.specs.Edits.{gaps_in_range, NothingFrom}
 use Rattle.address_runs.specs.Runs.{RunOf, runs_from}
 use Rattle.memblock_model.specs.declared.owner.Owner.TheVariants as owner
 use Rattle.memblock_model.specs.declared.which.Which.TheVariants as which
@@ -90,9 +90,9 @@ records_of_reserved = sym (records_for-is (table_of which.Reserved few) reserved
     (record { runs = (omega arith, tt, tt); each = λ x. grind (arith, nat_tests) }))
 
 -- a record in the middle of the range leaves two pieces that it doesn't cover, and none of a range within it
-bare_examples : (runs_from same_label (bare (bytes 1 6) plain_label (table_of which.Memory (item.Mem (bytes 3 2) ∷ []))) 0 8
+bare_examples : (runs_from same_label (gaps_in_range (bytes 1 6) plain_label (table_of which.Memory (item.Mem (bytes 3 2) ∷ []))) 0 8
     ≡ record { base = 1; size = 2; value = plain_label } ∷ (record { base = 5; size = 2; value = plain_label } ∷ []))
-    × (runs_from same_label (bare (bytes 3 1) plain_label (table_of which.Memory (item.Mem (bytes 3 2) ∷ []))) 0 8 ≡ [])
+    × (runs_from same_label (gaps_in_range (bytes 3 1) plain_label (table_of which.Memory (item.Mem (bytes 3 2) ∷ []))) 0 8 ≡ [])
 unfolding runs_from
 bare_examples = (refl, refl)
 
@@ -103,11 +103,11 @@ partly = table_of which.Memory (item.Mem (bytes 3 2) ∷ [])
 abbrev two_runs : List (RunOf Label)
 two_runs = record { base = 1; size = 2; value = plain_label } ∷ (record { base = 5; size = 2; value = plain_label } ∷ [])
 
-bare_ends : NothingFrom (2 ^ 64) (bare (bytes 1 6) plain_label partly)
+bare_ends : NothingFrom (2 ^ 64) (gaps_in_range (bytes 1 6) plain_label partly)
 bare_ends x le = grind (arith, nat_tests)
 
-records_for_bare : records_for (bare (bytes 1 6) plain_label partly) ≡ two_runs
-records_for_bare = sym (records_for-is (bare (bytes 1 6) plain_label partly) two_runs bare_ends
+records_for_bare : records_for (gaps_in_range (bytes 1 6) plain_label partly) ≡ two_runs
+records_for_bare = sym (records_for-is (gaps_in_range (bytes 1 6) plain_label partly) two_runs bare_ends
     (record {
       runs = (omega arith, (omega arith, λ touch. absurd (omega arith)), (omega arith, tt, tt));
       each = λ x. grind (arith, nat_tests);
@@ -117,11 +117,11 @@ two_pieces : pieces (bytes 1 6) partly ≡ 2
 unfolding pieces
 two_pieces = ap length records_for_bare
 
-covered_ends : NothingFrom (2 ^ 64) (bare (bytes 3 2) plain_label partly)
+covered_ends : NothingFrom (2 ^ 64) (gaps_in_range (bytes 3 2) plain_label partly)
 covered_ends x le = grind (arith, nat_tests)
 
-records_for_nothing : records_for (bare (bytes 3 2) plain_label partly) ≡ []
-records_for_nothing = sym (records_for-is (bare (bytes 3 2) plain_label partly) [] covered_ends
+records_for_nothing : records_for (gaps_in_range (bytes 3 2) plain_label partly) ≡ []
+records_for_nothing = sym (records_for-is (gaps_in_range (bytes 3 2) plain_label partly) [] covered_ends
     (record { runs = tt; each = λ x. grind (arith, nat_tests) }))
 
 no_pieces : pieces (bytes 3 2) partly ≡ 0

@@ -1,7 +1,7 @@
 -- What a list of items, oldest first, says of one byte and of the whole. An item that a definition doesn't name changes nothing there.
 use Rattle.std.specs.Prelude.{ℕ, ◌<◌, Bool, false, if◌then◌else◌, Option, Some, None, List, [], ◌∷◌, fold}
 use Rattle.address_runs.specs.Runs.{RunOf, runs_of}
-use Rattle.address_runs.specs.Edits.{covered, uncovered, relabelled, replaced, agree}
+use Rattle.address_runs.specs.Edits.{cover_range, uncover_range, relabel_range, replace_in_range, agree}
 use Rattle.bm_base.specs.Frames.{frame_around}
 use Rattle.bm_base.specs.Each.{each_in}
 use Rattle.memblock_model.specs.Labels.{Labels, plain_label, with_node, with_mirror, tag_for}
@@ -30,8 +30,8 @@ Owners = ℕ → Option Owner
 
 -- what an item makes of the owners (`memblock_reserve`, `memblock_phys_free`)
 abbrev pub owners_after : Owners → Item → Owners
-owners_after f (item.Claim range owner) = replaced range owner f
-owners_after f (item.Free range) = uncovered range f
+owners_after f (item.Claim range owner) = replace_in_range range owner f
+owners_after f (item.Free range) = uncover_range range f
 owners_after f i = f
 
 abbrev pub no_owners : Owners
@@ -48,10 +48,10 @@ trimmed f x = if each_in (frame_around x) (λ y. agree same_label (f y) (f x)) t
 -- what an item makes of memory and its labels (`memblock_add`, `memblock_trim_memory`, `memblock_set_node`,
 -- `memblock_mark_mirror`)
 abbrev pub memory_after : Labels → Item → Labels
-memory_after f (item.Mem range) = covered range plain_label f
+memory_after f (item.Mem range) = cover_range range plain_label f
 memory_after f item.Trim = trimmed f
-memory_after f (item.Node range node) = relabelled range (with_node (Some node)) f
-memory_after f (item.Mirror range) = relabelled range with_mirror f
+memory_after f (item.Node range node) = relabel_range range (with_node (Some node)) f
+memory_after f (item.Mirror range) = relabel_range range with_mirror f
 memory_after f i = f
 
 abbrev pub no_memory : Labels

@@ -3,7 +3,7 @@ use Rattle.std.specs.Prelude.{ℕ, ◌-◌, ◌*◌, if◌then◌else◌, Option
 use Rattle.bm_base.specs.Range.{RangeView, end_of}
 use Rattle.bm_base.specs.declared.range.TheConstants.{FRAME_SIZE}
 use Rattle.address_runs.specs.Runs.{RunOf, runs_of}
-use Rattle.address_runs.specs.Edits.{covered, uncovered, bare}
+use Rattle.address_runs.specs.Edits.{cover_range, uncover_range, gaps_in_range}
 use Rattle.memblock_model.specs.Labels.{Label, Labels, plain_label}
 use Rattle.memblock_model.specs.Same.{same_which, same_label}
 use Rattle.memblock_model.specs.Items.{Owners, owner_of, memory_of, memory_after}
@@ -28,8 +28,8 @@ table_of which.Reserved items = reserved_of (owner_of items)
 
 -- what an item makes of what the reserved table says: a claim covers, whoever had the bytes before
 abbrev pub reserved_after : Labels → Item → Labels
-reserved_after f (item.Claim range owner) = covered range plain_label f
-reserved_after f (item.Free range) = uncovered range f
+reserved_after f (item.Claim range owner) = cover_range range plain_label f
+reserved_after f (item.Free range) = uncover_range range f
 reserved_after f i = f
 
 -- what an item makes of what a table says
@@ -47,7 +47,7 @@ records_of w items = records_for (table_of w items)
 
 -- the number of records that covering the range adds before any are merged (`memblock_add_range`, its count)
 unfoldable pub pieces : RangeView → Labels → ℕ
-pieces r f = length (records_for (bare r plain_label f))
+pieces r f = length (records_for (gaps_in_range r plain_label f))
 
 -- how many records there is room for: 128 (`INIT_MEMBLOCK_REGIONS`), doubled each time that the table grew, whatever number the item has
 abbrev pub room_after : Which → ℕ → Item → ℕ

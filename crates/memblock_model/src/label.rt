@@ -3,7 +3,7 @@
 //! It is a record, so that a further mark of memory is a further field here, in its test and in the item that sets it.
 
 use crate::tag::Tag;
-use address_runs::Told;
+use address_runs::RunValue;
 use std::marker::Model;
 
 /// The flags of mirrored memory in a record of a table (`MEMBLOCK_MIRROR`). Those of other memory are 0.
@@ -32,7 +32,7 @@ impl Model for Label {
     ghost inverse = { λ l. record { node = l.node; flags = if l.mirror then 2 else 0 } };
 }
 
-impl Told for Label {
+impl RunValue for Label {
     fn is_same(first: Label, second: Label) -> bool {
         first == second
     }

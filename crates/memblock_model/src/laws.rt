@@ -4,7 +4,7 @@
 
 ghost use Rattle.std.specs.Prelude.{◌≡◌, ℕ, ◌^◌, ◌<◌, ◌≤◌, Bool, true, false, Option, Some, None, List, [], ◌∷◌, ◌++◌};
 ghost use Rattle.bm_base.specs.Range.{covers};
-ghost use Rattle.address_runs.specs.Runs.{Tells, IsRunsOf};
+ghost use Rattle.address_runs.specs.Runs.{DecidesEquality, IsRunsOf};
 ghost use Rattle.memblock_model.specs.declared.item.Item.{Item};
 ghost use Rattle.memblock_model.specs.declared.which.Which.{Which};
 ghost use Rattle.memblock_model.specs.declared.query.Query.{Query};
@@ -43,8 +43,8 @@ pub fn tables_go_by_themselves()
 
 /// A law: the tests that records and runs of owners are made by tell equal values from others.
 pub fn tests_tell()
-    ensures labels { Tells same_label }
-    ensures owners { Tells same_owner }
+    ensures labels { DecidesEquality same_label }
+    ensures owners { DecidesEquality same_owner }
 {}
 
 /// A law: the runs of owners, and the records of a table, are in order, none empty and no two that

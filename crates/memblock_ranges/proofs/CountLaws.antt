@@ -5,7 +5,7 @@ use Rattle.std.proofs.lemmas.Bool.{cases_Bool}
 use Rattle.std.proofs.lemmas.Bool.Decides.{nat_tests}
 use Rattle.bm_base.specs.Range.{RangeView, covers, end_of}
 use Rattle.address_runs.specs.Runs.{RunOf, run_end, value_at, IsRunsOf}
-use Rattle.address_runs.specs.Edits.{covered, uncovered, relabelled, bare, NothingFrom}
+use Rattle.address_runs.specs.Edits.{cover_range, uncover_range, relabel_range, gaps_in_range, NothingFrom}
 use Rattle.address_runs.specs.Sweep.{IsSweptTo}
 use Rattle.address_runs.proofs.SweepLaws.{swept_none}
 use Rattle.run_edits.specs.Records.{stretch}
@@ -23,17 +23,17 @@ use Rattle.memblock_ranges.proofs.PieceLaws.{edge_bare, one_at_most}
 use Rattle.memblock_ranges.proofs.TrimLaws.{Turns, turns_all, turns_next, trim_step, trim_all}
 
 pub length-covered : (r : RangeView) (v : Label) (f : Labels) → end_of r ≤ 2 ^ 64 → NothingFrom (2 ^ 64) f →
-    length (records_for (covered r v f)) ≤ length (records_for f) + pieces r f
+    length (records_for (cover_range r v f)) ≤ length (records_for f) + pieces r f
 unfolding records_for pieces
 length-covered r v f ends none = covered_length same_label label_tells r v plain_label f ends none
 
 pub length-uncovered : (r : RangeView) (f : Labels) → NothingFrom (2 ^ 64) f →
-    length (records_for (uncovered r f)) ≤ length (records_for f) + 1
+    length (records_for (uncover_range r f)) ≤ length (records_for f) + 1
 unfolding records_for
 length-uncovered r f none = uncovered_length same_label label_tells r f none
 
 pub length-relabelled : (r : RangeView) (change : Label → Label) (f : Labels) → NothingFrom (2 ^ 64) f →
-    length (records_for (relabelled r change f)) ≤ length (records_for f) + 2
+    length (records_for (relabel_range r change f)) ≤ length (records_for f) + 2
 unfolding records_for
 length-relabelled r change f none = relabelled_length same_label label_tells r change f none
 
@@ -126,8 +126,8 @@ few-pieces r f ends none =
     all_ends same_label label_tells (records_for f) known.runs (λ x le. known.each x ∙ none x le)
     ∙ ap (λ (g : Labels). total (edges same_label g) 0 (2 ^ 64)) (value_at-records f none) in
     let is = pieces_are r f ends in
-    let ended : total (edges same_label (bare r plain_label f)) 0 (2 ^ 64) ≡ total (ends_at h) 0 (2 ^ 64) =
-    total-alike (edges same_label (bare r plain_label f)) (ends_at h) 0 (2 ^ 64) (λ y above under. edge_bare (h y) (h (y + 1))) in
+    let ended : total (edges same_label (gaps_in_range r plain_label f)) 0 (2 ^ 64) ≡ total (ends_at h) 0 (2 ^ 64) =
+    total-alike (edges same_label (gaps_in_range r plain_label f)) (ends_at h) 0 (2 ^ 64) (λ y above under. edge_bare (h y) (h (y + 1))) in
     let begun = end_as_begun h (2 ^ 64) 0 in
     let few : total (begins_at h) 0 (2 ^ 64) ≤ total (λ y. edges same_label f y + spike r.base y) 0 (2 ^ 64) =
     total-fewer (begins_at h) (λ y. edges same_label f y + spike r.base y) 0 (2 ^ 64)
@@ -141,7 +141,7 @@ pub one-piece : (r : RangeView) (f : Labels) → end_of r ≤ 2 ^ 64 → 0 < r.s
     pieces r f ≡ 1
 unfolding pieces
 one-piece r f ends some blank =
-    let g = bare r plain_label f in
+    let g = gaps_in_range r plain_label f in
     let whole : RunOf Label = record { base = r.base; size = r.size; value = plain_label } in
     let each : (x : ℕ) → value_at (whole ∷ []) x ≡ g x = λ x. elim (cases_Bool (covers r x)) as (λ _. value_at (whole ∷ []) x ≡ g x) [
       | inl lies ↦ rw (lies, blank x (grind (arith, nat_tests)) (grind (arith, nat_tests))) refl

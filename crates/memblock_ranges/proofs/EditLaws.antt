@@ -3,7 +3,7 @@ use Rattle.std.proofs.Common.{◌≡◌, ℕ, ◌+◌, ◌-◌, ◌^◌, ◌≤�
 use Rattle.std.proofs.lemmas.Bool.Decides.{nat_tests}
 use Rattle.bm_base.specs.Range.{RangeView, covers}
 use Rattle.address_runs.specs.Runs.{RunOf, value_at, IsRunsOf}
-use Rattle.address_runs.specs.Edits.{amended, covered, bare}
+use Rattle.address_runs.specs.Edits.{change_range, cover_range, gaps_in_range}
 use Rattle.run_edits.specs.Ends.{edges, total, HasRoom}
 use Rattle.run_edits.proofs.EndLaws.{all_ends, total-split}
 use Rattle.run_edits.proofs.AmendLaws.{amended_ends}
@@ -17,20 +17,20 @@ use Rattle.memblock_ranges.specs.Tables.{AreRecords}
 
 -- the pieces of a range are as many as the runs of its bare bytes that end
 pub pieces_are : (r : RangeView) (f : Labels) → r.base + r.size ≤ 2 ^ 64 →
-    pieces r f ≡ total (edges same_label (bare r plain_label f)) 0 (2 ^ 64)
+    pieces r f ≡ total (edges same_label (gaps_in_range r plain_label f)) 0 (2 ^ 64)
 unfolding pieces records_for
 pieces_are r f ends = pieces_ends same_label label_tells r plain_label f ends
 
 -- there is room to cover a range where there is room for its pieces
 pub cover_room : (rs : List (RunOf Label)) (r : RangeView) (v : Label) (room : ℕ) → AreRecords rs → r.base + r.size ≤ 2 ^ 64 →
-    length rs + pieces r (value_at rs) ≤ room → HasRoom same_label (value_at rs) (covered r v (value_at rs)) room
+    length rs + pieces r (value_at rs) ≤ room → HasRoom same_label (value_at rs) (cover_range r v (value_at rs)) room
 cover_room rs r v room known ends fits =
     let f = value_at rs in
     let count : length rs ≡ total (edges same_label f) 0 (2 ^ 64) = all_ends same_label label_tells rs known.runs known.within in
     let more = pieces_are r f ends in
-    room_by same_label label_tells f (covered r v f) (edges same_label (bare r plain_label f)) (pieces r f) room
+    room_by same_label label_tells f (cover_range r v f) (edges same_label (gaps_in_range r plain_label f)) (pieces r f) room
     (covered_edges same_label label_tells r v plain_label f)
-    (λ at le. let parts = total-split (edges same_label (bare r plain_label f)) 0 at (2 ^ 64 - at) (2 ^ 64) at (omega arith)
+    (λ at le. let parts = total-split (edges same_label (gaps_in_range r plain_label f)) 0 at (2 ^ 64 - at) (2 ^ 64) at (omega arith)
     (omega arith) in
     omega (arith, parts, more))
     (omega (arith, count, fits))
@@ -38,14 +38,14 @@ cover_room rs r v room known ends fits =
 -- what an edit leaves are the records of what the addresses carry then
 pub edited_list : (change : Option Label → Option Label) (r : RangeView) (rs now : List (RunOf Label)) → AreRecords rs →
     r.base + r.size ≤ 2 ^ 64 →
-    IsRunsOf (amended change r (value_at rs)) now → now ≡ records_for (amended change r (value_at rs))
+    IsRunsOf (change_range change r (value_at rs)) now → now ≡ records_for (change_range change r (value_at rs))
 edited_list change r rs now known ends runs =
-    records_for-is (amended change r (value_at rs)) now (amended_ends change r (value_at rs) (2 ^ 64) ends known.within) runs
+    records_for-is (change_range change r (value_at rs)) now (amended_ends change r (value_at rs) (2 ^ 64) ends known.within) runs
 
 -- an empty range changes nothing
 pub no_edit : (change : Option Label → Option Label) (r : RangeView) (rs : List (RunOf Label)) → AreRecords rs → r.size ≡ 0 →
-    rs ≡ records_for (amended change r (value_at rs))
+    rs ≡ records_for (change_range change r (value_at rs))
 no_edit change r rs known empty =
     let f = value_at rs in
-    let same : (x : ℕ) → f x ≡ amended change r f x = λ x. let off : covers r x ≡ false = grind (arith, nat_tests) in rw off refl in
-    records_for-is (amended change r f) rs (λ x le. sym (same x) ∙ known.within x le) (record { runs = known.runs; each = same })
+    let same : (x : ℕ) → f x ≡ change_range change r f x = λ x. let off : covers r x ≡ false = grind (arith, nat_tests) in rw off refl in
+    records_for-is (change_range change r f) rs (λ x le. sym (same x) ∙ known.within x le) (record { runs = known.runs; each = same })

@@ -6,7 +6,7 @@ use Rattle.std.proofs.lemmas.Bool.Decides.{nat_tests}
 use Rattle.bm_base.specs.Range.{RangeView, covers, Meet}
 use Rattle.phys_store.specs.Bytes.{Stored, byte_of, is_ready, Wrote}
 use Rattle.address_runs.specs.Runs.{RunOf, value_at}
-use Rattle.address_runs.specs.Edits.{amended, covered, uncovered}
+use Rattle.address_runs.specs.Edits.{change_range, cover_range, uncover_range}
 use Rattle.memblock_model.specs.Labels.{Label, Labels, plain_label}
 use Rattle.memblock_model.specs.Tables.{records_for}
 use Rattle.memblock_model.proofs.TableLaws.{value_at-records}
@@ -106,10 +106,10 @@ pair_reserved s t m r h list both e known plain =
 plain_amended : (change : Option Label → Option Label)
     → ((o : Option Label) (label : Label) → ((l : Label) → o ≡ Some l → l ≡ plain_label) → change o ≡ Some label → label ≡ plain_label)
     → (r : RangeView) (rs : List (RunOf Label)) → AreRecords rs → HaveNoNode rs → r.base + r.size ≤ 2 ^ 64 →
-    HaveNoNode (records_for (amended change r (value_at rs)))
+    HaveNoNode (records_for (change_range change r (value_at rs)))
 plain_amended change written r rs known plain ends x label is =
     let f = value_at rs in
-    let g = amended change r f in
+    let g = change_range change r f in
     let carried : g x ≡ Some label =
     sym (ap (λ (h : Labels). h x) (value_at-records g (amended_ends change r f (2 ^ 64) ends known.within))) ∙ is in
     elim (cases_Bool (covers r x)) as (λ _. label ≡ plain_label) [
@@ -123,11 +123,11 @@ plain_or None label plain is = sym (cc is)
 plain_or (Some l) label plain is = plain label is
 
 pub plain_covered : (r : RangeView) (rs : List (RunOf Label)) → AreRecords rs → HaveNoNode rs → r.base + r.size ≤ 2 ^ 64 →
-    HaveNoNode (records_for (covered r plain_label (value_at rs)))
+    HaveNoNode (records_for (cover_range r plain_label (value_at rs)))
 plain_covered = plain_amended (λ carried. Some (unwrap_or carried plain_label)) plain_or
 
 pub plain_uncovered : (r : RangeView) (rs : List (RunOf Label)) → AreRecords rs → HaveNoNode rs → r.base + r.size ≤ 2 ^ 64 →
-    HaveNoNode (records_for (uncovered r (value_at rs)))
+    HaveNoNode (records_for (uncover_range r (value_at rs)))
 plain_uncovered = plain_amended (λ (carried : Option Label). None) (λ o label plain is. cc is)
 
 -- a table that moves beside another one

@@ -4,8 +4,8 @@ use Rattle.std.specs.Prelude.{is_none, is_some}
 use Rattle.std.proofs.lemmas.Bool.{false≢true}
 use Rattle.std.proofs.lemmas.Bool.Decides.{nat_tests}
 use Rattle.bm_base.specs.Range.{RangeView, covers}
-use Rattle.address_runs.specs.Runs.{Tells}
-use Rattle.address_runs.specs.Edits.{bare}
+use Rattle.address_runs.specs.Runs.{DecidesEquality}
+use Rattle.address_runs.specs.Edits.{gaps_in_range}
 use Rattle.address_runs.specs.Sweep.{Stays}
 use Rattle.run_edits.specs.Ends.{edge, edges, total}
 use Rattle.run_edits.proofs.EndLaws.{total-split, total-quiet, total-next, edge-self}
@@ -16,7 +16,7 @@ use Rattle.memblock_model.proofs.SameLaws.{label_tells}
 use Rattle.memblock_ranges.proofs.EditLaws.{pieces_are}
 
 -- where a function stays, a run ends at most at the last address
-stretch_ends : {X : Type 0} (same : X → X → Bool) → Tells same → (g : ℕ → Option X) (from to : ℕ) (v : Option X) → from < to →
+stretch_ends : {X : Type 0} (same : X → X → Bool) → DecidesEquality same → (g : ℕ → Option X) (from to : ℕ) (v : Option X) → from < to →
     Stays g from to v →
     total (edges same g) from (to - from) ≡ edge same v (g to)
 stretch_ends same tells g from to v less stays =
@@ -41,27 +41,27 @@ edge_bare true false = refl
 edge_bare false b = refl
 
 module _ (r : RangeView) (f : Labels) where
-  bare_inside : (x : ℕ) → r.base ≤ x → x < r.base + r.size → bare r plain_label f x ≡ bare_label (is_none (f x))
+  bare_inside : (x : ℕ) → r.base ≤ x → x < r.base + r.size → gaps_in_range r plain_label f x ≡ bare_label (is_none (f x))
   bare_inside x low high = let lies : covers r x ≡ true = grind (arith, nat_tests) in rw lies refl
 
-  bare_from : (x : ℕ) → r.base ≤ x → bare r plain_label f x ≡ bare_label (nat_lt x (r.base + r.size) && is_none (f x))
+  bare_from : (x : ℕ) → r.base ≤ x → gaps_in_range r plain_label f x ≡ bare_label (nat_lt x (r.base + r.size) && is_none (f x))
   bare_from x low = let lies : covers r x ≡ nat_lt x (r.base + r.size) = grind (arith, nat_tests) in rw lies refl
 
-  bare_beside : (x : ℕ) → covers r x ≡ false → bare r plain_label f x ≡ None
+  bare_beside : (x : ℕ) → covers r x ≡ false → gaps_in_range r plain_label f x ≡ None
   bare_beside x off = rw off refl
 
   -- no piece ends below the range
-  pub no_pieces : total (edges same_label (bare r plain_label f)) 0 r.base ≡ 0
-  no_pieces = total-quiet (edges same_label (bare r plain_label f)) 0 r.base
+  pub no_pieces : total (edges same_label (gaps_in_range r plain_label f)) 0 r.base ≡ 0
+  no_pieces = total-quiet (edges same_label (gaps_in_range r plain_label f)) 0 r.base
       (λ y above under. rw (bare_beside y (grind (arith, nat_tests))) refl)
 
   -- over one more stretch that the table covers, or doesn't, a piece ends at most at its end
   pub more_pieces : (from to next count more : ℕ) (here there : Bool) → r.base ≤ from → from < to → to ≤ r.base + r.size → to ≤ next →
       Stays f from next (f from) → here ≡ is_none (f from) → there ≡ is_none (f to) →
       more ≡ (if here && not (nat_lt to (r.base + r.size) && there) then 1 else 0) →
-      count ≡ total (edges same_label (bare r plain_label f)) 0 from → count + more ≡ total (edges same_label (bare r plain_label f)) 0 to
+      count ≡ total (edges same_label (gaps_in_range r plain_label f)) 0 from → count + more ≡ total (edges same_label (gaps_in_range r plain_label f)) 0 to
   more_pieces from to next count more here there low less high far stays is_here is_there ends so_far =
-      let g = bare r plain_label f in
+      let g = gaps_in_range r plain_label f in
       let steady : Stays g from to (bare_label (is_none (f from))) = λ x above under.
       bare_inside x (omega arith) (omega arith) ∙ ap (λ o. bare_label (is_none o)) (stays x above (omega arith)) in
       let stretch = stretch_ends same_label label_tells g from to (bare_label (is_none (f from))) less steady in
@@ -72,10 +72,10 @@ module _ (r : RangeView) (f : Labels) where
       omega (arith, parts, stretch, at_to, so_far)
 
   -- behind the range no further piece ends
-  pub all_pieces : (count : ℕ) → r.base + r.size ≤ 2 ^ 64 → count ≡ total (edges same_label (bare r plain_label f)) 0 (r.base + r.size) →
+  pub all_pieces : (count : ℕ) → r.base + r.size ≤ 2 ^ 64 → count ≡ total (edges same_label (gaps_in_range r plain_label f)) 0 (r.base + r.size) →
       count ≡ pieces r f
   all_pieces count ends so_far =
-      let g = bare r plain_label f in
+      let g = gaps_in_range r plain_label f in
       let until : ℕ = r.base + r.size in
       let parts = total-split (edges same_label g) 0 until (2 ^ 64 - until) (2 ^ 64) until (omega arith) (omega arith) in
       let quiet = total-quiet (edges same_label g) until (2 ^ 64 - until)

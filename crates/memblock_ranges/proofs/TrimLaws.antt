@@ -3,7 +3,7 @@ use Rattle.std.proofs.Common.{◌≡◌, ◌≢◌, ℕ, ◌+◌, ◌-◌, ◌%�
 use Rattle.std.proofs.lemmas.Bool.{cases_lt}
 use Rattle.std.proofs.lemmas.Bool.Decides.{nat_tests}
 use Rattle.address_runs.specs.Runs.{RunOf, run_end, value_at, AreRuns, IsRunsOf}
-use Rattle.address_runs.specs.Sweep.{StartFrom, IsSweptTo}
+use Rattle.address_runs.specs.Sweep.{StartAtOrPast, IsSweptTo}
 use Rattle.address_runs.proofs.RunsLaws.{inside, behind, none_below, rest_from, other_behind, start_zero}
 use Rattle.address_runs.proofs.SweepLaws.{swept_over, swept_all}
 use Rattle.run_edits.specs.Records.{stretch}
@@ -15,7 +15,7 @@ use Rattle.memblock_model.proofs.LabelLaws.{trimmed-whole, trimmed-unlike, trimm
 -- the records that are left are those of the function from the address on, where the function changes
 pub record Turns (f : Labels) (at : ℕ) (rs : List (RunOf Label)) : Type 0 where
   pub runs : AreRuns rs
-  pub starts : StartFrom at rs
+  pub starts : StartAtOrPast at rs
   pub each : (x : ℕ) → at ≤ x → value_at rs x ≡ f x
   pub turn : 0 < at → f (at - 1) ≢ f at
 
@@ -41,7 +41,7 @@ module _ (f : Labels) (at : ℕ) (r : RunOf Label) (rs : List (RunOf Label)) (tu
 
   before_run : (x : ℕ) → at ≤ x → x < r.base → f x ≡ None
   before_run x low high =
-      let starts : StartFrom r.base (r ∷ rs) = omega arith in
+      let starts : StartAtOrPast r.base (r ∷ rs) = omega arith in
       sym (turns.each x low) ∙ none_below r.base x (r ∷ rs) turns.runs starts high
 
   behind_run : (x : ℕ) → run_end r ≤ x → value_at rs x ≡ f x

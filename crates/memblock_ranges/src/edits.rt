@@ -3,7 +3,7 @@
 ghost use Rattle.std.specs.Prelude.{◌≡◌, ◌+◌, ◌<◌, ◌≤◌, Some, length};
 ghost use Rattle.std.specs.Option.{option_map};
 ghost use Rattle.address_runs.specs.Runs.{value_at};
-ghost use Rattle.address_runs.specs.Edits.{covered, uncovered, relabelled};
+ghost use Rattle.address_runs.specs.Edits.{cover_range, uncover_range, relabel_range};
 ghost use Rattle.memblock_model.specs.Labels.{with_node, with_mirror};
 ghost use Rattle.memblock_model.specs.Tables.{records_for, pieces};
 ghost use Rattle.memblock_ranges.specs.Tables.{AreRecords};
@@ -55,7 +55,7 @@ pub fn cover<T: Slots<Record>>(table: &mut T, range: &Range, label: Label)
     requires some { 0 < range.now.size }
     requires records { AreRecords (T.list table.old) }
     requires room { length (T.list table.old) + pieces range.now (value_at (T.list table.old)) ≤ T.room table.old }
-    ensures list { T.list table.new ≡ records_for (covered range.now label (value_at (T.list table.old))) }
+    ensures list { T.list table.new ≡ records_for (cover_range range.now label (value_at (T.list table.old))) }
     ensures records { AreRecords (T.list table.new) }
     ensures keeps { T.keeps table.old table.new }
 {
@@ -67,7 +67,7 @@ pub fn cover<T: Slots<Record>>(table: &mut T, range: &Range, label: Label)
 pub fn uncover<T: Slots<Record>>(table: &mut T, range: &Range)
     requires records { AreRecords (T.list table.old) }
     requires room { length (T.list table.old) + 2 ≤ T.room table.old }
-    ensures list { T.list table.new ≡ records_for (uncovered range.now (value_at (T.list table.old))) }
+    ensures list { T.list table.new ≡ records_for (uncover_range range.now (value_at (T.list table.old))) }
     ensures records { AreRecords (T.list table.new) }
     ensures keeps { T.keeps table.old table.new }
 {
@@ -82,7 +82,7 @@ pub fn set_node<T: Slots<Record>>(table: &mut T, range: &Range, node: u32)
     requires node { node < 1024 }
     requires records { AreRecords (T.list table.old) }
     requires room { length (T.list table.old) + 2 ≤ T.room table.old }
-    ensures list { T.list table.new ≡ records_for (relabelled range.now (with_node (Some node)) (value_at (T.list table.old))) }
+    ensures list { T.list table.new ≡ records_for (relabel_range range.now (with_node (Some node)) (value_at (T.list table.old))) }
     ensures records { AreRecords (T.list table.new) }
     ensures keeps { T.keeps table.old table.new }
 {
@@ -96,7 +96,7 @@ pub fn set_node<T: Slots<Record>>(table: &mut T, range: &Range, node: u32)
 pub fn set_mirror<T: Slots<Record>>(table: &mut T, range: &Range)
     requires records { AreRecords (T.list table.old) }
     requires room { length (T.list table.old) + 2 ≤ T.room table.old }
-    ensures list { T.list table.new ≡ records_for (relabelled range.now with_mirror (value_at (T.list table.old))) }
+    ensures list { T.list table.new ≡ records_for (relabel_range range.now with_mirror (value_at (T.list table.old))) }
     ensures records { AreRecords (T.list table.new) }
     ensures keeps { T.keeps table.old table.new }
 {

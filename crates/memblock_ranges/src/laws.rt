@@ -3,7 +3,7 @@
 ghost use Rattle.std.specs.Prelude.{◌≡◌, ℕ, ◌+◌, ◌^◌, ◌<◌, ◌≤◌, None, List, [], ◌∷◌, ◌++◌, length};
 ghost use Rattle.bm_base.specs.Range.{RangeView, end_of};
 ghost use Rattle.address_runs.specs.Runs.{RunOf, value_at};
-ghost use Rattle.address_runs.specs.Edits.{covered, uncovered, relabelled, NothingFrom};
+ghost use Rattle.address_runs.specs.Edits.{cover_range, uncover_range, relabel_range, NothingFrom};
 ghost use Rattle.memblock_model.specs.declared.which.Which.{Which};
 ghost use Rattle.memblock_model.specs.declared.item.Item.{Item};
 ghost use Rattle.memblock_model.specs.Labels.{Label, Labels};
@@ -16,11 +16,11 @@ ghost use Rattle.memblock_ranges.specs.Steps.{EndsInSpace};
 /// (`memblock_isolate_range`), and to trim none.
 pub fn edits_add_few_records()
     ensures covered { (r : RangeView) (label : Label) (f : Labels) → end_of r ≤ 2 ^ 64 → NothingFrom (2 ^ 64) f →
-        length (records_for (covered r label f)) ≤ length (records_for f) + pieces r f }
+        length (records_for (cover_range r label f)) ≤ length (records_for f) + pieces r f }
     ensures uncovered { (r : RangeView) (f : Labels) → NothingFrom (2 ^ 64) f →
-        length (records_for (uncovered r f)) ≤ length (records_for f) + 1 }
+        length (records_for (uncover_range r f)) ≤ length (records_for f) + 1 }
     ensures relabelled { (r : RangeView) (change : Label → Label) (f : Labels) → NothingFrom (2 ^ 64) f →
-        length (records_for (relabelled r change f)) ≤ length (records_for f) + 2 }
+        length (records_for (relabel_range r change f)) ≤ length (records_for f) + 2 }
     ensures trimmed { (f : Labels) → NothingFrom (2 ^ 64) f →
         length (records_for (trimmed f)) ≤ length (records_for f) }
 {}

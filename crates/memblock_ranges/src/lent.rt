@@ -4,7 +4,7 @@ ghost use Rattle.std.specs.Prelude.{◌≡◌, ◌+◌, ◌*◌, ◌^◌, ◌<�
 ghost use Rattle.bm_base.specs.Range.{Meet};
 ghost use Rattle.phys_store.specs.Bytes.{AreReady};
 ghost use Rattle.address_runs.specs.Runs.{RunOf, value_at};
-ghost use Rattle.address_runs.specs.Edits.{covered, uncovered, relabelled};
+ghost use Rattle.address_runs.specs.Edits.{cover_range, uncover_range, relabel_range};
 ghost use Rattle.memblock_model.specs.Labels.{Label as AnyLabel, with_node, with_mirror};
 ghost use Rattle.memblock_model.specs.Items.{trimmed};
 ghost use Rattle.memblock_model.specs.Tables.{records_for, pieces};
@@ -30,7 +30,7 @@ pub fn cover(store: &mut Store, head: &mut Head, range: &Range, label: Label)
     requires room { length (list_in store.old head.old) + pieces range.now (value_at (list_in store.old head.old)) ≤ head.old.room }
     ensures records { AreRecords (list_in store.new head.new) }
     ensures edits { Edits store.old store.new head.old head.new
-        (records_for (covered range.now label (value_at (list_in store.old head.old)))) }
+        (records_for (cover_range range.now label (value_at (list_in store.old head.old)))) }
 {
     let mut live = Live { store, head };
     edits::cover(&mut live, range, label);
@@ -43,7 +43,7 @@ pub fn uncover(store: &mut Store, head: &mut Head, range: &Range)
     requires room { length (list_in store.old head.old) + 2 ≤ head.old.room }
     ensures records { AreRecords (list_in store.new head.new) }
     ensures edits { Edits store.old store.new head.old head.new
-        (records_for (uncovered range.now (value_at (list_in store.old head.old)))) }
+        (records_for (uncover_range range.now (value_at (list_in store.old head.old)))) }
 {
     let mut live = Live { store, head };
     edits::uncover(&mut live, range);
@@ -57,7 +57,7 @@ pub fn set_node(store: &mut Store, head: &mut Head, range: &Range, node: u32)
     requires room { length (list_in store.old head.old) + 2 ≤ head.old.room }
     ensures records { AreRecords (list_in store.new head.new) }
     ensures edits { Edits store.old store.new head.old head.new
-        (records_for (relabelled range.now (with_node (Some node)) (value_at (list_in store.old head.old)))) }
+        (records_for (relabel_range range.now (with_node (Some node)) (value_at (list_in store.old head.old)))) }
 {
     let mut live = Live { store, head };
     edits::set_node(&mut live, range, node);
@@ -70,7 +70,7 @@ pub fn set_mirror(store: &mut Store, head: &mut Head, range: &Range)
     requires room { length (list_in store.old head.old) + 2 ≤ head.old.room }
     ensures records { AreRecords (list_in store.new head.new) }
     ensures edits { Edits store.old store.new head.old head.new
-        (records_for (relabelled range.now with_mirror (value_at (list_in store.old head.old)))) }
+        (records_for (relabel_range range.now with_mirror (value_at (list_in store.old head.old)))) }
 {
     let mut live = Live { store, head };
     edits::set_mirror(&mut live, range);

@@ -3,7 +3,7 @@ ghost use Rattle.std.specs.Prelude.{◌≡◌, ℕ, ◌+◌, ◌-◌, ◌*◌, �
 ghost use Rattle.bm_base.specs.Range.{covers, end_of, Meet};
 ghost use Rattle.phys_store.specs.Bytes.{byte_of, is_ready, AreReady, Wrote, bytes_at};
 ghost use Rattle.address_runs.specs.Runs.{RunOf, value_at};
-ghost use Rattle.address_runs.specs.Edits.{covered, uncovered, relabelled};
+ghost use Rattle.address_runs.specs.Edits.{cover_range, uncover_range, relabel_range};
 ghost use Rattle.memblock_model.specs.declared.which.Which.{Which as AnyWhich};
 ghost use Rattle.memblock_model.specs.declared.which.Which.TheVariants as which;
 ghost use Rattle.memblock_model.specs.Labels.{Label as AnyLabel, with_node, with_mirror};
@@ -124,7 +124,7 @@ impl Tables {
         requires node { IsNodeOf which node }
         requires room { length (records_in which self.old) + pieces range (value_at (records_in which self.old)) ≤ room_in which self.old }
         ensures table { table_in which self.new ≡ record (table_in which self.old) {
-          records = records_for (covered range (label_of 0 node) (value_at (records_in which self.old)));
+          records = records_for (cover_range range (label_of 0 node) (value_at (records_in which self.old)));
         } }
         ensures other { other_in which self.new ≡ other_in which self.old }
         ensures elsewhere { (x : ℕ) → covers (bytes_in which self.old) x ≡ false → byte_of self.new.store x ≡ byte_of self.old.store x }
@@ -146,7 +146,7 @@ impl Tables {
     pub fn remove(&mut self, which: Which, range: Range)
         requires { length (records_in which self.old) + 2 ≤ room_in which self.old }
         ensures table { table_in which self.new ≡ record (table_in which self.old) {
-          records = records_for (uncovered range (value_at (records_in which self.old)));
+          records = records_for (uncover_range range (value_at (records_in which self.old)));
         } }
         ensures other { other_in which self.new ≡ other_in which self.old }
         ensures elsewhere { (x : ℕ) → covers (bytes_in which self.old) x ≡ false → byte_of self.new.store x ≡ byte_of self.old.store x }
@@ -168,7 +168,7 @@ impl Tables {
         requires node { node < 1024 }
         requires room { length self.old.memory.records + 2 ≤ self.old.memory.room }
         ensures memory { self.new.memory ≡ record self.old.memory {
-          records = records_for (relabelled range (with_node (Some node)) (value_at self.old.memory.records));
+          records = records_for (relabel_range range (with_node (Some node)) (value_at self.old.memory.records));
         } }
         ensures reserved { self.new.reserved ≡ self.old.reserved }
         ensures elsewhere { (x : ℕ) → covers (bytes_of self.old.memory) x ≡ false → byte_of self.new.store x ≡ byte_of self.old.store x }
@@ -181,7 +181,7 @@ impl Tables {
     pub fn set_mirror(&mut self, range: Range)
         requires { length self.old.memory.records + 2 ≤ self.old.memory.room }
         ensures memory { self.new.memory ≡ record self.old.memory {
-          records = records_for (relabelled range with_mirror (value_at self.old.memory.records));
+          records = records_for (relabel_range range with_mirror (value_at self.old.memory.records));
         } }
         ensures reserved { self.new.reserved ≡ self.old.reserved }
         ensures elsewhere { (x : ℕ) → covers (bytes_of self.old.memory) x ≡ false → byte_of self.new.store x ≡ byte_of self.old.store x }

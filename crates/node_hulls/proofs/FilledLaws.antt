@@ -6,7 +6,7 @@ use Rattle.std.proofs.lemmas.Bool.{cases_lt, cases_Bool}
 use Rattle.std.proofs.lemmas.Bool.Decides.{nat_tests}
 use Rattle.std.proofs.lemmas.Option.{none-some, same_Some}
 use Rattle.address_runs.specs.Runs.{run_end, value_at, AreRuns, IsBefore}
-use Rattle.address_runs.specs.Sweep.{StartFrom}
+use Rattle.address_runs.specs.Sweep.{StartAtOrPast}
 use Rattle.address_runs.proofs.RunsLaws.{none_below, rest_from, inside, behind}
 use Rattle.node_hulls.specs.Hulls.{NumaBlock}
 use Rattle.node_hulls.specs.Steps.{filled, led_by_run}
@@ -46,7 +46,7 @@ place r x = elim (cases_lt x r.base) as (λ _. Place r x) [
 ]
 
 at_below : (r : NumaBlock) (rs : List NumaBlock) (x : ℕ) → AreRuns (r ∷ rs) → x < r.base → value_at (r ∷ rs) x ≡ None
-at_below r rs x runs lt = let start : StartFrom r.base (r ∷ rs) = omega arith in none_below r.base x (r ∷ rs) runs start lt
+at_below r rs x runs lt = let start : StartAtOrPast r.base (r ∷ rs) = omega arith in none_below r.base x (r ∷ rs) runs start lt
 
 at_inside : (r : NumaBlock) (rs : List NumaBlock) (x : ℕ) → r.base ≤ x → x < run_end r → value_at (r ∷ rs) x ≡ Some r.value
 at_inside r rs x above under = rw (inside r x above under) refl

@@ -6,7 +6,7 @@ use Rattle.std.proofs.lemmas.List.Elements.{All-cons, All-append}
 use Rattle.std.proofs.lemmas.List.Quantifiers.{position-Some}
 use Rattle.std.specs.List.{All, position}
 use Rattle.std.specs.Prelude.{is_some, is_none}
-use Rattle.address_runs.specs.Runs.{RunOf, AreRuns, led_by, one_address, value_at, runs_from, runs_of, extent_of}
+use Rattle.address_runs.specs.Runs.{RunOf, AreRuns, prepend_address, one_address, value_at, runs_from, runs_of, extent_of}
 use Rattle.address_runs.proofs.RunsLaws.{IsRunsBetween, from_runs}
 use Rattle.srat_reader.specs.declared.table.SratBlock.{SratBlock}
 use Rattle.srat_reader.specs.Table.{Affinity}
@@ -66,11 +66,11 @@ module _ (P : Judgement → Type 0) where
 -- what is true of each value of a function is true of the values of its runs
 module _ {X : Type 0} (Q : X → Type 0) where
   led-values : (same : X → X → Bool) (x : ℕ) (v : Option X) (rs : List (RunOf X)) → ((u : X) → v ≡ Some u → Q u)
-      → All (λ (r : RunOf X). Q r.value) rs → All (λ (r : RunOf X). Q r.value) (led_by same x v rs)
+      → All (λ (r : RunOf X). Q r.value) rs → All (λ (r : RunOf X). Q r.value) (prepend_address same x v rs)
   led-values same x None rs one all = all
   led-values same x (Some v) [] one all = All-cons (λ (r : RunOf X). Q r.value) (one_address x v) [] (one v refl) all
   led-values same x (Some v) (r ∷ rs) one all =
-      elim (cases_Bool ((r.base == x + 1) && same v r.value)) as (λ _. All (λ (s : RunOf X). Q s.value) (led_by same x (Some v) (r ∷ rs))) [
+      elim (cases_Bool ((r.base == x + 1) && same v r.value)) as (λ _. All (λ (s : RunOf X). Q s.value) (prepend_address same x (Some v) (r ∷ rs))) [
         | inl longer ↦ rw longer (All-cons (λ (s : RunOf X). Q s.value) (record { base = x; size = r.size + 1; value = v }) rs (one v refl)
             (λ k d less. all (suc k) d (omega (arith, less))))
         | inr another ↦ rw another (All-cons (λ (s : RunOf X). Q s.value) (one_address x v) (r ∷ rs) (one v refl) all)

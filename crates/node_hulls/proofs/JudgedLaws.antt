@@ -3,7 +3,7 @@ use Rattle.std.proofs.Common.{◌≡◌, ℕ, ◌<◌, ◌≤◌, Bool, true, fa
 use Rattle.std.proofs.lemmas.Bool.{le-leb, lt-leb, lt-ltb, le-ltb}
 use Rattle.std.proofs.lemmas.Bool.Decides.{nat_tests}
 use Rattle.std.proofs.lemmas.List.{take_all, length-take}
-use Rattle.address_runs.specs.Runs.{Tells, value_at, IsRunsOf, runs_of}
+use Rattle.address_runs.specs.Runs.{DecidesEquality, value_at, IsRunsOf, runs_of}
 use Rattle.address_runs.proofs.RunsLaws.{the_list}
 use Rattle.srat_reader.specs.Table.{Affinity}
 use Rattle.node_hulls.specs.declared.kept.KeptBlock.{KeptBlock}
@@ -34,7 +34,7 @@ pub record Found (memory : ℕ → Bool) (kept : List KeptBlock) (joined rest : 
   pub left_space : EndInSpace rest
   pub counted : frames ≡ frames_given (value_at rest)
 
-pub tells_nodes : Tells same_node
+pub tells_nodes : DecidesEquality same_node
 tells_nodes = record { true_is_equal = λ a b same. grind (arith, nat_tests); equal_is_true = λ a b same. grind (arith, nat_tests) }
 
 -- the same facts in terms of the definitions

@@ -8,7 +8,7 @@ use Rattle.std.specs.Option.{option_or}
 use Rattle.std.specs.Prelude.{is_some}
 use Rattle.bm_base.specs.Range.{RangeView, Meet}
 use Rattle.bm_base.proofs.EachLaws.{each_in-all, each_in-fails}
-use Rattle.address_runs.specs.Overlay.{all_overlaid}
+use Rattle.address_runs.specs.Overlay.{overlay_runs}
 use Rattle.address_runs.specs.Runs.{RunOf, run_end, extent_of, value_at, IsRunsOf}
 use Rattle.address_runs.specs.Sweep.{IsRestFrom}
 use Rattle.address_runs.proofs.RunsLaws.{inside, none_below}
@@ -17,7 +17,7 @@ use Rattle.node_hulls.specs.Steps.{nodeless, in_runs}
 use Rattle.node_hulls.proofs.RestLaws.{bare_given}
 
 -- an address is in the runs of memory exactly if it is memory
-pub told_memory : (memory : List RangeView) (rs : List (RunOf Bool)) → IsRunsOf (all_overlaid option_or (map nodeless memory)) rs → (x : ℕ)
+pub told_memory : (memory : List RangeView) (rs : List (RunOf Bool)) → IsRunsOf (overlay_runs option_or (map nodeless memory)) rs → (x : ℕ)
     → in_runs rs x ≡ in_any memory x
 told_memory memory rs known x = ap (λ (o : Option Bool). is_some o) (known.each x ∙ bare_given memory x) ∙ by (in_any memory x) where
   by : (m : Bool) → is_some (if m then Some false else None) ≡ m

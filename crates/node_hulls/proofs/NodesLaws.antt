@@ -7,7 +7,7 @@ use Rattle.std.proofs.lemmas.List.{map-id}
 use Rattle.std.proofs.lemmas.Option.{none-some, same_Some}
 use Rattle.std.specs.Option.{option_or}
 use Rattle.std.specs.Prelude.{find}
-use Rattle.address_runs.specs.Overlay.{all_overlaid, HaveAddresses}
+use Rattle.address_runs.specs.Overlay.{overlay_runs, HaveAddresses}
 use Rattle.address_runs.specs.Runs.{run_end, lies_in, value_at, IsRunsOf}
 use Rattle.address_runs.proofs.RunsLaws.{inside}
 use Rattle.node_hulls.specs.declared.kept.KeptBlock.{KeptBlock}
@@ -28,14 +28,14 @@ some_address (c ∷ cs) b some (inl here) = subst (λ (d : NumaBlock). 0 < d.siz
 some_address (c ∷ cs) b some (inr later) = some_address cs b some.1 later
 
 -- overlaying the blocks gives each address the first one's node
-pub first_given : (blocks : List NumaBlock) (x : ℕ) → all_overlaid option_or blocks x ≡ value_at blocks x
+pub first_given : (blocks : List NumaBlock) (x : ℕ) → overlay_runs option_or blocks x ≡ value_at blocks x
 first_given [] x = refl
-first_given (b ∷ bs) x = elim (cases_Bool (lies_in b x)) as (λ _. all_overlaid option_or (b ∷ bs) x ≡ value_at (b ∷ bs) x) [
+first_given (b ∷ bs) x = elim (cases_Bool (lies_in b x)) as (λ _. overlay_runs option_or (b ∷ bs) x ≡ value_at (b ∷ bs) x) [
   | inl lies ↦ rw lies refl
   | inr outside ↦ rw outside (first_given bs x)
 ]
 
-pub laid_given : (blocks rs : List NumaBlock) → IsRunsOf (all_overlaid option_or blocks) rs → IsRunsOf (value_at blocks) rs
+pub laid_given : (blocks rs : List NumaBlock) → IsRunsOf (overlay_runs option_or blocks) rs → IsRunsOf (value_at blocks) rs
 laid_given blocks rs known = record { runs = known.runs; each = λ x. known.each x ∙ first_given blocks x }
 
 -- that is the node of each block with the address

@@ -7,9 +7,9 @@ use Rattle.std.proofs.lemmas.List.{take_all}
 use Rattle.std.proofs.lemmas.Option.{none-some}
 use Rattle.std.proofs.Math.Seq.{drop-cons}
 use Rattle.std.specs.Prelude.{is_some, is_none}
-use Rattle.address_runs.specs.Overlay.{all_overlaid, HaveAddresses}
+use Rattle.address_runs.specs.Overlay.{overlay_runs, HaveAddresses}
 use Rattle.address_runs.specs.Runs.{RunOf, run_end, lies_in, value_at, AreRuns, IsBefore, IsRunsOf}
-use Rattle.address_runs.specs.Sweep.{StartFrom}
+use Rattle.address_runs.specs.Sweep.{StartAtOrPast}
 use Rattle.address_runs.proofs.OverlayLaws.{all_append}
 use Rattle.address_runs.proofs.RunsLaws.{none_below, rest_from, other_behind, inside, behind}
 use Rattle.bm_base.specs.Range.{RangeView, covers}
@@ -23,20 +23,20 @@ use Rattle.node_hulls.specs.Kept.{in_any, HaveBytes}
 use Rattle.node_hulls.specs.Steps.{nodeless, noded, bare_runs, with_node, begun_before, EndInSpace}
 
 -- what memory alone gives, and what the runs with a node alone give
-pub bare_given : (memory : List RangeView) (x : ℕ) → all_overlaid option_or (map nodeless memory) x
+pub bare_given : (memory : List RangeView) (x : ℕ) → overlay_runs option_or (map nodeless memory) x
     ≡ (if in_any memory x then Some false else None)
 bare_given [] x = refl
-bare_given (r ∷ rs) x = elim (cases_Bool (covers r x)) as (λ _. all_overlaid option_or (map nodeless (r ∷ rs)) x
+bare_given (r ∷ rs) x = elim (cases_Bool (covers r x)) as (λ _. overlay_runs option_or (map nodeless (r ∷ rs)) x
     ≡ (if in_any (r ∷ rs) x then Some false else None)) [
       | inl here ↦ rw here refl
       | inr elsewhere ↦ rw elsewhere (bare_given rs x)
     ]
 
-noded_given : (joined : List NumaBlock) (x : ℕ) → all_overlaid option_or (map noded joined) x
+noded_given : (joined : List NumaBlock) (x : ℕ) → overlay_runs option_or (map noded joined) x
     ≡ (if is_some (value_at joined x) then Some true else None)
 noded_given [] x = refl
 noded_given (r ∷ rs) x =
-    elim (cases_Bool (lies_in r x)) as (λ _. all_overlaid option_or (map noded (r ∷ rs)) x
+    elim (cases_Bool (lies_in r x)) as (λ _. overlay_runs option_or (map noded (r ∷ rs)) x
     ≡ (if is_some (value_at (r ∷ rs) x) then Some true else None)) [
       | inl here ↦ rw here refl
       | inr elsewhere ↦ rw elsewhere (noded_given rs x)
@@ -64,7 +64,7 @@ bare_of n (Some false) = Some n
 
 -- overlaying both gives memory without a node
 told_over : (memory : List RangeView) (joined : List NumaBlock) (n x : ℕ)
-    → bare_of n (all_overlaid option_or (map noded joined ++ map nodeless memory) x) ≡ left_over (in_any memory) (value_at joined) n x
+    → bare_of n (overlay_runs option_or (map noded joined ++ map nodeless memory) x) ≡ left_over (in_any memory) (value_at joined) n x
 told_over memory joined n x =
     rw (
       sym (all_append option_or first_none first_grouped (map noded joined) (map nodeless memory) x),
@@ -100,7 +100,7 @@ bare_first n cs d ds x runs is above under =
     sym (bare_value n cs x runs) ∙ ap (λ (es : List NumaBlock). value_at es x) is ∙ rw (inside d x above under) refl
 
 -- these runs are canonical: two that touched would be one run already
-bare_start : (n at : ℕ) (cs : List (RunOf Bool)) (d : NumaBlock) (ds : List NumaBlock) → AreRuns cs → StartFrom at cs
+bare_start : (n at : ℕ) (cs : List (RunOf Bool)) (d : NumaBlock) (ds : List NumaBlock) → AreRuns cs → StartAtOrPast at cs
     → AreRuns (bare_runs n cs)
     → bare_runs n cs ≡ d ∷ ds → at ≤ d.base
 bare_start n at cs d ds runs start canonical is =
@@ -135,7 +135,7 @@ bare_canonical n (c ∷ cs) runs =
     (λ bare. (runs.0, bare_before n c cs runs bare (bare_runs n cs) refl rest, rest))
 
 pub left_runs : (memory : List RangeView) (joined : List NumaBlock) (n : ℕ) (cs : List (RunOf Bool))
-    → IsRunsOf (all_overlaid option_or (map noded joined ++ map nodeless memory)) cs
+    → IsRunsOf (overlay_runs option_or (map noded joined ++ map nodeless memory)) cs
     → IsRunsOf (left_over (in_any memory) (value_at joined) n) (bare_runs n cs)
 left_runs memory joined n cs known = record {
   runs = bare_canonical n cs known.runs;

@@ -5,7 +5,7 @@ use Rattle.std.specs.Option.{option_map}
 use Rattle.std.proofs.lemmas.List.{append-nil}
 use Rattle.std.proofs.lemmas.List.Sums.{fold-append}
 use Rattle.bm_base.specs.Range.{RangeView, covers}
-use Rattle.address_runs.specs.Edits.{relabelled}
+use Rattle.address_runs.specs.Edits.{relabel_range}
 use Rattle.address_runs.specs.Runs.{extent_of}
 use Rattle.srat_reader.specs.Table.{Affinity}
 use Rattle.memblock_model.specs.declared.which.Which.TheVariants as which
@@ -60,20 +60,20 @@ none-refused first second (Some r) is answered = let clash = rw is at answered i
 -- what a range with its node makes of memory
 unfoldable pub noded_all : List NumaBlock → Labels → Labels
 noded_all [] f = f
-noded_all (r ∷ rs) f = noded_all rs (relabelled (extent_of r) (with_node (Some r.value)) f)
+noded_all (r ∷ rs) f = noded_all rs (relabel_range (extent_of r) (with_node (Some r.value)) f)
 
 node-item : (b : NumaBlock) (items : List Item)
     → memory_of (appended items (growth items).steps ++ item.Node (extent_of b) b.value ∷ [])
-    ≡ relabelled (extent_of b) (with_node (Some b.value)) (memory_of items)
+    ≡ relabel_range (extent_of b) (with_node (Some b.value)) (memory_of items)
 node-item b items =
     fold-append memory_after no_memory (appended items (growth items).steps) (item.Node (extent_of b) b.value ∷ [])
-    ∙ ap (relabelled (extent_of b) (with_node (Some b.value))) (quiet-appended_memory items (growth items).steps (growth-quiet items))
+    ∙ ap (relabel_range (extent_of b) (with_node (Some b.value))) (quiet-appended_memory items (growth items).steps (growth-quiet items))
 
 given-memory : (b : NumaBlock) (items : List Item) → (given tt b items).answer ≡ Ok tt
-    → memory_of (after items (given tt b items)) ≡ relabelled (extent_of b) (with_node (Some b.value)) (memory_of items)
+    → memory_of (after items (given tt b items)) ≡ relabel_range (extent_of b) (with_node (Some b.value)) (memory_of items)
 unfolding noded
 given-memory b items answered =
-    given-by (λ (is : List Item). memory_of is ≡ relabelled (extent_of b) (with_node (Some b.value)) (memory_of items)) b items
+    given-by (λ (is : List Item). memory_of is ≡ relabel_range (extent_of b) (with_node (Some b.value)) (memory_of items)) b items
     (node-item b items)
     (λ refused. absurd (refused (none-refused (growth items)
     (write (item.Node (extent_of b) b.value) (after_change items (growth items))) (growth items).refused refl answered)))
@@ -82,8 +82,8 @@ map-some : (change : Label → Label) (o : Option Label) → is_some (option_map
 map-some change None = refl
 map-some change (Some label) = refl
 
-pub relabelled-some : (range : RangeView) (change : Label → Label) (f : Labels) (x : ℕ) → is_some (relabelled range change f x) ≡ is_some (f x)
-relabelled-some range change f x = elim (cases_Bool (covers range x)) as (λ _. is_some (relabelled range change f x) ≡ is_some (f x)) [
+pub relabel_range-some : (range : RangeView) (change : Label → Label) (f : Labels) (x : ℕ) → is_some (relabel_range range change f x) ≡ is_some (f x)
+relabel_range-some range change f x = elim (cases_Bool (covers range x)) as (λ _. is_some (relabel_range range change f x) ≡ is_some (f x)) [
   | inl here ↦ rw here (map-some change (f x))
   | inr not_here ↦ rw not_here refl
 ]
@@ -92,7 +92,7 @@ given-some : (x : ℕ) (b : NumaBlock) (items : List Item)
     → is_some (memory_of (after items (given tt b items)) x) ≡ is_some (memory_of items x)
 given-some x b items =
     given-by (λ (is : List Item). is_some (memory_of is x) ≡ is_some (memory_of items x)) b items
-    (rw (node-item b items) (relabelled-some (extent_of b) (with_node (Some b.value)) (memory_of items) x))
+    (rw (node-item b items) (relabel_range-some (extent_of b) (with_node (Some b.value)) (memory_of items) x))
     (λ refused. rw (quiet-appended_memory items (growth items).steps (growth-quiet items)) refl)
 
 given-limit : (b : NumaBlock) (items : List Item) → limit_of (after items (given tt b items)) ≡ limit_of items

@@ -7,7 +7,7 @@ use Rattle.std.proofs.lemmas.List.Elements.{All-drop, All-tail, All-take}
 use Rattle.std.proofs.lemmas.Option.{none-some, same_Some}
 use Rattle.std.specs.Option.{option_map, option_or}
 use Rattle.bm_base.specs.Range.{covers}
-use Rattle.address_runs.specs.Edits.{NothingFrom, relabelled}
+use Rattle.address_runs.specs.Edits.{NothingFrom, relabel_range}
 use Rattle.address_runs.specs.Runs.{AreRuns, extent_of, lies_in, run_end, value_at}
 use Rattle.address_runs.proofs.RunsLaws.{none_below, rest_from}
 use Rattle.srat_reader.specs.Table.{Affinity}
@@ -36,7 +36,7 @@ noded-runs : (rs : List NumaBlock) (f : Labels) (x : ℕ) → AreRuns rs → nod
 unfolding noded_all
 noded-runs [] f x runs = refl
 noded-runs (r ∷ rs) f x runs =
-    let g : Labels = relabelled (extent_of r) (with_node (Some r.value)) f in
+    let g : Labels = relabel_range (extent_of r) (with_node (Some r.value)) f in
     elim (cases_Bool (lies_in r x)) as (λ _. noded_all (r ∷ rs) f x ≡ relabel (value_at (r ∷ rs) x) (f x)) [
       | inl here ↦
           let before : x < run_end r = grind (arith, nat_tests) in
@@ -48,7 +48,7 @@ noded-runs (r ∷ rs) f x runs =
 noded-append : (rs ss : List NumaBlock) (f : Labels) → noded_all (rs ++ ss) f ≡ noded_all ss (noded_all rs f)
 unfolding noded_all
 noded-append [] ss f = refl
-noded-append (r ∷ rs) ss f = noded-append rs ss (relabelled (extent_of r) (with_node (Some r.value)) f)
+noded-append (r ∷ rs) ss f = noded-append rs ss (relabel_range (extent_of r) (with_node (Some r.value)) f)
 
 -- where one of two gives a node, the label has that node
 abbrev labelled : Option ℕ → Option Label → Option Label
@@ -157,7 +157,7 @@ below-given : (reach limit : ℕ) (f : Labels) → NothingFrom limit f
     → IsGiven reach f (noded_all (record { base = 0; size = limit; value = 0 } ∷ []) f) (λ x. Some 0)
 unfolding noded_all
 below-given reach limit f within = record {
-  given = λ x. elim (cases_lt x limit) as (λ _. relabelled (record { base = 0; size = limit }) (with_node (Some 0)) f x
+  given = λ x. elim (cases_lt x limit) as (λ _. relabel_range (record { base = 0; size = limit }) (with_node (Some 0)) f x
       ≡ labelled (Some 0) (f x)) [
         | inl below ↦
             let here : covers (record { base = 0; size = limit }) x ≡ true = grind (arith, nat_tests) in

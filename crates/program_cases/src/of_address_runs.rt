@@ -1,9 +1,9 @@
 //! The laws of runs, called as another crate calls them.
 
-use address_runs::{one_list_of_runs, runs_by_address};
+use address_runs::{runs_are_unique, runs_of_gives_the_runs};
 
 #[test]
 fn laws_are_called() {
-    one_list_of_runs::<u32>();
-    runs_by_address::<u32>();
+    runs_are_unique::<u32>();
+    runs_of_gives_the_runs::<u32>();
 }

@@ -4,8 +4,8 @@ use Rattle.std.specs.Prelude.{is_some}
 use Rattle.std.proofs.lemmas.Bool.Decides.{nat_tests}
 use Rattle.std.proofs.lemmas.List.{length-take-le, length-drop}
 use Rattle.bm_base.specs.Range.{RangeView, covers}
-use Rattle.address_runs.specs.Runs.{RunOf, Tells}
-use Rattle.address_runs.specs.Edits.{amended, NothingFrom}
+use Rattle.address_runs.specs.Runs.{RunOf, DecidesEquality}
+use Rattle.address_runs.specs.Edits.{change_range, NothingFrom}
 use Rattle.address_runs.specs.Sweep.{Stays, IsRestFrom, IsBuiltTo}
 use Rattle.address_runs.proofs.EditLaws.{not_covered}
 use Rattle.run_edits.specs.Ends.{HasRoom}
@@ -18,37 +18,37 @@ in_range : (r : RangeView) (x : ℕ) → r.base ≤ x → x < r.base + r.size �
 in_range r x above under = grind (arith, nat_tests)
 
 module _ {X : Type 0} where
-  pub amended_below : (change : Option X → Option X) (r : RangeView) (f : ℕ → Option X) (x : ℕ) → x < r.base → amended change r f x ≡ f x
+  pub amended_below : (change : Option X → Option X) (r : RangeView) (f : ℕ → Option X) (x : ℕ) → x < r.base → change_range change r f x ≡ f x
   amended_below change r f x under = rw (below_range r x under) refl
 
   pub amended_inside : (change : Option X → Option X) (r : RangeView) (f : ℕ → Option X) (x : ℕ) → r.base ≤ x → x < r.base + r.size
-      → amended change r f x ≡ change (f x)
+      → change_range change r f x ≡ change (f x)
   amended_inside change r f x above under = rw (in_range r x above under) refl
 
-  pub amended_behind : (change : Option X → Option X) (r : RangeView) (f : ℕ → Option X) (x : ℕ) → r.base + r.size ≤ x → amended change r f x
+  pub amended_behind : (change : Option X → Option X) (r : RangeView) (f : ℕ → Option X) (x : ℕ) → r.base + r.size ≤ x → change_range change r f x
       ≡ f x
   amended_behind change r f x past = rw (not_covered r x past) refl
 
   -- where a function stays inside the range, the changed one does
   pub amended_stays : (change : Option X → Option X) (r : RangeView) (f : ℕ → Option X) (from to next : ℕ) (v : Option X) → r.base ≤ from
       → to ≤ r.base + r.size → to ≤ next
-      → Stays f from next (f from) → v ≡ change (f from) → Stays (amended change r f) from to v
+      → Stays f from next (f from) → v ≡ change (f from) → Stays (change_range change r f) from to v
   amended_stays change r f from to next v first last order stays is x above under =
       amended_inside change r f x (omega arith) (omega arith) ∙ ap change (stays x above (omega arith)) ∙ sym is
 
   pub amended_stays_behind : (change : Option X → Option X) (r : RangeView) (f : ℕ → Option X) (from next : ℕ) (v : Option X)
       → r.base + r.size ≤ from
-      → Stays f from next (f from) → v ≡ f from → Stays (amended change r f) from next v
+      → Stays f from next (f from) → v ≡ f from → Stays (change_range change r f) from next v
   amended_stays_behind change r f from next v past stays is x above under = amended_behind change r f x (omega arith)
       ∙ stays x above under ∙ sym is
 
   -- nothing is changed far behind the range
   pub amended_ends : (change : Option X → Option X) (r : RangeView) (f : ℕ → Option X) (at : ℕ) → r.base + r.size ≤ at → NothingFrom at f
-      → NothingFrom at (amended change r f)
+      → NothingFrom at (change_range change r f)
   amended_ends change r f at ends none x le = amended_behind change r f x (omega arith) ∙ none x le
 
   -- where the stretch that goes on is to be written and there is no free place, there is room for one more
-  pub room_here : (same : X → X → Bool) → Tells same → (f g : ℕ → Option X) (start from to : ℕ) (v : Option X) (rs : List (RunOf X))
+  pub room_here : (same : X → X → Bool) → DecidesEquality same → (f g : ℕ → Option X) (start from to : ℕ) (v : Option X) (rs : List (RunOf X))
       (write read room : ℕ) → HasRoom same f g room
       → NothingFrom (2 ^ 64) f → from ≤ to → to ≤ 2 ^ 64 → IsBuiltTo g from (take write rs) start v → (g from ≡ v → v ≡ None)
       → IsRestFrom f to (drop read rs)

@@ -5,8 +5,8 @@ use Rattle.std.specs.Option.{option_map}
 use Rattle.std.proofs.lemmas.Bool.Decides.{nat_tests}
 use Rattle.std.proofs.lemmas.Bool.{cases_Bool}
 use Rattle.bm_base.specs.Range.{RangeView, covers}
-use Rattle.address_runs.specs.Runs.{RunOf, Tells, value_at, AreRuns, IsRunsOf, runs_of}
-use Rattle.address_runs.specs.Edits.{amended, covered, uncovered, relabelled, replaced, bare, NothingFrom}
+use Rattle.address_runs.specs.Runs.{RunOf, DecidesEquality, value_at, AreRuns, IsRunsOf, runs_of}
+use Rattle.address_runs.specs.Edits.{change_range, cover_range, uncover_range, relabel_range, replace_in_range, gaps_in_range, NothingFrom}
 use Rattle.address_runs.proofs.RunsLaws.{by_address}
 use Rattle.address_runs.proofs.EditLaws.{not_covered, nothing-covered, nothing-uncovered, nothing-relabelled, nothing-replaced}
 use Rattle.run_edits.specs.Records.{EndsNoRun}
@@ -37,7 +37,7 @@ module _ {X : Type 0} where
       let parts = total-add (edges same f) s x n in
       omega (arith, all, parts, some)
 
-  pub room_by : (same : X → X → Bool) → Tells same → (f g : ℕ → Option X) (s : ℕ → ℕ) (few room : ℕ)
+  pub room_by : (same : X → X → Bool) → DecidesEquality same → (f g : ℕ → Option X) (s : ℕ → ℕ) (few room : ℕ)
       → ((y : ℕ) → edges same g y ≤ edges same f y + s y)
       → ((at : ℕ) → at ≤ 2 ^ 64 → total s 0 at ≤ few) → total (edges same f) 0 (2 ^ 64) + few ≤ room → HasRoom same f g room
   room_by same tells f g s few room each some fits at le =
@@ -45,7 +45,7 @@ module _ {X : Type 0} where
       let whole = total-split (edges same f) 0 at (2 ^ 64 - at) (2 ^ 64) at (omega arith) (omega arith) in
       omega (arith, front, whole, fits)
 
-  pub length_by : (same : X → X → Bool) → Tells same → (rs ss : List (RunOf X)) (s : ℕ → ℕ) (few : ℕ) → AreRuns rs
+  pub length_by : (same : X → X → Bool) → DecidesEquality same → (rs ss : List (RunOf X)) (s : ℕ → ℕ) (few : ℕ) → AreRuns rs
       → NothingFrom (2 ^ 64) (value_at rs) → AreRuns ss
       → NothingFrom (2 ^ 64) (value_at ss) → ((y : ℕ) → edges same (value_at ss) y ≤ edges same (value_at rs) y + s y)
       → total s 0 (2 ^ 64) ≤ few → length ss ≤ length rs + few
@@ -56,7 +56,7 @@ module _ {X : Type 0} where
       omega (arith, first, second, sums)
 
   -- inside its range a change that ends no run ends none
-  inside_edges : (same : X → X → Bool) → Tells same → (change : Option X → Option X) → EndsNoRun change → (a b : Option X)
+  inside_edges : (same : X → X → Bool) → DecidesEquality same → (change : Option X → Option X) → EndsNoRun change → (a b : Option X)
       → edge same (change a) (change b) ≤ edge same a b
   inside_edges same tells change (inl stays) None b = rw stays (omega arith)
   inside_edges same tells change (inl stays) (Some v) None = edge-few same (change (Some v)) (change None)
@@ -70,11 +70,11 @@ module _ {X : Type 0} where
   inside_edges same tells change (inr one) a b = rw (one a, one b, edge-self same tells (change None)) (omega arith)
 
   -- so it ends one at the start of the range and one at its end
-  pub amended_edges : (same : X → X → Bool) → Tells same → (change : Option X → Option X) → EndsNoRun change
+  pub amended_edges : (same : X → X → Bool) → DecidesEquality same → (change : Option X → Option X) → EndsNoRun change
       → (r : RangeView) (f : ℕ → Option X) (x : ℕ)
-      → edges same (amended change r f) x ≤ edges same f x + (spike r.base x + spike (r.base + r.size) x)
+      → edges same (change_range change r f) x ≤ edges same f x + (spike r.base x + spike (r.base + r.size) x)
   amended_edges same tells change plain r f x =
-      let Few : Type 0 = edges same (amended change r f) x ≤ edges same f x + (spike r.base x + spike (r.base + r.size) x) in
+      let Few : Type 0 = edges same (change_range change r f) x ≤ edges same f x + (spike r.base x + spike (r.base + r.size) x) in
       elim (cases_Bool (covers r x)) as (λ _. Few) [
         | inl here ↦ elim (cases_Bool (covers r (x + 1))) as (λ _. Few) [
           | inl next ↦ let few = inside_edges same tells change plain (f x) (f (x + 1)) in rw (here, next) (omega (arith, few))
@@ -89,18 +89,18 @@ module _ {X : Type 0} where
 
   -- a range that is taken out ends no run at its end
   pub uncovered_edges : (same : X → X → Bool) (r : RangeView) (f : ℕ → Option X) (x : ℕ)
-      → edges same (uncovered r f) x ≤ edges same f x + spike r.base x
+      → edges same (uncover_range r f) x ≤ edges same f x + spike r.base x
   uncovered_edges same r f x =
-      elim (cases_Bool (covers r x)) as (λ _. edges same (uncovered r f) x ≤ edges same f x + spike r.base x) [
+      elim (cases_Bool (covers r x)) as (λ _. edges same (uncover_range r f) x ≤ edges same f x + spike r.base x) [
         | inl here ↦ rw here (omega arith)
-        | inr before ↦ elim (cases_Bool (covers r (x + 1))) as (λ _. edges same (uncovered r f) x ≤ edges same f x + spike r.base x) [
+        | inr before ↦ elim (cases_Bool (covers r (x + 1))) as (λ _. edges same (uncover_range r f) x ≤ edges same f x + spike r.base x) [
           | inl next ↦ let few = edge-few same (f x) None in rw (before, next, begins_here r x before next) (omega (arith, few))
           | inr out ↦ rw (before, out) (omega arith)
         ]
       ]
 
   -- a range that is covered ends runs where its bare pieces do
-  cover_at : (same : X → X → Bool) → Tells same → (v w : X) (here next : Bool) (a b : Option X)
+  cover_at : (same : X → X → Bool) → DecidesEquality same → (v w : X) (here next : Bool) (a b : Option X)
       → edge same (if here then Some (unwrap_or a v) else a) (if next then Some (unwrap_or b v) else b)
       ≤ edge same a b + edge same (if here && is_none a then Some w else None) (if next && is_none b then Some w else None)
   cover_at same tells v w true true None None = rw (tells.equal_is_true v v refl, tells.equal_is_true w w refl) (omega arith)
@@ -114,16 +114,16 @@ module _ {X : Type 0} where
   cover_at same tells v w false true (Some p) (Some q) = omega arith
   cover_at same tells v w false false a b = omega arith
 
-  pub covered_edges : (same : X → X → Bool) → Tells same → (r : RangeView) (v w : X) (f : ℕ → Option X) (x : ℕ)
-      → edges same (covered r v f) x ≤ edges same f x + edges same (bare r w f) x
+  pub covered_edges : (same : X → X → Bool) → DecidesEquality same → (r : RangeView) (v w : X) (f : ℕ → Option X) (x : ℕ)
+      → edges same (cover_range r v f) x ≤ edges same f x + edges same (gaps_in_range r w f) x
   covered_edges same tells r v w f x = cover_at same tells v w (covers r x) (covers r (x + 1)) (f x) (f (x + 1))
 
   -- the bare pieces of a range, counted by their ends
-  bare_ends : (r : RangeView) (w : X) (f : ℕ → Option X) → r.base + r.size ≤ 2 ^ 64 → NothingFrom (2 ^ 64) (bare r w f)
+  bare_ends : (r : RangeView) (w : X) (f : ℕ → Option X) → r.base + r.size ≤ 2 ^ 64 → NothingFrom (2 ^ 64) (gaps_in_range r w f)
   bare_ends r w f ends x le = let past : r.base + r.size ≤ x = omega arith in rw (not_covered r x past) refl
 
   -- how many runs there are of a function
-  runs_told : (same : X → X → Bool) → Tells same → (f : ℕ → Option X) → NothingFrom (2 ^ 64) f → length (runs_of same f)
+  runs_told : (same : X → X → Bool) → DecidesEquality same → (f : ℕ → Option X) → NothingFrom (2 ^ 64) f → length (runs_of same f)
       ≡ total (edges same f) 0 (2 ^ 64)
   runs_told same tells f none =
       let known : IsRunsOf f (runs_of same f) = by_address same tells f none in
@@ -131,12 +131,12 @@ module _ {X : Type 0} where
       all_ends same tells (runs_of same f) known.runs (λ x le. known.each x ∙ none x le)
       ∙ ap (λ (h : ℕ → Option X). total (edges same h) 0 (2 ^ 64)) told
 
-  pub pieces_ends : (same : X → X → Bool) → Tells same → (r : RangeView) (w : X) (f : ℕ → Option X) → r.base + r.size ≤ 2 ^ 64
-      → length (runs_of same (bare r w f)) ≡ total (edges same (bare r w f)) 0 (2 ^ 64)
-  pieces_ends same tells r w f ends = runs_told same tells (bare r w f) (bare_ends r w f ends)
+  pub pieces_ends : (same : X → X → Bool) → DecidesEquality same → (r : RangeView) (w : X) (f : ℕ → Option X) → r.base + r.size ≤ 2 ^ 64
+      → length (runs_of same (gaps_in_range r w f)) ≡ total (edges same (gaps_in_range r w f)) 0 (2 ^ 64)
+  pieces_ends same tells r w f ends = runs_told same tells (gaps_in_range r w f) (bare_ends r w f ends)
 
   -- how many runs an edit adds
-  runs_more : (same : X → X → Bool) → Tells same → (f g : ℕ → Option X) (s : ℕ → ℕ) (few : ℕ) → NothingFrom (2 ^ 64) f
+  runs_more : (same : X → X → Bool) → DecidesEquality same → (f g : ℕ → Option X) (s : ℕ → ℕ) (few : ℕ) → NothingFrom (2 ^ 64) f
       → NothingFrom (2 ^ 64) g
       → ((y : ℕ) → edges same g y ≤ edges same f y + s y) → total s 0 (2 ^ 64) ≤ few
       → length (runs_of same g) ≤ length (runs_of same f) + few
@@ -146,35 +146,35 @@ module _ {X : Type 0} where
       let sums = total-more same f g s few 0 (2 ^ 64) each some in
       omega (arith, first, second, sums)
 
-  pub covered_length : (same : X → X → Bool) → Tells same → (r : RangeView) (v w : X) (f : ℕ → Option X) → r.base + r.size ≤ 2 ^ 64
+  pub covered_length : (same : X → X → Bool) → DecidesEquality same → (r : RangeView) (v w : X) (f : ℕ → Option X) → r.base + r.size ≤ 2 ^ 64
       → NothingFrom (2 ^ 64) f
-      → length (runs_of same (covered r v f)) ≤ length (runs_of same f) + length (runs_of same (bare r w f))
+      → length (runs_of same (cover_range r v f)) ≤ length (runs_of same f) + length (runs_of same (gaps_in_range r w f))
   covered_length same tells r v w f ends none =
       let pieces = pieces_ends same tells r w f ends in
-      runs_more same tells f (covered r v f) (edges same (bare r w f)) (length (runs_of same (bare r w f))) none
+      runs_more same tells f (cover_range r v f) (edges same (gaps_in_range r w f)) (length (runs_of same (gaps_in_range r w f))) none
       (nothing-covered (2 ^ 64) r v f ends none)
       (covered_edges same tells r v w f) (omega (arith, pieces))
 
-  pub uncovered_length : (same : X → X → Bool) → Tells same → (r : RangeView) (f : ℕ → Option X) → NothingFrom (2 ^ 64) f
-      → length (runs_of same (uncovered r f)) ≤ length (runs_of same f) + 1
+  pub uncovered_length : (same : X → X → Bool) → DecidesEquality same → (r : RangeView) (f : ℕ → Option X) → NothingFrom (2 ^ 64) f
+      → length (runs_of same (uncover_range r f)) ≤ length (runs_of same f) + 1
   uncovered_length same tells r f none =
-      runs_more same tells f (uncovered r f) (spike r.base) 1 none (nothing-uncovered (2 ^ 64) r f none) (uncovered_edges same r f)
+      runs_more same tells f (uncover_range r f) (spike r.base) 1 none (nothing-uncovered (2 ^ 64) r f none) (uncovered_edges same r f)
       (spikes_few r.base 0 (2 ^ 64))
 
-  pub amended_length : (same : X → X → Bool) → Tells same → (change : Option X → Option X) → EndsNoRun change
+  pub amended_length : (same : X → X → Bool) → DecidesEquality same → (change : Option X → Option X) → EndsNoRun change
       → (r : RangeView) (f : ℕ → Option X) → NothingFrom (2 ^ 64) f
-      → NothingFrom (2 ^ 64) (amended change r f) → length (runs_of same (amended change r f)) ≤ length (runs_of same f) + 2
+      → NothingFrom (2 ^ 64) (change_range change r f) → length (runs_of same (change_range change r f)) ≤ length (runs_of same f) + 2
   amended_length same tells change plain r f none none_too =
-      runs_more same tells f (amended change r f) (λ x. spike r.base x + spike (r.base + r.size) x) 2 none none_too
+      runs_more same tells f (change_range change r f) (λ x. spike r.base x + spike (r.base + r.size) x) 2 none none_too
       (amended_edges same tells change plain r f) (spikes_two r (2 ^ 64))
 
-  pub relabelled_length : (same : X → X → Bool) → Tells same → (r : RangeView) (change : X → X) (f : ℕ → Option X) → NothingFrom (2 ^ 64) f
-      → length (runs_of same (relabelled r change f)) ≤ length (runs_of same f) + 2
+  pub relabelled_length : (same : X → X → Bool) → DecidesEquality same → (r : RangeView) (change : X → X) (f : ℕ → Option X) → NothingFrom (2 ^ 64) f
+      → length (runs_of same (relabel_range r change f)) ≤ length (runs_of same f) + 2
   relabelled_length same tells r change f none = amended_length same tells (option_map change) (inl refl) r f none
       (nothing-relabelled (2 ^ 64) r change f none)
 
-  pub replaced_length : (same : X → X → Bool) → Tells same → (r : RangeView) (v : X) (f : ℕ → Option X) → r.base + r.size ≤ 2 ^ 64
+  pub replaced_length : (same : X → X → Bool) → DecidesEquality same → (r : RangeView) (v : X) (f : ℕ → Option X) → r.base + r.size ≤ 2 ^ 64
       → NothingFrom (2 ^ 64) f
-      → length (runs_of same (replaced r v f)) ≤ length (runs_of same f) + 2
+      → length (runs_of same (replace_in_range r v f)) ≤ length (runs_of same f) + 2
   replaced_length same tells r v f ends none = amended_length same tells (λ carried. Some v) (inr (λ carried. refl)) r f none
       (nothing-replaced (2 ^ 64) r v f ends none)

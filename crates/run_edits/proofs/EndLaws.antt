@@ -2,9 +2,9 @@
 use Rattle.std.proofs.Common.{◌≡◌, ◌≢◌, ℕ, zero, suc, ◌+◌, ◌-◌, ◌^◌, ◌<◌, ◌≤◌, ◌==◌, Bool, false, Option, Some, None, List, [], ◌∷◌, length, refl, sym, ◌∙◌, ap, inl, inr, arith}
 use Rattle.std.proofs.lemmas.Bool.Decides.{nat_tests}
 use Rattle.std.proofs.lemmas.Bool.{cases_lt, cases_Bool}
-use Rattle.address_runs.specs.Runs.{RunOf, Tells, run_end, lies_in, value_at, AreRuns}
+use Rattle.address_runs.specs.Runs.{RunOf, DecidesEquality, run_end, lies_in, value_at, AreRuns}
 use Rattle.address_runs.specs.Edits.{NothingFrom}
-use Rattle.address_runs.specs.Sweep.{StartFrom, EndBy, EndsBehind, IsSweptTo, IsRestFrom}
+use Rattle.address_runs.specs.Sweep.{StartAtOrPast, EndBy, FirstEndsPast, IsSweptTo, IsRestFrom}
 use Rattle.address_runs.proofs.RunsLaws.{inside, behind, none_below, other_behind}
 use Rattle.address_runs.proofs.SweepLaws.{none_behind, behind_none, rest_whole}
 use Rattle.run_edits.specs.Ends.{total, edge, edges, spike}
@@ -67,7 +67,7 @@ spikes_few b x (suc n) =
     ]
 
 -- no run ends between two neighbours that carry the same, and one does where another value follows
-pub edge-self : {X : Type 0} (same : X → X → Bool) → Tells same → (a : Option X) → edge same a a ≡ 0
+pub edge-self : {X : Type 0} (same : X → X → Bool) → DecidesEquality same → (a : Option X) → edge same a a ≡ 0
 edge-self same tells None = refl
 edge-self same tells (Some a) = rw (tells.equal_is_true a a refl) refl
 
@@ -77,7 +77,7 @@ edge-few same (Some a) None = omega arith
 edge-few same (Some a) (Some b) = elim (cases_Bool (same a b)) as (λ _. edge same (Some a) (Some b) ≤ 1)
     [ inl equal ↦ rw equal (omega arith) | inr not ↦ rw not (omega arith) ]
 
-pub edge-other : {X : Type 0} (same : X → X → Bool) → Tells same → (v : X) (b : Option X) → b ≢ Some v → edge same (Some v) b ≡ 1
+pub edge-other : {X : Type 0} (same : X → X → Bool) → DecidesEquality same → (v : X) (b : Option X) → b ≢ Some v → edge same (Some v) b ≡ 1
 edge-other same tells v None other = refl
 edge-other same tells v (Some w) other =
     elim (cases_Bool (same v w)) as (λ _. edge same (Some v) (Some w) ≡ 1) [
@@ -86,17 +86,17 @@ edge-other same tells v (Some w) other =
     ]
 
 -- the runs behind a run end behind its end
-pub behind_run : {X : Type 0} (r : RunOf X) (rs : List (RunOf X)) → AreRuns (r ∷ rs) → EndsBehind (run_end r) rs
+pub behind_run : {X : Type 0} (r : RunOf X) (rs : List (RunOf X)) → AreRuns (r ∷ rs) → FirstEndsPast (run_end r) rs
 behind_run r [] runs = tt
 behind_run r (s ∷ ss) runs = let order = runs.1.0 in let some = runs.2.0 in omega arith
 
 -- up to its last address a run doesn't end
-quiet_inside : {X : Type 0} (same : X → X → Bool) → Tells same → (r : RunOf X) (rs : List (RunOf X)) (y : ℕ) → AreRuns (r ∷ rs)
+quiet_inside : {X : Type 0} (same : X → X → Bool) → DecidesEquality same → (r : RunOf X) (rs : List (RunOf X)) (y : ℕ) → AreRuns (r ∷ rs)
     → y + 1 < run_end r
     → edges same (value_at (r ∷ rs)) y ≡ 0
 quiet_inside same tells r rs y runs under =
     elim (cases_lt y r.base) as (λ _. edges same (value_at (r ∷ rs)) y ≡ 0) [
-      | inl lt ↦ let starts : StartFrom r.base (r ∷ rs) = omega arith in let none : value_at (r ∷ rs) y
+      | inl lt ↦ let starts : StartAtOrPast r.base (r ∷ rs) = omega arith in let none : value_at (r ∷ rs) y
           ≡ None = none_below r.base y (r ∷ rs) runs starts lt in rw none refl
       | inr ge ↦
           let here : value_at (r ∷ rs) y ≡ Some r.value = rw (inside r y (omega arith) (omega arith)) refl in
@@ -105,7 +105,7 @@ quiet_inside same tells r rs y runs under =
     ]
 
 -- a list has as many runs as end at its addresses
-pub length_ends : {X : Type 0} (same : X → X → Bool) → Tells same → (rs : List (RunOf X)) (x n : ℕ) → AreRuns rs → EndsBehind x rs
+pub length_ends : {X : Type 0} (same : X → X → Bool) → DecidesEquality same → (rs : List (RunOf X)) (x n : ℕ) → AreRuns rs → FirstEndsPast x rs
     → ((y : ℕ) → x + n ≤ y → value_at rs y ≡ None) → length rs ≡ total (edges same (value_at rs)) x n
 length_ends same tells [] x n runs ends none = sym (total-quiet (edges same (value_at [])) x n (λ y above under. refl))
 length_ends {X} same tells (r ∷ rs) x n runs ends none =
@@ -148,13 +148,13 @@ last_other at y v w (r ∷ rs) ends next is =
       | inr not_here ↦ last_other at y v w rs ends.2 next (rw not_here at is)
     ]
 
-edge_at_end : {X : Type 0} (same : X → X → Bool) → Tells same → (a b : Option X) → ((w : X) → a ≡ Some w → b ≢ Some w) → edge same a None
+edge_at_end : {X : Type 0} (same : X → X → Bool) → DecidesEquality same → (a b : Option X) → ((w : X) → a ≡ Some w → b ≢ Some w) → edge same a None
     ≡ edge same a b
 edge_at_end same tells None b other = refl
 edge_at_end same tells (Some a) b other = sym (edge-other same tells a b (other a refl))
 
 -- what is swept has as many runs as end there
-pub swept_ends : {X : Type 0} (same : X → X → Bool) → Tells same → (g : ℕ → Option X) (at : ℕ) (xs : List (RunOf X)) → IsSweptTo g at xs
+pub swept_ends : {X : Type 0} (same : X → X → Bool) → DecidesEquality same → (g : ℕ → Option X) (at : ℕ) (xs : List (RunOf X)) → IsSweptTo g at xs
     → length xs ≡ total (edges same g) 0 at
 swept_ends same tells g at xs swept =
     length_ends same tells xs 0 at swept.runs (behind_none xs swept.runs) (λ y far. none_behind at y (g at) xs swept.ends (omega arith))
@@ -170,7 +170,7 @@ swept_ends same tells g at xs swept =
     ])
 
 -- and what is left as many as end from there on
-pub rest_ends : {X : Type 0} (same : X → X → Bool) → Tells same → (f : ℕ → Option X) (at : ℕ) (rs : List (RunOf X)) → IsRestFrom f at rs
+pub rest_ends : {X : Type 0} (same : X → X → Bool) → DecidesEquality same → (f : ℕ → Option X) (at : ℕ) (rs : List (RunOf X)) → IsRestFrom f at rs
     → NothingFrom (2 ^ 64) f → at ≤ 2 ^ 64
     → length rs ≡ total (edges same f) at (2 ^ 64 - at)
 rest_ends same tells f at rs rest none le =
@@ -181,6 +181,6 @@ rest_ends same tells f at rs rest none le =
     rw (here, next) refl)
 
 -- so has the whole
-pub all_ends : {X : Type 0} (same : X → X → Bool) → Tells same → (rs : List (RunOf X)) → AreRuns rs → NothingFrom (2 ^ 64) (value_at rs)
+pub all_ends : {X : Type 0} (same : X → X → Bool) → DecidesEquality same → (rs : List (RunOf X)) → AreRuns rs → NothingFrom (2 ^ 64) (value_at rs)
     → length rs ≡ total (edges same (value_at rs)) 0 (2 ^ 64)
 all_ends same tells rs runs none = rest_ends same tells (value_at rs) 0 rs (rest_whole rs runs) none (omega arith)

@@ -4,9 +4,9 @@ use Rattle.std.proofs.lemmas.Bool.Decides.{nat_tests}
 use Rattle.std.proofs.lemmas.Bool.{cases_lt, cases_Bool}
 use Rattle.std.proofs.lemmas.List.{append-nil, length-append, drop_more, take_more, take-append-drop}
 use Rattle.std.specs.Prelude.{is_some}
-use Rattle.address_runs.specs.Runs.{RunOf, Tells, run_end, value_at, IsBefore, AreRuns, IsRunsOf}
+use Rattle.address_runs.specs.Runs.{RunOf, DecidesEquality, run_end, value_at, IsBefore, AreRuns, IsRunsOf}
 use Rattle.address_runs.specs.Edits.{NothingFrom}
-use Rattle.address_runs.specs.Sweep.{Stays, StartFrom, EndBy, EndsBehind, EndsFrom, IsSweptTo, IsRestFrom, IsBuiltTo}
+use Rattle.address_runs.specs.Sweep.{Stays, StartAtOrPast, EndBy, FirstEndsPast, FirstEndsAtOrPast, IsSweptTo, IsRestFrom, IsBuiltTo}
 use Rattle.address_runs.proofs.RunsLaws.{inside, behind, none_below}
 use Rattle.address_runs.proofs.SweepLaws.{none_behind, value_append_none, value_append_left, swept_over, swept_push}
 use Rattle.run_edits.specs.Records.{stretch, EndBefore}
@@ -24,7 +24,7 @@ module _ {X : Type 0} where
   runs_back (x ∷ xs) ys runs = runs_back xs ys runs.2
 
   before_joined : (at : ℕ) (v : Option X) (x : RunOf X) (rs : List (RunOf X)) → run_end x ≤ at → (run_end x ≡ at → v ≢ Some x.value)
-      → AreRuns rs → StartFrom at rs
+      → AreRuns rs → StartAtOrPast at rs
       → value_at rs at ≡ v → IsBefore x rs
   before_joined at v x [] by other runs starts is = tt
   before_joined at v x (s ∷ ss) by other runs starts is = (
@@ -36,14 +36,14 @@ module _ {X : Type 0} where
         other here (sym is ∙ first ∙ ap (λ u. Some u) (sym equal)),
   )
 
-  runs_join : (at : ℕ) (v : Option X) (xs rs : List (RunOf X)) → AreRuns xs → EndBy at v xs → AreRuns rs → StartFrom at rs
+  runs_join : (at : ℕ) (v : Option X) (xs rs : List (RunOf X)) → AreRuns xs → EndBy at v xs → AreRuns rs → StartAtOrPast at rs
       → value_at rs at ≡ v → AreRuns (xs ++ rs)
   runs_join at v [] rs runs ends more starts is = more
   runs_join at v (x ∷ []) rs runs ends more starts is = (runs.0, before_joined at v x rs ends.0 ends.1 more starts is, more)
   runs_join at v (x ∷ (y ∷ ys)) rs runs ends more starts is = (runs.0, runs.1, runs_join at v (y ∷ ys) rs runs.2 ends.2 more starts is)
 
   -- what is swept up to an address and what is left from there on are all runs
-  pub swept_join : (f g : ℕ → Option X) (at : ℕ) (xs rs : List (RunOf X)) → IsSweptTo g at xs → IsRestFrom f at rs → StartFrom at rs
+  pub swept_join : (f g : ℕ → Option X) (at : ℕ) (xs rs : List (RunOf X)) → IsSweptTo g at xs → IsRestFrom f at rs → StartAtOrPast at rs
       → ((x : ℕ) → at ≤ x → g x ≡ f x)
       → IsRunsOf g (xs ++ rs)
   swept_join f g at xs rs swept rest starts like = record {
@@ -103,7 +103,7 @@ module _ {X : Type 0} where
       → ((x : ℕ) → x < at → g x ≡ value_at (xs ++ r ∷ rs) x) → IsBuiltTo g at xs r.base (Some r.value)
   begun_in g at xs rs r runs lt le like =
       let first : g r.base ≡ Some r.value = like r.base lt ∙ value_in xs rs r r.base runs (omega arith) (omega arith) in
-      let starts : StartFrom r.base (r ∷ rs) = omega arith in
+      let starts : StartAtOrPast r.base (r ∷ rs) = omega arith in
       record {
         begun = omega arith;
         swept = record {
@@ -126,7 +126,7 @@ module _ {X : Type 0} where
   ends_by at v (x ∷ xs) ends = (omega arith, (λ touch. absurd (omega arith)), ends_by at v xs ends.1)
 
   -- and where no run is, with nothing
-  begun_bare : (g : ℕ → Option X) (at : ℕ) (xs rs : List (RunOf X)) → AreRuns (xs ++ rs) → EndBefore at xs → StartFrom at rs
+  begun_bare : (g : ℕ → Option X) (at : ℕ) (xs rs : List (RunOf X)) → AreRuns (xs ++ rs) → EndBefore at xs → StartAtOrPast at rs
       → ((x : ℕ) → x < at → g x ≡ value_at (xs ++ rs) x) → IsBuiltTo g at xs at None
   begun_bare g at xs rs runs ends starts like = record {
     begun = omega arith;
@@ -139,7 +139,7 @@ module _ {X : Type 0} where
   }
 
   pub begun_outside : (whole : List (RunOf X)) (g : ℕ → Option X) (at : ℕ) (xs rs : List (RunOf X)) → xs ++ rs ≡ whole → AreRuns whole
-      → EndBefore at xs → StartFrom at rs
+      → EndBefore at xs → StartAtOrPast at rs
       → ((x : ℕ) → x < at → g x ≡ value_at whole x) → IsBuiltTo g at xs at None
   begun_outside whole g at xs rs is runs ends starts like =
       begun_bare g at xs rs (rw is runs) ends starts (λ x under. like x under ∙ ap (λ l. value_at l x) (sym is))
@@ -148,13 +148,13 @@ module _ {X : Type 0} where
   none_past at x [] ends le = refl
   none_past at x (r ∷ rs) ends le = let under : run_end r < at = ends.0 in rw (behind r x (omega arith)) (none_past at x rs ends.1 le)
 
-  ends_from : (at : ℕ) (rs : List (RunOf X)) → AreRuns rs → EndsFrom at rs → EndsBehind (at - 1) rs
+  ends_from : (at : ℕ) (rs : List (RunOf X)) → AreRuns rs → FirstEndsAtOrPast at rs → FirstEndsPast (at - 1) rs
   ends_from at [] runs ends = tt
   ends_from at (r ∷ rs) runs ends = let some : 0 < r.size = runs.0 in omega arith
 
   -- the runs that don't end below an address are what is left from the address before it on
   pub rest_before : (whole : List (RunOf X)) (at : ℕ) (xs rs : List (RunOf X)) → xs ++ rs ≡ whole → AreRuns whole → EndBefore at xs
-      → EndsFrom at rs
+      → FirstEndsAtOrPast at rs
       → IsRestFrom (value_at whole) (at - 1) rs
   rest_before whole at xs rs is runs ends from =
       let all : AreRuns (xs ++ rs) = rw is runs in
@@ -196,7 +196,7 @@ module _ {X : Type 0} where
   length_stretch start until (Some v) lt some = let test : nat_lt start until ≡ true = grind (arith, nat_tests) in rw test refl
 
   -- where an edit writes a run and has no free place, there is room for one more
-  pub room_for : (same : X → X → Bool) → Tells same → (f g : ℕ → Option X) (start from to : ℕ) (v : Option X) (xs ys : List (RunOf X))
+  pub room_for : (same : X → X → Bool) → DecidesEquality same → (f g : ℕ → Option X) (start from to : ℕ) (v : Option X) (xs ys : List (RunOf X))
       (room : ℕ) → HasRoom same f g room
       → NothingFrom (2 ^ 64) f → from ≤ to → to ≤ 2 ^ 64 → IsSweptTo g from (xs ++ stretch start from v) → start < from → is_some v ≡ true
       → IsRestFrom f to ys

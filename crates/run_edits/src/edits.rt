@@ -5,9 +5,9 @@
 //! behind it are moved once. `memblock_add_range` and its kin each have a loop of their own for this, and merge afterwards.
 
 ghost use Rattle.std.specs.Prelude.{◌≡◌, ◌≢◌, ◌+◌, ◌-◌, ◌^◌, ◌<◌, ◌≤◌, ℕ, Bool, true, Option, Some, None, ◌++◌, length, take, drop, is_some};
-ghost use Rattle.address_runs.specs.Runs.{Tells, AreRuns, IsRunsOf, value_at};
-ghost use Rattle.address_runs.specs.Edits.{amended, NothingFrom};
-ghost use Rattle.address_runs.specs.Sweep.{EndsFrom, IsBuiltTo, IsRestFrom, Stays};
+ghost use Rattle.address_runs.specs.Runs.{DecidesEquality, AreRuns, IsRunsOf, value_at};
+ghost use Rattle.address_runs.specs.Edits.{change_range, NothingFrom};
+ghost use Rattle.address_runs.specs.Sweep.{FirstEndsAtOrPast, IsBuiltTo, IsRestFrom, Stays};
 ghost use Rattle.run_edits.specs.Records.{stretch, EndBefore, EndsNoRun};
 ghost use Rattle.run_edits.specs.Ends.{HasRoom};
 
@@ -53,7 +53,7 @@ fn begin<S: Stretch, T: Rows<S>>(table: &T, at: u64) -> Sweep<S::Value>
 fn begun<S: Stretch, T: Rows<S>>(table: &T, first: u64, at: u64) -> (u64, Option<S::Value>)
     requires runs { AreRuns (T.list table.now) }
     requires before { EndBefore at (take first (T.list table.now)) }
-    requires from { EndsFrom at (drop first (T.list table.now)) }
+    requires from { FirstEndsAtOrPast at (drop first (T.list table.now)) }
     ensures { (g : ℕ → Option S.Value) → ((x : ℕ) → x < at → g x ≡ value_at (T.list table.now) x) →
         IsBuiltTo g at (take first (T.list table.now)) result.0 result.1 }
 {
@@ -148,9 +148,9 @@ pub fn rewrite<S: Stretch, T: Slots<S>, C: Change<S::Value>>(
     requires some { 0 < range.now.size }
     requires runs { AreRuns (T.list table.old) }
     requires within { NothingFrom (2 ^ 64) (value_at (T.list table.old)) }
-    requires room { (same : S.Value → S.Value → Bool) × Tells same × HasRoom same (value_at (T.list table.old))
-        (amended (C.makes change) range.now (value_at (T.list table.old))) (T.room table.old) }
-    ensures list { IsRunsOf (amended (C.makes change) range.now (value_at (T.list table.old))) (T.list table.new) }
+    requires room { (same : S.Value → S.Value → Bool) × DecidesEquality same × HasRoom same (value_at (T.list table.old))
+        (change_range (C.makes change) range.now (value_at (T.list table.old))) (T.room table.old) }
+    ensures list { IsRunsOf (change_range (C.makes change) range.now (value_at (T.list table.old))) (T.list table.new) }
     ensures keeps { T.keeps table.old table.new }
 {
     let until = range.end();
@@ -184,9 +184,9 @@ pub fn amend<S: Stretch, T: Slots<S>, C: Change<S::Value>>(table: &mut T, range:
     requires runs { AreRuns (T.list table.old) }
     requires within { NothingFrom (2 ^ 64) (value_at (T.list table.old)) }
     requires change { EndsNoRun (C.makes change) }
-    requires tells { (same : S.Value → S.Value → Bool) × Tells same }
+    requires tells { (same : S.Value → S.Value → Bool) × DecidesEquality same }
     requires room { length (T.list table.old) + 2 ≤ T.room table.old }
-    ensures list { IsRunsOf (amended (C.makes change) range.now (value_at (T.list table.old))) (T.list table.new) }
+    ensures list { IsRunsOf (change_range (C.makes change) range.now (value_at (T.list table.old))) (T.list table.new) }
     ensures within { NothingFrom (2 ^ 64) (value_at (T.list table.new)) }
     ensures few { length (T.list table.new) ≤ length (T.list table.old) + 2 }
     ensures keeps { T.keeps table.old table.new }

@@ -3,24 +3,24 @@
 
 ghost use Rattle.std.specs.Prelude.{◌≡◌, ℕ, ◌+◌, ◌^◌, ◌<◌, ◌≤◌, Bool, Option, length};
 ghost use Rattle.bm_base.specs.Range.{RangeView, end_of};
-ghost use Rattle.address_runs.specs.Runs.{Tells, runs_of};
-ghost use Rattle.address_runs.specs.Edits.{covered, uncovered, relabelled, replaced, bare, NothingFrom};
+ghost use Rattle.address_runs.specs.Runs.{DecidesEquality, runs_of};
+ghost use Rattle.address_runs.specs.Edits.{cover_range, uncover_range, relabel_range, replace_in_range, gaps_in_range, NothingFrom};
 
 use bm_base::Range;
 
 /// A law: to cover a range adds at most as many runs as it has pieces that carry nothing
 /// (`memblock_add_range`, its count), to take it out one, to change or replace what it carries two.
 pub fn edits_add_few<T>()
-    ensures covered { (same : T → T → Bool) (r : RangeView) (v w : T) (f : ℕ → Option T) → Tells same →
+    ensures covered { (same : T → T → Bool) (r : RangeView) (v w : T) (f : ℕ → Option T) → DecidesEquality same →
         end_of r ≤ 2 ^ 64 → NothingFrom (2 ^ 64) f →
-        length (runs_of same (covered r v f)) ≤ length (runs_of same f) + length (runs_of same (bare r w f)) }
-    ensures uncovered { (same : T → T → Bool) (r : RangeView) (f : ℕ → Option T) → Tells same →
-        NothingFrom (2 ^ 64) f → length (runs_of same (uncovered r f)) ≤ length (runs_of same f) + 1 }
-    ensures relabelled { (same : T → T → Bool) (r : RangeView) (change : T → T) (f : ℕ → Option T) → Tells same →
-        NothingFrom (2 ^ 64) f → length (runs_of same (relabelled r change f)) ≤ length (runs_of same f) + 2 }
-    ensures replaced { (same : T → T → Bool) (r : RangeView) (v : T) (f : ℕ → Option T) → Tells same →
+        length (runs_of same (cover_range r v f)) ≤ length (runs_of same f) + length (runs_of same (gaps_in_range r w f)) }
+    ensures uncovered { (same : T → T → Bool) (r : RangeView) (f : ℕ → Option T) → DecidesEquality same →
+        NothingFrom (2 ^ 64) f → length (runs_of same (uncover_range r f)) ≤ length (runs_of same f) + 1 }
+    ensures relabelled { (same : T → T → Bool) (r : RangeView) (change : T → T) (f : ℕ → Option T) → DecidesEquality same →
+        NothingFrom (2 ^ 64) f → length (runs_of same (relabel_range r change f)) ≤ length (runs_of same f) + 2 }
+    ensures replaced { (same : T → T → Bool) (r : RangeView) (v : T) (f : ℕ → Option T) → DecidesEquality same →
         end_of r ≤ 2 ^ 64 → NothingFrom (2 ^ 64) f →
-        length (runs_of same (replaced r v f)) ≤ length (runs_of same f) + 2 }
+        length (runs_of same (replace_in_range r v f)) ≤ length (runs_of same f) + 2 }
 {}
 
 /// Law: a range ends below 2^64.

@@ -6,7 +6,7 @@
 ghost use Rattle.std.specs.Prelude.{◌≡◌, ◌+◌, ◌-◌, ◌^◌, ◌<◌, ◌≤◌, ℕ, Option, Some, None, [], ◌∷◌, length, take, drop, IsTrue, ◌↔◌, MatchOption};
 ghost use Rattle.bm_base.specs.Range.{end_of};
 ghost use Rattle.address_runs.specs.Runs.{AreRuns, value_at};
-ghost use Rattle.address_runs.specs.Sweep.{IsRestFrom, StartFrom, EndsBehind, EndsFrom, Stays};
+ghost use Rattle.address_runs.specs.Sweep.{IsRestFrom, StartAtOrPast, FirstEndsPast, FirstEndsAtOrPast, Stays};
 ghost use Rattle.run_edits.specs.Records.{EndBefore, IsUncut};
 
 use crate::slots::Rows;
@@ -31,7 +31,7 @@ pub(crate) fn peek<S: Stretch, T: Rows<S>>(table: &T, i: u64) -> Option<S>
 pub(crate) fn first_ending_from<S: Stretch, T: Rows<S>>(table: &T, at: u64) -> u64
     requires { AreRuns (T.list table.now) }
     ensures before { EndBefore at (take result (T.list table.now)) }
-    ensures from { EndsFrom at (drop result (T.list table.now)) }
+    ensures from { FirstEndsAtOrPast at (drop result (T.list table.now)) }
     ensures within { result ≤ length (T.list table.now) }
 {
     let mut low = 0;
@@ -50,11 +50,11 @@ pub(crate) fn first_ending_from<S: Stretch, T: Rows<S>>(table: &T, at: u64) -> u
 /// The index behind the record at `read`, if that record ends by the address; else `read`.
 pub fn passed<S: Stretch, T: Rows<S>>(table: &T, read: u64, at: u64) -> u64
     ensures rest { (f : ℕ → Option S.Value) (before : ℕ) → IsRestFrom f before (drop read (T.list table.now)) →
-        before ≤ at → EndsFrom at (drop read (T.list table.now)) →
+        before ≤ at → FirstEndsAtOrPast at (drop read (T.list table.now)) →
         IsRestFrom f at (drop result (T.list table.now)) }
     ensures starts { (f : ℕ → Option S.Value) (before : ℕ) → IsRestFrom f before (drop read (T.list table.now)) →
-        EndsFrom at (drop read (T.list table.now)) → IsUncut at (drop read (T.list table.now)) →
-        StartFrom at (drop result (T.list table.now)) }
+        FirstEndsAtOrPast at (drop read (T.list table.now)) → IsUncut at (drop read (T.list table.now)) →
+        StartAtOrPast at (drop result (T.list table.now)) }
     ensures order { read ≤ result }
     ensures within { read ≤ length (T.list table.now) → result ≤ length (T.list table.now) }
 {
@@ -73,10 +73,10 @@ pub fn look<S: Stretch, T: Rows<S>>(table: &T, read: u64, from: u64) -> (Option<
         Stays f from result.1 (f from) }
     ensures another { (f : ℕ → Option S.Value) → IsRestFrom f from (drop read (T.list table.now)) →
         f result.1 ≡ f from → f from ≡ None }
-    ensures behind { EndsBehind from (drop read (T.list table.now)) → from < 2 ^ 64 - 1 → from < result.1 }
-    ensures forward { EndsBehind from (drop read (T.list table.now)) → from < 2 ^ 64 → from ≤ result.1 }
-    ensures ends { EndsBehind from (drop read (T.list table.now)) →
-        EndsFrom result.1 (drop read (T.list table.now)) }
+    ensures behind { FirstEndsPast from (drop read (T.list table.now)) → from < 2 ^ 64 - 1 → from < result.1 }
+    ensures forward { FirstEndsPast from (drop read (T.list table.now)) → from < 2 ^ 64 → from ≤ result.1 }
+    ensures ends { FirstEndsPast from (drop read (T.list table.now)) →
+        FirstEndsAtOrPast result.1 (drop read (T.list table.now)) }
     ensures uncut { IsUncut result.1 (drop read (T.list table.now)) }
 {
     let Some(record) = peek(table, read) else {

@@ -15,11 +15,11 @@ use Rattle.table_frames.proofs.WholeLaws.{whole_at, whole_by_value}
 use Rattle.stage_model.specs.Noded.{IsNoded}
 use Rattle.sparse_sections.specs.Present.{IsWholeNoded}
 use Rattle.std.proofs.lemmas.Bool.{cases_lt}
-use Rattle.address_runs.specs.Sweep.{StartFrom}
+use Rattle.address_runs.specs.Sweep.{StartAtOrPast}
 
 -- a canonical list gives at the addresses of each record, which isn't empty, what it says; and none begins below the first
 told-at : (rs : List (RunOf Label)) (k : ℕ) (d : RunOf Label) → AreRuns rs → k < length rs → (0 < (get_or rs k d).size)
-    × ((at : ℕ) → StartFrom at rs → at ≤ (get_or rs k d).base)
+    × ((at : ℕ) → StartAtOrPast at rs → at ≤ (get_or rs k d).base)
     × ((x : ℕ) → (get_or rs k d).base ≤ x → x < run_end (get_or rs k d) → value_at rs x ≡ Some (get_or rs k d).value)
 told-at [] k d runs few = absurd (omega arith)
 told-at (r ∷ rs) zero d runs few = (runs.0, λ at start. start, λ x above under. rw (inside r x above under) refl)

@@ -3,7 +3,7 @@ use Rattle.std.proofs.Common.{◌≡◌, ℕ, zero, suc, ◌+◌, ◌-◌, ◌*�
 use Rattle.std.specs.List.{All}
 use Rattle.std.proofs.lemmas.List.{append-nil}
 use Rattle.address_runs.specs.Runs.{RunOf, run_end, value_at, AreRuns}
-use Rattle.address_runs.specs.Sweep.{StartFrom}
+use Rattle.address_runs.specs.Sweep.{StartAtOrPast}
 use Rattle.address_runs.proofs.RunsLaws.{inside, behind, none_below, rest_from}
 use Rattle.memblock_model.specs.Labels.{Label, Labels, plain_label}
 use Rattle.memblock_ranges.specs.declared.region.Region.{Region}
@@ -51,14 +51,14 @@ nobody = record { base = 0; size = 0; value = plain_label }
 -- what is left to be looked at from a section on
 pub record IsLeft (f : Labels) (next : ℕ) (rs : List (RunOf Label)) : Type 0 where
   pub runs : AreRuns rs
-  pub starts : StartFrom (0x8000000 * (next - 1)) rs
+  pub starts : StartAtOrPast (0x8000000 * (next - 1)) rs
   pub each : (x : ℕ) → 0x8000000 * next ≤ x → f x ≡ value_at rs x
 
 pub left-all : (rs : List (RunOf Label)) → AreRuns rs → IsLeft (value_at rs) 0 rs
 left-all [] runs = record { runs = runs; starts = tt; each = λ x above. refl }
 left-all (r ∷ rs) runs = record { runs = runs; starts = omega arith; each = λ x above. refl }
 
-starts-next : (r : RunOf Label) (rs : List (RunOf Label)) (at : ℕ) → at ≤ run_end r → StartFrom (run_end r) rs → StartFrom at rs
+starts-next : (r : RunOf Label) (rs : List (RunOf Label)) (at : ℕ) → at ≤ run_end r → StartAtOrPast (run_end r) rs → StartAtOrPast at rs
 starts-next r [] at less starts = tt
 starts-next r (s ∷ ss) at less starts = omega arith
 

@@ -3,7 +3,7 @@ use Rattle.std.proofs.Common.{◌≡◌, ◌↔◌, ℕ, ◌+◌, ◌*◌, ◌%�
 use Rattle.std.proofs.lemmas.List.{drop_all}
 use Rattle.phys_store.specs.Bytes.{Stored, byte_of, bytes_at}
 use Rattle.address_runs.specs.Runs.{RunOf, run_end}
-use Rattle.address_runs.specs.Sweep.{StartFrom}
+use Rattle.address_runs.specs.Sweep.{StartAtOrPast}
 use Rattle.memblock_model.specs.Labels.{Label}
 use Rattle.memblock_ranges.specs.declared.region.Head.{Head}
 use Rattle.memblock_ranges.specs.declared.region.Region.{Region}
@@ -23,7 +23,7 @@ left_from s h i g few is =
     (r, rw (add-one, drop-cons (list_in s h) i r (omega arith), record_by_bytes s h i r few) refl, rw is refl, rw is refl)
 
 abbrev pub Ascends : ℕ → ℕ → List (RunOf Label) → Type 0
-Ascends from b rs = StartFrom from rs × AscendBelow b rs
+Ascends from b rs = StartAtOrPast from rs × AscendBelow b rs
 
 -- if a record is in its place, the list ascends exactly if the rest does
 pub one_in_place : (b from i next : ℕ) (rs ss : List (RunOf Label)) (r : RunOf Label) → Ascends from b (drop i rs) ↔ AscendBelow b rs

@@ -5,7 +5,7 @@ use Rattle.std.proofs.lemmas.List.{at_drop_all}
 use Rattle.bm_base.specs.Frames.{bytes_of_frame}
 use Rattle.bm_base.proofs.EachLaws.{each_in-all, each_in-fails}
 use Rattle.address_runs.specs.Runs.{RunOf, value_at}
-use Rattle.address_runs.specs.Sweep.{StartFrom}
+use Rattle.address_runs.specs.Sweep.{StartAtOrPast}
 use Rattle.address_runs.proofs.RunsLaws.{inside, behind}
 use Rattle.memblock_model.specs.Labels.{Label, Labels}
 use Rattle.table_frames.specs.declared.frames.RecordFrames.{RecordFrames}
@@ -55,7 +55,7 @@ pub unclaimed_gap : (b : ℕ) (rs : List (RunOf Label)) (i at x : ℕ) (d : RunO
 unclaimed_gap b rs i at x d fs ascend few is passed above before =
     let r : RunOf Label = get_or rs i d in
     let first : fs.first ≡ r.base / 4096 = ap (λ (g : RecordFrames). g.first) is in
-    let starts : StartFrom r.base (drop i rs) = rw (drop-cons rs i d few) (omega arith) in
+    let starts : StartAtOrPast r.base (drop i rs) = rw (drop-cons rs i d few) (omega arith) in
     unclaimed_bare (value_at rs) x (λ y from until.
     sym (passed y (omega arith)) ∙ ascend_none b r.base y (drop i rs) (ascend_drop b rs i ascend) starts (omega arith))
 

@@ -4,7 +4,7 @@ use Rattle.std.proofs.Common.{◌≡◌, ℕ, zero, suc, ◌+◌, ◌-◌, ◌*�
 use Rattle.std.proofs.lemmas.Bool.{cases_Bool, eqb-true}
 use Rattle.phys_store.specs.Bytes.{Stored, byte_of, bytes_at}
 use Rattle.address_runs.specs.Runs.{RunOf, run_end, value_at}
-use Rattle.address_runs.specs.Sweep.{StartFrom}
+use Rattle.address_runs.specs.Sweep.{StartAtOrPast}
 use Rattle.address_runs.proofs.RunsLaws.{below, behind}
 use Rattle.memblock_model.specs.Labels.{Label}
 use Rattle.memblock_ranges.specs.declared.region.Head.{Head}
@@ -42,13 +42,13 @@ ascend_drop b [] (suc i) ascend = tt
 ascend_drop b (r ∷ rs) (suc i) ascend = ascend_drop b rs i ascend.3
 
 -- below the first record the list has no value
-pub ascend_none : (b at x : ℕ) (rs : List (RunOf Label)) → AscendBelow b rs → StartFrom at rs → x < at → value_at rs x ≡ None
+pub ascend_none : (b at x : ℕ) (rs : List (RunOf Label)) → AscendBelow b rs → StartAtOrPast at rs → x < at → value_at rs x ≡ None
 ascend_none b at x [] ascend start lt = refl
 ascend_none b at x (r ∷ rs) ascend start lt =
     rw (below r x (omega arith)) (ascend_none b (run_end r) x rs ascend.3 ascend.2 (omega arith))
 
 -- a later record begins at or above the end of an earlier one
-pub start_at : (b at : ℕ) (rs : List (RunOf Label)) (i : ℕ) (d : RunOf Label) → AscendBelow b rs → StartFrom at rs → i < length rs
+pub start_at : (b at : ℕ) (rs : List (RunOf Label)) (i : ℕ) (d : RunOf Label) → AscendBelow b rs → StartAtOrPast at rs → i < length rs
     → at ≤ (get_or rs i d).base
 start_at b at [] i d ascend start few = absurd (omega arith)
 start_at b at (r ∷ rs) zero d ascend start few = start

@@ -7,7 +7,7 @@ use Rattle.bm_base.proofs.EachLaws.{each_in-same}
 use Rattle.phys_store.specs.Bytes.{Stored, byte_of, bytes_at}
 use Rattle.address_runs.specs.Runs.{RunOf, run_end, lies_in, value_at, AreRuns}
 use Rattle.address_runs.specs.Edits.{NothingFrom}
-use Rattle.address_runs.specs.Sweep.{StartFrom}
+use Rattle.address_runs.specs.Sweep.{StartAtOrPast}
 use Rattle.address_runs.proofs.RunsLaws.{inside, behind, rest_from}
 use Rattle.memblock_model.specs.Labels.{Label}
 use Rattle.memblock_ranges.specs.declared.region.Region.{Region}
@@ -45,7 +45,7 @@ alike_from f a (r ∷ rs) regions =
     )
 
 -- such lists begin, end and have values alike
-alike_starts : (at : ℕ) (rs ss : List (RunOf Label)) → Alike rs ss → StartFrom at ss → StartFrom at rs
+alike_starts : (at : ℕ) (rs ss : List (RunOf Label)) → Alike rs ss → StartAtOrPast at ss → StartAtOrPast at rs
 alike_starts at [] [] alike start = tt
 alike_starts at (r ∷ rs) (s ∷ ss) alike start = omega arith
 alike_starts at rs ss alike start = absurd alike

@@ -7,7 +7,7 @@ use Rattle.bm_base.specs.Each.{each_in}
 use Rattle.bm_base.specs.Frames.{bytes_of_frame}
 use Rattle.bm_base.proofs.EachLaws.{each_in-same}
 use Rattle.address_runs.specs.Runs.{RunOf, run_end, lies_in, value_at, AreRuns}
-use Rattle.address_runs.specs.Sweep.{StartFrom}
+use Rattle.address_runs.specs.Sweep.{StartAtOrPast}
 use Rattle.address_runs.proofs.RunsLaws.{inside, behind, none_below, rest_from, other_behind}
 use Rattle.memblock_model.specs.Labels.{Label, Labels}
 use Rattle.table_frames.specs.Frames.{node_told, node_of_frame, is_unclaimed, free_node_in, frames_of}
@@ -62,7 +62,7 @@ pub whole_by_value : (rs : List (RunOf Label)) → AreRuns rs → ((x : ℕ) →
 whole_by_value [] runs same = tt
 whole_by_value (r ∷ rs) runs same =
     let all : List (RunOf Label) = r ∷ rs in
-    let start : StartFrom r.base all = omega arith in
+    let start : StartAtOrPast r.base all = omega arith in
     let base : r.base % 4096 ≡ 0 = elim (cases_lt (4096 * (r.base / 4096)) r.base) [
       | inl lt ↦
           let here : value_at all r.base ≡ Some r.value = rw (inside r r.base (omega arith) (omega arith)) refl in

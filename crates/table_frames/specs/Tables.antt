@@ -2,7 +2,7 @@
 use Rattle.std.specs.Prelude.{◌≡◌, ℕ, ◌+◌, ◌*◌, ◌%◌, ◌^◌, ◌<◌, ◌≤◌, List, [], ◌∷◌}
 use Rattle.bm_base.specs.declared.range.TheConstants.{FRAME_SIZE}
 use Rattle.address_runs.specs.Runs.{RunOf, run_end}
-use Rattle.address_runs.specs.Sweep.{StartFrom}
+use Rattle.address_runs.specs.Sweep.{StartAtOrPast}
 use Rattle.phys_store.specs.Bytes.{Stored}
 use Rattle.memblock_model.specs.Labels.{Label}
 use Rattle.memblock_ranges.specs.declared.region.Head.{Head}
@@ -12,7 +12,7 @@ use Rattle.memblock_ranges.specs.Tables.{list_in}
 -- one before it
 abbrev pub AscendBelow : ℕ → List (RunOf Label) → Type 0
 AscendBelow bound [] = Unit {0}
-AscendBelow bound (r ∷ rs) = (0 < r.size) × (run_end r ≤ bound) × StartFrom (run_end r) rs × AscendBelow bound rs
+AscendBelow bound (r ∷ rs) = (0 < r.size) × (run_end r ≤ bound) × StartAtOrPast (run_end r) rs × AscendBelow bound rs
 
 -- the bytes at the head are such a list, and its room is below 2^64
 pub record HasRecords (store : List Stored) (head : Head) (bound : ℕ) : Type 0 where

@@ -1,5 +1,5 @@
 use Rattle.std.proofs.Common.{◌≡◌, ◌+◌, ◌*◌, ◌^◌, ◌<◌, ◌≤◌, drop}
-use Rattle.address_runs.specs.Sweep.{StartFrom}
+use Rattle.address_runs.specs.Sweep.{StartAtOrPast}
 use Rattle.e820_usable.specs.Ascend.{Ascend}
 use Rattle.e820_usable.proofs.FramesLaws.{frames_from}
 use Rattle.e820_usable.proofs.frames.usable_frames.Given as goal
@@ -10,6 +10,6 @@ invariant-loop-run l = record {
   few : 4096 * l.frames ≤ l.from;
   fits : l.until < 2 ^ 64;
   order : l.from ≤ l.until;
-  start : StartFrom l.until (drop l.run-index l.runs);
+  start : StartAtOrPast l.until (drop l.run-index l.runs);
   runs : Ascend (drop l.run-index l.runs);
 }

@@ -2,7 +2,7 @@ use Rattle.std.proofs.Common.{◌≡◌, ℕ, ◌+◌, ◌^◌, ◌<◌, ◌≤�
 use Rattle.std.specs.Prelude.{is_none}
 use Rattle.bm_base.specs.Range.{RangeView, end_of}
 use Rattle.address_runs.specs.Runs.{value_at}
-use Rattle.address_runs.specs.Edits.{bare}
+use Rattle.address_runs.specs.Edits.{gaps_in_range}
 use Rattle.address_runs.specs.Sweep.{IsRestFrom}
 use Rattle.address_runs.proofs.SweepLaws.{ends_sooner}
 use Rattle.run_edits.specs.Ends.{edges, total}
@@ -26,7 +26,7 @@ loop-from-init g c =
       ends = c.look-first.ensures.ends rest.ends;
       behind = c.look-first.ensures.behind rest.ends;
       few = omega arith;
-      count = sym (ap (λ n. total (edges same_label (bare r plain_label f)) 0 n) base ∙ no_pieces r f);
+      count = sym (ap (λ n. total (edges same_label (gaps_in_range r plain_label f)) 0 n) base ∙ no_pieces r f);
     }
 
 pub loop-from-preserved : goal.loop-from-preserved
@@ -73,4 +73,4 @@ returns g c =
     let i = c.loop-from.invariant in
     let at : c.loop-from.from ≡ r.base + r.size = omega (arith, i.last, c.loop-from-test.false, c.end-until.ensures.value) in
     all_pieces r f c.loop-from.count (omega (arith, c.end-until.ensures.small))
-    (i.count ∙ ap (λ n. total (edges same_label (bare r plain_label f)) 0 n) at)
+    (i.count ∙ ap (λ n. total (edges same_label (gaps_in_range r plain_label f)) 0 n) at)

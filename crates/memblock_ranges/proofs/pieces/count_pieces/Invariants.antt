@@ -2,8 +2,8 @@ use Rattle.std.proofs.Common.{◌≡◌, ℕ, ◌-◌, ◌^◌, ◌<◌, ◌≤�
 use Rattle.std.specs.Prelude.{is_none}
 use Rattle.bm_base.specs.Range.{end_of}
 use Rattle.address_runs.specs.Runs.{value_at}
-use Rattle.address_runs.specs.Edits.{bare}
-use Rattle.address_runs.specs.Sweep.{Stays, IsRestFrom, EndsFrom}
+use Rattle.address_runs.specs.Edits.{gaps_in_range}
+use Rattle.address_runs.specs.Sweep.{Stays, IsRestFrom, FirstEndsAtOrPast}
 use Rattle.run_edits.specs.Ends.{edges, total}
 use Rattle.memblock_model.specs.Labels.{Label, plain_label}
 use Rattle.memblock_model.specs.Same.{same_label}
@@ -18,10 +18,10 @@ invariant-loop-from g l =
       rest : IsRestFrom f l.from (drop l.read (g.T.Rows.list l.table));
       here : l.bare ≡ is_none (f l.from);
       stays : Stays f l.from l.next (f l.from);
-      ends : EndsFrom l.next (drop l.read (g.T.Rows.list l.table));
+      ends : FirstEndsAtOrPast l.next (drop l.read (g.T.Rows.list l.table));
       behind : l.from < 2 ^ 64 - 1 → l.from < l.next;
       few : l.count ≤ l.from;
-      count : l.count ≡ total (edges same_label (bare l.range plain_label f)) 0 l.from;
+      count : l.count ≡ total (edges same_label (gaps_in_range l.range plain_label f)) 0 l.from;
     }
 
 abbrev pub decreases-loop-from : goal.decreases-loop-from

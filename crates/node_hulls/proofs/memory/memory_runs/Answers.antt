@@ -1,7 +1,7 @@
 use Rattle.std.proofs.Common.{List, Bool, map, ◌++◌, ◌∙◌, ap, subst}
 use Rattle.std.proofs.lemmas.Result.{IfOk-weaker}
 use Rattle.std.specs.Option.{option_or}
-use Rattle.address_runs.specs.Overlay.{all_overlaid}
+use Rattle.address_runs.specs.Overlay.{overlay_runs}
 use Rattle.address_runs.specs.Runs.{RunOf, IsRunsOf}
 use Rattle.address_runs.proofs.OverlayLaws.{plain_addresses, plain_runs}
 use Rattle.node_hulls.specs.Steps.{nodeless}
@@ -18,7 +18,7 @@ pub returns-clause-bytes : goal.returns-clause-bytes
 returns-clause-bytes c =
     IfOk-weaker c.overlay_all.result _ _ (λ runs laid.
     told_memory c.args.memory.now runs.items
-    (subst (λ (ss : List (RunOf Bool)). IsRunsOf (all_overlaid option_or ss) runs.items)
+    (subst (λ (ss : List (RunOf Bool)). IsRunsOf (overlay_runs option_or ss) runs.items)
     (c.deref.ensures.value ∙ c.in_ok-tell_memory.ensures ∙ ap (λ (rs : List (RunOf Bool)). rs ++ map nodeless c.args.memory.now)
     c.new-told.ensures.items) (plain_runs option_or c.deref.result.now runs.items laid)))
     c.overlay_all.ensures

@@ -1,6 +1,6 @@
 use Rattle.std.proofs.Common.{◌++◌, List, map, ◌∙◌, subst}
 use Rattle.std.proofs.lemmas.Result.{IfOk-weaker}
-use Rattle.address_runs.specs.Overlay.{all_overlaid}
+use Rattle.address_runs.specs.Overlay.{overlay_runs}
 use Rattle.address_runs.specs.Runs.{RunOf, IsRunsOf}
 use Rattle.address_runs.proofs.OverlayLaws.{plain_addresses, plain_runs}
 use Rattle.std.specs.Option.{option_or}
@@ -16,8 +16,8 @@ overlay_all-requires c =
 pub returns-clause-runs : goal.returns-clause-runs
 returns-clause-runs c =
     let laid = plain_runs option_or c.deref.result.now c.in_ok-covered.covered.items c.in_ok-covered.ensures in
-    let told : IsRunsOf (all_overlaid option_or (map noded c.args.joined.now ++ map nodeless c.args.memory.now)) c.deref-2.result.now =
-    rw c.deref-2.ensures.value (subst (λ (ss : List (RunOf _)). IsRunsOf (all_overlaid option_or ss) c.in_ok-covered.covered.items)
+    let told : IsRunsOf (overlay_runs option_or (map noded c.args.joined.now ++ map nodeless c.args.memory.now)) c.deref-2.result.now =
+    rw c.deref-2.ensures.value (subst (λ (ss : List (RunOf _)). IsRunsOf (overlay_runs option_or ss) c.in_ok-covered.covered.items)
     (c.deref.ensures.value ∙ c.in_ok-told.ensures) laid) in
     let runs = left_runs c.args.memory.now c.args.joined.now c.args.node c.deref-2.result.now told in
     IfOk-weaker c.without_node.result _ _ (λ rest is. rw is runs) c.without_node.ensures.value

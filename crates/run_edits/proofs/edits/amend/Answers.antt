@@ -2,7 +2,7 @@ use Rattle.std.proofs.Common.{◌≡◌, ◌+◌, ◌^◌, ℕ, Option, length, 
 use Rattle.std.proofs.lemmas.Grind.{common_steps}
 use Rattle.bm_base.specs.Range.{RangeView}
 use Rattle.address_runs.specs.Runs.{value_at}
-use Rattle.address_runs.specs.Edits.{amended, NothingFrom}
+use Rattle.address_runs.specs.Edits.{change_range, NothingFrom}
 use Rattle.run_edits.specs.Ends.{spike, edges, total}
 use Rattle.run_edits.proofs.EndLaws.{all_ends}
 use Rattle.run_edits.proofs.AmendLaws.{amended_ends}
@@ -20,7 +20,7 @@ rewrite-requires-clause-room g c =
     (g.T.Rows.list c.args.table.now) c.requires.runs c.requires.within in (
       same,
       tells,
-      room_by same tells f (amended change r f) (λ x. spike r.base x + spike (r.base + r.size) x) 2 (g.T.Slots.room c.args.table.now)
+      room_by same tells f (change_range change r f) (λ x. spike r.base x + spike (r.base + r.size) x) 2 (g.T.Slots.room c.args.table.now)
           (amended_edges same tells change c.requires.change r f) (λ at le. spikes_two r at) (omega (arith, count, c.requires.room)),
     )
 

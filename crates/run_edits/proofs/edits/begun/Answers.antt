@@ -1,7 +1,7 @@
 use Rattle.std.proofs.Common.{◌≡◌, ◌+◌, ◌∷◌, ◌++◌, take, drop, sym, ◌∙◌, ap, arith}
 use Rattle.std.proofs.lemmas.Grind.{common_steps}
 use Rattle.std.proofs.lemmas.List.{take-append-drop}
-use Rattle.address_runs.specs.Sweep.{StartFrom}
+use Rattle.address_runs.specs.Sweep.{StartAtOrPast}
 use Rattle.run_edits.proofs.JoinLaws.{begun_inside, begun_outside}
 use Rattle.run_edits.proofs.edits.begun.Goals as goal
 use Rattle.run_edits.proofs.edits.begun.Goals.{in_default-via-in-Some+else-range-at, in_default-via-in_default}
@@ -20,7 +20,7 @@ returns-in-Some g c = λ f like.
 
 pub returns-in_default : goal.returns-in_default
 returns-in_default g c = λ f like.
-    let starts : StartFrom c.args.at (drop c.args.first (g.T.Rows.list c.args.table.now)) = elim c.in_default.branch [
+    let starts : StartAtOrPast c.args.at (drop c.args.first (g.T.Rows.list c.args.table.now)) = elim c.in_default.branch [
       | in_default-via-in-Some+else-range-at w ↦ rw w.in-Some.ensures.record (grind (arith, common_steps))
       | in_default-via-in_default w ↦ rw w.in_default.ensures.record tt
     ] in

@@ -2,8 +2,8 @@ use Rattle.std.proofs.Common.{◌≡◌, ℕ, suc, ◌+◌, ◌-◌, ◌^◌, �
 use Rattle.std.proofs.lemmas.Grind.{common_steps}
 use Rattle.bm_base.specs.Range.{RangeView, end_of}
 use Rattle.address_runs.specs.Runs.{value_at}
-use Rattle.address_runs.specs.Edits.{amended}
-use Rattle.address_runs.specs.Sweep.{StartFrom, EndsFrom, Stays, IsRestFrom, IsSweptTo, IsBuiltTo}
+use Rattle.address_runs.specs.Edits.{change_range}
+use Rattle.address_runs.specs.Sweep.{StartAtOrPast, FirstEndsAtOrPast, Stays, IsRestFrom, IsSweptTo, IsBuiltTo}
 use Rattle.address_runs.proofs.SweepLaws.{ends_sooner}
 use Rattle.run_edits.specs.Records.{stretch}
 use Rattle.run_edits.proofs.JoinLaws.{swept_join, swept_stretch}
@@ -19,7 +19,7 @@ loop-from-init g c =
       last = omega (arith, c.end-until.ensures.value);
       order = c.begin-sweep.ensures.order;
       within = c.begin-sweep.ensures.within;
-      built = c.begin-sweep.ensures.built (amended (g.C.Change.makes c.args.change) c.args.range.now f)
+      built = c.begin-sweep.ensures.built (change_range (g.C.Change.makes c.args.change) c.args.range.now f)
           (λ x under. amended_below (g.C.Change.makes c.args.change) c.args.range.now f x (omega arith));
       rest = c.begin-sweep.ensures.rest;
       keeps = g.met.T.Slots.keeps_itself c.args.table.now;
@@ -31,7 +31,7 @@ advance-sweep-requires-clause-room g c = λ free lt some other.
     let change = g.C.Change.makes c.args.change in
     let r : RangeView = c.args.range.now in
     let from : ℕ = c.loop-from.from in
-    let h = amended change r f in
+    let h = change_range change r f in
     let i = c.loop-from.invariant in
     let until : c.end-until.result ≡ end_of r = c.end-until.ensures.value in
     let small : end_of r < 2 ^ 64 = c.end-until.ensures.small in
@@ -58,7 +58,7 @@ loop-from-preserved g c =
     let r : RangeView = c.args.range.now in
     let from : ℕ = c.loop-from.from in
     let to : ℕ = c.min-to.result in
-    let h = amended change r f in
+    let h = change_range change r f in
     let i = c.loop-from.invariant in
     let until : c.end-until.result ≡ end_of r = c.end-until.ensures.value in
     let small : end_of r < 2 ^ 64 = c.end-until.ensures.small in
@@ -89,7 +89,7 @@ advance-sweep-requires-2-clause-room g c = λ free lt some other.
     let change = g.C.Change.makes c.args.change in
     let r : RangeView = c.args.range.now in
     let until : ℕ = c.end-until.result in
-    let h = amended change r f in
+    let h = change_range change r f in
     let i = c.loop-from.invariant in
     let end : until ≡ end_of r = c.end-until.ensures.value in
     let small : end_of r < 2 ^ 64 = c.end-until.ensures.small in
@@ -119,7 +119,7 @@ emit-write-requires-clause-room g c = λ free lt some.
     let r : RangeView = c.args.range.now in
     let until : ℕ = c.end-until.result in
     let next : ℕ = c.look-here-2.result.1 in
-    let h = amended change r f in
+    let h = change_range change r f in
     let i = c.loop-from.invariant in
     let a = c.advance-sweep-2 in
     let end : until ≡ end_of r = c.end-until.ensures.value in
@@ -157,7 +157,7 @@ returns-clause-list g c =
     let r : RangeView = c.args.range.now in
     let until : ℕ = c.end-until.result in
     let next : ℕ = c.look-here-2.result.1 in
-    let h = amended change r f in
+    let h = change_range change r f in
     let i = c.loop-from.invariant in
     let a = c.advance-sweep-2 in
     let end : until ≡ end_of r = c.end-until.ensures.value in
@@ -177,10 +177,10 @@ returns-clause-list g c =
     let built : IsBuiltTo h next (take a.result.write (g.T.Rows.list a.new.table)) a.result.start a.result.value = a.ensures.built h next
     before here order stays in
     let last : a.result.value ≡ f until = a.ensures.value ∙ value in
-    let ends : EndsFrom next (drop c.loop-from.sweep.read (g.T.Rows.list c.loop-from.table)) = c.look-here-2.ensures.ends left.ends in
+    let ends : FirstEndsAtOrPast next (drop c.loop-from.sweep.read (g.T.Rows.list c.loop-from.table)) = c.look-here-2.ensures.ends left.ends in
     let passed : IsRestFrom f next (drop c.passed-2.result (g.T.Rows.list c.loop-from.table)) = c.passed-2.ensures.rest f until left order
     ends in
-    let starts : StartFrom next (drop c.passed-2.result (g.T.Rows.list c.loop-from.table)) = c.passed-2.ensures.starts f until left ends
+    let starts : StartAtOrPast next (drop c.passed-2.result (g.T.Rows.list c.loop-from.table)) = c.passed-2.ensures.starts f until left ends
     c.look-here-2.ensures.uncut in
     let swept : IsSweptTo h next (take a.result.write (g.T.Rows.list a.new.table) ++ stretch a.result.start next a.result.value) =
     swept_stretch h a.result.start next a.result.value (take a.result.write (g.T.Rows.list a.new.table)) built.swept built.begun built.stays

@@ -1,6 +1,6 @@
 use Rattle.std.proofs.Common.{◌-◌, ◌≤◌, length, take, drop}
 use Rattle.address_runs.specs.Runs.{value_at}
-use Rattle.address_runs.specs.Edits.{amended}
+use Rattle.address_runs.specs.Edits.{change_range}
 use Rattle.address_runs.specs.Sweep.{IsBuiltTo, IsRestFrom}
 use Rattle.run_edits.proofs.edits.rewrite.Given as goal
 
@@ -11,7 +11,7 @@ invariant-loop-from g l = record {
   last : l.from ≤ l.until;
   order : l.sweep.write ≤ l.sweep.read;
   within : l.sweep.read ≤ length (g.T.Rows.list l.table);
-  built : IsBuiltTo (amended (g.C.Change.makes l.fn.change) l.fn.range (value_at (g.T.Rows.list l.fn.table))) l.from
+  built : IsBuiltTo (change_range (g.C.Change.makes l.fn.change) l.fn.range (value_at (g.T.Rows.list l.fn.table))) l.from
       (take l.sweep.write (g.T.Rows.list l.table)) l.sweep.start l.sweep.value;
   rest : IsRestFrom (value_at (g.T.Rows.list l.fn.table)) l.from (drop l.sweep.read (g.T.Rows.list l.table));
   keeps : g.T.Slots.keeps l.fn.table l.table;

@@ -1,5 +1,5 @@
 use Rattle.std.proofs.Common.{◌-◌, ◌≤◌, length, take, drop}
-use Rattle.address_runs.specs.Sweep.{EndsFrom}
+use Rattle.address_runs.specs.Sweep.{FirstEndsAtOrPast}
 use Rattle.run_edits.specs.Records.{EndBefore}
 use Rattle.run_edits.proofs.reading.first_ending_from.Given as goal
 
@@ -9,7 +9,7 @@ invariant-loop-low g l = record {
   order : l.low ≤ l.high;
   within : l.high ≤ length (g.T.Rows.list l.table);
   before : EndBefore l.at (take l.low (g.T.Rows.list l.table));
-  from : EndsFrom l.at (drop l.high (g.T.Rows.list l.table));
+  from : FirstEndsAtOrPast l.at (drop l.high (g.T.Rows.list l.table));
 }
 
 abbrev pub decreases-loop-low : goal.decreases-loop-low

@@ -1,6 +1,6 @@
 use Rattle.std.proofs.Common.{◌≡◌, ◌∙◌, ap, arith}
 use Rattle.address_runs.specs.Runs.{value_at}
-use Rattle.address_runs.specs.Edits.{covered}
+use Rattle.address_runs.specs.Edits.{cover_range}
 use Rattle.memblock_model.specs.Labels.{plain_label}
 use Rattle.memblock_model.specs.Tables.{records_for}
 use Rattle.memblock_ranges.specs.Spelling.{label_of}
@@ -10,7 +10,7 @@ use Rattle.memblock_ranges.proofs.tables.Tables.insert.Goals as goal
 use Rattle.memblock_ranges.proofs.tables.Tables.insert.Goals.{In-Reserved}
 
 -- no record of the reserved table gets a node
-plain : (c : In-Reserved) → HaveNoNode (records_for (covered c.args.range c.label_of-label.result
+plain : (c : In-Reserved) → HaveNoNode (records_for (cover_range c.args.range c.label_of-label.result
     (value_at (list_in c.self.inside.store c.self.inside.heads.reserved))))
 plain c =
     let none = rw c.in-Reserved.is at c.requires.node in

@@ -1,6 +1,6 @@
 use Rattle.std.proofs.Common.{arith}
 use Rattle.address_runs.specs.Runs.{value_at}
-use Rattle.address_runs.specs.Edits.{uncovered}
+use Rattle.address_runs.specs.Edits.{uncover_range}
 use Rattle.memblock_model.specs.Tables.{records_for}
 use Rattle.memblock_ranges.specs.Tables.{list_in, HaveNoNode}
 use Rattle.memblock_ranges.proofs.PairLaws.{pair_memory, pair_reserved, edited_at, edited_ready, plain_uncovered}
@@ -9,7 +9,7 @@ use Rattle.memblock_ranges.proofs.tables.Tables.remove.Goals.{In-Reserved}
 
 -- no record of the reserved table has a node
 plain : (c : In-Reserved) →
-    HaveNoNode (records_for (uncovered c.args.range (value_at (list_in c.self.inside.store c.self.inside.heads.reserved))))
+    HaveNoNode (records_for (uncover_range c.args.range (value_at (list_in c.self.inside.store c.self.inside.heads.reserved))))
 plain c =
     plain_uncovered c.args.range (list_in c.self.inside.store c.self.inside.heads.reserved) c.self.invariant.reserved_records
     c.self.invariant.plain (omega (arith, c.range_end_fits.ensures))
