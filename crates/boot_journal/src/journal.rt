@@ -14,7 +14,7 @@ use crate::run_list::RunList;
 use crate::{owners, tags};
 use bm_base::{Memory, Range, push_within_capacity};
 use memblock_model::{Item, Owner, OwnerRun, Tag};
-use run_edits::{holds, value_of};
+use run_edits::{has_value_throughout, value_at};
 use std::alloc::Global;
 use std::marker::Model;
 
@@ -136,7 +136,7 @@ impl Journal {
     pub fn owner_at(&self, x: u64) -> Option<Owner>
         ensures { result ≡ owner_of self.now.items x }
     {
-        value_of(&self.owners, x)
+        value_at(&self.owners, x)
     }
 
     /// Tests whether each byte of the range has this owner. Looks it up in the runs, without
@@ -145,7 +145,7 @@ impl Journal {
         ensures { IsTrue result ↔ ((x : ℕ) → range.now.base ≤ x → x < end_of range.now →
             owner_of self.now.items x ≡ Some owner) }
     {
-        holds(&self.owners, range, owner)
+        has_value_throughout(&self.owners, range, owner)
     }
 
     /// Tests whether some item marks memory as mirrored. The answer is kept, so no item is looked

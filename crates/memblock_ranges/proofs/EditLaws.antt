@@ -4,7 +4,7 @@ use Rattle.std.proofs.lemmas.Bool.Decides.{nat_tests}
 use Rattle.bm_base.specs.Range.{RangeView, covers}
 use Rattle.address_runs.specs.Runs.{RunOf, value_at, IsRunsOf}
 use Rattle.address_runs.specs.Edits.{change_range, cover_range, gaps_in_range}
-use Rattle.run_edits.specs.Ends.{edges, total, HasRoom}
+use Rattle.run_edits.specs.Ends.{edges, total, HasRoomToEdit}
 use Rattle.run_edits.proofs.EndLaws.{all_ends, total-split}
 use Rattle.run_edits.proofs.AmendLaws.{amended_ends}
 use Rattle.run_edits.proofs.CountLaws.{room_by, covered_edges, pieces_ends}
@@ -23,7 +23,7 @@ pieces_are r f ends = pieces_ends same_label label_tells r plain_label f ends
 
 -- there is room to cover a range where there is room for its pieces
 pub cover_room : (rs : List (RunOf Label)) (r : RangeView) (v : Label) (room : ℕ) → AreRecords rs → r.base + r.size ≤ 2 ^ 64 →
-    length rs + pieces r (value_at rs) ≤ room → HasRoom same_label (value_at rs) (cover_range r v (value_at rs)) room
+    length rs + pieces r (value_at rs) ≤ room → HasRoomToEdit same_label (value_at rs) (cover_range r v (value_at rs)) room
 cover_room rs r v room known ends fits =
     let f = value_at rs in
     let count : length rs ≡ total (edges same_label f) 0 (2 ^ 64) = all_ends same_label label_tells rs known.runs known.within in

@@ -6,7 +6,7 @@ ghost use Rattle.memblock_ranges.specs.Tables.{AreRecords};
 
 use crate::record::Record;
 use bm_base::Range;
-use run_edits::{Rows, look, passed, seek};
+use run_edits::{Rows, look, skip_ended, seek};
 
 /// How many runs there are of the range's bytes that the table doesn't cover.
 pub fn count_pieces<T: Rows<Record>>(table: &T, range: &Range) -> u64
@@ -21,7 +21,7 @@ pub fn count_pieces<T: Rows<Record>>(table: &T, range: &Range) -> u64
     let mut count = 0;
     while from < until {
         let to = next.min(until);
-        read = passed(table, read, to);
+        read = skip_ended(table, read, to);
         let (there, behind) = look(table, read, to);
         count += ends_piece(bare, there.is_none(), to < until);
         from = to;

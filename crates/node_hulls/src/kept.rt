@@ -12,7 +12,7 @@ use crate::memory::meets_memory;
 use crate::node_range::{NodeRange, overlap};
 use address_runs::RunOf;
 use bm_base::{FRAME_SIZE, Memory, Range, round_down};
-use run_edits::holds;
+use run_edits::has_value_throughout;
 use srat_reader::SratBlock;
 use std::alloc::Global;
 
@@ -135,7 +135,7 @@ fn are_apart(kept: &[KeptBlock], laid: &Vec<NodeRange>) -> bool
     ensures { IsTrue result ↔ (first_clash kept.now ≡ None) }
 {
     for one in kept {
-        if !holds(laid, &one.block.range, one.block.value) {
+        if !has_value_throughout(laid, &one.block.range, one.block.value) {
             return false;
         }
     }

@@ -8,7 +8,7 @@ use Rattle.address_runs.specs.Runs.{RunOf, DecidesEquality}
 use Rattle.address_runs.specs.Edits.{change_range, NothingFrom}
 use Rattle.address_runs.specs.Sweep.{Stays, IsRestFrom, IsBuiltTo}
 use Rattle.address_runs.proofs.EditLaws.{not_covered}
-use Rattle.run_edits.specs.Ends.{HasRoom}
+use Rattle.run_edits.specs.Ends.{HasRoomToEdit}
 use Rattle.run_edits.proofs.JoinLaws.{swept_stretch, room_for}
 
 below_range : (r : RangeView) (x : ℕ) → x < r.base → covers r x ≡ false
@@ -49,7 +49,7 @@ module _ {X : Type 0} where
 
   -- where the stretch that goes on is to be written and there is no free place, there is room for one more
   pub room_here : (same : X → X → Bool) → DecidesEquality same → (f g : ℕ → Option X) (start from to : ℕ) (v : Option X) (rs : List (RunOf X))
-      (write read room : ℕ) → HasRoom same f g room
+      (write read room : ℕ) → HasRoomToEdit same f g room
       → NothingFrom (2 ^ 64) f → from ≤ to → to ≤ 2 ^ 64 → IsBuiltTo g from (take write rs) start v → (g from ≡ v → v ≡ None)
       → IsRestFrom f to (drop read rs)
       → write ≡ read → read ≤ length rs → start < from → is_some v ≡ true → length rs < room

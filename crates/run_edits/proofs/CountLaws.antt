@@ -10,7 +10,7 @@ use Rattle.address_runs.specs.Edits.{change_range, cover_range, uncover_range, r
 use Rattle.address_runs.proofs.RunsLaws.{by_address}
 use Rattle.address_runs.proofs.EditLaws.{not_covered, nothing-covered, nothing-uncovered, nothing-relabelled, nothing-replaced}
 use Rattle.run_edits.specs.Records.{EndsNoRun}
-use Rattle.run_edits.specs.Ends.{total, edge, edges, spike, HasRoom}
+use Rattle.run_edits.specs.Ends.{total, edge, edges, spike, HasRoomToEdit}
 use Rattle.run_edits.proofs.EndLaws.{total-fewer, total-add, total-split, spikes_few, edge-self, edge-few, all_ends}
 
 -- where a range begins or ends between two neighbours
@@ -39,7 +39,7 @@ module _ {X : Type 0} where
 
   pub room_by : (same : X → X → Bool) → DecidesEquality same → (f g : ℕ → Option X) (s : ℕ → ℕ) (few room : ℕ)
       → ((y : ℕ) → edges same g y ≤ edges same f y + s y)
-      → ((at : ℕ) → at ≤ 2 ^ 64 → total s 0 at ≤ few) → total (edges same f) 0 (2 ^ 64) + few ≤ room → HasRoom same f g room
+      → ((at : ℕ) → at ≤ 2 ^ 64 → total s 0 at ≤ few) → total (edges same f) 0 (2 ^ 64) + few ≤ room → HasRoomToEdit same f g room
   room_by same tells f g s few room each some fits at le =
       let front = total-more same f g s few 0 at each (some at le) in
       let whole = total-split (edges same f) 0 at (2 ^ 64 - at) (2 ^ 64) at (omega arith) (omega arith) in

@@ -1,7 +1,7 @@
 -- Small tables, computed: what the words say of them.
 use Rattle.std.proofs.Common.{◌≡◌, ℕ, ◌==◌, nat_lt, if◌then◌else◌, Option, Some, None, [], ◌∷◌, refl, inl, inr, arith}
 use Rattle.address_runs.specs.Runs.{RunOf}
-use Rattle.run_edits.specs.Records.{stretch, EndBefore, IsUncut, EndsNoRun}
+use Rattle.run_edits.specs.Records.{stretch, EndBelow, IsUncut, EndsNoRun}
 use Rattle.run_edits.specs.Ends.{total, edge, edges, spike}
 
 abbrev run : ℕ → ℕ → ℕ → RunOf ℕ
@@ -12,7 +12,7 @@ stretch_examples : (stretch 4 6 (Some 1) ≡ run 4 2 1 ∷ []) × (stretch {X = 
 stretch_examples = (refl, refl, refl)
 
 -- a run that ends right at the address doesn't end below it
-ends_below : EndBefore 7 (run 1 2 5 ∷ (run 4 2 1 ∷ [])) × (EndBefore 6 (run 4 2 1 ∷ []) → ⊥)
+ends_below : EndBelow 7 (run 1 2 5 ∷ (run 4 2 1 ∷ [])) × (EndBelow 6 (run 4 2 1 ∷ []) → ⊥)
 ends_below = ((omega arith, (omega arith, tt)), λ ends. let below = ends.0 in omega (arith, below))
 
 -- an address cuts a run that begins below it and ends behind it, and not one at whose ends it stands

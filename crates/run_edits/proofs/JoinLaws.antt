@@ -9,8 +9,8 @@ use Rattle.address_runs.specs.Edits.{NothingFrom}
 use Rattle.address_runs.specs.Sweep.{Stays, StartAtOrPast, EndBy, FirstEndsPast, FirstEndsAtOrPast, IsSweptTo, IsRestFrom, IsBuiltTo}
 use Rattle.address_runs.proofs.RunsLaws.{inside, behind, none_below}
 use Rattle.address_runs.proofs.SweepLaws.{none_behind, value_append_none, value_append_left, swept_over, swept_push}
-use Rattle.run_edits.specs.Records.{stretch, EndBefore}
-use Rattle.run_edits.specs.Ends.{edges, HasRoom}
+use Rattle.run_edits.specs.Records.{stretch, EndBelow}
+use Rattle.run_edits.specs.Ends.{edges, HasRoomToEdit}
 use Rattle.run_edits.proofs.EndLaws.{total-split, swept_ends, rest_ends}
 
 module _ {X : Type 0} where
@@ -121,12 +121,12 @@ module _ {X : Type 0} where
   begun_inside whole g at xs rs r is runs lt le like =
       begun_in g at xs rs r (rw is runs) lt le (λ x under. like x under ∙ ap (λ l. value_at l x) (sym is))
 
-  ends_by : (at : ℕ) (v : Option X) (xs : List (RunOf X)) → EndBefore at xs → EndBy at v xs
+  ends_by : (at : ℕ) (v : Option X) (xs : List (RunOf X)) → EndBelow at xs → EndBy at v xs
   ends_by at v [] ends = tt
   ends_by at v (x ∷ xs) ends = (omega arith, (λ touch. absurd (omega arith)), ends_by at v xs ends.1)
 
   -- and where no run is, with nothing
-  begun_bare : (g : ℕ → Option X) (at : ℕ) (xs rs : List (RunOf X)) → AreRuns (xs ++ rs) → EndBefore at xs → StartAtOrPast at rs
+  begun_bare : (g : ℕ → Option X) (at : ℕ) (xs rs : List (RunOf X)) → AreRuns (xs ++ rs) → EndBelow at xs → StartAtOrPast at rs
       → ((x : ℕ) → x < at → g x ≡ value_at (xs ++ rs) x) → IsBuiltTo g at xs at None
   begun_bare g at xs rs runs ends starts like = record {
     begun = omega arith;
@@ -139,12 +139,12 @@ module _ {X : Type 0} where
   }
 
   pub begun_outside : (whole : List (RunOf X)) (g : ℕ → Option X) (at : ℕ) (xs rs : List (RunOf X)) → xs ++ rs ≡ whole → AreRuns whole
-      → EndBefore at xs → StartAtOrPast at rs
+      → EndBelow at xs → StartAtOrPast at rs
       → ((x : ℕ) → x < at → g x ≡ value_at whole x) → IsBuiltTo g at xs at None
   begun_outside whole g at xs rs is runs ends starts like =
       begun_bare g at xs rs (rw is runs) ends starts (λ x under. like x under ∙ ap (λ l. value_at l x) (sym is))
 
-  none_past : (at x : ℕ) (xs : List (RunOf X)) → EndBefore at xs → at ≤ x + 1 → value_at xs x ≡ None
+  none_past : (at x : ℕ) (xs : List (RunOf X)) → EndBelow at xs → at ≤ x + 1 → value_at xs x ≡ None
   none_past at x [] ends le = refl
   none_past at x (r ∷ rs) ends le = let under : run_end r < at = ends.0 in rw (behind r x (omega arith)) (none_past at x rs ends.1 le)
 
@@ -153,7 +153,7 @@ module _ {X : Type 0} where
   ends_from at (r ∷ rs) runs ends = let some : 0 < r.size = runs.0 in omega arith
 
   -- the runs that don't end below an address are what is left from the address before it on
-  pub rest_before : (whole : List (RunOf X)) (at : ℕ) (xs rs : List (RunOf X)) → xs ++ rs ≡ whole → AreRuns whole → EndBefore at xs
+  pub rest_before : (whole : List (RunOf X)) (at : ℕ) (xs rs : List (RunOf X)) → xs ++ rs ≡ whole → AreRuns whole → EndBelow at xs
       → FirstEndsAtOrPast at rs
       → IsRestFrom (value_at whole) (at - 1) rs
   rest_before whole at xs rs is runs ends from =
@@ -177,14 +177,14 @@ module _ {X : Type 0} where
       omega arith
 
   -- those up to a run that ends below the address do
-  pub before_more : (at : ℕ) (xs ys : List (RunOf X)) (s : RunOf X) → AreRuns (xs ++ s ∷ ys) → run_end s < at → EndBefore at (xs ++ s ∷ [])
+  pub before_more : (at : ℕ) (xs ys : List (RunOf X)) (s : RunOf X) → AreRuns (xs ++ s ∷ ys) → run_end s < at → EndBelow at (xs ++ s ∷ [])
   before_more at [] ys s runs under = (under, tt)
   before_more at (x ∷ xs) ys s runs under =
       let far : run_end x ≤ s.base = ends_order x (xs ++ s ∷ ys) 0 xs ys s runs refl in
       (omega arith, before_more at xs ys s runs.2 under)
 
   pub before_index : (at i : ℕ) (rs : List (RunOf X)) (s : RunOf X) → AreRuns rs → i < length rs → s ≡ get_or rs i s → run_end s < at
-      → EndBefore at (take (i + 1) rs)
+      → EndBelow at (take (i + 1) rs)
   before_index at i rs s runs lt is under =
       let back : s ∷ drop (i + 1) rs ≡ drop i rs = ap (λ (r : RunOf X). r ∷ drop (i + 1) rs) is ∙ sym (drop_more rs i s lt) in
       let parts : take i rs ++ s ∷ drop (i + 1) rs ≡ rs = ap (λ l. take i rs ++ l) back ∙ take-append-drop i rs in
@@ -197,7 +197,7 @@ module _ {X : Type 0} where
 
   -- where an edit writes a run and has no free place, there is room for one more
   pub room_for : (same : X → X → Bool) → DecidesEquality same → (f g : ℕ → Option X) (start from to : ℕ) (v : Option X) (xs ys : List (RunOf X))
-      (room : ℕ) → HasRoom same f g room
+      (room : ℕ) → HasRoomToEdit same f g room
       → NothingFrom (2 ^ 64) f → from ≤ to → to ≤ 2 ^ 64 → IsSweptTo g from (xs ++ stretch start from v) → start < from → is_some v ≡ true
       → IsRestFrom f to ys
       → length xs + length ys < room

@@ -18,8 +18,8 @@ module _ {X : Type 0} where
   edges same f x = edge same (f x) (f (x + 1))
 
   -- whichever address an edit that makes g of f has come to, there is room for the runs of g up to there and those of f from there on
-  abbrev pub HasRoom : (X → X → Bool) → (ℕ → Option X) → (ℕ → Option X) → ℕ → Type 0
-  HasRoom same f g room = (at : ℕ) → at ≤ 2 ^ 64 → total (edges same g) 0 at + total (edges same f) at (2 ^ 64 - at) ≤ room
+  abbrev pub HasRoomToEdit : (X → X → Bool) → (ℕ → Option X) → (ℕ → Option X) → ℕ → Type 0
+  HasRoomToEdit same f g room = (at : ℕ) → at ≤ 2 ^ 64 → total (edges same g) 0 at + total (edges same f) at (2 ^ 64 - at) ≤ room
 
 -- 1 where the next address is this one
 abbrev pub spike : ℕ → ℕ → ℕ

@@ -9,9 +9,9 @@ module _ {X : Type 0} where
   stretch start until (Some v) = if nat_lt start until then record { base = start; size = until - start; value = v } ∷ [] else []
 
   -- each run of the list ends below the address
-  abbrev pub EndBefore : ℕ → List (RunOf X) → Type 0
-  EndBefore at [] = Unit {0}
-  EndBefore at (r ∷ rs) = (run_end r < at) × EndBefore at rs
+  abbrev pub EndBelow : ℕ → List (RunOf X) → Type 0
+  EndBelow at [] = Unit {0}
+  EndBelow at (r ∷ rs) = (run_end r < at) × EndBelow at rs
 
   -- the first run of the list begins at the address or behind it, or ends by it
   abbrev pub IsUncut : ℕ → List (RunOf X) → Type 0

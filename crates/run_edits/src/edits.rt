@@ -8,12 +8,12 @@ ghost use Rattle.std.specs.Prelude.{◌≡◌, ◌≢◌, ◌+◌, ◌-◌, ◌^
 ghost use Rattle.address_runs.specs.Runs.{DecidesEquality, AreRuns, IsRunsOf, value_at};
 ghost use Rattle.address_runs.specs.Edits.{change_range, NothingFrom};
 ghost use Rattle.address_runs.specs.Sweep.{FirstEndsAtOrPast, IsBuiltTo, IsRestFrom, Stays};
-ghost use Rattle.run_edits.specs.Records.{stretch, EndBefore, EndsNoRun};
-ghost use Rattle.run_edits.specs.Ends.{HasRoom};
+ghost use Rattle.run_edits.specs.Records.{stretch, EndBelow, EndsNoRun};
+ghost use Rattle.run_edits.specs.Ends.{HasRoomToEdit};
 
 use crate::change::Change;
 use crate::laws::range_end_fits;
-use crate::reading::{first_ending_from, look, passed, peek};
+use crate::reading::{first_ending_from, look, skip_ended, peek};
 use crate::slots::{Rows, Slots};
 use address_runs::{Stretch, agree};
 use bm_base::Range;
@@ -38,8 +38,8 @@ fn begin<S: Stretch, T: Rows<S>>(table: &T, at: u64) -> Sweep<S::Value>
     ensures within { result.read ≤ length (T.list table.now) }
 {
     let write = first_ending_from(table, at);
-    let read = passed(table, write, at);
-    let (start, value) = begun(table, write, at);
+    let read = skip_ended(table, write, at);
+    let (start, value) = stretch_at(table, write, at);
     Sweep {
         write,
         read,
@@ -50,9 +50,9 @@ fn begin<S: Stretch, T: Rows<S>>(table: &T, at: u64) -> Sweep<S::Value>
 
 /// Where the stretch begins that goes on at the address, and its value: that of the record at the
 /// index, if that begins below, else none.
-fn begun<S: Stretch, T: Rows<S>>(table: &T, first: u64, at: u64) -> (u64, Option<S::Value>)
+fn stretch_at<S: Stretch, T: Rows<S>>(table: &T, first: u64, at: u64) -> (u64, Option<S::Value>)
     requires runs { AreRuns (T.list table.now) }
-    requires before { EndBefore at (take first (T.list table.now)) }
+    requires before { EndBelow at (take first (T.list table.now)) }
     requires from { FirstEndsAtOrPast at (drop first (T.list table.now)) }
     ensures { (g : ℕ → Option S.Value) → ((x : ℕ) → x < at → g x ≡ value_at (T.list table.now) x) →
         IsBuiltTo g at (take first (T.list table.now)) result.0 result.1 }
@@ -148,7 +148,7 @@ pub fn rewrite<S: Stretch, T: Slots<S>, C: Change<S::Value>>(
     requires some { 0 < range.now.size }
     requires runs { AreRuns (T.list table.old) }
     requires within { NothingFrom (2 ^ 64) (value_at (T.list table.old)) }
-    requires room { (same : S.Value → S.Value → Bool) × DecidesEquality same × HasRoom same (value_at (T.list table.old))
+    requires room { (same : S.Value → S.Value → Bool) × DecidesEquality same × HasRoomToEdit same (value_at (T.list table.old))
         (change_range (C.makes change) range.now (value_at (T.list table.old))) (T.room table.old) }
     ensures list { IsRunsOf (change_range (C.makes change) range.now (value_at (T.list table.old))) (T.list table.new) }
     ensures keeps { T.keeps table.old table.new }
@@ -159,12 +159,12 @@ pub fn rewrite<S: Stretch, T: Slots<S>, C: Change<S::Value>>(
     while from < until {
         let (here, next) = look(table, sweep.read, from);
         let to = next.min(until);
-        sweep.read = passed(table, sweep.read, to);
+        sweep.read = skip_ended(table, sweep.read, to);
         sweep = advance(table, sweep, from, change.apply(here));
         from = to;
     }
     let (here, end) = look(table, sweep.read, until);
-    sweep.read = passed(table, sweep.read, end);
+    sweep.read = skip_ended(table, sweep.read, end);
     sweep = advance(table, sweep, until, here);
     let (write, read) = emit(
         table,

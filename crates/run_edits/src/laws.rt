@@ -11,14 +11,14 @@ use bm_base::Range;
 /// A law: to cover a range adds at most as many runs as it has pieces that carry nothing
 /// (`memblock_add_range`, its count), to take it out one, to change or replace what it carries two.
 pub fn edits_add_few<T>()
-    ensures covered { (same : T → T → Bool) (r : RangeView) (v w : T) (f : ℕ → Option T) → DecidesEquality same →
+    ensures cover { (same : T → T → Bool) (r : RangeView) (v w : T) (f : ℕ → Option T) → DecidesEquality same →
         end_of r ≤ 2 ^ 64 → NothingFrom (2 ^ 64) f →
         length (runs_of same (cover_range r v f)) ≤ length (runs_of same f) + length (runs_of same (gaps_in_range r w f)) }
-    ensures uncovered { (same : T → T → Bool) (r : RangeView) (f : ℕ → Option T) → DecidesEquality same →
+    ensures uncover { (same : T → T → Bool) (r : RangeView) (f : ℕ → Option T) → DecidesEquality same →
         NothingFrom (2 ^ 64) f → length (runs_of same (uncover_range r f)) ≤ length (runs_of same f) + 1 }
-    ensures relabelled { (same : T → T → Bool) (r : RangeView) (change : T → T) (f : ℕ → Option T) → DecidesEquality same →
+    ensures relabel { (same : T → T → Bool) (r : RangeView) (change : T → T) (f : ℕ → Option T) → DecidesEquality same →
         NothingFrom (2 ^ 64) f → length (runs_of same (relabel_range r change f)) ≤ length (runs_of same f) + 2 }
-    ensures replaced { (same : T → T → Bool) (r : RangeView) (v : T) (f : ℕ → Option T) → DecidesEquality same →
+    ensures replace { (same : T → T → Bool) (r : RangeView) (v : T) (f : ℕ → Option T) → DecidesEquality same →
         end_of r ≤ 2 ^ 64 → NothingFrom (2 ^ 64) f →
         length (runs_of same (replace_in_range r v f)) ≤ length (runs_of same f) + 2 }
 {}

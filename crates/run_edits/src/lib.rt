@@ -26,5 +26,5 @@ mod slots;
 pub use change::{Change, Cover, Replace, Uncover};
 pub use edits::{amend, emit, rewrite};
 pub use laws::{edits_add_few, range_end_fits};
-pub use reading::{holds, look, passed, seek, value_of};
+pub use reading::{has_value_throughout, look, skip_ended, seek, value_at};
 pub use slots::{Rows, Slots};

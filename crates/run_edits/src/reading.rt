@@ -7,7 +7,7 @@ ghost use Rattle.std.specs.Prelude.{◌≡◌, ◌+◌, ◌-◌, ◌^◌, ◌<�
 ghost use Rattle.bm_base.specs.Range.{end_of};
 ghost use Rattle.address_runs.specs.Runs.{AreRuns, value_at};
 ghost use Rattle.address_runs.specs.Sweep.{IsRestFrom, StartAtOrPast, FirstEndsPast, FirstEndsAtOrPast, Stays};
-ghost use Rattle.run_edits.specs.Records.{EndBefore, IsUncut};
+ghost use Rattle.run_edits.specs.Records.{EndBelow, IsUncut};
 
 use crate::slots::Rows;
 use address_runs::{Stretch, agree};
@@ -30,7 +30,7 @@ pub(crate) fn peek<S: Stretch, T: Rows<S>>(table: &T, i: u64) -> Option<S>
 /// The index of the first record that ends at the address or behind it.
 pub(crate) fn first_ending_from<S: Stretch, T: Rows<S>>(table: &T, at: u64) -> u64
     requires { AreRuns (T.list table.now) }
-    ensures before { EndBefore at (take result (T.list table.now)) }
+    ensures before { EndBelow at (take result (T.list table.now)) }
     ensures from { FirstEndsAtOrPast at (drop result (T.list table.now)) }
     ensures within { result ≤ length (T.list table.now) }
 {
@@ -48,7 +48,7 @@ pub(crate) fn first_ending_from<S: Stretch, T: Rows<S>>(table: &T, at: u64) -> u
 }
 
 /// The index behind the record at `read`, if that record ends by the address; else `read`.
-pub fn passed<S: Stretch, T: Rows<S>>(table: &T, read: u64, at: u64) -> u64
+pub fn skip_ended<S: Stretch, T: Rows<S>>(table: &T, read: u64, at: u64) -> u64
     ensures rest { (f : ℕ → Option S.Value) (before : ℕ) → IsRestFrom f before (drop read (T.list table.now)) →
         before ≤ at → FirstEndsAtOrPast at (drop read (T.list table.now)) →
         IsRestFrom f at (drop result (T.list table.now)) }
@@ -97,11 +97,11 @@ pub fn seek<S: Stretch, T: Rows<S>>(table: &T, at: u64) -> u64
     ensures within { result ≤ length (T.list table.now) }
 {
     let first = first_ending_from(table, at);
-    passed(table, first, at)
+    skip_ended(table, first, at)
 }
 
 /// What the address carries.
-pub fn value_of<S: Stretch, T: Rows<S>>(table: &T, x: u64) -> Option<S::Value>
+pub fn value_at<S: Stretch, T: Rows<S>>(table: &T, x: u64) -> Option<S::Value>
     requires { AreRuns (T.list table.now) }
     ensures { result ≡ value_at (T.list table.now) x }
 {
@@ -110,7 +110,7 @@ pub fn value_of<S: Stretch, T: Rows<S>>(table: &T, x: u64) -> Option<S::Value>
 }
 
 /// Whether each address of the range carries the value.
-pub fn holds<S: Stretch, T: Rows<S>>(table: &T, range: &Range, value: S::Value) -> bool
+pub fn has_value_throughout<S: Stretch, T: Rows<S>>(table: &T, range: &Range, value: S::Value) -> bool
     requires { AreRuns (T.list table.now) }
     ensures { IsTrue result ↔ ((x : ℕ) → range.now.base ≤ x → x < end_of range.now →
         value_at (T.list table.now) x ≡ Some value) }

@@ -45,8 +45,8 @@ loop-from-preserved g c =
     let order : from < to = omega (arith, less, forward, test) in
     let by_next : to ≤ next = omega (arith, less) in
     let by_end : to ≤ r.base + r.size = omega (arith, less, until) in
-    let rest : IsRestFrom f to (drop c.passed-read.result (g.T.Rows.list c.args.table.now)) =
-    c.passed-read.ensures.rest f from i.rest (omega (arith, order))
+    let rest : IsRestFrom f to (drop c.skip_ended-read.result (g.T.Rows.list c.args.table.now)) =
+    c.skip_ended-read.ensures.rest f from i.rest (omega (arith, order))
     (ends_sooner to next (drop c.loop-from.read (g.T.Rows.list c.args.table.now)) by_next i.ends) in
     let value = c.look-there.ensures.value f rest in
     let ends : c.ends_piece-count.result ≡ (if c.loop-from.bare && not (nat_lt to (r.base + r.size) && c.is_none.result) then 1 else 0) =

@@ -6,14 +6,14 @@ use Rattle.node_hulls.specs.Hulls.{NumaBlock}
 use Rattle.node_hulls.proofs.NodesLaws.{HasOwn, own_apart, laid_own}
 use Rattle.node_hulls.proofs.kept.are_apart.Goals as goal
 
-pub returns-then-not-holds : goal.returns-then-not-holds
-returns-then-not-holds c = (
+pub returns-then-not-has_value_throughout : goal.returns-then-not-has_value_throughout
+returns-then-not-has_value_throughout c = (
   λ yes. absurd (true≢false (sym yes)),
   λ none.
       let laid = c.args.laid.now.items in
       let own = laid_own c.args.kept.now laid c.loop-one.one-index c.one-item.result c.requires none (omega arith) c.one-item.is in
       let here = subst (λ (k : KeptBlock). HasOwn (value_at (map (λ (r : NumaBlock). r) laid)) k.block) (sym c.one.view_is) own in
-      absurd (true≢false (sym (c.holds.ensures.1 here) ∙ c.if-not-holds.true)),
+      absurd (true≢false (sym (c.has_value_throughout.ensures.1 here) ∙ c.if-not-has_value_throughout.true)),
 )
 
 pub returns : goal.returns

@@ -41,14 +41,14 @@ advance-sweep-requires-clause-room g c = λ free lt some other.
     let order : from ≤ c.min-to.result = omega arith in
     let here : h from ≡ c.apply.result = amended_inside change r f from first (omega arith)
     ∙ ap change (sym (c.look-here.ensures.value f i.rest)) ∙ sym c.apply.ensures in
-    let rest : IsRestFrom f c.min-to.result (drop c.passed.result (g.T.Rows.list c.loop-from.table)) =
-    c.passed.ensures.rest f from i.rest order (ends_sooner c.min-to.result c.look-here.result.1 _ (omega arith)
+    let rest : IsRestFrom f c.min-to.result (drop c.skip_ended.result (g.T.Rows.list c.loop-from.table)) =
+    c.skip_ended.ensures.rest f from i.rest order (ends_sooner c.min-to.result c.look-here.result.1 _ (omega arith)
     (c.look-here.ensures.ends i.rest.ends)) in
     let room : length (g.T.Rows.list c.loop-from.table) < g.T.Slots.room c.args.table.now =
     room_here c.requires.room.0 c.requires.room.1 f h c.loop-from.sweep.start from c.min-to.result c.loop-from.sweep.value
-    (g.T.Rows.list c.loop-from.table) c.loop-from.sweep.write c.passed.result
+    (g.T.Rows.list c.loop-from.table) c.loop-from.sweep.write c.skip_ended.result
     (g.T.Slots.room c.args.table.now) c.requires.room.2 c.requires.within order (omega arith) i.built
-    (λ same. absurd (other (sym same ∙ here))) rest free (c.passed.ensures.within i.within) lt some in
+    (λ same. absurd (other (sym same ∙ here))) rest free (c.skip_ended.ensures.within i.within) lt some in
     g.met.T.Slots.keeps_room c.args.table.now c.loop-from.table i.keeps (suc (length (g.T.Rows.list c.loop-from.table))) room
 
 pub loop-from-preserved : goal.loop-from-preserved
@@ -68,8 +68,8 @@ loop-from-preserved g c =
     let order : from ≤ to = omega arith in
     let value : c.apply.result ≡ change (f from) = c.apply.ensures ∙ ap change (c.look-here.ensures.value f i.rest) in
     let here : h from ≡ c.apply.result = amended_inside change r f from first (omega arith) ∙ sym value in
-    let rest : IsRestFrom f to (drop c.passed.result (g.T.Rows.list c.loop-from.table)) =
-    c.passed.ensures.rest f from i.rest order (ends_sooner to c.look-here.result.1 _ (omega arith) (c.look-here.ensures.ends i.rest.ends))
+    let rest : IsRestFrom f to (drop c.skip_ended.result (g.T.Rows.list c.loop-from.table)) =
+    c.skip_ended.ensures.rest f from i.rest order (ends_sooner to c.look-here.result.1 _ (omega arith) (c.look-here.ensures.ends i.rest.ends))
     in
     let stays : Stays h from to c.apply.result = amended_stays change r f from to c.look-here.result.1 c.apply.result first (omega arith)
     (omega arith) (c.look-here.ensures.stays f i.rest) value in
@@ -103,13 +103,13 @@ advance-sweep-requires-2-clause-room g c = λ free lt some other.
     let order : until ≤ c.look-here-2.result.1 = c.look-here-2.ensures.forward left.ends (omega arith) in
     let here : h until ≡ c.look-here-2.result.0 = amended_behind change r f until (omega arith)
     ∙ sym (c.look-here-2.ensures.value f left) in
-    let rest : IsRestFrom f c.look-here-2.result.1 (drop c.passed-2.result (g.T.Rows.list c.loop-from.table)) =
-    c.passed-2.ensures.rest f until left order (c.look-here-2.ensures.ends left.ends) in
+    let rest : IsRestFrom f c.look-here-2.result.1 (drop c.skip_ended-2.result (g.T.Rows.list c.loop-from.table)) =
+    c.skip_ended-2.ensures.rest f until left order (c.look-here-2.ensures.ends left.ends) in
     let room : length (g.T.Rows.list c.loop-from.table) < g.T.Slots.room c.args.table.now =
     room_here c.requires.room.0 c.requires.room.1 f h c.loop-from.sweep.start until c.look-here-2.result.1 c.loop-from.sweep.value
-    (g.T.Rows.list c.loop-from.table) c.loop-from.sweep.write c.passed-2.result
+    (g.T.Rows.list c.loop-from.table) c.loop-from.sweep.write c.skip_ended-2.result
     (g.T.Slots.room c.args.table.now) c.requires.room.2 c.requires.within order (grind (arith, common_steps)) built
-    (λ same. absurd (other (sym same ∙ here))) rest free (c.passed-2.ensures.within i.within) lt some in
+    (λ same. absurd (other (sym same ∙ here))) rest free (c.skip_ended-2.ensures.within i.within) lt some in
     g.met.T.Slots.keeps_room c.args.table.now c.loop-from.table i.keeps (suc (length (g.T.Rows.list c.loop-from.table))) room
 
 pub emit-write-requires-clause-room : goal.emit-write-requires-clause-room
@@ -139,7 +139,7 @@ emit-write-requires-clause-room g c = λ free lt some.
     let built : IsBuiltTo h next (take a.result.write (g.T.Rows.list a.new.table)) a.result.start a.result.value = a.ensures.built h next
     before here order stays in
     let rest : IsRestFrom f next (drop a.result.read (g.T.Rows.list a.new.table)) =
-    rw a.ensures.rest (c.passed-2.ensures.rest f until left order (c.look-here-2.ensures.ends left.ends)) in
+    rw a.ensures.rest (c.skip_ended-2.ensures.rest f until left order (c.look-here-2.ensures.ends left.ends)) in
     let last : a.result.value ≡ f until = a.ensures.value ∙ value in
     let room : length (g.T.Rows.list a.new.table) < g.T.Slots.room c.args.table.now =
     room_here c.requires.room.0 c.requires.room.1 f h a.result.start next next a.result.value (g.T.Rows.list a.new.table) a.result.write
@@ -178,9 +178,9 @@ returns-clause-list g c =
     before here order stays in
     let last : a.result.value ≡ f until = a.ensures.value ∙ value in
     let ends : FirstEndsAtOrPast next (drop c.loop-from.sweep.read (g.T.Rows.list c.loop-from.table)) = c.look-here-2.ensures.ends left.ends in
-    let passed : IsRestFrom f next (drop c.passed-2.result (g.T.Rows.list c.loop-from.table)) = c.passed-2.ensures.rest f until left order
+    let passed : IsRestFrom f next (drop c.skip_ended-2.result (g.T.Rows.list c.loop-from.table)) = c.skip_ended-2.ensures.rest f until left order
     ends in
-    let starts : StartAtOrPast next (drop c.passed-2.result (g.T.Rows.list c.loop-from.table)) = c.passed-2.ensures.starts f until left ends
+    let starts : StartAtOrPast next (drop c.skip_ended-2.result (g.T.Rows.list c.loop-from.table)) = c.skip_ended-2.ensures.starts f until left ends
     c.look-here-2.ensures.uncut in
     let swept : IsSweptTo h next (take a.result.write (g.T.Rows.list a.new.table) ++ stretch a.result.start next a.result.value) =
     swept_stretch h a.result.start next a.result.value (take a.result.write (g.T.Rows.list a.new.table)) built.swept built.begun built.stays

@@ -1,6 +1,6 @@
 use Rattle.std.proofs.Common.{◌-◌, ◌≤◌, length, take, drop}
 use Rattle.address_runs.specs.Sweep.{FirstEndsAtOrPast}
-use Rattle.run_edits.specs.Records.{EndBefore}
+use Rattle.run_edits.specs.Records.{EndBelow}
 use Rattle.run_edits.proofs.reading.first_ending_from.Given as goal
 
 -- the records below `low` end below the address, and the one at `high` doesn't
@@ -8,7 +8,7 @@ abbrev pub invariant-loop-low : goal.invariant-loop-low
 invariant-loop-low g l = record {
   order : l.low ≤ l.high;
   within : l.high ≤ length (g.T.Rows.list l.table);
-  before : EndBefore l.at (take l.low (g.T.Rows.list l.table));
+  before : EndBelow l.at (take l.low (g.T.Rows.list l.table));
   from : FirstEndsAtOrPast l.at (drop l.high (g.T.Rows.list l.table));
 }
 

@@ -7,7 +7,7 @@ use Rattle.run_edits.proofs.reading.seek.Goals as goal
 pub returns-clause-rest : goal.returns-clause-rest
 returns-clause-rest g c =
     let first = c.first_ending_from-first in
-    c.passed.ensures.rest (value_at (g.T.Rows.list c.args.table.now)) (c.args.at - 1)
+    c.skip_ended.ensures.rest (value_at (g.T.Rows.list c.args.table.now)) (c.args.at - 1)
     (rest_before (g.T.Rows.list c.args.table.now) c.args.at (take first.result (g.T.Rows.list c.args.table.now))
     (drop first.result (g.T.Rows.list c.args.table.now))
     (take-append-drop first.result (g.T.Rows.list c.args.table.now)) c.requires first.ensures.before first.ensures.from) (omega arith)

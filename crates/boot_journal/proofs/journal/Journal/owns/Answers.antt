@@ -8,7 +8,7 @@ pub returns : goal.returns
 returns c =
     let told : (x : ℕ) → value_at c.self.inside.owners.items x ≡ owner_of c.args.self.now.items x = λ x.
     c.self.invariant.3.each x ∙ ap (λ (v : Contents). owner_of v.items x) c.self.view_is in (
-      λ holds x above under. sym (told x) ∙ c.holds.ensures.0 holds x above under,
-      λ each. c.holds.ensures.1 (λ x above under. told x
+      λ holds x above under. sym (told x) ∙ c.has_value_throughout.ensures.0 holds x above under,
+      λ each. c.has_value_throughout.ensures.1 (λ x above under. told x
           ∙ each x above under),
     )

@@ -1,5 +1,5 @@
 use Rattle.address_runs.specs.Runs.{value_at}
-use Rattle.run_edits.proofs.reading.value_of.Goals as goal
+use Rattle.run_edits.proofs.reading.value_at.Goals as goal
 
 pub returns : goal.returns
 returns g c = c.look.ensures.value (value_at (g.T.Rows.list c.args.table.now)) c.seek-read.ensures.rest

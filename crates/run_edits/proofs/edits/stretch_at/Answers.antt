@@ -3,8 +3,8 @@ use Rattle.std.proofs.lemmas.Grind.{common_steps}
 use Rattle.std.proofs.lemmas.List.{take-append-drop}
 use Rattle.address_runs.specs.Sweep.{StartAtOrPast}
 use Rattle.run_edits.proofs.JoinLaws.{begun_inside, begun_outside}
-use Rattle.run_edits.proofs.edits.begun.Goals as goal
-use Rattle.run_edits.proofs.edits.begun.Goals.{in_default-via-in-Some+else-range-at, in_default-via-in_default}
+use Rattle.run_edits.proofs.edits.stretch_at.Goals as goal
+use Rattle.run_edits.proofs.edits.stretch_at.Goals.{in_default-via-in-Some+else-range-at, in_default-via-in_default}
 
 pub returns-in-Some : goal.returns-in-Some
 returns-in-Some g c = λ f like.

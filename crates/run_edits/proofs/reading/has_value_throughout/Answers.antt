@@ -4,7 +4,7 @@ use Rattle.std.proofs.lemmas.Grind.{common_steps}
 use Rattle.bm_base.specs.Range.{end_of}
 use Rattle.address_runs.specs.Runs.{value_at}
 use Rattle.run_edits.proofs.HoldLaws.{holds_so_far, holds_no_further}
-use Rattle.run_edits.proofs.reading.holds.Goals as goal
+use Rattle.run_edits.proofs.reading.has_value_throughout.Goals as goal
 
 pub returns-then-agree : goal.returns-then-agree
 returns-then-agree g c =
