@@ -5,7 +5,7 @@ use Rattle.std.specs.Option.{option_and_then}
 use Rattle.std.proofs.lemmas.Bool.{cases_Bool}
 use Rattle.bm_base.specs.ResultSteps.{◌>>=◌, with_error}
 use Rattle.e820_model.specs.declared.entry.Entry.{Entry}
-use Rattle.e820_model.specs.Claims.{Claims, finished}
+use Rattle.e820_model.specs.Claims.{Claims, final_claims}
 use Rattle.boot_options.specs.Options.{Chosen, options_of}
 use Rattle.boot_options.specs.declared.fault.OptionFault.{OptionFault}
 use Rattle.efi_map.specs.Descriptors.{Descriptor, entry_of}
@@ -231,7 +231,7 @@ same_map held named begun given read none =
     (λ bytes before after. value_keeps without_map put_efi (efi_said bytes) before after (λ m g. refl)) read.step in
     let own : read.before ≡ without_map read.before = ap (λ (e : Option EfiGiven). record read.before { efi = e }) read.no_map in
     let same : claims given ≡ claims (without_map given) =
-    ap (finished given.entries given.extension given.options.edits) (none ∙ sym (none_added given.options.add_efi)) in
+    ap (final_claims given.entries given.extension given.options.edits) (none ∙ sym (none_added given.options.add_efi)) in
     record {
       inputs = given_in-append held (without_efi named) (until_line ++ (command_line ∷ behind_line)) (efi_file ∷ []) begun
           ∙ rw read.first (ap (λ (g : Given). Ok g) (own ∙ sym other));

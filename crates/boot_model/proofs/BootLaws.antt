@@ -8,8 +8,8 @@ use Rattle.address_runs.specs.Runs.{RunOf, run_end, lies_in, value_at, AreRuns, 
 use Rattle.address_runs.proofs.RunsLaws.{IsRunsBetween, from_runs, none_below, rest_from}
 use Rattle.e820_model.specs.Claims.{Claims}
 use Rattle.e820_model.specs.Map.{kinds, map_of, same_kind}
-use Rattle.e820_model.specs.Usable.{is_memory, is_usable, usable_frames}
-use Rattle.e820_model.specs.declared.room.TheConstants.{E820_MAX_ENTRIES}
+use Rattle.e820_model.specs.Usable.{is_memory, is_usable_frame, usable_frames}
+use Rattle.e820_model.specs.declared.entry.TheConstants.{E820_MAX_ENTRIES}
 use Rattle.bm_base.specs.Each.{each_in}
 use Rattle.bm_base.specs.Frames.{bytes_of_frame}
 use Rattle.bm_base.proofs.EachLaws.{each_in-same}
@@ -112,8 +112,8 @@ memory_lies (r ∷ rs) x runs =
 
 -- the runs tell which frames are usable
 pub usable_lies : (given : Given) (made : BootSoFar) (frame : ℕ) → boot given ≡ Ok made → 4096 * frame + 4096 ≤ reach given
-    → is_usable (types_in_reach given) frame ≡ each_in (bytes_of_frame frame) (lies_in_memory made.map)
-unfolding is_usable
+    → is_usable_frame (types_in_reach given) frame ≡ each_in (bytes_of_frame frame) (lies_in_memory made.map)
+unfolding is_usable_frame
 usable_lies given made frame ends low =
     let c : Claims = claims given in
     let between = map_between c in

@@ -9,9 +9,9 @@ use Rattle.bm_base.specs.declared.width.Width.TheVariants.{Bits46, Bits52}
 use Rattle.address_runs.specs.Runs.{RunOf}
 use Rattle.address_runs.proofs.RunsLaws.{one_list}
 use Rattle.e820_model.specs.declared.entry.Entry.{Entry}
-use Rattle.e820_model.specs.Claims.{Claims, claims_of_entries, type_of, settled, with_claims, bios_trimmed}
+use Rattle.e820_model.specs.Claims.{Claims, claims_of_entries, type_of, settled_claims, with_claims, after_bios_trim}
 use Rattle.e820_model.specs.Map.{kinds, map_of}
-use Rattle.e820_model.specs.Usable.{is_memory, reachable, usable_frames}
+use Rattle.e820_model.specs.Usable.{is_memory, types_below, usable_frames}
 use Rattle.e820_model.proofs.ClaimLaws.{greatest_is, map_runs}
 use Rattle.e820_model.proofs.UsableLaws.{count_none, usable_but}
 use Rattle.e820_usable.specs.declared.stop.MapStop.TheVariants as reasons
@@ -285,11 +285,11 @@ no_type : (c : Claims) → Nothing c → (x : ℕ) → type_of c x ≡ 0
 unfolding Nothing
 no_type c nothing x = greatest_is (c x) 0 (omega arith) (λ some. absurd (omega (arith, some))) (λ k higher small. nothing x k)
 
-nothing_settled : (c : Claims) → Nothing c → Nothing (settled c)
+nothing_settled : (c : Claims) → Nothing c → Nothing (settled_claims c)
 unfolding Nothing
 nothing_settled c nothing x k = let none : type_of c x ≡ 0 = no_type c nothing x in grind (arith, nat_tests)
 
-nothing_trimmed : (c : Claims) → Nothing c → Nothing (bios_trimmed c)
+nothing_trimmed : (c : Claims) → Nothing c → Nothing (after_bios_trim c)
 unfolding Nothing
 nothing_trimmed c nothing x k = rw (nothing x k, nothing x 1) (grind (arith, nat_tests))
 
@@ -301,14 +301,14 @@ no_runs c nothing =
     one_list (kinds c) (map_of c) [] (map_runs c (λ x far. no_kind c nothing x))
     (record { runs = tt; each = λ x. sym (no_kind c nothing x) })
 
-no_type_in_reach : (limit : ℕ) (c : Claims) → Nothing c → (x : ℕ) → is_memory (reachable limit (kinds c) x) ≡ false
+no_type_in_reach : (limit : ℕ) (c : Claims) → Nothing c → (x : ℕ) → is_memory (types_below limit (kinds c) x) ≡ false
 no_type_in_reach limit c nothing x = rw (no_kind c nothing x) (grind arith)
 
-no_frame : (limit : ℕ) (c : Claims) → Nothing c → usable_frames (reachable limit (kinds c)) ≡ 0
+no_frame : (limit : ℕ) (c : Claims) → Nothing c → usable_frames (types_below limit (kinds c)) ≡ 0
 unfolding usable_frames
 no_frame limit c nothing =
     count_none _ (2 ^ 52) (λ frame low.
-    usable_but (reachable limit (kinds c)) frame (4096 * frame) (omega arith) (omega arith)
+    usable_but (types_below limit (kinds c)) frame (4096 * frame) (omega arith) (omega arith)
     (no_type_in_reach limit c nothing (4096 * frame)))
 
 abbrev two_empty : Given

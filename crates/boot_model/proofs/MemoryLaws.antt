@@ -8,7 +8,7 @@ use Rattle.bm_base.specs.declared.width.Width.{Width}
 use Rattle.address_runs.specs.Runs.{RunOf, value_at}
 use Rattle.e820_model.specs.Claims.{Claims}
 use Rattle.e820_model.specs.Map.{TypeAt, kinds, map_of}
-use Rattle.e820_model.specs.Usable.{is_usable, reachable}
+use Rattle.e820_model.specs.Usable.{is_usable_frame, types_below}
 use Rattle.memblock_model.specs.Labels.{Label, Labels, plain_label, with_mirror}
 use Rattle.memblock_model.specs.Items.{limit_of, memory_of}
 use Rattle.memblock_model.specs.declared.item.Item.{Item}
@@ -156,7 +156,7 @@ memory_made given made ends =
     }
 
 -- the map gives the types within reach
-reached_same : (limit : ℕ) (c : Claims) (x : ℕ) → limit ≤ 2 ^ 52 → reachable limit (value_at (map_of c)) x ≡ reachable limit (kinds c) x
+reached_same : (limit : ℕ) (c : Claims) (x : ℕ) → limit ≤ 2 ^ 52 → types_below limit (value_at (map_of c)) x ≡ types_below limit (kinds c) x
 reached_same limit c x small =
     elim (cases_Bool (nat_lt x limit)) [
       | inl within ↦
@@ -164,7 +164,7 @@ reached_same limit c x small =
       | inr past ↦ rw past refl
     ]
 
-pub types_same : (given : Given) → reachable (reach given) (value_at (map_of (claims given))) ≡ types_in_reach given
+pub types_same : (given : Given) → types_below (reach given) (value_at (map_of (claims given))) ≡ types_in_reach given
 types_same given = λ i x. reached_same (reach given) (claims given) x (reach-small given) i
 
 some_is : (b : Bool) → is_some (if b then Some plain_label else None) ≡ b
@@ -182,16 +182,16 @@ mirrored_some mirrors f x = mapped_some (is_mirrored mirrors x) (f x)
 
 -- a byte is memory exactly where its frame is usable
 pub memory_told : (given : Given) (made : BootSoFar) (x : ℕ) → boot given ≡ Ok made
-    → is_some (memory_of made.items x) ≡ is_usable (types_in_reach given) (x / 4096)
+    → is_some (memory_of made.items x) ≡ is_usable_frame (types_in_reach given) (x / 4096)
 memory_told given made x ends =
     let known : HasMemory given made = memory_made given made ends in
     let map : List (RunOf ℕ) = map_of (claims given) in
-    let reached : TypeAt = reachable (reach given) (value_at map) in
+    let reached : TypeAt = types_below (reach given) (value_at map) in
     let first = first_memory (early_of given) map known.first.items (map_between (claims given)).runs known.carried x in
     ap (λ (h : ℕ → Bool). h x) known.memory ∙ ap is_some first
     ∙ mirrored_some (mirrors_of given) (usable_memory (reach given) (value_at map)) x
-    ∙ some_is (is_usable reached (x / 4096))
-    ∙ ap (λ (t : TypeAt). is_usable t (x / 4096)) (types_same given)
+    ∙ some_is (is_usable_frame reached (x / 4096))
+    ∙ ap (λ (t : TypeAt). is_usable_frame t (x / 4096)) (types_same given)
 
 -- and the limit is the end of the last usable frame
 pub limit_told : (given : Given) (made : BootSoFar) → boot given ≡ Ok made

@@ -4,7 +4,7 @@ use Rattle.std.proofs.lemmas.Bool.{cases_lt, false_from_ne_true}
 use Rattle.address_runs.specs.Runs.{RunOf, value_at}
 use Rattle.address_runs.specs.Edits.{NothingFrom}
 use Rattle.e820_model.specs.Map.{TypeAt, map_of}
-use Rattle.e820_model.specs.Usable.{is_usable, reachable, usable_frames}
+use Rattle.e820_model.specs.Usable.{is_usable_frame, types_below, usable_frames}
 use Rattle.e820_model.proofs.UsableLaws.{count_none}
 use Rattle.memblock_model.specs.declared.item.Item.{Item}
 use Rattle.memblock_model.specs.Labels.{Label, Labels, plain_label}
@@ -48,17 +48,17 @@ mirrored_whole mirrors f whole x =
     mirrored-alike mirrors f x (4096 * (x / 4096)) frame (whole x)
 
 -- a map with a usable frame ends above 0
-no_frame_low : (limit : ℕ) (f : TypeAt) (frame : ℕ) → memory_end limit f ≡ 0 → is_usable (reachable limit f) frame ≡ false
+no_frame_low : (limit : ℕ) (f : TypeAt) (frame : ℕ) → memory_end limit f ≡ 0 → is_usable_frame (types_below limit f) frame ≡ false
 no_frame_low limit f frame zero = false_from_ne_true _ (λ usable.
     let number : (4096 * frame) / 4096 ≡ frame = omega arith in
     omega (arith, memory_below limit f (4096 * frame) plain_label (rw (number, usable) refl)))
 
-end_some : (limit : ℕ) (f : TypeAt) → 0 < usable_frames (reachable limit f) → 0 < memory_end limit f
+end_some : (limit : ℕ) (f : TypeAt) → 0 < usable_frames (types_below limit f) → 0 < memory_end limit f
 unfolding usable_frames
 end_some limit f some = elim (cases_lt 0 (memory_end limit f)) [
   | inl above ↦ above
   | inr below ↦
-      let none : usable_frames (reachable limit f) ≡ 0 =
+      let none : usable_frames (types_below limit f) ≡ 0 =
       count_none _ (2 ^ 52) (λ frame low. no_frame_low limit f frame (omega arith)) in
       absurd (omega arith)
 ]
@@ -77,7 +77,7 @@ first_known given made items ends carried =
     first_limit (early_of given) map items from in
     let below : memory_end (reach given) (value_at map) ≤ reach given =
     (end_reached (reach given) (value_at map) _ (memory_end-is (reach given) (value_at map))).0 in
-    let some : 0 < usable_frames (reachable (reach given) (value_at map)) = rw (types_same given) (frames_within _ known.1).0 in
+    let some : 0 < usable_frames (types_below (reach given) (value_at map)) = rw (types_same given) (frames_within _ known.1).0 in
     let whole : AreOfFrames (usable_memory (reach given) (value_at map)) = λ x.
     let same : (4096 * (x / 4096)) / 4096 ≡ x / 4096 = omega arith in rw same refl in
     record {

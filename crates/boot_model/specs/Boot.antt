@@ -5,12 +5,11 @@ use Rattle.bm_base.specs.Range.{RangeView}
 use Rattle.bm_base.specs.Width.{reach_of}
 use Rattle.bm_base.specs.declared.width.Width.{Width}
 use Rattle.address_runs.specs.Runs.{RunOf, lies_in}
-use Rattle.e820_model.specs.declared.types.TheConstants.{E820_TYPE_RAM, E820_TYPE_RESERVED_KERN}
+use Rattle.e820_model.specs.declared.entry.TheConstants.{E820_TYPE_RAM, E820_TYPE_RESERVED_KERN, E820_MAX_ENTRIES}
 use Rattle.e820_model.specs.declared.entry.Entry.{Entry}
-use Rattle.e820_model.specs.Claims.{Claims, finished}
+use Rattle.e820_model.specs.Claims.{Claims, final_claims}
 use Rattle.e820_model.specs.Map.{TypeAt, kinds, map_of}
-use Rattle.e820_model.specs.Usable.{reachable}
-use Rattle.e820_model.specs.declared.room.TheConstants.{E820_MAX_ENTRIES}
+use Rattle.e820_model.specs.Usable.{types_below}
 use Rattle.e820_usable.specs.declared.stop.MapStop.{MapStop}
 use Rattle.e820_usable.specs.Judged.{judged}
 use Rattle.boot_options.specs.Crash.{no_crash}
@@ -171,7 +170,7 @@ added given = if given.options.add_efi then efi_entries given.efi else []
 
 -- the claims of the finished map
 abbrev pub claims : Given → Claims
-claims given = finished given.entries given.extension given.options.edits (added given)
+claims given = final_claims given.entries given.extension given.options.edits (added given)
 
 -- the heads of the tables that the items stand for
 abbrev pub heads_of : RangeView → List Item → Heads
@@ -235,7 +234,7 @@ begin given = begin_with (map_of (claims given)) given.options
 
 -- the types of addresses, as far as the kernel's tables of memory reach
 abbrev pub types_in_reach : Given → TypeAt
-types_in_reach given = reachable (reach given) (kinds (claims given))
+types_in_reach given = types_below (reach given) (kinds (claims given))
 
 -- the kernel's table has room for the runs of the map (`E820_MAX_ENTRIES`)
 abbrev pub has_room : Stage

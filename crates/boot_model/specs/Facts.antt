@@ -4,9 +4,9 @@ use Rattle.std.specs.List.{All}
 use Rattle.std.specs.Coded.{×_prop, Unit-prop, le_prop}
 use Rattle.std.proofs.Math.Bool.{Bool-set}
 use Rattle.e820_model.specs.declared.entry.Entry.{Entry}
-use Rattle.e820_model.specs.declared.edit.Edit.{Edit}
-use Rattle.e820_model.specs.declared.edit.Edit.TheVariants as edit
-use Rattle.e820_model.specs.Claims.{EndInSpace, HaveTypes, HasTypes}
+use Rattle.e820_model.specs.declared.entry.Edit.{Edit}
+use Rattle.e820_model.specs.declared.entry.Edit.TheVariants as edit
+use Rattle.e820_model.specs.Claims.{EntriesFit, HaveTypes, HasTypes}
 use Rattle.efi_map.specs.declared.efi.EfiMap.{EfiMap}
 use Rattle.script_reader.specs.declared.act.Act.{Act}
 use Rattle.script_reader.specs.declared.act.Act.TheVariants as acts
@@ -19,14 +19,14 @@ use Rattle.page_alloc.specs.declared.act.PageLine.{PageLine}
 use Rattle.page_alloc.specs.Pages.{HasOrder, HaveOrders}
 use Rattle.early_script.specs.Stage.{PlaceOnce}
 
-pub EndInSpace-prop : (entries : List Entry) → IsProp (EndInSpace entries)
-EndInSpace-prop [] = Unit-prop
-EndInSpace-prop (e ∷ es) = ×_prop le_prop (EndInSpace-prop es)
+pub EntriesFit-prop : (entries : List Entry) → IsProp (EntriesFit entries)
+EntriesFit-prop [] = Unit-prop
+EntriesFit-prop (e ∷ es) = ×_prop le_prop (EntriesFit-prop es)
 
 -- of the firmware's own map, where there is one
-pub efi_ends-prop : (efi : Option EfiMap) → IsProp (IfSome efi (λ map. EndInSpace map.entries.items))
+pub efi_ends-prop : (efi : Option EfiMap) → IsProp (IfSome efi (λ map. EntriesFit map.entries.items))
 efi_ends-prop None = Unit-prop
-efi_ends-prop (Some map) = EndInSpace-prop map.entries.items
+efi_ends-prop (Some map) = EntriesFit-prop map.entries.items
 
 HasTypes-prop : (e : Edit) → IsProp (HasTypes e)
 HasTypes-prop (edit.Add range kind) = le_prop

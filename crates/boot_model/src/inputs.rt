@@ -4,12 +4,12 @@
 ghost use Rattle.std.specs.Prelude.{◌≡◌, ◌^◌, ◌<◌, IfSome, length};
 ghost use Rattle.std.specs.List.{All};
 ghost use Rattle.std.proofs.Props.{props};
-ghost use Rattle.e820_model.specs.Claims.{EndInSpace, HaveTypes};
+ghost use Rattle.e820_model.specs.Claims.{EntriesFit, HaveTypes};
 ghost use Rattle.e820_table.specs.Initrd.{IsInitrd};
 ghost use Rattle.early_script.specs.Stage.{PlaceOnce};
 ghost use Rattle.page_alloc.specs.Pages.{HaveOrders};
 ghost use Rattle.slit_zonelists.specs.Matrix.{IsSquare, matrix};
-ghost use Rattle.boot_model.specs.Facts.{EndInSpace-prop, HaveBounds, HaveBounds-prop, HaveOrders-prop, HaveTypes-prop, PlaceOnce-prop, efi_ends-prop};
+ghost use Rattle.boot_model.specs.Facts.{EntriesFit-prop, HaveBounds, HaveBounds-prop, HaveOrders-prop, HaveTypes-prop, PlaceOnce-prop, efi_ends-prop};
 ghost use Rattle.boot_model.specs.Kernel.{IsKernel};
 ghost use Rattle.boot_model.specs.Mirrors.{IsMirror};
 
@@ -55,9 +55,9 @@ pub struct Inputs {
     /// The firmware's own map of memory, if there is one. Its entries end as the others do, and its mirrored ranges are
     /// whole frames, some in each.
     pub efi: Option<EfiMap>,
-    ghost entries_end: { EndInSpace zero.entries.items } by { EndInSpace-prop zero.entries.items },
+    ghost entries_end: { EntriesFit zero.entries.items } by { EntriesFit-prop zero.entries.items },
     ghost initrd_fits: { IfSome zero.initrd IsInitrd } by { Prim.hlevel props },
-    ghost extension_ends: { EndInSpace ext.items } by { EndInSpace-prop ext.items },
+    ghost extension_ends: { EntriesFit ext.items } by { EntriesFit-prop ext.items },
     ghost types_fit: { HaveTypes options.edits.items } by { HaveTypes-prop options.edits.items },
     ghost few_blocks: { IfSome srat (λ table. length table.blocks.items < 2 ^ 32) } by { Prim.hlevel props },
     ghost kernel_fits: { IsKernel width kernel },
@@ -66,7 +66,7 @@ pub struct Inputs {
     ghost placed_once: { PlaceOnce lines.items } by { PlaceOnce-prop lines.items },
     ghost orders_fit: { HaveOrders page_lines.items } by { HaveOrders-prop page_lines.items },
     ghost slit_square: { IfSome slit (λ table. IsSquare (matrix table)) } by { Prim.hlevel props },
-    ghost efi_ends: { IfSome efi (λ map. EndInSpace map.entries.items) } by { efi_ends-prop efi },
+    ghost efi_ends: { IfSome efi (λ map. EntriesFit map.entries.items) } by { efi_ends-prop efi },
     ghost efi_mirrors_fit: { IfSome efi (λ map. All IsMirror map.mirrors.items) } by { Prim.hlevel props },
 }
 

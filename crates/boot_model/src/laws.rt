@@ -9,8 +9,8 @@ ghost use Rattle.bm_base.specs.Each.{each_in};
 ghost use Rattle.bm_base.specs.Range.{RangeView};
 ghost use Rattle.bm_base.specs.Frames.{bytes_of_frame, frames_within};
 ghost use Rattle.efi_map.specs.Map.{efi_of};
-ghost use Rattle.e820_model.specs.Usable.{is_usable, usable_frames};
-ghost use Rattle.e820_model.specs.declared.room.TheConstants.{E820_MAX_ENTRIES};
+ghost use Rattle.e820_model.specs.Usable.{is_usable_frame, usable_frames};
+ghost use Rattle.e820_model.specs.declared.entry.TheConstants.{E820_MAX_ENTRIES};
 ghost use Rattle.memblock_model.specs.Items.{limit_of, memory_of};
 ghost use Rattle.early_stages.specs.Memory.{memory_end};
 ghost use Rattle.memblock_model.specs.declared.item.Item.{Item};
@@ -41,7 +41,7 @@ pub fn map_gives_types()
 /// kernel's own memory, of the map of a boot; and there are 1 to 2^32 such frames.
 pub fn map_gives_frames()
     ensures each { (given : Given) (made : BootSoFar) (frame : ℕ) → boot given ≡ Ok made →
-        FRAME_SIZE * frame + FRAME_SIZE ≤ reach given → is_usable (types_in_reach given) frame
+        FRAME_SIZE * frame + FRAME_SIZE ≤ reach given → is_usable_frame (types_in_reach given) frame
         ≡ each_in (bytes_of_frame frame) (lies_in_memory made.map) }
     ensures some { (given : Given) (made : BootSoFar) → boot given ≡ Ok made →
         0 < usable_frames (types_in_reach given) }
@@ -53,7 +53,7 @@ pub fn map_gives_frames()
 /// however the tables grew; and what is allocated ends by the last usable frame.
 pub fn map_gives_memory()
     ensures memory { (given : Given) (made : BootSoFar) (x : ℕ) → boot given ≡ Ok made →
-        is_some (memory_of made.items x) ≡ is_usable (types_in_reach given) (x / FRAME_SIZE) }
+        is_some (memory_of made.items x) ≡ is_usable_frame (types_in_reach given) (x / FRAME_SIZE) }
     ensures limit { (given : Given) (made : BootSoFar) → boot given ≡ Ok made →
         limit_of made.items ≡ memory_end (reach given) (kinds (claims given)) }
 {}

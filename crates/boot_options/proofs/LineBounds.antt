@@ -5,7 +5,7 @@ use Rattle.std.specs.List.{cons_option}
 use Rattle.std.specs.Option.{option_and_then, option_map, option_or}
 use Rattle.std.specs.Str.{bytes_eq}
 use Rattle.e820_model.specs.Claims.{HaveTypes}
-use Rattle.e820_model.specs.declared.edit.Edit.{Edit}
+use Rattle.e820_model.specs.declared.entry.Edit.{Edit}
 use Rattle.text_words.specs.declared.separators.Separators.TheVariants.{Byte}
 use Rattle.text_words.specs.Parts.{parts_in}
 use Rattle.bm_base.specs.Answers.{Answers}

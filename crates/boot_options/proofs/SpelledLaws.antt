@@ -13,7 +13,7 @@ use Rattle.bm_base.specs.Size.{size_of, number_of, IsSize, IsNumber}
 use Rattle.bm_base.specs.declared.size.NumFault.{NumFault}
 use Rattle.bm_base.specs.Spelling.{number_alone}
 use Rattle.bm_base.proofs.SpellingLaws.{size-exactly, number-exactly, size-front, number-front}
-use Rattle.e820_model.specs.declared.edit.Edit.TheVariants.{Add, Remove, RemoveAll, Change}
+use Rattle.e820_model.specs.declared.entry.Edit.TheVariants.{Add, Remove, RemoveAll, Change}
 use Rattle.text_words.specs.declared.separators.Separators.TheVariants.{Byte}
 use Rattle.text_words.specs.Parts.{parts_in}
 use Rattle.text_words.proofs.PartsLaws.{parts-one, parts-spelled}

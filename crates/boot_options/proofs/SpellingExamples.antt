@@ -1,7 +1,7 @@
 -- Worked examples of the spelling of words and values.
 use Rattle.std.proofs.Common.{◌≡◌, ℕ, ◌-◌, ◌^◌, Some, None, [], ◌∷◌, codes, Err, Ok, refl, arith}
 use Rattle.bm_base.specs.Range.{RangeView}
-use Rattle.e820_model.specs.declared.edit.Edit.TheVariants.{Add, Remove, RemoveAll}
+use Rattle.e820_model.specs.declared.entry.Edit.TheVariants.{Add, Remove, RemoveAll}
 use Rattle.text_words.specs.Spelling.{blank_first, both_marks, no_mark, word_alone}
 use Rattle.boot_options.specs.declared.fault.OptionFault.TheVariants as faults
 use Rattle.boot_options.specs.declared.map_option.MapOption.{MapOption}

@@ -11,7 +11,7 @@ use Rattle.bm_base.specs.Range.{RangeView}
 use Rattle.bm_base.specs.declared.size.NumFault.{NumFault}
 use Rattle.bm_base.specs.Size.{begins_with_digit, number_value, number_end, suffix_of, with_suffix, size_of, number_of, IsSize, IsNumber}
 use Rattle.bm_base.proofs.SizeLaws.{size_of-mark, number_of-mark}
-use Rattle.e820_model.specs.declared.edit.Edit.TheVariants.{Add}
+use Rattle.e820_model.specs.declared.entry.Edit.TheVariants.{Add}
 use Rattle.bm_base.specs.OptionSteps.{◌>>=◌}
 use Rattle.boot_options.specs.declared.map_option.MapOption.TheVariants.{Adding, Other}
 use Rattle.boot_options.specs.MapOptions.{number_and_rest, front_size, front_number, at_end, whole_size, range_at, unless_empty, adding_option, small_kind, kind_behind, retyped, by_mark, map_option_of, ram_above}

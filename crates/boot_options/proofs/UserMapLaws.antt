@@ -6,7 +6,7 @@ use Rattle.std.proofs.lemmas.List.{append-nil}
 use Rattle.std.proofs.lemmas.Bool.Decides.{nat_tests}
 use Rattle.std.specs.List.{cons_option}
 use Rattle.std.specs.Option.{option_map, option_or}
-use Rattle.e820_model.specs.declared.edit.Edit.{Edit}
+use Rattle.e820_model.specs.declared.entry.Edit.{Edit}
 use Rattle.bm_base.specs.ResultSteps.{◌>>=◌}
 use Rattle.boot_options.specs.declared.fault.OptionFault.{OptionFault}
 use Rattle.boot_options.specs.declared.map_option.MapOption.{MapOption}

@@ -6,9 +6,9 @@ use Rattle.bm_base.specs.Range.{RangeView}
 use Rattle.bm_base.specs.OptionSteps.{◌>>=◌}
 use Rattle.bm_base.specs.Size.{size_of, number_of}
 use Rattle.bm_base.specs.declared.size.NumFault.{NumFault}
-use Rattle.e820_model.specs.declared.types.TheConstants.{E820_TYPE_RAM, E820_TYPE_RESERVED, E820_TYPE_ACPI, E820_TYPE_PRAM}
-use Rattle.e820_model.specs.declared.edit.Edit.{Edit}
-use Rattle.e820_model.specs.declared.edit.Edit.TheVariants.{Add, Remove, RemoveAll, Change}
+use Rattle.e820_model.specs.declared.entry.TheConstants.{E820_TYPE_RAM, E820_TYPE_RESERVED, E820_TYPE_ACPI, E820_TYPE_PRAM}
+use Rattle.e820_model.specs.declared.entry.Edit.{Edit}
+use Rattle.e820_model.specs.declared.entry.Edit.TheVariants.{Add, Remove, RemoveAll, Change}
 use Rattle.boot_options.specs.declared.map_option.MapOption.{MapOption}
 use Rattle.boot_options.specs.declared.map_option.MapOption.TheVariants.{ExactMap, Adding, Other}
 

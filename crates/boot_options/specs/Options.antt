@@ -6,8 +6,8 @@ use Rattle.std.specs.List.{filter_map}
 use Rattle.std.specs.Str.{bytes_eq}
 use Rattle.std.specs.Prelude.{count_by}
 use Rattle.bm_base.specs.ResultSteps.{◌>>=◌}
-use Rattle.e820_model.specs.declared.edit.Edit.{Edit}
-use Rattle.e820_model.specs.declared.edit.Edit.TheVariants.{Add, Remove, RemoveAll, Change, Clear}
+use Rattle.e820_model.specs.declared.entry.Edit.{Edit}
+use Rattle.e820_model.specs.declared.entry.Edit.TheVariants.{Add, Remove, RemoveAll, Change, Clear}
 use Rattle.text_words.specs.declared.separators.Separators.TheVariants.{CommandLine, Byte}
 use Rattle.text_words.specs.Parts.{before, cut, parts_in}
 use Rattle.text_words.specs.Words.{words_in, unquoted, without_last}

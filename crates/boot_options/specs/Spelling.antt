@@ -5,8 +5,8 @@ use Rattle.std.specs.Prelude.{◌≡◌, ◌≢◌, ℕ, ◌+◌, ◌^◌, ◌<�
 use Rattle.std.specs.List.{AllByRecursion}
 use Rattle.bm_base.specs.Range.{RangeView}
 use Rattle.bm_base.specs.Size.{IsSize, IsNumber}
-use Rattle.e820_model.specs.declared.types.TheConstants.{E820_TYPE_RAM, E820_TYPE_RESERVED, E820_TYPE_ACPI, E820_TYPE_PRAM}
-use Rattle.e820_model.specs.declared.edit.Edit.TheVariants.{Add, Remove, RemoveAll, Change}
+use Rattle.e820_model.specs.declared.entry.TheConstants.{E820_TYPE_RAM, E820_TYPE_RESERVED, E820_TYPE_ACPI, E820_TYPE_PRAM}
+use Rattle.e820_model.specs.declared.entry.Edit.TheVariants.{Add, Remove, RemoveAll, Change}
 use Rattle.text_words.specs.declared.separators.Separators.TheVariants.{CommandLine}
 use Rattle.text_words.specs.Spelling.{HasWords, Unquotes}
 use Rattle.boot_options.specs.declared.crash.CrashRange.{CrashRange}

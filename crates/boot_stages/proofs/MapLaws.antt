@@ -4,12 +4,12 @@ use Rattle.std.specs.Prelude.{IfOk}
 use Rattle.address_runs.specs.Runs.{RunOf, value_at, IsRunsOf}
 use Rattle.bm_base.specs.Answers.{Answers}
 use Rattle.bm_base.specs.ResultSteps.{◌>>=◌, with_error}
-use Rattle.e820_model.specs.declared.room.TheConstants.{E820_MAX_ENTRIES}
-use Rattle.e820_model.specs.Claims.{Claims, finished}
+use Rattle.e820_model.specs.declared.entry.TheConstants.{E820_MAX_ENTRIES}
+use Rattle.e820_model.specs.Claims.{Claims, final_claims}
 use Rattle.e820_model.specs.declared.entry.Entry.{Entry}
-use Rattle.e820_model.specs.declared.edit.Edit.{Edit}
+use Rattle.e820_model.specs.declared.entry.Edit.{Edit}
 use Rattle.e820_model.specs.Map.{TypeAt, kinds, map_of}
-use Rattle.e820_model.specs.Usable.{reachable}
+use Rattle.e820_model.specs.Usable.{types_below}
 use Rattle.e820_sanitise.specs.declared.fault.MapFault.TheVariants as faults
 use Rattle.e820_sanitise.specs.Room.{in_room}
 use Rattle.e820_usable.specs.declared.stop.MapStop.{MapStop}
@@ -76,7 +76,7 @@ pub map_answers : (given : Given) (answer : MapAnswer) → Answers faults.Memory
 map_answers given (Ok runs) maps are result answers =
     let kinds_are : value_at runs.items ≡ kinds (claims given) = λ i x. are.each x i in
     let P : TypeAt → Type 0 = λ f. Answers stops.Memory (λ (map : Vec (RunOf ℕ) Global). map.items) result
-    (goes_on_with (judged (reachable (reach given) f)) runs.items) in
+    (goes_on_with (judged (types_below (reach given) f)) runs.items) in
     rw (decided given (Ok runs) maps) (judged_same given (judged (types_in_reach given)) runs result (subst P kinds_are answers))
 map_answers given (Err (faults.MapFull runs)) maps are (Ok map) answers = absurd (cc)
 map_answers given (Err (faults.MapFull runs)) maps are (Err stop) answers =
@@ -113,6 +113,6 @@ boot_told given made comes = ap (λ (said : Result BootSoFar Cause). said >>= λ
 
 -- the claims of a table that was finished
 pub claims-told : (given : Given) (c : Claims) (entries extension : List Entry) (edits : List Edit) (more : List Entry)
-    → c ≡ finished entries extension edits more
+    → c ≡ final_claims entries extension edits more
     → entries ≡ given.entries → extension ≡ given.extension → edits ≡ given.options.edits → more ≡ added given → claims given ≡ c
 claims-told given c entries extension edits more is first second third fourth = cc

@@ -6,7 +6,7 @@ use Rattle.e820_sanitise.specs.declared.fault.MapFault.{MapFault}
 use Rattle.e820_sanitise.specs.declared.fault.MapFault.TheVariants as faults
 use Rattle.e820_usable.specs.declared.stop.MapStop.{MapStop}
 use Rattle.e820_usable.specs.Judged.{judged}
-use Rattle.e820_model.specs.Usable.{reachable}
+use Rattle.e820_model.specs.Usable.{types_below}
 use Rattle.bm_base.specs.ResultSteps.{with_error}
 use Rattle.phys_store.specs.Bytes.{Stored, byte_of}
 use Rattle.memblock_model.specs.declared.which.Which.{Which}
@@ -46,7 +46,7 @@ goes_on_with (Some reason) map = Err (stop_of (cause_of_map reason))
 
 -- what is made of that answer: the map's own frames are judged, as far as the kernel's tables of memory reach
 abbrev pub judged_answer : ℕ → MapAnswer → Result (List (RunOf ℕ)) Stop
-judged_answer reach (Ok runs) = goes_on_with (judged (reachable reach (value_at runs.items))) runs.items
+judged_answer reach (Ok runs) = goes_on_with (judged (types_below reach (value_at runs.items))) runs.items
 judged_answer reach (Err fault) = Err (stop_of_map fault)
 
 -- by that answer the boot goes on to judge the frames, or stops; with no memory for it nothing is said

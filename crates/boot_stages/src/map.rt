@@ -3,10 +3,10 @@
 
 ghost use Rattle.std.specs.Prelude.{◌≡◌, ◌↔◌, IfOk, IsErrOf, OnOk};
 ghost use Rattle.address_runs.specs.Runs.{AreRuns, value_at};
-ghost use Rattle.e820_model.specs.Claims.{EndInSpace, HaveTypes, finished, with_extension, with_options};
+ghost use Rattle.e820_model.specs.Claims.{EntriesFit, HaveTypes, final_claims, with_extension, with_options};
 ghost use Rattle.e820_model.specs.Map.{claims_of};
 ghost use Rattle.bm_base.specs.Answers.{Answers};
-ghost use Rattle.e820_model.specs.Usable.{reachable};
+ghost use Rattle.e820_model.specs.Usable.{types_below};
 ghost use Rattle.e820_usable.specs.Judged.{judged};
 ghost use Rattle.boot_model.specs.Boot.{added};
 ghost use Rattle.boot_model.specs.View.{inputs_view};
@@ -29,11 +29,11 @@ pub fn finished_table(
     edits: &[Edit],
     added: &[Entry],
 ) -> Result<Table, Memory>
-    requires entries_end { EndInSpace entries.now }
-    requires extension_ends { EndInSpace extension.now }
+    requires entries_end { EntriesFit entries.now }
+    requires extension_ends { EntriesFit extension.now }
     requires types { HaveTypes edits.now }
-    requires added_end { EndInSpace added.now }
-    ensures { IfOk result (λ table. claims_of table ≡ finished entries.now extension.now edits.now added.now) }
+    requires added_end { EntriesFit added.now }
+    ensures { IfOk result (λ table. claims_of table ≡ final_claims entries.now extension.now edits.now added.now) }
 {
     let mut table = Table::new(alloc);
     append_settled(&mut table, entries)?;
@@ -47,7 +47,7 @@ pub fn finished_table(
 /// (`add_efi_memmap`).
 pub fn added_entries(inputs: &Inputs) -> &[Entry]
     ensures value { result.now ≡ added (inputs_view inputs.now) }
-    ensures space { EndInSpace result.now }
+    ensures space { EntriesFit result.now }
 {
     match &inputs.efi {
         Some(efi) if inputs.options.add_efi => &efi.entries,
@@ -57,7 +57,7 @@ pub fn added_entries(inputs: &Inputs) -> &[Entry]
 
 /// Appends the entries, and settles the table (`e820__memory_setup`, `e820__memory_setup_extended`).
 fn append_settled(table: &mut Table, entries: &[Entry]) -> Result<(), Memory>
-    requires { EndInSpace entries.now }
+    requires { EntriesFit entries.now }
     ensures { OnOk result (claims_of table.new ≡ with_extension entries.now (claims_of table.old)) }
 {
     table.append(entries)?;
@@ -68,7 +68,7 @@ fn append_settled(table: &mut Table, entries: &[Entry]) -> Result<(), Memory>
 /// (`e820__finish_early_params`).
 fn edit_settled(table: &mut Table, edits: &[Edit], added: &[Entry]) -> Result<(), Memory>
     requires types { HaveTypes edits.now }
-    requires added_end { EndInSpace added.now }
+    requires added_end { EntriesFit added.now }
     ensures { OnOk result (claims_of table.new ≡ with_options edits.now added.now (claims_of table.old)) }
 {
     for edit in edits {
@@ -97,7 +97,7 @@ pub fn judged_map(answer: Result<Vec<Run>, MapFault>, reach: u64) -> Result<Vec<
 fn go_on(map: Vec<Run>, reach: u64) -> Result<Vec<Run>, Stop>
     requires { AreRuns map.items }
     ensures answers { Answers Stop.Memory (λ runs. runs.items) result
-        (goes_on_with (judged (reachable reach (value_at map.items))) map.items) }
+        (goes_on_with (judged (types_below reach (value_at map.items))) map.items) }
     ensures always { ¬ IsErrOf result Stop.Memory }
     ensures runs { IfOk result (λ runs. AreRuns runs.items) }
 {

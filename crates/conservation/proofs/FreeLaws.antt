@@ -8,7 +8,7 @@ use Rattle.bm_base.specs.Zones.{zone_of}
 use Rattle.bm_base.specs.Frames.{bytes_of_frame}
 use Rattle.bm_base.proofs.EachLaws.{each_in-all, each_in-each}
 use Rattle.address_runs.specs.Edits.{NothingFrom}
-use Rattle.e820_model.specs.Usable.{is_usable}
+use Rattle.e820_model.specs.Usable.{is_usable_frame}
 use Rattle.memblock_model.specs.Labels.{Label, tag_for, node_of_tag}
 use Rattle.memblock_model.specs.Items.{memory_of, owner_of}
 use Rattle.memblock_model.specs.Tables.{reserved_of, without_owner}
@@ -29,7 +29,7 @@ use Rattle.conservation.proofs.ClaimedLaws.{covers_frame, frame_covers}
 
 -- what is known of what a boot tells: the bytes of memory are those of the usable frames, and each of them has a node
 pub record IsTold (given : Given) (t : Told) : Type 0 where
-  pub memory : (x : ℕ) → is_some (memory_of t.items x) ≡ is_usable (types_in_reach given) (x / 4096)
+  pub memory : (x : ℕ) → is_some (memory_of t.items x) ≡ is_usable_frame (types_in_reach given) (x / 4096)
   pub noded : IsNoded (reach given) (memory_of t.items)
   pub free : t.free ≡ handed_over t.items
   pub after : t.after ≡ after_with t.lists (nothing_taken t.free) given.page_lines
@@ -62,7 +62,7 @@ module _ (given : Given) (t : Told) (known : IsTold given t) where
   -- a usable frame's bytes are memory
   held : (frame x : ℕ) → IsUsable given frame → covers (bytes_of_frame frame) x ≡ true → is_some (memory_of t.items x) ≡ true
   held frame x usable inside =
-      known.memory x ∙ ap (λ k. is_usable (types_in_reach given) k) (number frame x inside) ∙ usable
+      known.memory x ∙ ap (λ k. is_usable_frame (types_in_reach given) k) (number frame x inside) ∙ usable
 
   -- they all carry what the first one does
   same_labels : (frame x : ℕ) → covers (bytes_of_frame frame) x ≡ true → memory_of t.items x ≡ memory_of t.items (4096 * frame)
@@ -88,7 +88,7 @@ module _ (given : Given) (t : Told) (known : IsTold given t) where
       and_parts (is_some (memory_of t.items x)) (is_none (reserved_of (owner_of t.items) x))
       (each_in-each (bytes_of_frame frame) both parts.0 x ends.0 ends.1)) in
       record {
-        usable = ap (λ k. is_usable (types_in_reach given) k) (sym (number frame (4096 * frame) (first_byte frame)))
+        usable = ap (λ k. is_usable_frame (types_in_reach given) k) (sym (number frame (4096 * frame) (first_byte frame)))
             ∙ sym (known.memory (4096 * frame)) ∙ (each (4096 * frame) (first_byte frame)).0;
         untouched = λ x inside. unowned (owner_of t.items x) (each x inside).1;
         node = λ x inside. ap (λ o. node_of_tag (tag_for o)) (same_labels frame x inside)

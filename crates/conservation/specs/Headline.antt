@@ -5,7 +5,7 @@ use Rattle.std.specs.Prelude.{◌≡◌, ◌⊎◌, ℕ, ◌+◌, ◌-◌, ◌%�
 use Rattle.bm_base.specs.Range.{covers}
 use Rattle.bm_base.specs.Frames.{bytes_of_frame}
 use Rattle.bm_base.specs.Zones.{zone_of}
-use Rattle.e820_model.specs.Usable.{is_usable}
+use Rattle.e820_model.specs.Usable.{is_usable_frame}
 use Rattle.memblock_model.specs.Labels.{node_of_tag}
 use Rattle.memblock_model.specs.Items.{tag_of}
 use Rattle.memblock_model.specs.declared.item.Item.{Item}
@@ -18,7 +18,7 @@ use Rattle.conservation.specs.Claimed.{IsTouched, IsUntouched}
 -- each byte of the frame is RAM, or memory of the kernel's own, by the finished map, below the limit of addresses that the kernel's tables
 -- reach (`e820__memblock_setup`, `memblock_trim_memory`)
 abbrev pub IsUsable : Given → ℕ → Type 0
-IsUsable given frame = is_usable (types_in_reach given) frame ≡ true
+IsUsable given frame = is_usable_frame (types_in_reach given) frame ≡ true
 
 -- whether the block has the frame, as one of its 2^order frames from the first one on
 abbrev pub has_frame : Block → ℕ → Bool

@@ -7,10 +7,10 @@ use Rattle.bm_base.specs.Each.{each_from, each_in}
 use Rattle.bm_base.specs.Frames.{bytes_of_frame}
 use Rattle.bm_base.specs.declared.zone.Zone.TheVariants as zone
 use Rattle.address_runs.specs.Runs.{RunOf, value_at}
-use Rattle.e820_model.specs.Usable.{is_memory, reachable, usable_frames}
+use Rattle.e820_model.specs.Usable.{is_memory, types_below, usable_frames}
 use Rattle.e820_model.proofs.UsableLaws.{count_frames_between, count_same, memory_reached, usable_count}
 use Rattle.boot_options.specs.Crash.{no_crash}
-use Rattle.e820_model.specs.declared.edit.Edit.TheVariants as edits
+use Rattle.e820_model.specs.declared.entry.Edit.TheVariants as edits
 use Rattle.memblock_ranges.specs.declared.region.Heads.{Heads}
 use Rattle.memblock_model.specs.Labels.{Label, plain_label}
 use Rattle.early_script.specs.declared.outcome.Outcome.TheVariants as outcomes
@@ -174,13 +174,13 @@ small = record nothing {
 }
 
 -- the second run of that map isn't memory
-small_memory : (x : ℕ) → is_memory (reachable (2 ^ 46) (value_at (six_frames ∷ reserved ∷ [])) x) ≡ (nat_le 0 x && nat_lt x 0x6000)
+small_memory : (x : ℕ) → is_memory (types_below (2 ^ 46) (value_at (six_frames ∷ reserved ∷ [])) x) ≡ (nat_le 0 x && nat_lt x 0x6000)
 unfolding six_frames reserved
 small_memory x = memory_reached (2 ^ 46) (value_at (six_frames ∷ reserved ∷ [])) x ∙ grind (arith, nat_tests)
 
-small_usable : usable_frames (reachable (2 ^ 46) (value_at (six_frames ∷ reserved ∷ []))) ≡ 6
+small_usable : usable_frames (types_below (2 ^ 46) (value_at (six_frames ∷ reserved ∷ []))) ≡ 6
 small_usable =
-    usable_count (reachable (2 ^ 46) (value_at (six_frames ∷ reserved ∷ [])))
+    usable_count (types_below (2 ^ 46) (value_at (six_frames ∷ reserved ∷ [])))
     ∙ count_same _ _ (2 ^ 52) (λ frame low. each_in-same (bytes_of_frame frame) _ _ (λ x from below. small_memory x))
     ∙ count_frames_between 0 0x6000 (2 ^ 52)
 

@@ -2,7 +2,7 @@
 use Rattle.std.specs.Prelude.{ℕ, ◌^◌, List, length}
 use Rattle.std.specs.List.{sum_by}
 use Rattle.address_runs.specs.Runs.{value_at}
-use Rattle.e820_model.specs.Usable.{reachable, usable_frames}
+use Rattle.e820_model.specs.Usable.{types_below, usable_frames}
 use Rattle.frame_blocks.specs.declared.block.Block.{Block}
 use Rattle.frame_blocks.specs.Listed.{blocks_of}
 use Rattle.memblock_ranges.specs.declared.region.Head.{Head}
@@ -23,7 +23,7 @@ fullness_of head = record { records = head.count; room = head.room }
 abbrev pub summary_of : Told → Summary
 summary_of told = record {
   runs = length told.map;
-  usable = usable_frames (reachable (reach_told told) (value_at told.map));
+  usable = usable_frames (types_below (reach_told told) (value_at told.map));
   free = frames_in (blocks_of told.free);
   memory = fullness_of told.heads.memory;
   reserved = fullness_of told.heads.reserved;

@@ -1,10 +1,10 @@
 -- Small maps, computed from their entries.
 use Rattle.std.proofs.Common.{◌≡◌, ℕ, ◌^◌, ◌<◌, ◌+◌, ◌==◌, Bool, true, false, ◌&&◌, ◌||◌, nat_lt, List, [], ◌∷◌, refl, arith}
 use Rattle.std.proofs.lemmas.Bool.Decides.{nat_tests}
-use Rattle.e820_model.specs.Claims.{Claims, no_claims, is_covered_by, EndInSpace, greatest_below, greatest, type_of, settled, with_claims, claims_of_entries, edited, HasTypes, HaveTypes, after_edits, first_page, bios_area, bios_trimmed, of_zero_page, with_extension, with_options, finished}
+use Rattle.e820_model.specs.Claims.{Claims, no_claims, is_covered_by, EntriesFit, greatest_below, greatest_type, type_of, settled_claims, with_claims, claims_of_entries, after_edit, HasTypes, HaveTypes, after_edits, first_page, bios_area, after_bios_trim, zero_page_claims, with_extension, with_options, final_claims}
 use Rattle.e820_model.specs.declared.entry.Entry.{Entry}
-use Rattle.e820_model.specs.declared.edit.Edit.{Edit}
-use Rattle.e820_model.specs.declared.edit.Edit.TheVariants as edit
+use Rattle.e820_model.specs.declared.entry.Edit.{Edit}
+use Rattle.e820_model.specs.declared.entry.Edit.TheVariants as edit
 use Rattle.bm_base.specs.Range.{RangeView, covers}
 use Rattle.e820_model.proofs.ClaimLaws.{greatest_is}
 
@@ -19,8 +19,8 @@ covered_examples : (is_covered_by (record { addr = 0x1000; size = 0x1000; kind =
     × (is_covered_by (record { addr = 0x1000; size = 0x1000; kind = 1 }) 0x2000 ≡ false)
 covered_examples = (refl, refl, refl, refl)
 
-ends_at_the_end : EndInSpace (record { addr = 0xFFFFFFFFFFFFF000; size = 0xFFF; kind = 2 } ∷ [])
-    × (¬ EndInSpace (record { addr = 0xFFFFFFFFFFFFF000; size = 0x1000; kind = 2 } ∷ []))
+ends_at_the_end : EntriesFit (record { addr = 0xFFFFFFFFFFFFF000; size = 0xFFF; kind = 2 } ∷ [])
+    × (¬ EntriesFit (record { addr = 0xFFFFFFFFFFFFF000; size = 0x1000; kind = 2 } ∷ []))
 ends_at_the_end = ((omega arith, tt), λ ends. let small : 0xFFFFFFFFFFFFF000 + 0x1000 < 2 ^ 64 = ends.0 in absurd (omega arith))
 
 -- both entries claim the address 1 MiB, neither does 2 MiB, an empty entry claims nothing, and an entry of type 0 neither
@@ -41,10 +41,10 @@ later_does_not_win =
     greatest_is (claims_of_entries ram_and_acpi 0x100000) 3 (omega arith) (λ some. refl) (λ k higher small. grind (arith, nat_tests))
 
 -- of no types at all the greatest is 0, of a single type that type
-greatest_of_none : greatest (λ k. false) ≡ 0
+greatest_of_none : greatest_type (λ k. false) ≡ 0
 greatest_of_none = greatest_is (λ k. false) 0 (omega arith) (λ some. absurd (omega arith)) (λ k higher small. refl)
 
-greatest_of_one : greatest (λ k. k == 0xEFFFFFFF) ≡ 0xEFFFFFFF
+greatest_of_one : greatest_type (λ k. k == 0xEFFFFFFF) ≡ 0xEFFFFFFF
 greatest_of_one = greatest_is (λ k. k == 0xEFFFFFFF) 0xEFFFFFFF (omega arith) (λ some. refl) (λ k higher small. grind (arith, nat_tests))
 
 -- nothing claims 2 MiB, so its type is 0
@@ -53,8 +53,8 @@ unclaimed_has_type_0 =
     greatest_is (claims_of_entries ram_and_acpi 0x200000) 0 (omega arith) (λ some. absurd (omega arith)) (λ k higher small. refl)
 
 -- settling leaves ACPI data alone at 1 MiB, and not RAM; it claims nothing where nothing did
-settled_examples : (settled (claims_of_entries ram_and_acpi) 0x100000 3 ≡ true)
-    × (settled (claims_of_entries ram_and_acpi) 0x100000 1 ≡ false) × (settled (claims_of_entries ram_and_acpi) 0x200000 0 ≡ false)
+settled_examples : (settled_claims (claims_of_entries ram_and_acpi) 0x100000 3 ≡ true)
+    × (settled_claims (claims_of_entries ram_and_acpi) 0x100000 1 ≡ false) × (settled_claims (claims_of_entries ram_and_acpi) 0x200000 0 ≡ false)
 settled_examples = (rw later_does_not_win refl, rw later_does_not_win refl, refl)
 
 -- what is added claims beside what was there
@@ -73,19 +73,19 @@ page = record { base = 0x1000; size = 0x1000 }
 abbrev ram_and_nvs : Claims
 ram_and_nvs x k = k == 1 || k == 4
 
-add_examples : (edited (edit.Add page 2) ram_and_nvs 0x1FFF 2 ≡ true) × (edited (edit.Add page 2) ram_and_nvs 0x1FFF 1 ≡ true)
-    × (edited (edit.Add page 2) ram_and_nvs 0x2000 2 ≡ false)
+add_examples : (after_edit (edit.Add page 2) ram_and_nvs 0x1FFF 2 ≡ true) × (after_edit (edit.Add page 2) ram_and_nvs 0x1FFF 1 ≡ true)
+    × (after_edit (edit.Add page 2) ram_and_nvs 0x2000 2 ≡ false)
 add_examples = (refl, refl, refl)
 
-remove_examples : (edited (edit.Remove page 1) ram_and_nvs 0x1000 1 ≡ false) × (edited (edit.Remove page 1) ram_and_nvs 0x1000 4 ≡ true)
-    × (edited (edit.Remove page 1) ram_and_nvs 0xFFF 1 ≡ true)
+remove_examples : (after_edit (edit.Remove page 1) ram_and_nvs 0x1000 1 ≡ false) × (after_edit (edit.Remove page 1) ram_and_nvs 0x1000 4 ≡ true)
+    × (after_edit (edit.Remove page 1) ram_and_nvs 0xFFF 1 ≡ true)
 remove_examples = (refl, refl, refl)
 
-remove_all_examples : (edited (edit.RemoveAll page) ram_and_nvs 0x1000 1 ≡ false)
-    × (edited (edit.RemoveAll page) ram_and_nvs 0x1000 4 ≡ false) × (edited (edit.RemoveAll page) ram_and_nvs 0x2000 4 ≡ true)
+remove_all_examples : (after_edit (edit.RemoveAll page) ram_and_nvs 0x1000 1 ≡ false)
+    × (after_edit (edit.RemoveAll page) ram_and_nvs 0x1000 4 ≡ false) × (after_edit (edit.RemoveAll page) ram_and_nvs 0x2000 4 ≡ true)
 remove_all_examples = (refl, refl, refl)
 
-clear_examples : (edited edit.Clear ram_and_nvs 0x1000 1 ≡ false) × (edited edit.Clear ram_and_nvs 0x9000 4 ≡ false)
+clear_examples : (after_edit edit.Clear ram_and_nvs 0x1000 1 ≡ false) × (after_edit edit.Clear ram_and_nvs 0x9000 4 ≡ false)
 clear_examples = (refl, refl)
 
 has_types : HasTypes (edit.Change page 1 2) × HasTypes edit.Clear × HaveTypes (edit.Add page 7 ∷ edit.RemoveAll page ∷ [])
@@ -110,9 +110,9 @@ after_examples : (after_edits (edit.Clear ∷ edit.Add page 1 ∷ []) ram_and_nv
 after_examples = (refl, refl, refl, refl)
 
 -- a change takes the place of the one type and leaves the other
-change_examples : (edited (edit.Change (record { base = 0; size = 0x200000 }) 1 4) (claims_of_entries ram_and_acpi) 0x100000 4 ≡ true)
-    × (edited (edit.Change (record { base = 0; size = 0x200000 }) 1 4) (claims_of_entries ram_and_acpi) 0x100000 1 ≡ false)
-    × (edited (edit.Change (record { base = 0; size = 0x200000 }) 1 4) (claims_of_entries ram_and_acpi) 0x100000 3 ≡ true)
+change_examples : (after_edit (edit.Change (record { base = 0; size = 0x200000 }) 1 4) (claims_of_entries ram_and_acpi) 0x100000 4 ≡ true)
+    × (after_edit (edit.Change (record { base = 0; size = 0x200000 }) 1 4) (claims_of_entries ram_and_acpi) 0x100000 1 ≡ false)
+    × (after_edit (edit.Change (record { base = 0; size = 0x200000 }) 1 4) (claims_of_entries ram_and_acpi) 0x100000 3 ≡ true)
 change_examples = (refl, refl, refl)
 
 -- 4 KiB from 0 on, and 640 KiB up to 1 MiB
@@ -121,9 +121,9 @@ bios_areas : (covers first_page 0xFFF ≡ true) × (covers first_page 0x1000 ≡
 bios_areas = (refl, refl, refl, refl, refl, refl)
 
 -- the trim makes the first page the BIOS's and leaves the second; it takes RAM away from 640 KiB on, and nothing below
-trim_examples : (bios_trimmed (claims_of_entries ram_and_acpi) 0xFFF 2 ≡ true)
-    × (bios_trimmed (claims_of_entries ram_and_acpi) 0x1000 1 ≡ true) × (bios_trimmed (claims_of_entries ram_and_acpi) 0xA0000 1 ≡ false)
-    × (bios_trimmed (claims_of_entries ram_and_acpi) 0x9FFFF 1 ≡ true)
+trim_examples : (after_bios_trim (claims_of_entries ram_and_acpi) 0xFFF 2 ≡ true)
+    × (after_bios_trim (claims_of_entries ram_and_acpi) 0x1000 1 ≡ true) × (after_bios_trim (claims_of_entries ram_and_acpi) 0xA0000 1 ≡ false)
+    × (after_bios_trim (claims_of_entries ram_and_acpi) 0x9FFFF 1 ≡ true)
 trim_examples = (refl, refl, refl, refl)
 
 -- the whole way: RAM up to 2 MiB with ACPI data in it; an extension that has a page at 1.5 MiB as ACPI NVS;
@@ -139,7 +139,7 @@ abbrev efi : List Entry
 efi = record { addr = 0; size = 0x200000; kind = 1 } ∷ record { addr = 0x190000; size = 0x1000; kind = 3 } ∷ []
 
 abbrev first_claims : Claims
-first_claims = of_zero_page ram_and_acpi
+first_claims = zero_page_claims ram_and_acpi
 
 abbrev second_claims : Claims
 second_claims = with_extension extension first_claims
@@ -160,15 +160,15 @@ abbrev third_claims : Claims
 third_claims = with_claims (after_edits edits second_claims) (claims_of_entries efi)
 
 changed : (x t u : ℕ) → type_of (with_claims first_claims (claims_of_entries extension)) x ≡ t → u < 2 ^ 32
-    → (0 < u → (edited (edit.Add (record { base = 0x100000; size = 0x81000 }) 2) (λ y. alone t) x u || claims_of_entries efi x u) ≡ true)
+    → (0 < u → (after_edit (edit.Add (record { base = 0x100000; size = 0x81000 }) 2) (λ y. alone t) x u || claims_of_entries efi x u) ≡ true)
     → ((k : ℕ) → u < k → k < 2 ^ 32
-    → (edited (edit.Add (record { base = 0x100000; size = 0x81000 }) 2) (λ y. alone t) x k || claims_of_entries efi x k) ≡ false)
+    → (after_edit (edit.Add (record { base = 0x100000; size = 0x81000 }) 2) (λ y. alone t) x k || claims_of_entries efi x k) ≡ false)
     → type_of third_claims x ≡ u
 changed x t u known small is_in none =
     greatest_is (third_claims x) u small (λ some. rw known (is_in some)) (λ k higher below. rw known (none k higher below))
 
 -- the zero page alone: ACPI data at 1 MiB, RAM not beside it
-zero_page_examples : (of_zero_page ram_and_acpi 0x100000 3 ≡ true) × (of_zero_page ram_and_acpi 0x100000 1 ≡ false)
+zero_page_examples : (zero_page_claims ram_and_acpi 0x100000 3 ≡ true) × (zero_page_claims ram_and_acpi 0x100000 1 ≡ false)
 zero_page_examples = (settled_examples.0, settled_examples.1)
 
 -- at 1.5 MiB the extension's type is greater than RAM, and then greater than the option's
@@ -188,7 +188,7 @@ nvs_stays = changed 0x180000 4 4 nvs_with_extension (omega arith) (λ some. refl
 nvs_after_the_edits : (with_options edits efi second_claims 0x180000 2 ≡ false) × (with_options edits efi second_claims 0x180000 4 ≡ true)
 nvs_after_the_edits = (rw nvs_stays refl, rw nvs_stays refl)
 
-nvs_in_the_map : finished ram_and_acpi extension edits efi 0x180000 4 ≡ true
+nvs_in_the_map : final_claims ram_and_acpi extension edits efi 0x180000 4 ≡ true
 nvs_in_the_map = rw nvs_stays refl
 
 -- what it has as ACPI data was RAM before
@@ -198,14 +198,14 @@ ram_before =
     greatest_is (claims_of_entries ram_and_acpi 0x190000) 1 (omega arith) (λ some. refl) (λ k higher small. grind (arith, nat_tests)) in
     extended 0x190000 1 1 ram (omega arith) (λ some. refl) (λ k higher small. grind (arith, nat_tests))
 
-efi_wins : (finished ram_and_acpi extension edits efi 0x190000 3 ≡ true) × (finished ram_and_acpi extension edits efi 0x190000 1 ≡ false)
+efi_wins : (final_claims ram_and_acpi extension edits efi 0x190000 3 ≡ true) × (final_claims ram_and_acpi extension edits efi 0x190000 1 ≡ false)
 efi_wins =
     let acpi : type_of third_claims 0x190000 ≡ 3 =
     changed 0x190000 1 3 ram_before (omega arith) (λ some. refl) (λ k higher small. grind (arith, nat_tests)) in
     (rw acpi refl, rw acpi refl)
 
 -- the EFI map comes in behind the edits: `memmap=exactmap` clears what firmware's table says, and none of it
-behind_the_edits : (entries more : List Entry) → finished entries more (edit.Clear ∷ []) efi 0x190000 3 ≡ true
+behind_the_edits : (entries more : List Entry) → final_claims entries more (edit.Clear ∷ []) efi 0x190000 3 ≡ true
 behind_the_edits entries more =
     let acpi : type_of (with_claims no_claims (claims_of_entries efi)) 0x190000 ≡ 3 =
     greatest_is (with_claims no_claims (claims_of_entries efi) 0x190000) 3 (omega arith) (λ some. refl)
@@ -222,20 +222,20 @@ ram_until_the_trim x low =
     extended x 1 1 ram (omega arith) (λ some. grind (arith, nat_tests)) (λ k higher small. grind (arith, nat_tests)) in
     changed x 1 1 still (omega arith) (λ some. grind (arith, nat_tests)) (λ k higher small. grind (arith, nat_tests))
 
-first_byte_in_the_map : (finished ram_and_acpi extension edits efi 0 2 ≡ true) × (finished ram_and_acpi extension edits efi 0 1 ≡ false)
+first_byte_in_the_map : (final_claims ram_and_acpi extension edits efi 0 2 ≡ true) × (final_claims ram_and_acpi extension edits efi 0 1 ≡ false)
 first_byte_in_the_map = let ram : type_of third_claims 0 ≡ 1 = ram_until_the_trim 0 (omega arith) in (rw ram refl, rw ram refl)
 
-ram_below_640K : (finished ram_and_acpi extension edits efi 0xA0000 1 ≡ false)
-    × (finished ram_and_acpi extension edits efi 0x9FFFF 1 ≡ true)
+ram_below_640K : (final_claims ram_and_acpi extension edits efi 0xA0000 1 ≡ false)
+    × (final_claims ram_and_acpi extension edits efi 0x9FFFF 1 ≡ true)
 ram_below_640K = (rw (ram_until_the_trim 0xA0000 (omega arith)) refl, rw (ram_until_the_trim 0x9FFFF (omega arith)) refl)
 
 -- options and the EFI map go before the trim: RAM that they add from 0 to 1 MiB isn't RAM in the first page, nor from 640 KiB on
-trimmed_of_ram : (c : Claims) → (bios_trimmed c 0 1 ≡ false) × (bios_trimmed c 0xA0000 1 ≡ false)
+trimmed_of_ram : (c : Claims) → (after_bios_trim c 0 1 ≡ false) × (after_bios_trim c 0xA0000 1 ≡ false)
 trimmed_of_ram c = (grind (arith, nat_tests), grind (arith, nat_tests))
 
 abbrev ram_added : List Edit
 ram_added = edit.Add (record { base = 0; size = 0x100000 }) 1 ∷ []
 
-options_before_the_trim : (entries more : List Entry) → (finished entries more ram_added efi 0 1 ≡ false)
-    × (finished entries more ram_added efi 0xA0000 1 ≡ false)
-options_before_the_trim entries more = trimmed_of_ram (with_options ram_added efi (with_extension more (of_zero_page entries)))
+options_before_the_trim : (entries more : List Entry) → (final_claims entries more ram_added efi 0 1 ≡ false)
+    × (final_claims entries more ram_added efi 0xA0000 1 ≡ false)
+options_before_the_trim entries more = trimmed_of_ram (with_options ram_added efi (with_extension more (zero_page_claims entries)))

@@ -6,10 +6,10 @@ use Rattle.std.proofs.lemmas.Bool.{cases_lt, cases_Bool}
 use Rattle.std.proofs.Math.Bool.{or_assoc}
 use Rattle.address_runs.specs.Runs.{RunOf, DecidesEquality, run_end, lies_in, value_at, AreRuns, IsRunsOf}
 use Rattle.address_runs.proofs.RunsLaws.{inside, behind, none_below, rest_from, by_address, one_list}
-use Rattle.e820_model.specs.Claims.{Types, Claims, greatest_below, greatest, type_of, settled, with_claims, claims_of_entries, after_edits, of_zero_page, with_extension, bios_trimmed, finished}
+use Rattle.e820_model.specs.Claims.{Types, Claims, greatest_below, greatest_type, type_of, settled_claims, with_claims, claims_of_entries, after_edits, zero_page_claims, with_extension, after_bios_trim, final_claims}
 use Rattle.e820_model.specs.Map.{some_kind, kinds, same_kind, map_of, claims_of, AreClaims}
 use Rattle.e820_model.specs.declared.entry.Entry.{Entry}
-use Rattle.e820_model.specs.declared.edit.Edit.{Edit}
+use Rattle.e820_model.specs.declared.entry.Edit.{Edit}
 
 -- the greatest type is in the set, unless it is 0
 pub among_below : (s : Types) (n : ℕ) → 0 < greatest_below s n → s (greatest_below s n) ≡ true
@@ -74,34 +74,34 @@ below_is s n m small is_in none =
     ]
 
 -- the greatest type of a set
-pub greatest_among : (s : Types) → 0 < greatest s → s (greatest s) ≡ true
-unfolding greatest
+pub greatest_among : (s : Types) → 0 < greatest_type s → s (greatest_type s) ≡ true
+unfolding greatest_type
 greatest_among s some = among_below s (2 ^ 32) some
 
-pub greatest_above : (s : Types) (k : ℕ) → k < 2 ^ 32 → s k ≡ true → k ≤ greatest s
-unfolding greatest
+pub greatest_above : (s : Types) (k : ℕ) → k < 2 ^ 32 → s k ≡ true → k ≤ greatest_type s
+unfolding greatest_type
 greatest_above s k small is_in = above_below s (2 ^ 32) k small is_in
 
-pub greatest_small : (s : Types) → greatest s < 2 ^ 32
-unfolding greatest
+pub greatest_small : (s : Types) → greatest_type s < 2 ^ 32
+unfolding greatest_type
 greatest_small s =
     elim (cases_lt 0 (greatest_below s (2 ^ 32))) as (λ _. greatest_below s (2 ^ 32) < 2 ^ 32) [
       | inl some ↦ lower_than s (2 ^ 32) some
       | inr ge ↦ omega arith
     ]
 
-pub greatest_is : (s : Types) (m : ℕ) → m < 2 ^ 32 → (0 < m → s m ≡ true) → ((k : ℕ) → m < k → k < 2 ^ 32 → s k ≡ false) → greatest s ≡ m
-unfolding greatest
+pub greatest_is : (s : Types) (m : ℕ) → m < 2 ^ 32 → (0 < m → s m ≡ true) → ((k : ℕ) → m < k → k < 2 ^ 32 → s k ≡ false) → greatest_type s ≡ m
+unfolding greatest_type
 greatest_is s m small is_in none = below_is s (2 ^ 32) m small is_in none
 
 -- settling keeps the type of every address
-pub settled_keeps : (c : Claims) (x : ℕ) → type_of (settled c) x ≡ type_of c x
+pub settled_keeps : (c : Claims) (x : ℕ) → type_of (settled_claims c) x ≡ type_of c x
 settled_keeps c x =
-    greatest_is (settled c x) (type_of c x) (greatest_small (c x)) (λ some. grind (arith, nat_tests))
+    greatest_is (settled_claims c x) (type_of c x) (greatest_small (c x)) (λ some. grind (arith, nat_tests))
     (λ k higher small. grind (arith, nat_tests))
 
 -- settled claims are one at most
-pub settled_one : (c : Claims) (x j k : ℕ) → settled c x j ≡ true → settled c x k ≡ true → j ≡ k
+pub settled_one : (c : Claims) (x j k : ℕ) → settled_claims c x j ≡ true → settled_claims c x k ≡ true → j ≡ k
 settled_one c x j k is_j is_k = grind (arith, nat_tests)
 
 -- the trim leaves one claim where there was one
@@ -112,24 +112,24 @@ trim_one : (low high one : Bool) (is_j is_k : Bool) (j k : ℕ) → (is_j ≡ tr
     → j ≡ k
 trim_one low high one is_j is_k j k same one_j one_k at_j at_k = grind (arith, nat_tests, same, one_j, one_k)
 
-pub bios_trimmed_one : (c : Claims) (x j k : ℕ) → ((i l : ℕ) → c x i ≡ true → c x l ≡ true → i ≡ l) → bios_trimmed c x j ≡ true
-    → bios_trimmed c x k ≡ true → j ≡ k
+pub bios_trimmed_one : (c : Claims) (x j k : ℕ) → ((i l : ℕ) → c x i ≡ true → c x l ≡ true → i ≡ l) → after_bios_trim c x j ≡ true
+    → after_bios_trim c x k ≡ true → j ≡ k
 bios_trimmed_one c x j k one at_j at_k =
     trim_one _ _ (c x 1) (c x j) (c x k) j k (one j k) (λ a b. sym (one 1 j a b)) (λ a b. sym (one 1 k a b)) at_j at_k
 
 pub finished_one : (entries extension : List Entry) (edits : List Edit) (added : List Entry) (x j k : ℕ)
-    → finished entries extension edits added x j ≡ true → finished entries extension edits added x k ≡ true → j ≡ k
+    → final_claims entries extension edits added x j ≡ true → final_claims entries extension edits added x k ≡ true → j ≡ k
 finished_one entries extension edits added x j k at_j at_k =
-    let before : Claims = with_claims (after_edits edits (with_extension extension (of_zero_page entries))) (claims_of_entries added) in
-    bios_trimmed_one (settled before) x j k (settled_one before x) at_j at_k
+    let before : Claims = with_claims (after_edits edits (with_extension extension (zero_page_claims entries))) (claims_of_entries added) in
+    bios_trimmed_one (settled_claims before) x j k (settled_one before x) at_j at_k
 
 -- where nothing is added the claims are those of the edits
 pub none_added : (entries extension : List Entry) (edits : List Edit)
-    → finished entries extension edits [] ≡ bios_trimmed (settled (after_edits edits (with_extension extension (of_zero_page entries))))
+    → final_claims entries extension edits [] ≡ after_bios_trim (settled_claims (after_edits edits (with_extension extension (zero_page_claims entries))))
 none_added entries extension edits =
-    let before : Claims = after_edits edits (with_extension extension (of_zero_page entries)) in
+    let before : Claims = after_edits edits (with_extension extension (zero_page_claims entries)) in
     let same : with_claims before (claims_of_entries []) ≡ before = λ i x k. or-false (before x k) i in
-    ap (λ (c : Claims). bios_trimmed (settled c)) same
+    ap (λ (c : Claims). after_bios_trim (settled_claims c)) same
 
 -- lists of runs read as claims
 
@@ -245,7 +245,7 @@ is_value_kind t k =
       | inr some ↦ rw some (grind (arith, nat_tests))
     ]
 
-settled_at : (c : Claims) (rs : List (RunOf ℕ)) (x k : ℕ) → IsRunsOf (kinds c) rs → claims_of rs x k ≡ settled c x k
+settled_at : (c : Claims) (rs : List (RunOf ℕ)) (x k : ℕ) → IsRunsOf (kinds c) rs → claims_of rs x k ≡ settled_claims c x k
 settled_at c rs x k known = claims_value rs x k known.runs ∙ ap (λ v. is_value v k) (known.each x) ∙ is_value_kind (type_of c x) k
 
 kind_of : (t k : ℕ) → some_kind t ≡ Some k → t < 2 ^ 32 → (0 < k) × (k < 2 ^ 32)
@@ -268,7 +268,7 @@ value_rest r rs x k runs found =
     ]
 
 -- the runs of a map, read as claims, are the settled claims
-pub settled_runs : (c : Claims) (rs : List (RunOf ℕ)) → IsRunsOf (kinds c) rs → claims_of rs ≡ settled c
+pub settled_runs : (c : Claims) (rs : List (RunOf ℕ)) → IsRunsOf (kinds c) rs → claims_of rs ≡ settled_claims c
 settled_runs c rs known = λ i x k. settled_at c rs x k known i
 
 -- a value of the map is a type

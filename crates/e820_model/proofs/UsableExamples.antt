@@ -4,7 +4,7 @@ use Rattle.std.proofs.lemmas.Bool.Decides.{nat_tests}
 use Rattle.address_runs.specs.Runs.{value_at}
 use Rattle.bm_base.specs.Each.{each_from, each_in}
 use Rattle.e820_model.specs.Map.{TypeAt}
-use Rattle.e820_model.specs.Usable.{is_memory, count_below, reachable, is_usable, usable_frames}
+use Rattle.e820_model.specs.Usable.{is_memory, count_below, types_below, is_usable_frame, usable_frames}
 use Rattle.e820_model.proofs.UsableLaws.{all_bytes, count_frames_between, usable_count}
 
 -- RAM and the kernel's memory count, reserved and unclaimed addresses don't
@@ -23,9 +23,9 @@ kernel_inside =
     value_at (record { base = 0x800; size = 0x1000; value = 1 } ∷ record { base = 0x1800; size = 0x1000; value = 128 }
     ∷ record { base = 0x2800; size = 0x1000; value = 1 } ∷ [])
 
-frame_examples : (is_usable kernel_inside 0 ≡ false) × (is_usable kernel_inside 1 ≡ true) × (is_usable kernel_inside 2 ≡ true)
-    × (is_usable kernel_inside 3 ≡ false) × (count_below (is_usable kernel_inside) 5 ≡ 2)
-unfolding kernel_inside each_from each_in count_below is_usable
+frame_examples : (is_usable_frame kernel_inside 0 ≡ false) × (is_usable_frame kernel_inside 1 ≡ true) × (is_usable_frame kernel_inside 2 ≡ true)
+    × (is_usable_frame kernel_inside 3 ≡ false) × (count_below (is_usable_frame kernel_inside) 5 ≡ 2)
+unfolding kernel_inside each_from each_in count_below is_usable_frame
 frame_examples = (refl, refl, refl, refl, refl)
 
 -- a byte of another type in the frame, or a byte that nothing claims, makes it unusable
@@ -37,15 +37,15 @@ one_byte_reserved =
 one_byte_missing : TypeAt
 one_byte_missing = value_at (record { base = 0; size = 0x1FFF; value = 1 } ∷ record { base = 0x2000; size = 0x1000; value = 1 } ∷ [])
 
-byte_examples : (count_below (is_usable one_byte_reserved) 4 ≡ 2) × (is_usable one_byte_reserved 1 ≡ false)
-    × (count_below (is_usable one_byte_missing) 4 ≡ 2) × (is_usable one_byte_missing 1 ≡ false)
-unfolding one_byte_reserved one_byte_missing each_from each_in count_below is_usable
+byte_examples : (count_below (is_usable_frame one_byte_reserved) 4 ≡ 2) × (is_usable_frame one_byte_reserved 1 ≡ false)
+    × (count_below (is_usable_frame one_byte_missing) 4 ≡ 2) × (is_usable_frame one_byte_missing 1 ≡ false)
+unfolding one_byte_reserved one_byte_missing each_from each_in count_below is_usable_frame
 byte_examples = (refl, refl, refl, refl)
 
 -- from the limit on no address has a type; it may lie inside a frame, which isn't usable then
-reach_examples : (reachable 0x1000 one_byte_reserved 0xFFF ≡ Some 1) × (reachable 0x1000 one_byte_reserved 0x1000 ≡ None)
-    × (is_usable (reachable 0x2800 kernel_inside) 1 ≡ true) × (is_usable (reachable 0x2800 kernel_inside) 2 ≡ false)
-unfolding one_byte_reserved kernel_inside each_from each_in is_usable
+reach_examples : (types_below 0x1000 one_byte_reserved 0xFFF ≡ Some 1) × (types_below 0x1000 one_byte_reserved 0x1000 ≡ None)
+    × (is_usable_frame (types_below 0x2800 kernel_inside) 1 ≡ true) × (is_usable_frame (types_below 0x2800 kernel_inside) 2 ≡ false)
+unfolding one_byte_reserved kernel_inside each_from each_in is_usable_frame
 reach_examples = (refl, refl, refl, refl)
 
 -- of one run of RAM the whole frames count: two of 12 KiB that begin and end inside a frame, and the highest of all

@@ -5,7 +5,7 @@ use Rattle.std.proofs.lemmas.Bool.Decides.{nat_tests}
 use Rattle.bm_base.specs.Each.{each_in}
 use Rattle.bm_base.specs.Frames.{bytes_of_frame}
 use Rattle.bm_base.proofs.EachLaws.{each_in-all, each_in-each, each_in-fails, each_in-same}
-use Rattle.e820_model.specs.Usable.{is_memory, count_below, reachable, is_usable, usable_frames}
+use Rattle.e820_model.specs.Usable.{is_memory, count_below, types_below, is_usable_frame, usable_frames}
 use Rattle.e820_model.specs.Map.{TypeAt}
 
 -- how many numbers below n
@@ -155,31 +155,31 @@ count_split p q gap n apart =
 -- usable frames
 
 -- a frame is usable where it is whole in memory
-pub usable_whole : (f : TypeAt) (frame : ℕ) → is_usable f frame ≡ all_bytes (λ x. is_memory (f x)) frame
-unfolding is_usable
+pub usable_whole : (f : TypeAt) (frame : ℕ) → is_usable_frame f frame ≡ all_bytes (λ x. is_memory (f x)) frame
+unfolding is_usable_frame
 usable_whole f frame = refl
 
 -- each byte of a usable frame is memory
-pub usable_each : (f : TypeAt) (frame : ℕ) → is_usable f frame ≡ true
+pub usable_each : (f : TypeAt) (frame : ℕ) → is_usable_frame f frame ≡ true
     → (x : ℕ) → 4096 * frame ≤ x → x < 4096 * frame + 4096 → is_memory (f x) ≡ true
 usable_each f frame usable = frame_each (λ x. is_memory (f x)) frame (sym (usable_whole f frame) ∙ usable)
 
 -- a frame with a byte that isn't memory isn't usable
 pub usable_but : (f : TypeAt) (frame x : ℕ) → 4096 * frame ≤ x → x < 4096 * frame + 4096 → is_memory (f x) ≡ false
-    → is_usable f frame ≡ false
+    → is_usable_frame f frame ≡ false
 usable_but f frame x low high fails = usable_whole f frame ∙ frame_but (λ x. is_memory (f x)) frame x low high fails
 
 -- the usable frames are the frames that are whole in memory
 pub usable_count : (f : TypeAt) → usable_frames f ≡ count_below (all_bytes (λ x. is_memory (f x))) (2 ^ 52)
 unfolding usable_frames
-usable_count f = count_same (is_usable f) (all_bytes (λ x. is_memory (f x))) (2 ^ 52) (λ frame lt. usable_whole f frame)
+usable_count f = count_same (is_usable_frame f) (all_bytes (λ x. is_memory (f x))) (2 ^ 52) (λ frame lt. usable_whole f frame)
 
 -- types as far as they reach
 
 -- memory within reach
-pub memory_reached : (limit : ℕ) (f : TypeAt) (x : ℕ) → is_memory (reachable limit f x) ≡ (is_memory (f x) && nat_lt x limit)
+pub memory_reached : (limit : ℕ) (f : TypeAt) (x : ℕ) → is_memory (types_below limit f x) ≡ (is_memory (f x) && nat_lt x limit)
 memory_reached limit f x =
-    elim (cases_Bool (nat_lt x limit)) as (λ _. is_memory (reachable limit f x) ≡ (is_memory (f x) && nat_lt x limit)) [
+    elim (cases_Bool (nat_lt x limit)) as (λ _. is_memory (types_below limit f x) ≡ (is_memory (f x) && nat_lt x limit)) [
       | inl within ↦ rw within (grind (arith, nat_tests))
       | inr past ↦ rw past (grind (arith, nat_tests))
     ]

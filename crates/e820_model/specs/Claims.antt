@@ -2,10 +2,10 @@
 use Rattle.std.specs.Prelude.{ℕ, zero, suc, ◌+◌, ◌^◌, ◌==◌, Bool, false, ◌&&◌, ◌||◌, ◌<◌, not, nat_lt, if◌then◌else◌, List, [], ◌∷◌}
 use Rattle.bm_base.specs.Range.{RangeView, covers}
 use Rattle.bm_base.specs.declared.range.TheConstants.{FRAME_SIZE}
-use Rattle.e820_model.specs.declared.types.TheConstants.{E820_TYPE_RAM, E820_TYPE_RESERVED}
+use Rattle.e820_model.specs.declared.entry.TheConstants.{E820_TYPE_RAM, E820_TYPE_RESERVED}
 use Rattle.e820_model.specs.declared.entry.Entry.{Entry}
-use Rattle.e820_model.specs.declared.edit.Edit.{Edit}
-use Rattle.e820_model.specs.declared.edit.Edit.TheVariants as edit
+use Rattle.e820_model.specs.declared.entry.Edit.{Edit}
+use Rattle.e820_model.specs.declared.entry.Edit.TheVariants as edit
 
 -- a set of types: which ones are in it. Type 0 claims nothing, so it is never in
 abbrev pub Types : Type 0
@@ -23,9 +23,9 @@ abbrev pub is_covered_by : Entry → ℕ → Bool
 is_covered_by e x = covers (record { base = e.addr; size = e.size }) x
 
 -- each entry's address plus its size is at most 2^64 - 1
-abbrev pub EndInSpace : List Entry → Type 0
-EndInSpace [] = Unit {0}
-EndInSpace (e ∷ es) = (e.addr + e.size < 2 ^ 64) × EndInSpace es
+abbrev pub EntriesFit : List Entry → Type 0
+EntriesFit [] = Unit {0}
+EntriesFit (e ∷ es) = (e.addr + e.size < 2 ^ 64) × EntriesFit es
 
 -- the types of the entries that cover the address
 abbrev pub claims_of_entries : List Entry → Claims
@@ -38,16 +38,16 @@ greatest_below s zero = 0
 greatest_below s (suc n) = if s n then n else greatest_below s n
 
 -- the greatest type of the set, 0 where it is empty
-unfoldable pub greatest : Types → ℕ
-greatest s = greatest_below s (2 ^ 32)
+unfoldable pub greatest_type : Types → ℕ
+greatest_type s = greatest_below s (2 ^ 32)
 
 -- the type of an address: its greatest claim, or 0
 abbrev pub type_of : Claims → ℕ → ℕ
-type_of c x = greatest (c x)
+type_of c x = greatest_type (c x)
 
 -- each address keeps its greatest claim alone (`e820__update_table`: the greatest type wins)
-abbrev pub settled : Claims → Claims
-settled c x k = nat_lt 0 k && k == type_of c x
+abbrev pub settled_claims : Claims → Claims
+settled_claims c x k = nat_lt 0 k && k == type_of c x
 
 -- the claims of both
 abbrev pub with_claims : Claims → Claims → Claims
@@ -55,13 +55,13 @@ with_claims c d x k = c x k || d x k
 
 -- what an edit makes of the claims of an address (`parse_memmap_one`: `e820__range_add`,
 -- `e820__range_remove` with and without a type, `e820__range_update`, and the cleared table of `exactmap`)
-abbrev pub edited : Edit → Claims → Claims
-edited (edit.Add range kind) c x k = c x k || (covers range x && k == kind)
-edited (edit.Remove range kind) c x k = c x k && not (covers range x && k == kind)
-edited (edit.RemoveAll range) c x k = c x k && not (covers range x)
-edited (edit.Change range from to) c x k =
+abbrev pub after_edit : Edit → Claims → Claims
+after_edit (edit.Add range kind) c x k = c x k || (covers range x && k == kind)
+after_edit (edit.Remove range kind) c x k = c x k && not (covers range x && k == kind)
+after_edit (edit.RemoveAll range) c x k = c x k && not (covers range x)
+after_edit (edit.Change range from to) c x k =
     if covers range x then ((c x from && k == to) || (c x k && not (k == from))) else c x k
-edited edit.Clear c x k = false
+after_edit edit.Clear c x k = false
 
 -- no type in the edit is 0
 abbrev pub HasTypes : Edit → Type 0
@@ -78,7 +78,7 @@ HaveTypes (e ∷ es) = HasTypes e × HaveTypes es
 -- the edits in their order
 abbrev pub after_edits : List Edit → Claims → Claims
 after_edits [] c = c
-after_edits (e ∷ es) c = after_edits es (edited e c)
+after_edits (e ∷ es) c = after_edits es (after_edit e c)
 
 -- the first page is the BIOS's even where firmware calls it RAM, and from 640 KiB to 1 MiB there
 -- is none (`trim_bios_range`)
@@ -88,24 +88,24 @@ first_page = record { base = 0; size = FRAME_SIZE }
 abbrev pub bios_area : RangeView
 bios_area = record { base = 0xA0000; size = 0x60000 }
 
-abbrev pub bios_trimmed : Claims → Claims
-bios_trimmed c = edited (edit.Remove bios_area E820_TYPE_RAM) (edited (edit.Change first_page E820_TYPE_RAM E820_TYPE_RESERVED) c)
+abbrev pub after_bios_trim : Claims → Claims
+after_bios_trim c = after_edit (edit.Remove bios_area E820_TYPE_RAM) (after_edit (edit.Change first_page E820_TYPE_RAM E820_TYPE_RESERVED) c)
 
 -- step 1: the zero page's entries, settled (`e820__memory_setup`)
-abbrev pub of_zero_page : List Entry → Claims
-of_zero_page entries = settled (claims_of_entries entries)
+abbrev pub zero_page_claims : List Entry → Claims
+zero_page_claims entries = settled_claims (claims_of_entries entries)
 
 -- step 2: the extension's entries come in, and the table settles (`e820__memory_setup_extended`)
 abbrev pub with_extension : List Entry → Claims → Claims
-with_extension extension c = settled (with_claims c (claims_of_entries extension))
+with_extension extension c = settled_claims (with_claims c (claims_of_entries extension))
 
 -- steps 3 to 5: the options' edits in their order, then the entries of the firmware's EFI map that an option adds come in
 -- (`do_add_efi_memmap`), and the table settles (`e820__finish_early_params`)
 abbrev pub with_options : List Edit → List Entry → Claims → Claims
-with_options edits added c = settled (with_claims (after_edits edits c) (claims_of_entries added))
+with_options edits added c = settled_claims (with_claims (after_edits edits c) (claims_of_entries added))
 
 -- the claims of the finished map: of the zero page's entries, the extension's, the options' edits, and the entries of the EFI map that
 -- are added; none of these where there is no such map, or no option asks for it
-abbrev pub finished : List Entry → List Entry → List Edit → List Entry → Claims
-finished entries extension edits added =
-    bios_trimmed (with_options edits added (with_extension extension (of_zero_page entries)))
+abbrev pub final_claims : List Entry → List Entry → List Edit → List Entry → Claims
+final_claims entries extension edits added =
+    after_bios_trim (with_options edits added (with_extension extension (zero_page_claims entries)))

@@ -10,19 +10,14 @@
 //! change them, because the definitions speak of them.
 #![tactic(auto)]
 
-mod edit;
 mod entry;
 mod laws;
-mod room;
 mod run;
-mod types;
 
-pub use edit::Edit;
-pub use entry::Entry;
-pub use laws::{greatest_is_greatest, map_is_runs, none_added, one_claim, settled_type};
-pub use room::E820_MAX_ENTRIES;
-pub use run::Run;
-pub use types::{
-    E820_TYPE_ACPI, E820_TYPE_NVS, E820_TYPE_PMEM, E820_TYPE_PRAM, E820_TYPE_RAM,
-    E820_TYPE_RESERVED, E820_TYPE_RESERVED_KERN, E820_TYPE_SOFT_RESERVED, E820_TYPE_UNUSABLE,
+pub use entry::{
+    E820_MAX_ENTRIES, E820_TYPE_ACPI, E820_TYPE_NVS, E820_TYPE_PMEM, E820_TYPE_PRAM, E820_TYPE_RAM,
+    E820_TYPE_RESERVED, E820_TYPE_RESERVED_KERN, E820_TYPE_SOFT_RESERVED, E820_TYPE_UNUSABLE, Edit,
+    Entry,
 };
+pub use laws::{greatest_is_greatest, map_is_runs, edits_alone_make_the_map, final_claims_are_single, settling_keeps_types};
+pub use run::Run;

@@ -5,10 +5,10 @@ use Rattle.std.proofs.lemmas.Bool.Decides.{nat_tests}
 use Rattle.std.proofs.lemmas.Bool.{cases_Bool}
 use Rattle.bm_base.specs.Range.{RangeView, end_of, covers}
 use Rattle.address_runs.specs.Runs.{RunOf, run_end, lies_in}
-use Rattle.e820_model.specs.Claims.{is_covered_by, claims_of_entries, with_claims, edited}
+use Rattle.e820_model.specs.Claims.{is_covered_by, claims_of_entries, with_claims, after_edit}
 use Rattle.e820_model.specs.Map.{claims_of, AreClaims}
 use Rattle.e820_model.specs.declared.entry.Entry.{Entry}
-use Rattle.e820_model.specs.declared.edit.Edit.TheVariants as edit
+use Rattle.e820_model.specs.declared.entry.Edit.TheVariants as edit
 use Rattle.e820_model.proofs.ClaimLaws.{is_value, claims_append_at, claims_append, are_append}
 use Rattle.e820_sanitise.specs.Cuts.{between, between_if, parts, is_meant, left_inside, cut_out, claim_of}
 
@@ -70,7 +70,7 @@ alike f g same = λ i x k. same x k i
 
 -- the list after a cut has the claims that the definition of the edit gives
 pub remove_same : (range : RangeView) (kind : ℕ) (rs : List (RunOf ℕ))
-    → claims_of (cut_out range (Some kind) None rs) ≡ edited (edit.Remove range kind) (claims_of rs)
+    → claims_of (cut_out range (Some kind) None rs) ≡ after_edit (edit.Remove range kind) (claims_of rs)
 remove_same range kind [] = refl
 remove_same range kind (r ∷ rs) =
     alike _ _ (λ x k. claims_append_at (parts range (left_inside (Some kind) None r.value) r) (cut_out range (Some kind) None rs) x k
@@ -78,14 +78,14 @@ remove_same range kind (r ∷ rs) =
     (remove_step (lies_in r x) (covers range x) (claims_of rs x k) r.value kind k))
 
 pub remove_all_same : (range : RangeView) (rs : List (RunOf ℕ))
-    → claims_of (cut_out range None None rs) ≡ edited (edit.RemoveAll range) (claims_of rs)
+    → claims_of (cut_out range None None rs) ≡ after_edit (edit.RemoveAll range) (claims_of rs)
 remove_all_same range [] = refl
 remove_all_same range (r ∷ rs) =
     alike _ _ (λ x k. claims_append_at (parts range None r) (cut_out range None None rs) x k
     ∙ rw (parts_test range None r x k, remove_all_same range rs) (grind (arith, nat_tests)))
 
 pub change_same : (range : RangeView) (from to : ℕ) (rs : List (RunOf ℕ))
-    → claims_of (cut_out range (Some from) (Some to) rs) ≡ edited (edit.Change range from to) (claims_of rs)
+    → claims_of (cut_out range (Some from) (Some to) rs) ≡ after_edit (edit.Change range from to) (claims_of rs)
 change_same range from to [] = alike _ _ (λ x k. grind (arith, nat_tests))
 change_same range from to (r ∷ rs) =
     alike _ _ (λ x k. claims_append_at (parts range (left_inside (Some from) (Some to) r.value) r)
@@ -94,7 +94,7 @@ change_same range from to (r ∷ rs) =
     (change_step (lies_in r x) (covers range x) (claims_of rs x k) (claims_of rs x from) r.value from to k))
 
 pub add_same : (range : RangeView) (kind : ℕ) (rs : List (RunOf ℕ))
-    → claims_of (rs ++ between range.base (end_of range) kind) ≡ edited (edit.Add range kind) (claims_of rs)
+    → claims_of (rs ++ between range.base (end_of range) kind) ≡ after_edit (edit.Add range kind) (claims_of rs)
 add_same range kind rs =
     alike _ _ (λ x k. claims_append_at rs (between range.base (end_of range) kind) x k
     ∙ ap (λ b. claims_of rs x k || b) (between_test range.base (end_of range) kind x k))

@@ -1,7 +1,7 @@
 -- The largest number of runs that a map may have.
 use Rattle.std.specs.Prelude.{ℕ, List, length, nat_lt, if◌then◌else◌, Result, Ok, Err}
 use Rattle.address_runs.specs.Runs.{RunOf}
-use Rattle.e820_model.specs.declared.room.TheConstants.{E820_MAX_ENTRIES}
+use Rattle.e820_model.specs.declared.entry.TheConstants.{E820_MAX_ENTRIES}
 use Rattle.e820_sanitise.specs.declared.fault.MapFault.{MapFault}
 use Rattle.e820_sanitise.specs.declared.fault.MapFault.TheVariants as faults
 

@@ -9,8 +9,8 @@
 
 ghost use Rattle.std.specs.Prelude.{◌≡◌, ℕ, ◌+◌, ◌^◌, ◌<◌, Option, [], ◌∷◌, ◌++◌, OnOk, OnErr, IfOk, IsOk, IsTrue};
 ghost use Rattle.bm_base.specs.Range.{end_of};
-ghost use Rattle.e820_model.specs.Claims.{EndInSpace, HasTypes, with_claims, claims_of_entries, edited, bios_trimmed};
-ghost use Rattle.e820_model.specs.declared.edit.Edit.TheVariants as edits;
+ghost use Rattle.e820_model.specs.Claims.{EntriesFit, HasTypes, with_claims, claims_of_entries, after_edit, after_bios_trim};
+ghost use Rattle.e820_model.specs.declared.entry.Edit.TheVariants as edits;
 ghost use Rattle.e820_model.specs.Map.{AreClaims, claims_of};
 ghost use Rattle.e820_sanitise.specs.Cuts.{between, between_if, claim_of, cut_out, left_inside, parts};
 
@@ -149,7 +149,7 @@ fn push_entry(claims: &mut Vec<Run>, entry: &Entry) -> Result<(), Memory>
 /// - `Memory`: the program ran out of memory.
 pub fn with_entries(alloc: Global, claims: &[Run], entries: &[Entry]) -> Result<Vec<Run>, Memory>
     requires claims { AreClaims claims.now }
-    requires space { EndInSpace entries.now }
+    requires space { EntriesFit entries.now }
     ensures same { IfOk result (λ all. claims_of all.items
         ≡ with_claims (claims_of claims.now) (claims_of_entries entries.now)) }
     ensures claims { IfOk result (λ all. AreClaims all.items) }
@@ -169,7 +169,7 @@ pub fn with_entries(alloc: Global, claims: &[Run], entries: &[Entry]) -> Result<
 pub fn edit_claims(claims: &mut Vec<Run>, edit: &Edit) -> Result<(), Memory>
     requires claims { AreClaims claims.old.items }
     requires types { HasTypes edit.now }
-    ensures same { OnOk result (claims_of claims.new.items ≡ edited edit.now (claims_of claims.old.items)) }
+    ensures same { OnOk result (claims_of claims.new.items ≡ after_edit edit.now (claims_of claims.old.items)) }
     ensures claims { AreClaims claims.new.items }
     ensures err { OnErr result (claims.new.items ≡ claims.old.items) }
     ensures clear { edit.now ≡ edits.Clear → IsOk result }
@@ -213,7 +213,7 @@ fn cut(
 /// - `Memory`: the program ran out of memory.
 pub fn bios_trimmed(alloc: Global, claims: &[Run]) -> Result<Vec<Run>, Memory>
     requires { AreClaims claims.now }
-    ensures same { IfOk result (λ left. claims_of left.items ≡ bios_trimmed (claims_of claims.now)) }
+    ensures same { IfOk result (λ left. claims_of left.items ≡ after_bios_trim (claims_of claims.now)) }
     ensures claims { IfOk result (λ left. AreClaims left.items) }
 {
     let first_page = Range {

@@ -4,8 +4,8 @@
 
 ghost use Rattle.std.specs.Prelude.{◌≡◌, ◌≢◌, IfErr, IfOk, IsOk, OnErr, OnOk};
 ghost use Rattle.address_runs.specs.Runs.{IsRunsOf};
-ghost use Rattle.e820_model.specs.Claims.{EndInSpace, HasTypes, with_claims, claims_of_entries, edited, no_claims, settled, bios_trimmed, type_of};
-ghost use Rattle.e820_model.specs.declared.edit.Edit.TheVariants as edits;
+ghost use Rattle.e820_model.specs.Claims.{EntriesFit, HasTypes, with_claims, claims_of_entries, after_edit, no_claims, settled_claims, after_bios_trim, type_of};
+ghost use Rattle.e820_model.specs.declared.entry.Edit.TheVariants as edits;
 ghost use Rattle.e820_model.specs.Map.{claims_of, kinds, map_of};
 ghost use Rattle.bm_base.specs.Answers.{Answers};
 ghost use Rattle.e820_sanitise.specs.Room.{in_room};
@@ -55,7 +55,7 @@ impl Table {
     ///
     /// - `Memory`: the program ran out of memory; the table is unchanged.
     pub fn append(&mut self, entries: &[Entry]) -> Result<(), Memory>
-        requires { EndInSpace entries.now }
+        requires { EntriesFit entries.now }
         ensures ok { OnOk result (claims_of self.new
             ≡ with_claims (claims_of self.old) (claims_of_entries entries.now)) }
         ensures err { OnErr result (self.new ≡ self.old) }
@@ -73,7 +73,7 @@ impl Table {
     /// - `Memory`: the program ran out of memory; the table is unchanged. `Clear` never fails.
     pub fn edit(&mut self, edit: &Edit) -> Result<(), Memory>
         requires { HasTypes edit.now }
-        ensures ok { OnOk result (claims_of self.new ≡ edited edit.now (claims_of self.old)) }
+        ensures ok { OnOk result (claims_of self.new ≡ after_edit edit.now (claims_of self.old)) }
         ensures err { OnErr result (self.new ≡ self.old) }
         ensures clear { edit.now ≡ edits.Clear → IsOk result }
     {
@@ -86,7 +86,7 @@ impl Table {
     ///
     /// - `Memory`: the program ran out of memory; the table is unchanged.
     pub fn settle(&mut self) -> Result<(), Memory>
-        ensures ok { OnOk result (claims_of self.new ≡ settled (claims_of self.old)) }
+        ensures ok { OnOk result (claims_of self.new ≡ settled_claims (claims_of self.old)) }
         ensures err { OnErr result (self.new ≡ self.old) }
     {
         let alloc = *self.claims.allocator();
@@ -100,7 +100,7 @@ impl Table {
     ///
     /// - `Memory`: the program ran out of memory; the table is unchanged.
     pub fn trim_bios(&mut self) -> Result<(), Memory>
-        ensures ok { OnOk result (claims_of self.new ≡ bios_trimmed (claims_of self.old)) }
+        ensures ok { OnOk result (claims_of self.new ≡ after_bios_trim (claims_of self.old)) }
         ensures err { OnErr result (self.new ≡ self.old) }
     {
         let alloc = *self.claims.allocator();

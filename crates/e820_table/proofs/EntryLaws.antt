@@ -3,11 +3,11 @@ use Rattle.std.proofs.Common.{◌≡◌, ℕ, zero, suc, ◌+◌, ◌^◌, ◌<�
 use Rattle.std.proofs.lemmas.Bool.{cases_lt}
 use Rattle.std.proofs.lemmas.Bool.Decides.{nat_tests}
 use Rattle.e820_model.specs.declared.entry.Entry.{Entry}
-use Rattle.e820_model.specs.Claims.{EndInSpace}
+use Rattle.e820_model.specs.Claims.{EntriesFit}
 use Rattle.e820_table.specs.Entries.{nth_entry, first_entries, is_too_far, far_from, first_far}
 
 -- appending an entry that isn't too far keeps all ends in the address space
-pub space_push : (es : List Entry) (e : Entry) → EndInSpace es → e.addr + e.size < 2 ^ 64 → EndInSpace (es ++ e ∷ [])
+pub space_push : (es : List Entry) (e : Entry) → EntriesFit es → e.addr + e.size < 2 ^ 64 → EntriesFit (es ++ e ∷ [])
 space_push [] e rest ends = (ends, tt)
 space_push (f ∷ es) e rest ends = (rest.0, space_push es e rest.1 ends)
 
@@ -37,14 +37,14 @@ none_far start i (suc n) k bytes none from below =
 
 -- if none of the first n entries is too far, all of them end in the address space
 space_first : (start n : ℕ) (bytes : List ℕ) → ((k : ℕ) → k < n → is_too_far (nth_entry start k bytes) ≡ false)
-    → EndInSpace (first_entries start n bytes)
+    → EntriesFit (first_entries start n bytes)
 space_first start zero bytes near = tt
 space_first start (suc n) bytes near =
     let ends : (nth_entry start n bytes).addr + (nth_entry start n bytes).size < 2 ^ 64 = grind (arith, nat_tests, near n) in
     space_push (first_entries start n bytes) (nth_entry start n bytes)
     (space_first start n bytes (λ k below. near k (omega arith))) ends
 
-pub space_of_none : (start n : ℕ) (bytes : List ℕ) → first_far start n bytes ≡ None → EndInSpace (first_entries start n bytes)
+pub space_of_none : (start n : ℕ) (bytes : List ℕ) → first_far start n bytes ≡ None → EntriesFit (first_entries start n bytes)
 space_of_none start n bytes none = space_first start n bytes (λ k below. none_far start 0 n k bytes none (omega arith) (omega arith))
 
 -- the first n entries are n entries

@@ -5,7 +5,7 @@ use Rattle.std.proofs.lemmas.Bool.{cases_lt}
 use Rattle.std.proofs.lemmas.List.{append-nil, drop_all, take_all}
 use Rattle.std.proofs.Math.Seq.{drop_at, take_at}
 use Rattle.e820_model.specs.declared.entry.Entry.{Entry}
-use Rattle.e820_model.specs.Claims.{EndInSpace}
+use Rattle.e820_model.specs.Claims.{EntriesFit}
 use Rattle.e820_table.proofs.EntryLaws.{space_push}
 use Rattle.e820_table.specs.Made.{entries_behind, made_entry, next_of}
 
@@ -36,8 +36,8 @@ pub record Split (page others all : List Entry) : Type 0 where
   pub whole : page ++ others ≡ all
   pub fits : length page ≤ 128
   pub alone : length page < 128 → others ≡ []
-  pub page_space : EndInSpace page
-  pub others_space : EndInSpace others
+  pub page_space : EntriesFit page
+  pub others_space : EntriesFit others
 
 -- appending an entry, to the page while it has room, keeps the split
 pub split_more : (page others all page_new others_new : List Entry) (e : Entry) → Split page others all

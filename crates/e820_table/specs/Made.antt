@@ -5,7 +5,7 @@
 use Rattle.std.specs.Prelude.{ℕ, zero, suc, ◌+◌, ◌-◌, ◌*◌, ◌/◌, ◌%◌, ◌^◌, ◌==◌, if◌then◌else◌, List, [], ◌∷◌}
 use Rattle.bm_base.specs.declared.range.TheConstants.{FRAME_SIZE}
 use Rattle.e820_model.specs.declared.entry.Entry.{Entry}
-use Rattle.e820_model.specs.declared.types.TheConstants.{E820_TYPE_RAM, E820_TYPE_RESERVED}
+use Rattle.e820_model.specs.declared.entry.TheConstants.{E820_TYPE_RAM, E820_TYPE_RESERVED}
 
 -- the successor of a number in the generator's sequence
 abbrev pub next_of : ℕ → ℕ

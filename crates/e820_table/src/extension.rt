@@ -2,7 +2,7 @@
 //! Only the length of the file limits their number, so reading them allocates memory.
 
 ghost use Rattle.std.specs.Prelude.{◌≡◌, ◌≢◌, ℕ, ◌+◌, ◌*◌, ◌<◌, ◌≤◌, length, IfOk, IfErr, IfSome, IsErr, OnOk, SomeIff, IsTrue};
-ghost use Rattle.e820_model.specs.Claims.{EndInSpace};
+ghost use Rattle.e820_model.specs.Claims.{EntriesFit};
 ghost use Rattle.e820_table.specs.Entries.{first_entries};
 ghost use Rattle.e820_table.specs.Extension.{ext_count, ext_entries_of, ext_fault, has_header, has_length};
 
@@ -57,7 +57,7 @@ pub fn read_ext(alloc: Global, bytes: &[u8]) -> Result<Vec<Entry>, ExtFault>
     ensures memory { IfErr result (λ fault. fault ≡ ExtFault.Memory → ext_fault bytes.now ≡ None) }
     ensures some { IfErr result (λ fault. fault ≡ ExtFault.Memory → 0 < length (ext_entries_of bytes.now)) }
     ensures value { IfOk result (λ entries. entries.items ≡ ext_entries_of bytes.now) }
-    ensures space { IfOk result (λ entries. EndInSpace entries.items) }
+    ensures space { IfOk result (λ entries. EntriesFit entries.items) }
 {
     if !is_extension(bytes) {
         return Err(ExtFault::ExtHeader);

@@ -2,7 +2,7 @@
 //! these tables show how the memory set-up copes with thousands.
 
 ghost use Rattle.std.specs.Prelude.{◌≡◌, ℕ, ◌+◌, ◌*◌, ◌^◌, ◌<◌, ◌≤◌, [], ◌∷◌, ◌++◌, length, take, drop, min, None, IfOk, IsErr, OnOk};
-ghost use Rattle.e820_model.specs.Claims.{EndInSpace};
+ghost use Rattle.e820_model.specs.Claims.{EntriesFit};
 ghost use Rattle.e820_table.specs.Made.{frames_of_entry, made_entries, made_entry, next_of};
 
 use crate::made_input::Made;
@@ -37,8 +37,8 @@ pub fn made(alloc: Global, n: u32) -> Result<Made, Memory>
     ensures page { IfOk result (λ made. made.zero.entries.items ≡ take 128 (made_entries n)) }
     ensures extension { IfOk result (λ made. made.ext.items ≡ drop 128 (made_entries n)) }
     ensures initrd { IfOk result (λ made. made.zero.initrd ≡ None) }
-    ensures page_space { IfOk result (λ made. EndInSpace made.zero.entries.items) }
-    ensures extension_space { IfOk result (λ made. EndInSpace made.ext.items) }
+    ensures page_space { IfOk result (λ made. EntriesFit made.zero.entries.items) }
+    ensures extension_space { IfOk result (λ made. EntriesFit made.ext.items) }
     ensures some { IsErr result → 128 < n }
 {
     let mut page = ArrayVec::new();

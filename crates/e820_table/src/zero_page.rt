@@ -3,7 +3,7 @@
 //! nothing.
 
 ghost use Rattle.std.specs.Prelude.{◌≡◌, ℕ, ◌+◌, ◌*◌, ◌≤◌, length, IfOk, IfErr, IfSome, OnOk};
-ghost use Rattle.e820_model.specs.Claims.{EndInSpace};
+ghost use Rattle.e820_model.specs.Claims.{EntriesFit};
 ghost use Rattle.e820_table.specs.Entries.{first_entries};
 ghost use Rattle.e820_table.specs.Initrd.{initrd_of, IsInitrd};
 ghost use Rattle.e820_table.specs.ZeroPage.{entries_of, zero_fault};
@@ -63,7 +63,7 @@ pub fn read_zero_page(bytes: &[u8]) -> Result<ZeroPage, ZeroFault>
     ensures well_formed { OnOk result (zero_fault bytes.now ≡ None) }
     ensures value { IfOk result (λ page. page.entries.items ≡ entries_of bytes.now) }
     ensures initrd { IfOk result (λ page. page.initrd ≡ initrd_of bytes.now) }
-    ensures space { IfOk result (λ page. EndInSpace page.entries.items) }
+    ensures space { IfOk result (λ page. EntriesFit page.entries.items) }
     ensures frames { IfOk result (λ page. IfSome page.initrd IsInitrd) }
 {
     if bytes.len() != ZERO_PAGE_BYTES {

@@ -5,7 +5,7 @@ use Rattle.std.proofs.lemmas.Bool.Decides.{nat_tests}
 use Rattle.address_runs.specs.Runs.{RunOf, run_end, lies_in, value_at, AreRuns}
 use Rattle.address_runs.specs.Sweep.{StartAtOrPast}
 use Rattle.address_runs.proofs.RunsLaws.{below, rest_from, start_zero}
-use Rattle.e820_model.specs.Usable.{is_memory, count_below, reachable, usable_frames}
+use Rattle.e820_model.specs.Usable.{is_memory, count_below, types_below, usable_frames}
 use Rattle.e820_model.proofs.UsableLaws.{all_bytes, count_same, count_interval, count_frames_between, IsGap, count_split, usable_count, memory_reached}
 use Rattle.e820_usable.specs.Ascend.{Ascend}
 use Rattle.e820_usable.specs.Frames.{whole_frames}
@@ -175,11 +175,11 @@ frames_counted limit space (r ∷ rs) from until order start runs =
 
 -- for ascending runs, the count that begins without a stretch is the number of usable frames
 pub frames_usable : (limit : ℕ) → limit < 2 ^ 64 → (rs : List (RunOf ℕ)) → Ascend rs
-    → frames_from limit 0 0 rs ≡ usable_frames (reachable limit (value_at rs))
+    → frames_from limit 0 0 rs ≡ usable_frames (types_below limit (value_at rs))
 frames_usable limit space rs runs =
-    let reached : (x : ℕ) → (is_memory (value_at rs x) && nat_lt x limit) ≡ is_memory (reachable limit (value_at rs) x) =
+    let reached : (x : ℕ) → (is_memory (value_at rs x) && nat_lt x limit) ≡ is_memory (types_below limit (value_at rs) x) =
     λ x. sym (memory_reached limit (value_at rs) x) in
     frames_counted limit space rs 0 0 (omega arith) (start_zero rs) runs
     ∙ frames_same limit (memory_after 0 0 rs) (λ x. is_memory (value_at rs x)) (memory_first rs)
     ∙ ap (λ p. count_below (all_bytes p) (2 ^ 52)) (λ i x. reached x i)
-    ∙ sym (usable_count (reachable limit (value_at rs)))
+    ∙ sym (usable_count (types_below limit (value_at rs)))

@@ -4,7 +4,7 @@
 
 ghost use Rattle.std.specs.Prelude.{◌≡◌, ℕ, ◌+◌, ◌-◌, ◌*◌, ◌^◌, ◌<◌, ◌≤◌};
 ghost use Rattle.address_runs.specs.Runs.{value_at};
-ghost use Rattle.e820_model.specs.Usable.{is_memory, reachable, usable_frames};
+ghost use Rattle.e820_model.specs.Usable.{is_memory, types_below, usable_frames};
 ghost use Rattle.e820_usable.specs.Ascend.{Ascend};
 ghost use Rattle.e820_usable.specs.Frames.{whole_frames};
 
@@ -35,7 +35,7 @@ fn whole_frames(from: u64, until: u64) -> u64
 /// isn't counted. `runs` must ascend; runs that touch may have the same type.
 pub fn usable_frames(runs: &[Run], limit: u64) -> u64
     requires { Ascend runs.now }
-    ensures { result ≡ usable_frames (reachable limit (value_at runs.now)) }
+    ensures { result ≡ usable_frames (types_below limit (value_at runs.now)) }
 {
     let mut frames = 0;
     // the current stretch of memory: its first address, and the address after its last

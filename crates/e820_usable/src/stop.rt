@@ -3,7 +3,7 @@
 
 ghost use Rattle.std.specs.Prelude.{◌≡◌};
 ghost use Rattle.address_runs.specs.Runs.{AreRuns, value_at};
-ghost use Rattle.e820_model.specs.Usable.{reachable};
+ghost use Rattle.e820_model.specs.Usable.{types_below};
 ghost use Rattle.e820_usable.specs.Judged.{judged};
 
 use crate::frames::usable_frames;
@@ -26,7 +26,7 @@ pub enum MapStop {
 /// kernel can't use, in bytes; it may lie inside a frame.
 pub fn judge(runs: &[Run], limit: u64) -> Option<MapStop>
     requires { AreRuns runs.now }
-    ensures { result ≡ judged (reachable limit (value_at runs.now)) }
+    ensures { result ≡ judged (types_below limit (value_at runs.now)) }
 {
     let frames = usable_frames(runs, limit);
     if frames == 0 {

@@ -7,7 +7,7 @@ use Rattle.address_runs.specs.Runs.{RunOf, run_end, value_at, AreRuns, IsRunsOf}
 use Rattle.address_runs.specs.Sweep.{StartAtOrPast}
 use Rattle.address_runs.proofs.RunsLaws.{inside, behind, rest_from, start_zero}
 use Rattle.e820_model.specs.Map.{TypeAt}
-use Rattle.e820_model.specs.Usable.{is_usable, reachable}
+use Rattle.e820_model.specs.Usable.{is_usable_frame, types_below}
 use Rattle.e820_model.proofs.UsableLaws.{memory_reached, usable_each}
 use Rattle.memblock_model.specs.Labels.{Label}
 use Rattle.memblock_model.specs.Search.{last_below}
@@ -17,27 +17,27 @@ use Rattle.early_stages.specs.Memory.{behind_frame, end_behind, end_of_runs, mem
 use Rattle.early_stages.proofs.MirrorLaws.{mirrored-usable}
 
 -- a usable frame lies below the limit of addresses
-pub low_frame : (limit : ℕ) (f : TypeAt) (frame : ℕ) → is_usable (reachable limit f) frame ≡ true → 4096 * frame + 4096 ≤ limit
+pub low_frame : (limit : ℕ) (f : TypeAt) (frame : ℕ) → is_usable_frame (types_below limit f) frame ≡ true → 4096 * frame + 4096 ≤ limit
 low_frame limit f frame usable =
-    let last = usable_each (reachable limit f) frame usable (4096 * frame + 4095) (omega arith) (omega arith) in
+    let last = usable_each (types_below limit f) frame usable (4096 * frame + 4095) (omega arith) (omega arith) in
     let both = sym (memory_reached limit f (4096 * frame + 4095)) ∙ last in
     grind (arith, nat_tests, both)
 
 -- an end of memory, as a number: each usable frame ends by it, and it is 0 or the end of a usable one
 pub record IsEnd (limit : ℕ) (f : TypeAt) (at : ℕ) : Type 0 where
-  pub by : (frame : ℕ) → is_usable (reachable limit f) frame ≡ true → 4096 * frame + 4096 ≤ at
-  pub last : 0 < at → (frame : ℕ) × (at ≡ 4096 * frame + 4096) × (is_usable (reachable limit f) frame ≡ true)
+  pub by : (frame : ℕ) → is_usable_frame (types_below limit f) frame ≡ true → 4096 * frame + 4096 ≤ at
+  pub last : 0 < at → (frame : ℕ) × (at ≡ 4096 * frame + 4096) × (is_usable_frame (types_below limit f) frame ≡ true)
 
-end_by : (limit : ℕ) (f : TypeAt) (found : Option ℕ) → last_below (is_usable (reachable limit f)) (limit / 4096) ≡ found
+end_by : (limit : ℕ) (f : TypeAt) (found : Option ℕ) → last_below (is_usable_frame (types_below limit f)) (limit / 4096) ≡ found
     → IsEnd limit f (behind_frame found)
 end_by limit f None is = record {
   by = λ frame usable.
       let low = low_frame limit f frame usable in
-      absurd (true≢false (sym usable ∙ last_below-none (is_usable (reachable limit f)) (limit / 4096) is frame (omega (arith, low))));
+      absurd (true≢false (sym usable ∙ last_below-none (is_usable_frame (types_below limit f)) (limit / 4096) is frame (omega (arith, low))));
   last = λ some. absurd (omega (arith, some));
 }
 end_by limit f (Some a) is =
-    let known = last_below-is (is_usable (reachable limit f)) (limit / 4096) a is in
+    let known = last_below-is (is_usable_frame (types_below limit f)) (limit / 4096) a is in
     record {
       by = λ frame usable.
           let low = low_frame limit f frame usable in
@@ -48,7 +48,7 @@ end_by limit f (Some a) is =
 
 pub memory_end-is : (limit : ℕ) (f : TypeAt) → IsEnd limit f (memory_end limit f)
 unfolding memory_end
-memory_end-is limit f = end_by limit f (last_below (is_usable (reachable limit f)) (limit / 4096)) refl
+memory_end-is limit f = end_by limit f (last_below (is_usable_frame (types_below limit f)) (limit / 4096)) refl
 
 -- it lies within reach, and it is a border of frames
 pub end_reached : (limit : ℕ) (f : TypeAt) (at : ℕ) → IsEnd limit f at → (at ≤ limit) × (at % 4096 ≡ 0)
@@ -103,9 +103,9 @@ runs_are_end : (limit : ℕ) (f : TypeAt) (mirrors : List FrameRange) (rs : List
 runs_are_end limit f mirrors rs are =
     let at : ℕ = end_of_runs rs in
     let ends = ends_at 0 rs are.runs (start_zero rs) in
-    let is : (x : ℕ) → is_some (value_at rs x) ≡ is_usable (reachable limit f) (x / 4096) =
+    let is : (x : ℕ) → is_some (value_at rs x) ≡ is_usable_frame (types_below limit f) (x / 4096) =
     λ x. ap is_some (are.each x) ∙ mirrored-usable limit f mirrors x in
-    let by : (frame : ℕ) → is_usable (reachable limit f) frame ≡ true → 4096 * frame + 4096 ≤ at =
+    let by : (frame : ℕ) → is_usable_frame (types_below limit f) frame ≡ true → 4096 * frame + 4096 ≤ at =
     λ frame usable. (elim (cases_lt (4096 * frame + 4095) at) as (λ _. 4096 * frame + 4096 ≤ at) [
       | inl below ↦ omega (arith, below)
       | inr past ↦
@@ -129,6 +129,6 @@ runs_end_memory limit f mirrors rs are =
     le_antisymm (one_end limit f _ _ first second) (one_end limit f _ _ second first)
 
 -- and it depends on the types within reach alone
-pub memory_end-same : (limit : ℕ) (f g : TypeAt) → reachable limit f ≡ reachable limit g → memory_end limit f ≡ memory_end limit g
+pub memory_end-same : (limit : ℕ) (f g : TypeAt) → types_below limit f ≡ types_below limit g → memory_end limit f ≡ memory_end limit g
 unfolding memory_end
-memory_end-same limit f g same = ap (λ (t : TypeAt). behind_frame (last_below (is_usable t) (limit / 4096))) same
+memory_end-same limit f g same = ap (λ (t : TypeAt). behind_frame (last_below (is_usable_frame t) (limit / 4096))) same

@@ -6,7 +6,7 @@ use Rattle.bm_base.specs.Each.{each_from, each_in}
 use Rattle.bm_base.specs.Range.{RangeView}
 use Rattle.address_runs.specs.Runs.{RunOf, value_at}
 use Rattle.e820_model.specs.Map.{TypeAt}
-use Rattle.e820_model.specs.Usable.{is_memory, is_usable, reachable}
+use Rattle.e820_model.specs.Usable.{is_memory, is_usable_frame, types_below}
 use Rattle.e820_model.proofs.UsableLaws.{all_bytes, interval_frame, memory_reached, usable_whole}
 use Rattle.memblock_model.specs.Labels.{Labels, plain_label, with_mirror}
 use Rattle.memblock_model.specs.Items.{limit_of, memory_of, owner_of, trimmed, upward_of}
@@ -130,12 +130,12 @@ abbrev meeting : List (RunOf ℕ)
 meeting = run 0x1000 0x1C00 1 ∷ run 0x2C00 0x1500 128 ∷ []
 
 abbrev types : TypeAt
-types = reachable limit (value_at meeting)
+types = types_below limit (value_at meeting)
 
 memory_within : (x : ℕ) → is_memory (types x) ≡ (nat_le 0x1000 x && nat_lt x 0x4100)
 memory_within x = memory_reached limit (value_at meeting) x ∙ grind (arith, nat_tests)
 
-usable_are : (frame : ℕ) → is_usable types frame ≡ (nat_le 1 frame && nat_lt frame 4)
+usable_are : (frame : ℕ) → is_usable_frame types frame ≡ (nat_le 1 frame && nat_lt frame 4)
 usable_are frame =
     usable_whole types frame ∙ ap (λ (p : ℕ → Bool). all_bytes p frame) (λ i x. memory_within x i)
     ∙ interval_frame 0x1000 0x4100 frame

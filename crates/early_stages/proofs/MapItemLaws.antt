@@ -12,7 +12,7 @@ use Rattle.bm_base.proofs.EachLaws.{each_in-all}
 use Rattle.address_runs.specs.Runs.{RunOf, lies_in, run_end, value_at, AreRuns}
 use Rattle.address_runs.proofs.RunsLaws.{none_below, rest_from}
 use Rattle.e820_model.specs.Map.{TypeAt}
-use Rattle.e820_model.specs.Usable.{is_memory, is_usable, reachable}
+use Rattle.e820_model.specs.Usable.{is_memory, is_usable_frame, types_below}
 use Rattle.e820_model.proofs.UsableLaws.{memory_reached, usable_each, usable_whole}
 use Rattle.memblock_model.specs.Labels.{Label, Labels, plain_label}
 use Rattle.memblock_model.specs.Items.{memory_after, no_memory, trimmed}
@@ -65,16 +65,16 @@ all_runs limit (r ∷ rs) f x runs =
 -- from no memory at all
 pub added_memory : (limit : ℕ) (rs : List (RunOf ℕ)) (x : ℕ) → AreRuns rs
     → fold memory_after no_memory (items_of_map limit rs) x
-    ≡ (if is_memory (reachable limit (value_at rs) x) then Some plain_label else None)
+    ≡ (if is_memory (types_below limit (value_at rs) x) then Some plain_label else None)
 added_memory limit rs x runs =
     all_runs limit rs no_memory x runs
     ∙ ap (λ (b : Bool). becomes b None) (sym (memory_reached limit (value_at rs) x))
 
 -- trimmed, it is the usable frames
 pub trimmed_memory : (t : TypeAt) (g : Labels) → ((x : ℕ) → g x ≡ (if is_memory (t x) then Some plain_label else None))
-    → (x : ℕ) → trimmed g x ≡ (if is_usable t (x / 4096) then Some plain_label else None)
+    → (x : ℕ) → trimmed g x ≡ (if is_usable_frame t (x / 4096) then Some plain_label else None)
 trimmed_memory t g each x =
-    elim (cases_Bool (is_usable t (x / 4096))) as (λ _. trimmed g x ≡ (if is_usable t (x / 4096) then Some plain_label else None)) [
+    elim (cases_Bool (is_usable_frame t (x / 4096))) as (λ _. trimmed g x ≡ (if is_usable_frame t (x / 4096) then Some plain_label else None)) [
       | inl usable ↦
           (let held : (y : ℕ) → IsInFrame x y → g y ≡ Some plain_label = λ y within. (
           let above = within.above in

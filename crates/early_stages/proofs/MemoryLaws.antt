@@ -5,7 +5,7 @@ use Rattle.std.proofs.lemmas.List.Sums.{fold-append}
 use Rattle.std.specs.List.{fold}
 use Rattle.bm_base.specs.Range.{RangeView}
 use Rattle.address_runs.specs.Runs.{RunOf, value_at, AreRuns}
-use Rattle.e820_model.specs.Usable.{reachable}
+use Rattle.e820_model.specs.Usable.{types_below}
 use Rattle.memblock_model.specs.declared.owner.Owner.TheVariants as owner
 use Rattle.memblock_model.specs.declared.item.Item.{Item}
 use Rattle.memblock_model.specs.declared.item.Item.TheVariants as item
@@ -45,7 +45,7 @@ mapped e map last runs quiet x =
     let added : Labels = fold memory_after no_memory (items_of_map e.limit map) in
     let closing : List Item = item.Trim ∷ (mirror_items e.mirrors ++ last) in
     let trimmed_is : trimmed added ≡ usable_memory e.limit (value_at map) = λ i y.
-    trimmed_memory (reachable e.limit (value_at map)) added (λ z. added_memory e.limit map z runs) y i in
+    trimmed_memory (types_below e.limit (value_at map)) added (λ z. added_memory e.limit map z runs) y i in
     ap (λ (h : Labels). h x) ((begins e.kernel e.initrd e.upward (items_of_map e.limit map ++ closing)).0
     ∙ fold-append memory_after no_memory (items_of_map e.limit map) closing
     ∙ fold-append memory_after (trimmed added) (mirror_items e.mirrors) last ∙ quiet _)

@@ -5,7 +5,7 @@ use Rattle.std.specs.List.{fold}
 use Rattle.std.specs.Option.{option_map}
 use Rattle.bm_base.specs.Range.{covers}
 use Rattle.e820_model.specs.Map.{TypeAt}
-use Rattle.e820_model.specs.Usable.{is_usable, reachable}
+use Rattle.e820_model.specs.Usable.{is_usable_frame, types_below}
 use Rattle.memblock_model.specs.Labels.{Label, Labels, plain_label, with_mirror}
 use Rattle.memblock_model.specs.Items.{memory_after}
 use Rattle.address_runs.specs.Edits.{relabel_range}
@@ -39,8 +39,8 @@ some_by false true = refl
 some_by false false = refl
 
 pub mirrored-usable : (limit : ℕ) (f : TypeAt) (mirrors : List FrameRange) (x : ℕ)
-    → is_some (mirrored_memory mirrors (usable_memory limit f) x) ≡ is_usable (reachable limit f) (x / 4096)
-mirrored-usable limit f mirrors x = some_by (is_mirrored mirrors x) (is_usable (reachable limit f) (x / 4096))
+    → is_some (mirrored_memory mirrors (usable_memory limit f) x) ≡ is_usable_frame (types_below limit f) (x / 4096)
+mirrored-usable limit f mirrors x = some_by (is_mirrored mirrors x) (is_usable_frame (types_below limit f) (x / 4096))
 
 -- the bytes of a frame are mirrored together
 same_frames : (mirrors : List FrameRange) (x y : ℕ) → x / 4096 ≡ y / 4096 → is_mirrored mirrors x ≡ is_mirrored mirrors y

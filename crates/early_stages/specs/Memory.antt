@@ -7,14 +7,14 @@ use Rattle.bm_base.specs.Frames.{bytes_of_frame}
 use Rattle.bm_base.specs.declared.range.TheConstants.{FRAME_SIZE}
 use Rattle.address_runs.specs.Runs.{RunOf, run_end}
 use Rattle.e820_model.specs.Map.{TypeAt}
-use Rattle.e820_model.specs.Usable.{reachable, is_usable}
+use Rattle.e820_model.specs.Usable.{types_below, is_usable_frame}
 use Rattle.memblock_model.specs.Labels.{Labels, plain_label, with_mirror}
 use Rattle.memblock_model.specs.Search.{last_below}
 use Rattle.early_stages.specs.Early.{FrameRange, bytes_of_frames}
 
 -- the bytes of usable frames are memory, and no node has them yet (`e820__memblock_setup`)
 abbrev pub usable_memory : ℕ → TypeAt → Labels
-usable_memory limit f x = if is_usable (reachable limit f) (x / FRAME_SIZE) then Some plain_label else None
+usable_memory limit f x = if is_usable_frame (types_below limit f) (x / FRAME_SIZE) then Some plain_label else None
 
 -- whether the address lies in frames that are mirrored
 abbrev pub is_mirrored : List FrameRange → ℕ → Bool
@@ -31,7 +31,7 @@ behind_frame (Some frame) = end_of (bytes_of_frame frame)
 
 -- the end of the last usable frame, 0 where no frame is usable (`e820__end_of_ram_pfn`)
 unfoldable pub memory_end : ℕ → TypeAt → ℕ
-memory_end limit f = behind_frame (last_below (is_usable (reachable limit f)) (limit / FRAME_SIZE))
+memory_end limit f = behind_frame (last_below (is_usable_frame (types_below limit f)) (limit / FRAME_SIZE))
 
 -- the end of the last run of a list, 0 for none (`memblock_end_of_DRAM`)
 abbrev pub end_behind : {X : Type 0} → ℕ → List (RunOf X) → ℕ

@@ -6,7 +6,7 @@ ghost use Rattle.std.specs.Prelude.{◌≡◌, ℕ, ◌-◌, ◌/◌, ◌%◌, �
 ghost use Rattle.std.specs.List.{All};
 ghost use Rattle.address_runs.specs.Runs.{RunOf, AreRuns, IsRunsOf, value_at};
 ghost use Rattle.e820_model.specs.Map.{TypeAt};
-ghost use Rattle.e820_model.specs.Usable.{is_usable, reachable};
+ghost use Rattle.e820_model.specs.Usable.{is_usable_frame, types_below};
 ghost use Rattle.memblock_model.specs.declared.item.Item.{Item as AnyItem};
 ghost use Rattle.memblock_model.specs.Items.{AreItems, limit_of, memory_of};
 ghost use Rattle.memblock_model.specs.Labels.{Label as AnyLabel};
@@ -35,7 +35,7 @@ pub fn memory_ends_within_reach()
     ensures reached { (limit : ℕ) (f : TypeAt) → memory_end limit f ≤ limit }
     ensures whole { (limit : ℕ) (f : TypeAt) → memory_end limit f % FRAME_SIZE ≡ 0 }
     ensures last { (limit : ℕ) (f : TypeAt) → 0 < memory_end limit f →
-        is_usable (reachable limit f) ((memory_end limit f - 1) / FRAME_SIZE) ≡ true }
+        is_usable_frame (types_below limit f) ((memory_end limit f - 1) / FRAME_SIZE) ≡ true }
 {}
 
 /// A law: that is where the last run of memory ends, so the table of memory tells it.

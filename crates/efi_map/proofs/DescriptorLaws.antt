@@ -4,7 +4,7 @@ use Rattle.std.proofs.lemmas.Bool.Decides.{nat_tests}
 use Rattle.std.proofs.lemmas.Bool.{cases_Bool}
 use Rattle.bm_base.specs.Range.{RangeView}
 use Rattle.e820_model.specs.declared.entry.Entry.{Entry}
-use Rattle.e820_model.specs.Claims.{EndInSpace}
+use Rattle.e820_model.specs.Claims.{EntriesFit}
 use Rattle.efi_map.specs.Descriptors.{Descriptor, is_far, entry_of, mirror_of}
 use Rattle.efi_map.specs.Map.{nth_descriptor, descriptors_from, far_among, mirror_in_front, mirrors_of}
 
@@ -36,7 +36,7 @@ first_near i d ds none = elim (cases_Bool (is_far d)) as (λ _. is_far d ≡ fal
 ]
 
 -- if no descriptor is too far, all entries end in the address space
-pub space_of_near : (i : ℕ) (ds : List Descriptor) → far_among i ds ≡ None → EndInSpace (map entry_of ds)
+pub space_of_near : (i : ℕ) (ds : List Descriptor) → far_among i ds ≡ None → EntriesFit (map entry_of ds)
 space_of_near i [] none = tt
 space_of_near i (d ∷ ds) none =
     let near = first_near i d ds none in

@@ -2,7 +2,7 @@
 
 ghost use Rattle.std.specs.Prelude.{◌≡◌, ◌≢◌, ℕ, ◌+◌, ◌*◌, ◌<◌, ◌≤◌, ◌^◌, length, map, IfOk, IfSome, IsErr, IsErrOf, IsOk, IsTrue, IsNone, SomeIff, None};
 ghost use Rattle.bm_base.specs.Answers.{Answers};
-ghost use Rattle.e820_model.specs.Claims.{EndInSpace};
+ghost use Rattle.e820_model.specs.Claims.{EntriesFit};
 ghost use Rattle.efi_map.specs.Descriptors.{entry_of};
 ghost use Rattle.efi_map.specs.Map.{count_of, descriptors_from, descriptors_of, efi_of, far_among, has_header, has_length, mirrors_of, nth_descriptor, stride_of};
 
@@ -70,7 +70,7 @@ pub fn read_efi(alloc: Global, bytes: &[u8]) -> Result<EfiMap, EfiFault>
     ensures answers { Answers EfiFault.Memory (λ efi. record { entries = efi.entries.items; mirrors = efi.mirrors.items }) result (efi_of bytes.now) }
     ensures memory { IsErrOf result EfiFault.Memory → IsOk (efi_of bytes.now) }
     ensures some { IsErrOf result EfiFault.Memory → 0 < length (descriptors_of bytes.now) }
-    ensures space { IfOk result (λ efi. EndInSpace efi.entries.items) }
+    ensures space { IfOk result (λ efi. EntriesFit efi.entries.items) }
 {
     if !is_map(bytes) {
         return Err(EfiFault::Header);

@@ -1,7 +1,7 @@
 //! Entries and runs of the map, a zero page, a file in memory and a boot, each of what a case gives.
 
 ghost use Rattle.std.specs.Prelude.{◌≡◌, ◌+◌, ◌^◌, ◌<◌, ◌≤◌, length, IfOk, string_bytes};
-ghost use Rattle.e820_model.specs.Claims.{EndInSpace, HaveTypes};
+ghost use Rattle.e820_model.specs.Claims.{EntriesFit, HaveTypes};
 ghost use Rattle.debugfs_reports.specs.Stand.{TablesStand};
 
 use bm_base::{Range, Width};
@@ -59,14 +59,14 @@ pub fn entry(addr: u64, size: u64, kind: u32) -> Entry
 
 /// RAM with a reserved range inside.
 pub fn nested() -> [Entry; 2]
-    ensures { EndInSpace result }
+    ensures { EntriesFit result }
 {
     [entry(0, 0x800_0000, 1), entry(0x20_0000, 0x10_0000, 2)]
 }
 
 /// A virtual machine of 128 MiB.
 pub fn machine() -> [Entry; 6]
-    ensures { EndInSpace result }
+    ensures { EntriesFit result }
 {
     [
         entry(0, 0x9_FC00, 1),
@@ -118,7 +118,7 @@ pub fn file(alloc: Global, name: &str, bytes: &[u8]) -> Result<MemFile, Fail>
 
 /// The extension's entries of a boot.
 pub fn put_entries(inputs: &mut Inputs, entries: Vec<Entry>)
-    requires { EndInSpace entries.items }
+    requires { EntriesFit entries.items }
 {
     inputs.ext = entries;
 }
@@ -131,7 +131,7 @@ fn put_options(inputs: &mut Inputs, options: Options)
 
 /// The boot of these entries, which come as an extension, and of this line.
 pub fn booted(alloc: Global, entries: &[Entry], line: &[u8]) -> Result<Result<Booted, Stop>, Fail>
-    requires { EndInSpace entries.now }
+    requires { EntriesFit entries.now }
     ensures { IfOk result (λ answer. IfOk answer (λ booted. TablesStand booted)) }
 {
     let mut inputs = Inputs::begun(alloc, Width::Bits46, KERNEL);

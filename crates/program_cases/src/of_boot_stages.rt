@@ -1,7 +1,7 @@
 //! The boot on maps that overlap, are edited and stop it, by runs from outside, and what it does to memory.
 
 ghost use Rattle.std.specs.List.{All};
-ghost use Rattle.e820_model.specs.Claims.{EndInSpace};
+ghost use Rattle.e820_model.specs.Claims.{EntriesFit};
 ghost use Rattle.boot_model.specs.Mirrors.{IsMirror};
 
 use crate::common::{
@@ -24,7 +24,7 @@ fn expect(
     line: &[u8],
     want: Result<&[Run], Stop>,
 ) -> Result<(), Fail>
-    requires { EndInSpace entries.now }
+    requires { EntriesFit entries.now }
 {
     match booted(alloc, entries, line)? {
         Ok(booted) => assert!(rt; want == Ok(booted.map.as_slice())),
@@ -155,7 +155,7 @@ const WIDE: &str = "1: claim kernel 0x0000000001000000..0x0000000002ffffff\n\
 
 // The same machine with 128 MiB at 64 TiB besides.
 fn wide_machine() -> [Entry; 7]
-    ensures { EndInSpace result }
+    ensures { EntriesFit result }
 {
     [
         entry(0, 0x9_FC00, 1),
@@ -182,7 +182,7 @@ fn expect_journal(
     entries: &[Entry],
     journal: &str,
 ) -> Result<(), Fail>
-    requires { EndInSpace entries.now }
+    requires { EntriesFit entries.now }
 {
     put_entries(&mut inputs, Vec::from_slice(alloc, entries)?);
     let Ok(booted) = boot(alloc, inputs) else {

@@ -1,6 +1,6 @@
 //! The table on small maps that are edited, by runs from outside, and one map too many.
 
-ghost use Rattle.e820_model.specs.Claims.{EndInSpace, HasTypes};
+ghost use Rattle.e820_model.specs.Claims.{EntriesFit, HasTypes};
 
 use crate::common::{FIRST_640K, FIRST_PAGE, entry, nested, run};
 use bm_base::Range;
@@ -10,7 +10,7 @@ use std::alloc::Global;
 use std::process::Abort;
 
 fn settled(rt: &impl Abort, alloc: Global, entries: &[Entry]) -> Table
-    requires { EndInSpace entries.now }
+    requires { EntriesFit entries.now }
 {
     let mut table = Table::new(alloc);
     assert!(rt; table.append(entries) == Ok(()));

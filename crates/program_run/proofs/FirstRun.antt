@@ -8,9 +8,9 @@ use Rattle.std.specs.Str.{bytes_eq}
 use Rattle.address_runs.specs.Runs.{RunOf, value_at, AreRuns}
 use Rattle.address_runs.proofs.RunsLaws.{one_list}
 use Rattle.e820_model.specs.declared.entry.Entry.{Entry}
-use Rattle.e820_model.specs.Claims.{Claims, claims_of_entries, type_of, settled, with_claims, bios_trimmed}
+use Rattle.e820_model.specs.Claims.{Claims, claims_of_entries, type_of, settled_claims, with_claims, after_bios_trim}
 use Rattle.e820_model.specs.Map.{kinds, map_of, some_kind}
-use Rattle.e820_model.specs.Usable.{is_memory, reachable, usable_frames}
+use Rattle.e820_model.specs.Usable.{is_memory, types_below, usable_frames}
 use Rattle.e820_model.proofs.ClaimLaws.{greatest_is, map_runs}
 use Rattle.e820_model.proofs.UsableLaws.{count_same, count_frames_between, memory_reached, usable_count}
 use Rattle.bm_base.specs.Frames.{bytes_of_frame}
@@ -72,7 +72,7 @@ entries_give x = greatest_is (claims_of_entries given.entries x) (kind_at x) (sm
 IsOnly : Claims → Type 0
 IsOnly c = (x k : ℕ) → c x k ≡ (nat_lt 0 k && k == kind_at x)
 
-only_settled : (c : Claims) → ((x : ℕ) → type_of c x ≡ kind_at x) → IsOnly (settled c)
+only_settled : (c : Claims) → ((x : ℕ) → type_of c x ≡ kind_at x) → IsOnly (settled_claims c)
 unfolding IsOnly
 only_settled c gives x k = rw (gives x) refl
 
@@ -86,7 +86,7 @@ only_added : (c : Claims) → IsOnly c → IsOnly (with_claims c (claims_of_entr
 unfolding IsOnly
 only_added c only x k = rw (only x k) (grind (arith, nat_tests))
 
-only_trimmed : (c : Claims) → IsOnly c → IsOnly (bios_trimmed c)
+only_trimmed : (c : Claims) → IsOnly c → IsOnly (after_bios_trim c)
 unfolding IsOnly kind_at
 only_trimmed c only x k = rw (only x k, only x 1) (grind (arith, nat_tests))
 
@@ -116,12 +116,12 @@ map_is =
     (record { runs = are_runs; each = λ x. sym (kinds_are x) })
 
 -- RAM makes 32,480 whole frames, all of them within reach
-memory_is : (x : ℕ) → is_memory (reachable (reach given) (kinds (claims given)) x) ≡ (nat_le 0x100000 x && nat_lt x 0x7FE0000)
+memory_is : (x : ℕ) → is_memory (types_below (reach given) (kinds (claims given)) x) ≡ (nat_le 0x100000 x && nat_lt x 0x7FE0000)
 memory_is x = memory_reached (reach given) (kinds (claims given)) x ∙ rw (kinds_are x) (grind (arith, nat_tests))
 
-frames_are : usable_frames (reachable (reach given) (kinds (claims given))) ≡ 32480
+frames_are : usable_frames (types_below (reach given) (kinds (claims given))) ≡ 32480
 frames_are =
-    usable_count (reachable (reach given) (kinds (claims given)))
+    usable_count (types_below (reach given) (kinds (claims given)))
     ∙ count_same _ _ (2 ^ 52) (λ frame low. each_in-same (bytes_of_frame frame) _ _ (λ x from below. memory_is x))
     ∙ count_frames_between 0x100000 0x7FE0000 (2 ^ 52)
 

@@ -3,7 +3,7 @@ use Rattle.std.proofs.Common.{◌≡◌, ℕ, true, false, List, [], ◌∷◌, 
 use Rattle.std.specs.Fmt.{digits}
 use Rattle.bm_base.specs.Range.{RangeView}
 use Rattle.address_runs.specs.Runs.{RunOf}
-use Rattle.e820_model.specs.declared.edit.Edit.TheVariants as edits
+use Rattle.e820_model.specs.declared.entry.Edit.TheVariants as edits
 use Rattle.boot_options.specs.declared.crash.CrashRange.{CrashRange}
 use Rattle.boot_options.specs.Crash.{no_crash}
 use Rattle.memblock_model.specs.declared.item.Item.TheVariants as item

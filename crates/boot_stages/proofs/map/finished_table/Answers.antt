@@ -1,14 +1,14 @@
 -- Each call's equation on the claims, one after another.
 use Rattle.std.proofs.Common.{◌≡◌, ◌∙◌, ap}
-use Rattle.e820_model.specs.Claims.{of_zero_page, bios_trimmed, with_extension, with_options}
+use Rattle.e820_model.specs.Claims.{zero_page_claims, after_bios_trim, with_extension, with_options}
 use Rattle.e820_model.specs.Map.{claims_of}
 use Rattle.boot_stages.proofs.map.finished_table.Goals as goal
 
 pub returns : goal.returns
 returns c =
-    let first : claims_of c.append_settled.new.table ≡ of_zero_page c.args.entries.now =
+    let first : claims_of c.append_settled.new.table ≡ zero_page_claims c.args.entries.now =
     c.in_ok-append_settled.ensures ∙ ap (with_extension c.args.entries.now) c.new-table.ensures in
-    let second : claims_of c.append_settled-2.new.table ≡ with_extension c.args.extension.now (of_zero_page c.args.entries.now) =
+    let second : claims_of c.append_settled-2.new.table ≡ with_extension c.args.extension.now (zero_page_claims c.args.entries.now) =
     c.in_ok-append_settled-2.ensures ∙ ap (with_extension c.args.extension.now) first in
     c.in_ok-trim_bios.ensures.ok
-    ∙ ap bios_trimmed (c.in_ok-edit_settled.ensures ∙ ap (with_options c.args.edits.now c.args.added.now) second)
+    ∙ ap after_bios_trim (c.in_ok-edit_settled.ensures ∙ ap (with_options c.args.edits.now c.args.added.now) second)

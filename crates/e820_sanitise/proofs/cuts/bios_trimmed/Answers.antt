@@ -1,9 +1,9 @@
 use Rattle.std.proofs.Common.{◌≡◌, ◌∙◌, ap, Some, None, List, arith}
 use Rattle.std.proofs.lemmas.Result.{IfOk-weaker}
 use Rattle.address_runs.specs.Runs.{RunOf}
-use Rattle.e820_model.specs.declared.types.TheConstants.{E820_TYPE_RAM, E820_TYPE_RESERVED}
-use Rattle.e820_model.specs.declared.edit.Edit.TheVariants as edit
-use Rattle.e820_model.specs.Claims.{edited, first_page, bios_area}
+use Rattle.e820_model.specs.declared.entry.TheConstants.{E820_TYPE_RAM, E820_TYPE_RESERVED}
+use Rattle.e820_model.specs.declared.entry.Edit.TheVariants as edit
+use Rattle.e820_model.specs.Claims.{after_edit, first_page, bios_area}
 use Rattle.e820_model.specs.Map.{claims_of, AreClaims}
 use Rattle.e820_sanitise.specs.Cuts.{cut_out}
 use Rattle.e820_sanitise.proofs.CutLaws.{remove_same, change_same, are_cut}
@@ -15,7 +15,7 @@ returns-clause-same c =
     let left : c.deref.result.now ≡ reserved = c.deref.ensures.value in
     IfOk-weaker c.cut_claims-2.result _ _
     (λ all is. ap claims_of (rw left at is) ∙ remove_same bios_area E820_TYPE_RAM reserved
-    ∙ ap (λ d. edited (edit.Remove bios_area E820_TYPE_RAM) d)
+    ∙ ap (λ d. after_edit (edit.Remove bios_area E820_TYPE_RAM) d)
     (ap claims_of c.in_ok-reserved.ensures ∙ change_same first_page E820_TYPE_RAM E820_TYPE_RESERVED c.args.claims.now))
     c.cut_claims-2.ensures
 

@@ -1,6 +1,6 @@
 use Rattle.std.proofs.Common.{◌≡◌, drop, ◌++◌}
 use Rattle.std.specs.List.{flat_map}
-use Rattle.e820_model.specs.Claims.{EndInSpace}
+use Rattle.e820_model.specs.Claims.{EntriesFit}
 use Rattle.e820_model.specs.Map.{AreClaims}
 use Rattle.e820_sanitise.specs.Cuts.{claim_of}
 use Rattle.e820_sanitise.proofs.cuts.with_entries.Given as goal
@@ -8,6 +8,6 @@ use Rattle.e820_sanitise.proofs.cuts.with_entries.Given as goal
 abbrev pub invariant-loop-entry : goal.invariant-loop-entry
 invariant-loop-entry l = record {
   added : l.all.items ++ flat_map claim_of (drop l.entry-index l.entries) ≡ l.claims ++ flat_map claim_of l.entries;
-  space : EndInSpace (drop l.entry-index l.entries);
+  space : EntriesFit (drop l.entry-index l.entries);
   claims : AreClaims l.all.items;
 }

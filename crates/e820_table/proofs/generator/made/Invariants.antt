@@ -1,5 +1,5 @@
 use Rattle.std.proofs.Common.{◌≡◌, ◌+◌, ◌*◌, ◌-◌, ◌<◌, ◌≤◌, ◌++◌, [], length}
-use Rattle.e820_model.specs.Claims.{EndInSpace}
+use Rattle.e820_model.specs.Claims.{EntriesFit}
 use Rattle.e820_table.specs.Made.{entries_behind, made_entries}
 use Rattle.e820_table.proofs.generator.made.Given as goal
 
@@ -10,6 +10,6 @@ invariant-loop-index l = record {
   so_many : length l.page.items ≤ l.index;
   alone : length l.page.items < 128 → l.ext.items ≡ [];
   low : l.base ≤ 0x8100000 + 65536 * l.index;
-  page_space : EndInSpace l.page.items;
-  extension_space : EndInSpace l.ext.items;
+  page_space : EntriesFit l.page.items;
+  extension_space : EntriesFit l.ext.items;
 }

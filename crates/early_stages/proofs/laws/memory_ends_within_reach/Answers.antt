@@ -1,5 +1,5 @@
 use Rattle.std.proofs.Common.{◌≡◌, ℕ, ◌+◌, ◌-◌, ◌*◌, ◌/◌, true, subst, arith}
-use Rattle.e820_model.specs.Usable.{is_usable, reachable}
+use Rattle.e820_model.specs.Usable.{is_usable_frame, types_below}
 use Rattle.early_stages.specs.Memory.{memory_end}
 use Rattle.early_stages.proofs.EndLaws.{end_reached, memory_end-is, mirrored_below}
 use Rattle.early_stages.proofs.laws.memory_ends_within_reach.Goals as goal
@@ -13,5 +13,5 @@ returns c = record {
       let known = (memory_end-is limit f).last some in
       let ends : memory_end limit f ≡ 4096 * known.0 + 4096 = known.1 in
       let number : known.0 ≡ (memory_end limit f - 1) / 4096 = omega arith in
-      subst (λ (frame : ℕ). is_usable (reachable limit f) frame ≡ true) number known.2;
+      subst (λ (frame : ℕ). is_usable_frame (types_below limit f) frame ≡ true) number known.2;
 }
