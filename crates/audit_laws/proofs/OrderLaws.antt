@@ -16,7 +16,7 @@ use Rattle.frame_blocks.specs.declared.run.TheConstants.{MAX_FRAMES}
 use Rattle.frame_blocks.specs.Frames.{Frames, IsBlock, IsInBlock}
 use Rattle.frame_blocks.specs.Listed.{AscendFrom, Lists, blocks_of}
 use Rattle.frame_blocks.proofs.BlockLaws.{found_block, listed_ascends, listed_sound}
-use Rattle.memblock_model.specs.Labels.{Label}
+use Rattle.memblock_model.specs.Labels.{LabelView}
 use Rattle.memblock_model.specs.Items.{memory_of}
 use Rattle.memblock_model.specs.declared.item.Item.{Item}
 use Rattle.table_frames.specs.Frames.{free_node_in, node_below, node_of_frame, node_told}
@@ -130,7 +130,7 @@ node_low : (o : Option ℕ) (n : ℕ) → node_below o ≡ Some n → n < 1024
 node_low None n is = cc
 node_low (Some m) n is = below_low n m (nat_lt m 1024) refl is
 
-label_low : (o : Option Label) (n : ℕ) → node_told o ≡ Some n → n < 1024
+label_low : (o : Option LabelView) (n : ℕ) → node_told o ≡ Some n → n < 1024
 label_low None n is = cc
 label_low (Some label) n is = node_low label.node n is
 

@@ -15,7 +15,7 @@ use Rattle.audit_texts.specs.Told.{IsToldBlock, IsToldName, IsToldOwner, IsToldR
 use Rattle.frame_blocks.specs.declared.block.Block.{Block}
 use Rattle.memblock_model.specs.declared.owner.Owner.{Owner}
 use Rattle.memblock_model.specs.declared.owner.Owner.TheVariants as owners
-use Rattle.memblock_model.specs.declared.which.Which.TheVariants as which
+use Rattle.memblock_model.specs.declared.owner.Which.TheVariants as which
 use Rattle.report_texts.specs.Lines.{lines_from}
 use Rattle.report_texts.specs.MapText.{kind_name, map_line, map_text}
 use Rattle.report_texts.specs.OwnersText.{owner_line, owner_text, owners_text}

@@ -6,8 +6,8 @@ use Rattle.bm_base.specs.Range.{RangeView}
 use Rattle.memblock_model.specs.declared.item.Item.{Item}
 use Rattle.memblock_model.specs.declared.item.Item.TheVariants as item
 use Rattle.bm_base.specs.Each.{each_from, each_in}
-use Rattle.memblock_model.specs.Labels.{Label, plain_label, with_node, with_mirror}
-use Rattle.memblock_model.specs.Items.{trimmed}
+use Rattle.memblock_model.specs.Labels.{LabelView, plain_label, with_node, with_mirror}
+use Rattle.memblock_model.specs.Items.{trim_frames}
 use Rattle.boot_journal.specs.Contents.{Contents}
 use Rattle.boot_journal.specs.Mirrors.{mirrors_after, mirrors_in}
 use Rattle.boot_journal.specs.Bytes.{is_trim, label_after, label_from, label_kept, Agrees, Differs, EdgesAgree, AllAgree}
@@ -15,7 +15,7 @@ use Rattle.boot_journal.specs.Bytes.{is_trim, label_after, label_from, label_kep
 abbrev bytes : ℕ → ℕ → RangeView
 bytes base size = record { base = base; size = size }
 
-abbrev of_node : ℕ → Label
+abbrev of_node : ℕ → LabelView
 of_node node = with_node (Some node) plain_label
 
 -- one item and one byte: memory keeps its node, and a byte that isn't memory gets none
@@ -39,11 +39,11 @@ from_examples = (refl, refl, refl)
 
 -- a trim removes such a frame, and keeps one that is entirely memory without a node
 kept_examples : (label_kept None half 4096 ≡ None) × (label_kept None (item.Mem (bytes 4096 4096) ∷ []) 5000 ≡ Some plain_label)
-unfolding label_kept trimmed each_in each_from
+unfolding label_kept trim_frames each_in each_from
 kept_examples = (refl, refl)
 
 plain_is_another : Some plain_label ≡ Some (of_node 3) → ⊥
-plain_is_another same = cc (ap (λ (l : Option Label). option_map_or (λ (m : Label). m.node) l None) same)
+plain_is_another same = cc (ap (λ (l : Option LabelView). option_map_or (λ (m : LabelView). m.node) l None) same)
 
 -- the byte in the middle of the frame is at an end of a range, and has other marks than the first
 middle_differs : Differs None half 4096 6144
@@ -61,7 +61,7 @@ middle_is_an_edge agree = plain_is_another (agree.1 (omega arith) (omega arith))
 
 -- if half of a frame becomes mirrored, it differs from the other half
 mirror_is_another : Some plain_label ≡ Some (with_mirror plain_label) → ⊥
-mirror_is_another same = true≢false (sym (ap (λ (l : Option Label). option_map_or (λ (m : Label). m.mirror) l false) same))
+mirror_is_another same = true≢false (sym (ap (λ (l : Option LabelView). option_map_or (λ (m : LabelView). m.mirror) l false) same))
 
 mirror_is_an_edge : EdgesAgree None (item.Mem (bytes 4096 4096) ∷ (item.Mirror (bytes 6144 2048) ∷ [])) 4096
     (item.Mirror (bytes 6144 2048)) → ⊥

@@ -6,19 +6,19 @@ use Rattle.std.specs.List.{fold}
 use Rattle.memblock_model.specs.declared.item.Item.{Item}
 use Rattle.memblock_model.specs.declared.item.Item.TheVariants as item
 use Rattle.memblock_model.specs.Labels.{Labels}
-use Rattle.memblock_model.specs.Items.{trimmed, memory_after, no_memory, memory_of}
+use Rattle.memblock_model.specs.Items.{trim_frames, memory_after, no_memory, memory_of}
 use Rattle.memblock_model.specs.Search.{suits}
-use Rattle.memblock_model.proofs.LabelLaws.{trimmed-cases, trimmed-whole}
+use Rattle.memblock_model.proofs.LabelLaws.{trim_frames-cases, trim_frames-whole}
 use Rattle.boot_journal.specs.Mirrors.{mirrors_after, mirrors_in}
 
 -- one more item
 pub mirrors_in-push : (items : List Item) (i : Item) → mirrors_in (items ++ i ∷ []) ≡ mirrors_after (mirrors_in items) i
 mirrors_in-push items i = fold-append mirrors_after false items (i ∷ [])
 
-trimmed_suits : (f : Labels) (x : ℕ) → suits true (f x) ≡ false → suits true (trimmed f x) ≡ false
+trimmed_suits : (f : Labels) (x : ℕ) → suits true (f x) ≡ false → suits true (trim_frames f x) ≡ false
 trimmed_suits f x plain =
-    elim (trimmed-cases f x) as (λ _. suits true (trimmed f x) ≡ false) [
-      | inl one ↦ rw (trimmed-whole f x one) plain
+    elim (trim_frames-cases f x) as (λ _. suits true (trim_frames f x) ≡ false) [
+      | inl one ↦ rw (trim_frames-whole f x one) plain
       | inr none ↦ rw none refl
     ]
 
@@ -36,7 +36,7 @@ unmirrored_from f (item.Mem range ∷ is) none plain x =
     unmirrored_from (memory_after f (item.Mem range)) is none (λ y. grind (arith, plain y)) x
 unmirrored_from f (item.Node range node ∷ is) none plain x =
     unmirrored_from (memory_after f (item.Node range node)) is none (λ y. grind (arith, plain y)) x
-unmirrored_from f (item.Trim ∷ is) none plain x = unmirrored_from (trimmed f) is none (λ y. trimmed_suits f y (plain y)) x
+unmirrored_from f (item.Trim ∷ is) none plain x = unmirrored_from (trim_frames f) is none (λ y. trimmed_suits f y (plain y)) x
 unmirrored_from f (i ∷ is) none plain x = unmirrored_from f is none plain x
 
 pub unmirrored : (items : List Item) → mirrors_in items ≡ false → (x : ℕ) → suits true (memory_of items x) ≡ false

@@ -20,7 +20,7 @@ fn after(carried: Option<Marks>, item: &Item, x: u64) -> Option<Marks>
     ensures { result ≡ label_after x carried item.now }
 {
     match item {
-        Item::Mem { range } if range.contains(x) => carried.or(Some(Marks::plain())),
+        Item::Mem { range } if range.contains(x) => carried.or(Some(Marks::new())),
         Item::Node { range, node } if range.contains(x) => {
             carried.map(|marks| marks.with_node(*node))
         }

@@ -9,7 +9,7 @@ use Rattle.address_runs.specs.Runs.{RunOf, value_at}
 use Rattle.e820_model.specs.Claims.{Claims}
 use Rattle.e820_model.specs.Map.{TypeAt, kinds, map_of}
 use Rattle.e820_model.specs.Usable.{is_usable_frame, types_below}
-use Rattle.memblock_model.specs.Labels.{Label, Labels, plain_label, with_mirror}
+use Rattle.memblock_model.specs.Labels.{LabelView, Labels, plain_label, with_mirror}
 use Rattle.memblock_model.specs.Items.{limit_of, memory_of}
 use Rattle.memblock_model.specs.declared.item.Item.{Item}
 use Rattle.growth_model.specs.Carried.{AreQuiet, carried_out}
@@ -172,7 +172,7 @@ some_is true = refl
 some_is false = refl
 
 -- what is mirrored is memory where it was
-mapped_some : (mirrored : Bool) (o : Option Label) → is_some (if mirrored then option_map with_mirror o else o) ≡ is_some o
+mapped_some : (mirrored : Bool) (o : Option LabelView) → is_some (if mirrored then option_map with_mirror o else o) ≡ is_some o
 mapped_some true None = refl
 mapped_some true (Some label) = refl
 mapped_some false o = refl

@@ -7,7 +7,7 @@ use Rattle.e820_model.specs.Map.{TypeAt, map_of}
 use Rattle.e820_model.specs.Usable.{is_usable_frame, types_below, usable_frames}
 use Rattle.e820_model.proofs.UsableLaws.{count_none}
 use Rattle.memblock_model.specs.declared.item.Item.{Item}
-use Rattle.memblock_model.specs.Labels.{Label, Labels, plain_label}
+use Rattle.memblock_model.specs.Labels.{LabelView, Labels, plain_label}
 use Rattle.memblock_model.specs.Items.{limit_of, memory_of}
 use Rattle.growth_model.specs.Carried.{carried_out}
 use Rattle.early_stages.specs.Early.{FrameRange}
@@ -30,7 +30,7 @@ use Rattle.boot_model.proofs.ReachLaws.{reach-below}
 use Rattle.boot_model.proofs.StageLaws.{AllKeep, chain_keeps, goes_by, passes, steps_answered}
 
 -- nothing lies where each byte that has memory lies below
-none_from : (at : ℕ) (f : Labels) (x : ℕ) (o : Option Label) → f x ≡ o → ((label : Label) → f x ≡ Some label → x < at) → at ≤ x
+none_from : (at : ℕ) (f : Labels) (x : ℕ) (o : Option LabelView) → f x ≡ o → ((label : LabelView) → f x ≡ Some label → x < at) → at ≤ x
     → f x ≡ None
 none_from at f x None is below far = is
 none_from at f x (Some label) is below far = absurd (omega (arith, below label is))

@@ -15,7 +15,7 @@ use Rattle.e820_usable.specs.Judged.{judged}
 use Rattle.boot_options.specs.Crash.{no_crash}
 use Rattle.boot_options.specs.Options.{Chosen}
 use Rattle.memblock_model.specs.declared.item.Item.{Item}
-use Rattle.memblock_model.specs.declared.which.Which.TheVariants as which
+use Rattle.memblock_model.specs.declared.owner.Which.TheVariants as which
 use Rattle.memblock_ranges.specs.declared.region.Heads.{Heads}
 use Rattle.memblock_ranges.specs.Tables.{head_of}
 use Rattle.growth_model.specs.Bytes.{Filled, table_for}

@@ -4,8 +4,8 @@ use Rattle.address_runs.specs.Runs.{RunOf, value_at}
 use Rattle.address_runs.specs.Edits.{NothingFrom}
 use Rattle.phys_store.specs.Bytes.{Stored}
 use Rattle.memblock_model.specs.declared.item.Item.{Item}
-use Rattle.memblock_model.specs.declared.which.Which.{Which}
-use Rattle.memblock_model.specs.declared.which.Which.TheVariants as which
+use Rattle.memblock_model.specs.declared.owner.Which.{Which}
+use Rattle.memblock_model.specs.declared.owner.Which.TheVariants as which
 use Rattle.bm_base.specs.Range.{RangeView}
 use Rattle.memblock_grow.specs.Kept.{AreKept}
 use Rattle.memblock_grow.specs.declared.aim.Aim.{Aim}

@@ -7,7 +7,7 @@ use Rattle.bm_base.specs.Range.{RangeView}
 use Rattle.address_runs.specs.Runs.{RunOf, AreRuns, IsRunsOf, extent_of, run_end, value_at}
 use Rattle.address_runs.specs.Edits.{NothingFrom}
 use Rattle.e820_model.specs.Usable.{is_memory}
-use Rattle.memblock_model.specs.declared.which.Which.TheVariants as which
+use Rattle.memblock_model.specs.declared.owner.Which.TheVariants as which
 use Rattle.memblock_model.specs.declared.owner.Owner.TheVariants as owner
 use Rattle.memblock_model.specs.declared.item.Item.{Item}
 use Rattle.memblock_model.specs.declared.item.Item.TheVariants as item

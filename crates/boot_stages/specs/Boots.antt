@@ -9,7 +9,7 @@ use Rattle.e820_usable.specs.Judged.{judged}
 use Rattle.e820_model.specs.Usable.{types_below}
 use Rattle.bm_base.specs.ResultSteps.{with_error}
 use Rattle.phys_store.specs.Bytes.{Stored, byte_of}
-use Rattle.memblock_model.specs.declared.which.Which.{Which}
+use Rattle.memblock_model.specs.declared.owner.Which.{Which}
 use Rattle.memblock_model.specs.declared.item.Item.{Item}
 use Rattle.memblock_model.specs.Tables.{records_of}
 use Rattle.memblock_ranges.specs.declared.region.Head.{Head}

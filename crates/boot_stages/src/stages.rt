@@ -11,7 +11,7 @@ ghost use Rattle.conservation.specs.Paged.{AllInOneOrHeld, NoOtherInOneOrHeld};
 ghost use Rattle.bm_base.specs.Answers.{Answers};
 ghost use Rattle.bm_base.specs.ResultSteps.{with_error};
 ghost use Rattle.boot_model.specs.Stop.{stop_of};
-ghost use Rattle.memblock_model.specs.declared.which.Which.TheVariants as which;
+ghost use Rattle.memblock_model.specs.declared.owner.Which.TheVariants as which;
 ghost use Rattle.phys_store.specs.Bytes.{byte_of};
 ghost use Rattle.growth_model.specs.Bytes.{byte};
 ghost use Rattle.boot_stages.specs.Boots.{IsSpelledFree, TableStands};

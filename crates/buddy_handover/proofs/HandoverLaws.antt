@@ -3,7 +3,7 @@ use Rattle.std.proofs.Common.{◌≡◌, ℕ, ◌+◌, ◌*◌, ◌<◌, Some, N
 use Rattle.std.proofs.lemmas.Bool.Decides.{nat_tests}
 use Rattle.std.proofs.Math.Seq.{take-length}
 use Rattle.address_runs.specs.Runs.{RunOf, value_at}
-use Rattle.memblock_model.specs.Labels.{Label, Labels}
+use Rattle.memblock_model.specs.Labels.{LabelView, Labels}
 use Rattle.frame_blocks.specs.Frames.{Frames}
 use Rattle.table_frames.specs.Frames.{free_node_in, frames_of}
 use Rattle.table_frames.specs.Tables.{AscendBelow, AreWholeFrames}
@@ -13,7 +13,7 @@ use Rattle.table_frames.proofs.TakeLaws.{node_more}
 use Rattle.buddy_handover.specs.Handover.{freed, unclaimed}
 
 -- so the frames of one record more, where it has a node, and where it has none
-pub record_freed : (b : ℕ) (ms : List (RunOf Label)) (reserved : Labels) (i n : ℕ) (d : RunOf Label) (f g : Frames) → AscendBelow b ms
+pub record_freed : (b : ℕ) (ms : List (RunOf LabelView)) (reserved : Labels) (i n : ℕ) (d : RunOf LabelView) (f g : Frames) → AscendBelow b ms
     → AreWholeFrames ms → i < length ms → (frames_of (get_or ms i d)).node ≡ Some n
     → ((x : ℕ) → f x ≡ unclaimed (value_at (take i ms)) reserved x)
     → ((x : ℕ) → g x ≡ freed (frames_of (get_or ms i d)).first (frames_of (get_or ms i d)).end n reserved f x)
@@ -22,7 +22,7 @@ record_freed b ms reserved i n d f g ascend whole few is known put x =
     let more = node_more b ms i x d ascend whole few in let was = known x in let now = put x in
     grind (arith, nat_tests, more, is, was, now)
 
-pub record_left : (b : ℕ) (ms : List (RunOf Label)) (reserved : Labels) (i : ℕ) (d : RunOf Label) (f : Frames) → AscendBelow b ms
+pub record_left : (b : ℕ) (ms : List (RunOf LabelView)) (reserved : Labels) (i : ℕ) (d : RunOf LabelView) (f : Frames) → AscendBelow b ms
     → AreWholeFrames ms → i < length ms → (frames_of (get_or ms i d)).node ≡ None
     → ((x : ℕ) → f x ≡ unclaimed (value_at (take i ms)) reserved x)
     → (x : ℕ) → f x ≡ unclaimed (value_at (take (i + 1) ms)) reserved x
@@ -35,6 +35,6 @@ record_left b ms reserved i d f ascend whole few is known x =
     grind (arith, nat_tests, more, is, was, none, base)
 
 -- after all records
-pub all_handed : (ms : List (RunOf Label)) (reserved : Labels) (i : ℕ) (f : Frames) → AreWholeFrames ms → i ≡ length ms
+pub all_handed : (ms : List (RunOf LabelView)) (reserved : Labels) (i : ℕ) (f : Frames) → AreWholeFrames ms → i ≡ length ms
     → ((x : ℕ) → f x ≡ unclaimed (value_at (take i ms)) reserved x) → (x : ℕ) → f x ≡ free_node_in (value_at ms) reserved x
 all_handed ms reserved i f whole all known x = rw (← free_by_first ms reserved x whole) (rw (all, take-length ms) at (known x))

@@ -9,7 +9,7 @@ use Rattle.bm_base.specs.Frames.{bytes_of_frame}
 use Rattle.bm_base.proofs.EachLaws.{each_in-all, each_in-each}
 use Rattle.address_runs.specs.Edits.{NothingFrom}
 use Rattle.e820_model.specs.Usable.{is_usable_frame}
-use Rattle.memblock_model.specs.Labels.{Label, tag_for, node_of_tag}
+use Rattle.memblock_model.specs.Labels.{LabelView, tag_for, node_of_tag}
 use Rattle.memblock_model.specs.Items.{memory_of, owner_of}
 use Rattle.memblock_model.specs.Tables.{reserved_of, without_owner}
 use Rattle.memblock_model.specs.declared.owner.Owner.{Owner}
@@ -50,7 +50,7 @@ unowned : (o : Option Owner) → is_none (without_owner o) ≡ true → o ≡ No
 unowned None is = refl
 unowned (Some who) is = absurd (cc is)
 
-some_label : (o : Option Label) → is_some o ≡ true → (label : Label) × (o ≡ Some label)
+some_label : (o : Option LabelView) → is_some o ≡ true → (label : LabelView) × (o ≡ Some label)
 some_label None is = absurd (cc is)
 some_label (Some label) is = (label, refl)
 
@@ -69,7 +69,7 @@ module _ (given : Given) (t : Told) (known : IsTold given t) where
   same_labels frame x inside = known.noded.frames x ∙ ap (λ k. memory_of t.items (4096 * k)) (number frame x inside)
 
   -- the node that is told of a byte is that of its tag
-  same_node : (x : ℕ) (o : Option Label) → memory_of t.items x ≡ o → node_told o ≡ node_of_tag (tag_for o)
+  same_node : (x : ℕ) (o : Option LabelView) → memory_of t.items x ≡ o → node_told o ≡ node_of_tag (tag_for o)
   same_node x None is = refl
   same_node x (Some label) is =
       let one = known.noded.nodes x label is in

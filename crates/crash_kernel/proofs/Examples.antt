@@ -11,7 +11,7 @@ use Rattle.memblock_model.specs.declared.item.Item.{Item}
 use Rattle.memblock_model.specs.declared.item.Item.TheVariants as item
 use Rattle.memblock_model.specs.declared.owner.Owner.TheVariants as owner
 use Rattle.memblock_model.specs.Items.{memory_of}
-use Rattle.memblock_model.specs.Labels.{Label, plain_label, with_node}
+use Rattle.memblock_model.specs.Labels.{LabelView, plain_label, with_node}
 use Rattle.memblock_model.specs.Search.{fits, fits_in}
 use Rattle.boot_options.specs.declared.crash.CrashRange.{CrashRange}
 use Rattle.boot_options.specs.Crash.{CrashWords as Asked, no_crash, one_range}
@@ -26,7 +26,7 @@ use Rattle.crash_kernel.specs.Told.{HasLowPart, IsArea, IsFree}
 use Rattle.crash_kernel.proofs.TotalLaws.{runs-bytes}
 
 -- 640 KiB less a page and, of two nodes, 1 MiB and 2 bytes: not rounded
-abbrev two_nodes : List (RunOf Label)
+abbrev two_nodes : List (RunOf LabelView)
 two_nodes = record { base = 0x1000; size = 0x9F000; value = plain_label }
     ∷ (record { base = 0x100000; size = 0x80000; value = with_node (Some 0) plain_label }
     ∷ (record { base = 0x180000; size = 0x80002; value = with_node (Some 1) plain_label }
@@ -38,7 +38,7 @@ are_runs = (
   (omega arith, λ touch. absurd (omega arith)),
   (
     (omega arith),
-    (omega arith, λ touch same. absurd (let e : 0 ≡ 1 = same_Some 0 1 (ap (λ (l : Label). l.node) same) in omega arith)),
+    (omega arith, λ touch same. absurd (let e : 0 ≡ 1 = same_Some 0 1 (ap (λ (l : LabelView). l.node) same) in omega arith)),
     ((omega arith), tt, tt),
   ),
 )

@@ -5,14 +5,14 @@ use Rattle.std.proofs.lemmas.Bool.Decides.{nat_tests}
 use Rattle.std.proofs.lemmas.Option.{none-some, same_Some}
 use Rattle.std.specs.Option.{option_map, option_or}
 use Rattle.bm_base.specs.Range.{RangeView, covers, end_of}
-use Rattle.memblock_model.specs.declared.which.Which.TheVariants as which
+use Rattle.memblock_model.specs.declared.owner.Which.TheVariants as which
 use Rattle.memblock_model.specs.declared.owner.Owner.TheVariants as owner
 use Rattle.memblock_model.specs.declared.query.Query.{Query}
 use Rattle.memblock_model.specs.declared.item.Item.{Item}
 use Rattle.memblock_model.specs.Items.{memory_of, owner_of}
-use Rattle.memblock_model.specs.Labels.{Label}
+use Rattle.memblock_model.specs.Labels.{LabelView}
 use Rattle.memblock_model.specs.Tables.{table_of}
-use Rattle.memblock_model.specs.Search.{best, fits}
+use Rattle.memblock_model.specs.Search.{best_place, fits}
 use Rattle.memblock_model.proofs.SearchLaws.{IsPlace, fits_in-parts}
 use Rattle.growth_model.specs.Outcome.{Change, Refused}
 use Rattle.growth_model.specs.Growth.{claimed, freed}
@@ -34,7 +34,7 @@ use Rattle.crash_kernel.specs.Reserved.{low_part, reserved, with_area, with_low,
 use Rattle.crash_kernel.specs.Told.{HasLowPart, IsArea, IsFree, with_claim}
 
 -- a place that fits is free
-free_by : (items : List Item) (r : RangeView) (o : Option Label) → is_some o ≡ true
+free_by : (items : List Item) (r : RangeView) (o : Option LabelView) → is_some o ≡ true
     → ((x : ℕ) → covers r x ≡ true → memory_of items x ≡ o) → Unclaimed (owner_of items) r → IsFree items r
 free_by items r None held each free = absurd (true≢false (sym held))
 free_by items r (Some label) held each free = record { label = label; memory = each; free = free }
@@ -58,7 +58,7 @@ record IsFound (items : List Item) (size hi : ℕ) (r : RangeView) : Type 0 wher
   main : IsMain items size r
   within : end_of r ≤ hi
 
-best_by : (items : List Item) (size lo hi : ℕ) (found : Option ℕ) (r : RangeView) → best items (area_query size 0x1000000 lo hi) ≡ found
+best_by : (items : List Item) (size lo hi : ℕ) (found : Option ℕ) (r : RangeView) → best_place items (area_query size 0x1000000 lo hi) ≡ found
     → option_map (λ (base : ℕ). let e : RangeView = record { base = base; size = size } in e) found ≡ Some r → IsFound items size hi r
 best_by items size lo hi None r was is = absurd (none-some r is)
 best_by items size lo hi (Some place) r was is =
@@ -69,7 +69,7 @@ best_by items size lo hi (Some place) r was is =
     rw (← same_Some here r is) (record { main = main; within = known.high })
 
 best_found : (items : List Item) (size lo hi : ℕ) (r : RangeView) → best_range size lo hi items ≡ Some r → IsFound items size hi r
-best_found items size lo hi r is = best_by items size lo hi (best items (area_query size 0x1000000 lo hi)) r refl is
+best_found items size lo hi r is = best_by items size lo hi (best_place items (area_query size 0x1000000 lo hi)) r refl is
 
 -- the place that was asked for
 fits_free : (items : List Item) (size base : ℕ) → fits items (area_query size 1 base (base + size)) false base ≡ true

@@ -9,9 +9,9 @@ use Rattle.address_runs.specs.Sweep.{StartAtOrPast}
 use Rattle.address_runs.proofs.RunsLaws.{inside, behind, none_below, rest_from, start_zero}
 use Rattle.e820_model.specs.Usable.{count_below}
 use Rattle.e820_model.proofs.UsableLaws.{count_same, count_none, count_either, count_interval}
-use Rattle.memblock_model.specs.declared.which.Which.TheVariants as which
+use Rattle.memblock_model.specs.declared.owner.Which.TheVariants as which
 use Rattle.memblock_model.specs.declared.item.Item.{Item}
-use Rattle.memblock_model.specs.Labels.{Label}
+use Rattle.memblock_model.specs.Labels.{LabelView}
 use Rattle.memblock_model.specs.Items.{memory_of}
 use Rattle.memblock_model.specs.Tables.{records_of}
 use Rattle.memblock_model.proofs.TableLaws.{value_at-records}
@@ -70,13 +70,13 @@ module _ {X : Type 0} where
       ∙ count_either (lies_in r) (λ x. is_some (value_at rs x)) n (λ i lt lies. first_alone r rs i runs lies)
       ∙ omega (arith, rest, first, ends, sum_by-cons (λ (s : RunOf X). s.size) r rs)
 
-pub runs-bytes : (rs : List (RunOf Label)) → AreRuns rs → NothingFrom (2 ^ 64) (value_at rs) → memory_bytes (value_at rs) ≡ sizes rs
+pub runs-bytes : (rs : List (RunOf LabelView)) → AreRuns rs → NothingFrom (2 ^ 64) (value_at rs) → memory_bytes (value_at rs) ≡ sizes rs
 unfolding memory_bytes
 runs-bytes rs runs none = sizes-count (2 ^ 64) rs runs none
 
 -- and the records of the memory table say of each address what the items say
-pub records-bytes : (items : List Item) (rs : List (RunOf Label)) → NothingFrom (2 ^ 64) (memory_of items)
+pub records-bytes : (items : List Item) (rs : List (RunOf LabelView)) → NothingFrom (2 ^ 64) (memory_of items)
     → rs ≡ records_of which.Memory items → memory_bytes (value_at rs) ≡ memory_bytes (memory_of items)
 unfolding records_of
 records-bytes items rs none is =
-    ap (λ (t : List (RunOf Label)). memory_bytes (value_at t)) is ∙ ap memory_bytes (value_at-records (memory_of items) none)
+    ap (λ (t : List (RunOf LabelView)). memory_bytes (value_at t)) is ∙ ap memory_bytes (value_at-records (memory_of items) none)

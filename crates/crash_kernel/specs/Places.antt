@@ -4,7 +4,7 @@ use Rattle.std.specs.Option.{option_map, option_or}
 use Rattle.bm_base.specs.Range.{RangeView}
 use Rattle.memblock_model.specs.declared.query.Query.{Query}
 use Rattle.memblock_model.specs.declared.item.Item.{Item}
-use Rattle.memblock_model.specs.Search.{best, fits}
+use Rattle.memblock_model.specs.Search.{best_place, fits}
 use Rattle.boot_options.specs.Crash.{CrashWords as Asked}
 use Rattle.crash_kernel.specs.declared.area.Spot.{Spot}
 use Rattle.crash_kernel.specs.declared.area.Spot.TheVariants as spot
@@ -17,7 +17,7 @@ area_query size align lo hi = record { lo = lo; hi = hi; size = size; align = al
 
 -- the best place at a multiple of 16 MiB (`CRASH_ALIGN`)
 abbrev pub best_range : ℕ → ℕ → ℕ → List Item → Option RangeView
-best_range size lo hi items = option_map (λ base. record { base = base; size = size }) (best items (area_query size 0x1000000 lo hi))
+best_range size lo hi items = option_map (λ base. record { base = base; size = size }) (best_place items (area_query size 0x1000000 lo hi))
 
 -- the place from the base on: at a multiple of 1 MiB, within the address space, and free
 abbrev pub fixed_range : ℕ → ℕ → List Item → Option RangeView

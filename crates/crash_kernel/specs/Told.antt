@@ -4,7 +4,7 @@ use Rattle.bm_base.specs.Range.{RangeView, covers, end_of}
 use Rattle.memblock_model.specs.declared.item.Item.{Item}
 use Rattle.memblock_model.specs.declared.owner.Owner.TheVariants as owner
 use Rattle.memblock_model.specs.Items.{memory_of, owner_of}
-use Rattle.memblock_model.specs.Labels.{Label}
+use Rattle.memblock_model.specs.Labels.{LabelView}
 use Rattle.growth_model.specs.Growth.{claimed}
 use Rattle.growth_model.specs.Sound.{Unclaimed}
 use Rattle.stage_model.specs.Doing.{after}
@@ -17,7 +17,7 @@ use Rattle.crash_kernel.specs.Places.{low_size, needs_low}
 
 -- each byte of the range is memory, all of one label, and nobody has it
 pub record IsFree (items : List Item) (r : RangeView) : Type 0 where
-  pub label : Label
+  pub label : LabelView
   pub memory : (x : ℕ) → covers r x ≡ true → memory_of items x ≡ Some label
   pub free : Unclaimed (owner_of items) r
 

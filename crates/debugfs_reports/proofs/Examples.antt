@@ -12,7 +12,7 @@ use Rattle.e820_model.proofs.UsableLaws.{count_frames_between, count_same, memor
 use Rattle.boot_options.specs.Crash.{no_crash}
 use Rattle.e820_model.specs.declared.entry.Edit.TheVariants as edits
 use Rattle.memblock_ranges.specs.declared.region.Heads.{Heads}
-use Rattle.memblock_model.specs.Labels.{Label, plain_label}
+use Rattle.memblock_model.specs.Labels.{LabelView, plain_label}
 use Rattle.early_script.specs.declared.outcome.Outcome.TheVariants as outcomes
 use Rattle.crash_kernel.specs.declared.crash.Crash.TheVariants as crash
 use Rattle.frame_blocks.specs.declared.block.Block.{Block}
@@ -74,7 +74,7 @@ made = record nothing {
 }
 
 -- tables that no journal item gives: each is shown from the records at its own head
-abbrev page_at : ℕ → RunOf Label
+abbrev page_at : ℕ → RunOf LabelView
 page_at base = record { base = base; size = 0x1000; value = plain_label }
 
 abbrev standing : TableRecords

@@ -6,9 +6,9 @@ use Rattle.boot_model.specs.Boot.{Told}
 use Rattle.debugfs_reports.specs.declared.report.Report.{Report}
 use Rattle.debugfs_reports.specs.declared.report.Report.TheVariants as reports
 use Rattle.debugfs_reports.specs.Summary.{summary_of}
-use Rattle.memblock_model.specs.declared.which.Which.TheVariants as which
+use Rattle.memblock_model.specs.declared.owner.Which.TheVariants as which
 use Rattle.memblock_model.specs.Items.{owner_runs_of}
-use Rattle.memblock_model.specs.Labels.{Label}
+use Rattle.memblock_model.specs.Labels.{LabelView}
 use Rattle.memblock_model.specs.Tables.{records_of}
 use Rattle.report_texts.specs.JournalText.{journal_text}
 use Rattle.report_texts.specs.MapText.{map_text}
@@ -61,8 +61,8 @@ report_named name = first_named all_reports name
 
 -- the records of memblock's two tables
 pub record TableRecords : Type 0 where
-  pub memory : List (RunOf Label)
-  pub reserved : List (RunOf Label)
+  pub memory : List (RunOf LabelView)
+  pub reserved : List (RunOf LabelView)
 
 -- the text of a report, from what contracts see of a boot and from the records at the heads of its
 -- tables

@@ -7,12 +7,12 @@ use Rattle.bm_base.specs.Range.{RangeView, end_of, covers, Meet}
 use Rattle.bm_base.proofs.EachLaws.{each_in-all, each_in-each}
 use Rattle.address_runs.specs.Edits.{agree}
 use Rattle.memblock_model.specs.declared.owner.Owner.{Owner}
-use Rattle.memblock_model.specs.declared.which.Which.{Which}
-use Rattle.memblock_model.specs.declared.which.Which.TheVariants as which
+use Rattle.memblock_model.specs.declared.owner.Which.{Which}
+use Rattle.memblock_model.specs.declared.owner.Which.TheVariants as which
 use Rattle.memblock_model.specs.declared.item.Item.{Item}
 use Rattle.memblock_model.specs.Same.{same_owner}
 use Rattle.memblock_model.specs.Items.{Owners}
-use Rattle.memblock_model.specs.Tables.{live}
+use Rattle.memblock_model.specs.Tables.{table_bytes}
 use Rattle.memblock_model.proofs.SameLaws.{owner_self, owner_tells}
 use Rattle.memblock_grow.specs.Touch.{TouchesTable}
 use Rattle.early_script.specs.Owned.{is_owned, meets, touches}
@@ -50,16 +50,16 @@ meets-meet r s h =
 meet-meets : (r s : RangeView) → Meet s r → meets r s ≡ true
 meet-meets r s both = grind (arith, nat_tests, both.1)
 
-met : (kernel : RangeView) (items : List Item) (range : RangeView) → (w : Which) × Meet (live w kernel items) range →
+met : (kernel : RangeView) (items : List Item) (range : RangeView) → (w : Which) × Meet (table_bytes w kernel items) range →
     touches kernel items range ≡ true
-met kernel items range (which.Memory, both) = rw (meet-meets range (live which.Memory kernel items) both) refl
-met kernel items range (which.Reserved, both) = or_right _ _ (meet-meets range (live which.Reserved kernel items) both)
+met kernel items range (which.Memory, both) = rw (meet-meets range (table_bytes which.Memory kernel items) both) refl
+met kernel items range (which.Reserved, both) = or_right _ _ (meet-meets range (table_bytes which.Reserved kernel items) both)
 
 touched : (kernel : RangeView) (items : List Item) (range : RangeView) → touches kernel items range ≡ true →
-    (w : Which) × Meet (live w kernel items) range
-touched kernel items range h = elim (cases_Bool (meets range (live which.Memory kernel items))) [
-  | inl first ↦ (which.Memory, meets-meet range (live which.Memory kernel items) first)
-  | inr none ↦ (which.Reserved, meets-meet range (live which.Reserved kernel items) (rw none at h))
+    (w : Which) × Meet (table_bytes w kernel items) range
+touched kernel items range h = elim (cases_Bool (meets range (table_bytes which.Memory kernel items))) [
+  | inl first ↦ (which.Memory, meets-meet range (table_bytes which.Memory kernel items) first)
+  | inr none ↦ (which.Reserved, meets-meet range (table_bytes which.Reserved kernel items) (rw none at h))
 ]
 
 pub touches-is : (kernel : RangeView) (items : List Item) (range : RangeView) (b : Bool) →

@@ -9,7 +9,7 @@ use Rattle.memblock_model.specs.declared.owner.Owner.TheVariants as owner
 use Rattle.memblock_model.specs.Items.{owner_of}
 use Rattle.script_reader.specs.declared.act.Act.{Act}
 use Rattle.script_reader.specs.declared.act.Act.TheVariants as acts
-use Rattle.memblock_model.specs.declared.request.Request.{Request}
+use Rattle.memblock_model.specs.declared.query.Request.{Request}
 use Rattle.growth_model.specs.Outcome.{Refused, Change, after, nothing}
 use Rattle.growth_model.specs.Outcome as growth
 use Rattle.growth_model.specs.Growth.{claimed, freed}

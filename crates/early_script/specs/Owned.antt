@@ -4,11 +4,11 @@ use Rattle.bm_base.specs.Range.{RangeView, end_of}
 use Rattle.bm_base.specs.Each.{each_in}
 use Rattle.address_runs.specs.Edits.{agree}
 use Rattle.memblock_model.specs.declared.owner.Owner.{Owner}
-use Rattle.memblock_model.specs.declared.which.Which.TheVariants as which
+use Rattle.memblock_model.specs.declared.owner.Which.TheVariants as which
 use Rattle.memblock_model.specs.declared.item.Item.{Item}
 use Rattle.memblock_model.specs.Same.{same_owner}
 use Rattle.memblock_model.specs.Items.{Owners}
-use Rattle.memblock_model.specs.Tables.{live}
+use Rattle.memblock_model.specs.Tables.{table_bytes}
 
 -- each byte of the range has the owner
 unfoldable pub is_owned : Owners → Owner → RangeView → Bool
@@ -20,4 +20,4 @@ meets r s = nat_lt (max r.base s.base) (min (end_of r) (end_of s))
 
 -- the range meets the bytes of a table
 abbrev pub touches : RangeView → List Item → RangeView → Bool
-touches kernel items range = meets range (live which.Memory kernel items) || meets range (live which.Reserved kernel items)
+touches kernel items range = meets range (table_bytes which.Memory kernel items) || meets range (table_bytes which.Reserved kernel items)

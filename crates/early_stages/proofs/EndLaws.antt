@@ -9,7 +9,7 @@ use Rattle.address_runs.proofs.RunsLaws.{inside, behind, rest_from, start_zero}
 use Rattle.e820_model.specs.Map.{TypeAt}
 use Rattle.e820_model.specs.Usable.{is_usable_frame, types_below}
 use Rattle.e820_model.proofs.UsableLaws.{memory_reached, usable_each}
-use Rattle.memblock_model.specs.Labels.{Label}
+use Rattle.memblock_model.specs.Labels.{LabelView}
 use Rattle.memblock_model.specs.Search.{last_below}
 use Rattle.memblock_model.proofs.SearchLaws.{last_below-is, last_below-none}
 use Rattle.early_stages.specs.Early.{FrameRange}
@@ -67,12 +67,12 @@ one_end limit f (suc at) also first second =
     omega (arith, last.1, by)
 
 -- a byte of memory lies below it, whatever of it is mirrored
-pub mirrored_below : (limit : ℕ) (f : TypeAt) (mirrors : List FrameRange) (x : ℕ) (label : Label)
+pub mirrored_below : (limit : ℕ) (f : TypeAt) (mirrors : List FrameRange) (x : ℕ) (label : LabelView)
     → mirrored_memory mirrors (usable_memory limit f) x ≡ Some label → x < memory_end limit f
 mirrored_below limit f mirrors x label held =
     let by = (memory_end-is limit f).by (x / 4096) (sym (mirrored-usable limit f mirrors x) ∙ ap is_some held) in omega (arith, by)
 
-pub memory_below : (limit : ℕ) (f : TypeAt) (x : ℕ) (label : Label) → usable_memory limit f x ≡ Some label → x < memory_end limit f
+pub memory_below : (limit : ℕ) (f : TypeAt) (x : ℕ) (label : LabelView) → usable_memory limit f x ≡ Some label → x < memory_end limit f
 memory_below limit f x label held = mirrored_below limit f [] x label held
 
 -- from the end of the last run on a list gives nothing, and its last address has something
@@ -98,7 +98,7 @@ ends_at {X} from (r ∷ rs) runs start =
     }
 
 -- so the runs of memory end where memory does
-runs_are_end : (limit : ℕ) (f : TypeAt) (mirrors : List FrameRange) (rs : List (RunOf Label))
+runs_are_end : (limit : ℕ) (f : TypeAt) (mirrors : List FrameRange) (rs : List (RunOf LabelView))
     → IsRunsOf (mirrored_memory mirrors (usable_memory limit f)) rs → IsEnd limit f (end_of_runs rs)
 runs_are_end limit f mirrors rs are =
     let at : ℕ = end_of_runs rs in
@@ -121,7 +121,7 @@ runs_are_end limit f mirrors rs are =
           ((at - 1) / 4096, omega (arith, within, some), usable);
     }
 
-pub runs_end_memory : (limit : ℕ) (f : TypeAt) (mirrors : List FrameRange) (rs : List (RunOf Label))
+pub runs_end_memory : (limit : ℕ) (f : TypeAt) (mirrors : List FrameRange) (rs : List (RunOf LabelView))
     → IsRunsOf (mirrored_memory mirrors (usable_memory limit f)) rs → end_of_runs rs ≡ memory_end limit f
 runs_end_memory limit f mirrors rs are =
     let first = runs_are_end limit f mirrors rs are in

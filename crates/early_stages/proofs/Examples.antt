@@ -9,7 +9,7 @@ use Rattle.e820_model.specs.Map.{TypeAt}
 use Rattle.e820_model.specs.Usable.{is_memory, is_usable_frame, types_below}
 use Rattle.e820_model.proofs.UsableLaws.{all_bytes, interval_frame, memory_reached, usable_whole}
 use Rattle.memblock_model.specs.Labels.{Labels, plain_label, with_mirror}
-use Rattle.memblock_model.specs.Items.{limit_of, memory_of, owner_of, trimmed, upward_of}
+use Rattle.memblock_model.specs.Items.{limit_of, memory_of, owner_of, trim_frames, upward_of}
 use Rattle.memblock_model.specs.declared.owner.Owner.{Owner}
 use Rattle.memblock_model.specs.declared.item.Item.{Item}
 use Rattle.memblock_model.specs.declared.owner.Owner.TheVariants as owner
@@ -69,7 +69,7 @@ ram_and_a_half steps = memory_of (item.Mem (bytes 0x1000 0x1800) ∷ take steps 
 
 only_whole_frames_are_mirrored : (ram_and_a_half 0 0x27FF ≡ Some plain_label) × (ram_and_a_half 1 0x27FF ≡ None)
     × (ram_and_a_half 1 0x1FFF ≡ Some plain_label) × (ram_and_a_half 2 0x1FFF ≡ Some (with_mirror plain_label))
-unfolding trimmed each_in each_from
+unfolding trim_frames each_in each_from
 only_whole_frames_are_mirrored = (refl, refl, refl, refl)
 
 -- behind all of it an allocation stays below the end, and the first MiB has its owner
@@ -105,7 +105,7 @@ direction_behind_the_limit = (refl, refl, refl, refl, refl, refl)
 -- without a map nothing becomes memory, whatever is mirrored, and the first MiB is claimed all the same
 no_map_no_memory : (memory_of (first_items (given None false) []) 0x1000 ≡ None)
     × (owner_of (first_items (given None false) []) 0xFFFFF ≡ Some owner.Low1M)
-unfolding trimmed each_in each_from
+unfolding trim_frames each_in each_from
 no_map_no_memory = (refl, refl)
 
 -- what is mirrored and what isn't: bytes of those frames that are memory

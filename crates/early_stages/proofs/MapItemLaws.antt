@@ -14,13 +14,13 @@ use Rattle.address_runs.proofs.RunsLaws.{none_below, rest_from}
 use Rattle.e820_model.specs.Map.{TypeAt}
 use Rattle.e820_model.specs.Usable.{is_memory, is_usable_frame, types_below}
 use Rattle.e820_model.proofs.UsableLaws.{memory_reached, usable_each, usable_whole}
-use Rattle.memblock_model.specs.Labels.{Label, Labels, plain_label}
-use Rattle.memblock_model.specs.Items.{memory_after, no_memory, trimmed}
-use Rattle.memblock_model.proofs.LabelLaws.{IsInFrame, in_own_frame, trimmed-cases, trimmed-whole}
+use Rattle.memblock_model.specs.Labels.{LabelView, Labels, plain_label}
+use Rattle.memblock_model.specs.Items.{memory_after, no_memory, trim_frames}
+use Rattle.memblock_model.proofs.LabelLaws.{IsInFrame, in_own_frame, trim_frames-cases, trim_frames-whole}
 use Rattle.early_stages.specs.Wanted.{items_of_map, items_of_run, part_below}
 
 -- a byte becomes memory, or stays as it is
-abbrev pub becomes : Bool → Option Label → Option Label
+abbrev pub becomes : Bool → Option LabelView → Option LabelView
 becomes held old = if held then Some (unwrap_or old plain_label) else old
 
 pub one_run : (limit : ℕ) (r : RunOf ℕ) (f : Labels) (x : ℕ)
@@ -72,17 +72,17 @@ added_memory limit rs x runs =
 
 -- trimmed, it is the usable frames
 pub trimmed_memory : (t : TypeAt) (g : Labels) → ((x : ℕ) → g x ≡ (if is_memory (t x) then Some plain_label else None))
-    → (x : ℕ) → trimmed g x ≡ (if is_usable_frame t (x / 4096) then Some plain_label else None)
+    → (x : ℕ) → trim_frames g x ≡ (if is_usable_frame t (x / 4096) then Some plain_label else None)
 trimmed_memory t g each x =
-    elim (cases_Bool (is_usable_frame t (x / 4096))) as (λ _. trimmed g x ≡ (if is_usable_frame t (x / 4096) then Some plain_label else None)) [
+    elim (cases_Bool (is_usable_frame t (x / 4096))) as (λ _. trim_frames g x ≡ (if is_usable_frame t (x / 4096) then Some plain_label else None)) [
       | inl usable ↦
           (let held : (y : ℕ) → IsInFrame x y → g y ≡ Some plain_label = λ y within. (
           let above = within.above in
           let below = within.below in
           each y ∙ rw (usable_each t (x / 4096) usable y (omega (arith, above)) (omega (arith, below))) refl) in
-          rw usable (trimmed-whole g x (λ y within. held y within ∙ sym (held x (in_own_frame x))) ∙ held x (in_own_frame x)))
-      | inr other ↦ (rw other (elim (trimmed-cases g x) as (λ _. trimmed g x ≡ None) [
-        | inl one ↦ (elim (cases_Bool (is_memory (t x))) as (λ _. trimmed g x ≡ None) [
+          rw usable (trim_frames-whole g x (λ y within. held y within ∙ sym (held x (in_own_frame x))) ∙ held x (in_own_frame x)))
+      | inr other ↦ (rw other (elim (trim_frames-cases g x) as (λ _. trim_frames g x ≡ None) [
+        | inl one ↦ (elim (cases_Bool (is_memory (t x))) as (λ _. trim_frames g x ≡ None) [
           | inl memory ↦
               (let here : g x ≡ Some plain_label = each x ∙ rw memory refl in
               let all : (y : ℕ) → 4096 * (x / 4096) ≤ y → y < 4096 * (x / 4096) + 4096 → is_memory (t y) ≡ true = λ y above below.
@@ -90,7 +90,7 @@ trimmed_memory t g each x =
               (sym (each y) ∙ one y (record { above = omega (arith, above); below = omega (arith, below) }) ∙ here)).0 in
               let whole = usable_whole t (x / 4096) ∙ each_in-all (bytes_of_frame (x / 4096)) (λ y. is_memory (t y)) all in
               absurd (true≢false (sym whole ∙ other)))
-          | inr none ↦ (trimmed-whole g x one ∙ each x ∙ rw none refl)
+          | inr none ↦ (trim_frames-whole g x one ∙ each x ∙ rw none refl)
         ])
         | inr none ↦ none
       ]))

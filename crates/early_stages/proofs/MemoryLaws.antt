@@ -10,7 +10,7 @@ use Rattle.memblock_model.specs.declared.owner.Owner.TheVariants as owner
 use Rattle.memblock_model.specs.declared.item.Item.{Item}
 use Rattle.memblock_model.specs.declared.item.Item.TheVariants as item
 use Rattle.memblock_model.specs.Labels.{Labels}
-use Rattle.memblock_model.specs.Items.{memory_after, memory_of, no_memory, limit_after, limit_of, trimmed}
+use Rattle.memblock_model.specs.Items.{memory_after, memory_of, no_memory, limit_after, limit_of, trim_frames}
 use Rattle.growth_model.specs.Carried.{carried_out}
 use Rattle.growth_model.proofs.MemoryItemLaws.{memory_of-same, limit_of-same}
 use Rattle.growth_model.proofs.CarriedLaws.{carried-memory}
@@ -44,12 +44,12 @@ mapped : (e : Early) (map : List (RunOf ℕ)) (last : List Item) → AreRuns map
 mapped e map last runs quiet x =
     let added : Labels = fold memory_after no_memory (items_of_map e.limit map) in
     let closing : List Item = item.Trim ∷ (mirror_items e.mirrors ++ last) in
-    let trimmed_is : trimmed added ≡ usable_memory e.limit (value_at map) = λ i y.
+    let trimmed_is : trim_frames added ≡ usable_memory e.limit (value_at map) = λ i y.
     trimmed_memory (types_below e.limit (value_at map)) added (λ z. added_memory e.limit map z runs) y i in
     ap (λ (h : Labels). h x) ((begins e.kernel e.initrd e.upward (items_of_map e.limit map ++ closing)).0
     ∙ fold-append memory_after no_memory (items_of_map e.limit map) closing
-    ∙ fold-append memory_after (trimmed added) (mirror_items e.mirrors) last ∙ quiet _)
-    ∙ mirrors-memory e.mirrors (trimmed added) x ∙ ap (λ (h : Labels). mirrored_memory e.mirrors h x) trimmed_is
+    ∙ fold-append memory_after (trim_frames added) (mirror_items e.mirrors) last ∙ quiet _)
+    ∙ mirrors-memory e.mirrors (trim_frames added) x ∙ ap (λ (h : Labels). mirrored_memory e.mirrors h x) trimmed_is
 
 -- so it is up to the mirrored frames
 pub mirrored-first : (e : Early) (map : List (RunOf ℕ)) → AreRuns map → (x : ℕ)

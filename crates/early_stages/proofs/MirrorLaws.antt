@@ -6,7 +6,7 @@ use Rattle.std.specs.Option.{option_map}
 use Rattle.bm_base.specs.Range.{covers}
 use Rattle.e820_model.specs.Map.{TypeAt}
 use Rattle.e820_model.specs.Usable.{is_usable_frame, types_below}
-use Rattle.memblock_model.specs.Labels.{Label, Labels, plain_label, with_mirror}
+use Rattle.memblock_model.specs.Labels.{LabelView, Labels, plain_label, with_mirror}
 use Rattle.memblock_model.specs.Items.{memory_after}
 use Rattle.address_runs.specs.Edits.{relabel_range}
 use Rattle.early_stages.specs.Early.{FrameRange, bytes_of_frames}
@@ -14,10 +14,10 @@ use Rattle.early_stages.specs.Memory.{is_mirrored, mirrored_memory, usable_memor
 use Rattle.early_stages.specs.Wanted.{mirror_items}
 
 -- one range more: what is mirrored twice is mirrored
-abbrev mirrored_if : Bool → Option Label → Option Label
+abbrev mirrored_if : Bool → Option LabelView → Option LabelView
 mirrored_if b o = if b then option_map with_mirror o else o
 
-one_more : (here others : Bool) (o : Option Label) → mirrored_if others (mirrored_if here o) ≡ mirrored_if (here || others) o
+one_more : (here others : Bool) (o : Option LabelView) → mirrored_if others (mirrored_if here o) ≡ mirrored_if (here || others) o
 one_more true true None = refl
 one_more true true (Some label) = refl
 one_more true false o = refl

@@ -9,7 +9,7 @@ ghost use Rattle.e820_model.specs.Map.{TypeAt};
 ghost use Rattle.e820_model.specs.Usable.{is_usable_frame, types_below};
 ghost use Rattle.memblock_model.specs.declared.item.Item.{Item as AnyItem};
 ghost use Rattle.memblock_model.specs.Items.{AreItems, limit_of, memory_of};
-ghost use Rattle.memblock_model.specs.Labels.{Label as AnyLabel};
+ghost use Rattle.memblock_model.specs.Labels.{LabelView};
 ghost use Rattle.growth_model.specs.Carried.{carried_out};
 ghost use Rattle.early_stages.specs.Early.{Early, FrameRange};
 ghost use Rattle.early_stages.specs.Memory.{end_of_runs, memory_end, mirrored_memory, usable_memory};
@@ -30,7 +30,7 @@ pub fn memory_is_usable_frames()
 /// A law: each byte of memory lies below the end of the last usable frame, whatever of it is mirrored; that is a border of frames within
 /// reach, and, unless it is 0, the frame before it is usable.
 pub fn memory_ends_within_reach()
-    ensures below { (limit : ℕ) (f : TypeAt) (mirrors : List FrameRange) (x : ℕ) (label : AnyLabel) →
+    ensures below { (limit : ℕ) (f : TypeAt) (mirrors : List FrameRange) (x : ℕ) (label : LabelView) →
         mirrored_memory mirrors (usable_memory limit f) x ≡ Some label → x < memory_end limit f }
     ensures reached { (limit : ℕ) (f : TypeAt) → memory_end limit f ≤ limit }
     ensures whole { (limit : ℕ) (f : TypeAt) → memory_end limit f % FRAME_SIZE ≡ 0 }
@@ -40,7 +40,7 @@ pub fn memory_ends_within_reach()
 
 /// A law: that is where the last run of memory ends, so the table of memory tells it.
 pub fn memory_ends_with_its_last_run()
-    ensures { (limit : ℕ) (f : TypeAt) (mirrors : List FrameRange) (runs : List (RunOf AnyLabel)) →
+    ensures { (limit : ℕ) (f : TypeAt) (mirrors : List FrameRange) (runs : List (RunOf LabelView)) →
         IsRunsOf (mirrored_memory mirrors (usable_memory limit f)) runs → end_of_runs runs ≡ memory_end limit f }
 {}
 

@@ -2,9 +2,9 @@
 use Rattle.std.proofs.Common.{◌≡◌, ℕ, true, false, List, [], ◌∷◌, ◌++◌, refl, sym, arith, lit≤}
 use Rattle.bm_base.specs.Range.{RangeView}
 use Rattle.address_runs.specs.Runs.{RunOf}
-use Rattle.memblock_model.specs.Labels.{Label, plain_label}
+use Rattle.memblock_model.specs.Labels.{LabelView, plain_label}
 use Rattle.memblock_model.specs.declared.owner.Owner.TheVariants as owner
-use Rattle.memblock_model.specs.declared.which.Which.TheVariants as which
+use Rattle.memblock_model.specs.declared.owner.Which.TheVariants as which
 use Rattle.memblock_model.specs.declared.item.Item.{Item}
 use Rattle.memblock_model.specs.declared.item.Item.TheVariants as item
 use Rattle.memblock_ranges.specs.Spelling.{spelled_table, fields_of}
@@ -16,7 +16,7 @@ abbrev at_base : ℕ → ℕ → RangeView
 at_base base size = record { base = base; size = size }
 
 -- one record, 0x1000 to 0x17FF, in a table with room for two at 0x500000
-abbrev one_run : RunOf Label
+abbrev one_run : RunOf LabelView
 one_run = record { base = 0x1000; size = 0x800; value = plain_label }
 
 abbrev small_table : Table

@@ -5,23 +5,23 @@ use Rattle.std.proofs.lemmas.Bool.{ne_eqb, or_parts}
 use Rattle.std.proofs.lemmas.List.{append-nil}
 use Rattle.std.proofs.Math.Seq.{drop-append_seam}
 use Rattle.bm_base.specs.Range.{RangeView, covers}
-use Rattle.memblock_model.specs.declared.which.Which.{Which}
-use Rattle.memblock_model.specs.declared.which.Which.TheVariants as which
+use Rattle.memblock_model.specs.declared.owner.Which.{Which}
+use Rattle.memblock_model.specs.declared.owner.Which.TheVariants as which
 use Rattle.memblock_model.specs.declared.item.Item.{Item}
 use Rattle.memblock_model.specs.declared.item.Item.TheVariants as item
-use Rattle.memblock_model.specs.Tables.{room_after, room_of, moved_after, moved_to, live}
+use Rattle.memblock_model.specs.Tables.{room_after, room_of, moved_after, moved_to, table_bytes}
 use Rattle.memblock_model.proofs.ItemLaws.{room_of-push, moved_to-push}
 use Rattle.memblock_ranges.specs.Tables.{Table, bytes_of}
-use Rattle.growth_model.proofs.PlacedLaws.{live_by, live-is}
+use Rattle.growth_model.proofs.PlacedLaws.{live_by, table_bytes-is}
 use Rattle.growth_model.specs.Bytes.{table_for, spelled_at, shown_by, shown, leaves, is_left, byte_after, Filled, filled, written, byte, AreMadeBy}
 
 -- a table's bytes behind one more item
-live-push : (w : Which) (kernel : RangeView) (items : List Item) (i : Item) →
-    live w kernel (items ++ i ∷ []) ≡ live_by w kernel (moved_after w (moved_to w items) i) (room_after w (room_of w items) i)
-live-push w kernel items i = live-is w kernel (items ++ i ∷ []) _ _ (moved_to-push w items i) (room_of-push w items i)
+table_bytes-push : (w : Which) (kernel : RangeView) (items : List Item) (i : Item) →
+    table_bytes w kernel (items ++ i ∷ []) ≡ live_by w kernel (moved_after w (moved_to w items) i) (room_after w (room_of w items) i)
+table_bytes-push w kernel items i = table_bytes-is w kernel (items ++ i ∷ []) _ _ (moved_to-push w items i) (room_of-push w items i)
 
 -- an item that doesn't move a table away from an address leaves it there
-stays_at : (w : Which) (kernel : RangeView) (items : List Item) (i : Item) (x : ℕ) → covers (live w kernel items) x ≡ true →
+stays_at : (w : Which) (kernel : RangeView) (items : List Item) (i : Item) (x : ℕ) → covers (table_bytes w kernel items) x ≡ true →
     leaves kernel items i x ≡ false →
     covers (live_by w kernel (moved_after w (moved_to w items) i) (room_after w (room_of w items) i)) x ≡ true
 stays_at which.Memory kernel items (item.Grown which.Memory place room) x here stays = cc
@@ -30,18 +30,18 @@ stays_at which.Reserved kernel items (item.Grown which.Memory place room) x here
 stays_at which.Reserved kernel items (item.Grown which.Reserved place room) x here stays = cc
 stays_at w kernel items i x here stays = here
 
-pub stays_or_left : (w : Which) (kernel : RangeView) (items : List Item) (i : Item) (x : ℕ) → covers (live w kernel items) x ≡ true →
-    leaves kernel items i x ≡ false → covers (live w kernel (items ++ i ∷ [])) x ≡ true
+pub stays_or_left : (w : Which) (kernel : RangeView) (items : List Item) (i : Item) (x : ℕ) → covers (table_bytes w kernel items) x ≡ true →
+    leaves kernel items i x ≡ false → covers (table_bytes w kernel (items ++ i ∷ [])) x ≡ true
 stays_or_left w kernel items i x here stays =
-    subst (λ (r : RangeView). covers r x ≡ true) (sym (live-push w kernel items i)) (stays_at w kernel items i x here stays)
+    subst (λ (r : RangeView). covers r x ≡ true) (sym (table_bytes-push w kernel items i)) (stays_at w kernel items i x here stays)
 
 -- so do several
-pub still_live : (w : Which) (kernel : RangeView) (items more : List Item) (x : ℕ) → covers (live w kernel items) x ≡ true →
-    is_left kernel items more x ≡ false → covers (live w kernel (items ++ more)) x ≡ true
-still_live w kernel items [] x here stays = subst (λ (is : List Item). covers (live w kernel is) x ≡ true) (sym (append-nil items)) here
+pub still_live : (w : Which) (kernel : RangeView) (items more : List Item) (x : ℕ) → covers (table_bytes w kernel items) x ≡ true →
+    is_left kernel items more x ≡ false → covers (table_bytes w kernel (items ++ more)) x ≡ true
+still_live w kernel items [] x here stays = subst (λ (is : List Item). covers (table_bytes w kernel is) x ≡ true) (sym (append-nil items)) here
 still_live w kernel items (i ∷ more) x here stays =
     let parts = or_parts (leaves kernel items i x) (is_left kernel (items ++ i ∷ []) more x) stays in
-    subst (λ (is : List Item). covers (live w kernel is) x ≡ true) (append_assoc items (i ∷ []) more)
+    subst (λ (is : List Item). covers (table_bytes w kernel is) x ≡ true) (append_assoc items (i ∷ []) more)
     (still_live w kernel (items ++ i ∷ []) more x (stays_or_left w kernel items i x here parts.0) parts.1)
 
 -- the byte of two tables that lie where the others lay hides what those showed

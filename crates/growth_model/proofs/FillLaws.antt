@@ -2,7 +2,7 @@
 use Rattle.std.proofs.Common.{◌≡◌, ℕ, ◌+◌, ◌<◌, ◌≤◌, ◌==◌, Bool, true, false, ◌&&◌, if◌then◌else◌, List, [], ◌∷◌, ◌++◌, length, refl, sym, ◌∙◌, ap, arith, eq-eqb, length-append}
 use Rattle.std.proofs.lemmas.Bool.{ne_eqb}
 use Rattle.bm_base.specs.Range.{RangeView, covers}
-use Rattle.memblock_model.specs.declared.which.Which.TheVariants as which
+use Rattle.memblock_model.specs.declared.owner.Which.TheVariants as which
 use Rattle.memblock_model.specs.declared.item.Item.{Item}
 use Rattle.memblock_ranges.specs.Tables.{Table, bytes_of}
 use Rattle.growth_model.specs.Sound.{Clear, IsAway}

@@ -2,15 +2,15 @@
 use Rattle.std.proofs.Common.{◌≡◌, ℕ, ◌%◌, ◌^◌, ◌≤◌, true, false, None, List, [], ◌∷◌, length, refl, sym, ap, arith}
 use Rattle.std.proofs.lemmas.Bool.Decides.{nat_tests}
 use Rattle.bm_base.specs.Range.{RangeView, end_of, covers}
-use Rattle.memblock_model.specs.declared.which.Which.{Which}
-use Rattle.memblock_model.specs.declared.which.Which.TheVariants as which
+use Rattle.memblock_model.specs.declared.owner.Which.{Which}
+use Rattle.memblock_model.specs.declared.owner.Which.TheVariants as which
 use Rattle.memblock_model.specs.declared.owner.Owner.{Owner}
 use Rattle.memblock_model.specs.declared.owner.Owner.TheVariants as owner
 use Rattle.memblock_model.specs.declared.item.Item.{Item}
 use Rattle.memblock_model.specs.declared.item.Item.TheVariants as item
 use Rattle.memblock_model.specs.Labels.{Labels}
 use Rattle.memblock_model.specs.Items.{no_owners}
-use Rattle.memblock_model.specs.Tables.{table_of, records_for, records_of, room_of, live}
+use Rattle.memblock_model.specs.Tables.{table_of, records_for, records_of, room_of, table_bytes}
 use Rattle.memblock_model.proofs.TableLaws.{records_for-is}
 use Rattle.memblock_ranges.proofs.CountLaws.{few-pieces}
 use Rattle.growth_model.specs.Outcome.{write}
@@ -54,11 +54,11 @@ abbrev first_items : RangeView → List Item
 first_items kernel = item.Claim kernel owner.Kernel ∷ []
 
 abbrev first_live : Which → RangeView → RangeView
-first_live w kernel = live w kernel (first_items kernel)
+first_live w kernel = table_bytes w kernel (first_items kernel)
 
-live-inside : (w : Which) (kernel : RangeView) (x : ℕ) → 8192 ≤ kernel.size → covers (first_live w kernel) x ≡ true → covers kernel x ≡ true
-live-inside which.Memory kernel x large at = grind (arith, nat_tests, large, at)
-live-inside which.Reserved kernel x large at = grind (arith, nat_tests, large, at)
+table_bytes-inside : (w : Which) (kernel : RangeView) (x : ℕ) → 8192 ≤ kernel.size → covers (first_live w kernel) x ≡ true → covers kernel x ≡ true
+table_bytes-inside which.Memory kernel x large at = grind (arith, nat_tests, large, at)
+table_bytes-inside which.Reserved kernel x large at = grind (arith, nat_tests, large, at)
 
 first-apart : (kernel : RangeView) → end_of kernel % 4096 ≡ 0 → 8192 ≤ kernel.size
     → ShareNoFrame (first_live which.Memory kernel) (first_live which.Reserved kernel)
@@ -73,9 +73,9 @@ first-placed kernel image =
       first = refl;
       seats = record {
         first = Seat-new no_owners (first_live which.Memory kernel) kernel owner.Kernel (omega arith) refl
-            (λ x at. live-inside which.Memory kernel x large at);
+            (λ x at. table_bytes-inside which.Memory kernel x large at);
         second = Seat-new no_owners (first_live which.Reserved kernel) kernel owner.Kernel (omega arith) refl
-            (λ x at. live-inside which.Reserved kernel x large at);
+            (λ x at. table_bytes-inside which.Reserved kernel x large at);
         apart = first-apart kernel whole large;
       };
     }

@@ -2,35 +2,35 @@
 use Rattle.std.proofs.Common.{◌≡◌, ℕ, ◌+◌, ◌*◌, ◌%◌, ◌<◌, ◌≤◌, Bool, true, false, ◌==◌, if◌then◌else◌, min, Option, Some, None, List, [], ◌∷◌, ◌++◌, refl, ap, subst, inl, inr, arith}
 use Rattle.std.proofs.lemmas.Bool.{and_parts}
 use Rattle.bm_base.specs.Range.{RangeView, end_of, covers, Meet}
-use Rattle.memblock_model.specs.declared.which.Which.{Which}
-use Rattle.memblock_model.specs.declared.which.Which.TheVariants as which
+use Rattle.memblock_model.specs.declared.owner.Which.{Which}
+use Rattle.memblock_model.specs.declared.owner.Which.TheVariants as which
 use Rattle.memblock_model.specs.declared.owner.Owner.{Owner}
 use Rattle.memblock_model.specs.declared.query.Query.{Query}
 use Rattle.memblock_model.specs.declared.item.Item.{Item}
 use Rattle.memblock_model.specs.Items.{owner_of, limit_of}
-use Rattle.memblock_model.specs.Tables.{without_owner, table_of, live}
+use Rattle.memblock_model.specs.Tables.{without_owner, table_of, table_bytes}
 use Rattle.memblock_model.specs.Items.{upward_of}
-use Rattle.memblock_model.specs.Search.{top, best}
-use Rattle.memblock_model.proofs.SearchLaws.{IsPlace, either, top_in-fits, best_in-fits, fits_in-parts}
+use Rattle.memblock_model.specs.Search.{top_place, best_place}
+use Rattle.memblock_model.proofs.SearchLaws.{IsPlace, either, top_place_in-fits, best_place_in-fits, fits_in-parts}
 use Rattle.memblock_ranges.specs.Tables.{Contents, bytes_of, bytes_in, Overlaps}
 use Rattle.growth_model.specs.Growth.{in_whole_frames, frames_at, table_query, place_beside}
-use Rattle.memblock_model.specs.declared.request.Request.{Request}
+use Rattle.memblock_model.specs.declared.query.Request.{Request}
 use Rattle.growth_model.specs.Request.{Attempt, attempt, anywhere, nodes, round, attempts, first_top, place_for}
 use Rattle.growth_model.specs.Sound.{Clear, Unclaimed, Seated, IsAway}
 use Rattle.growth_model.specs.Bytes.{table_for}
 use Rattle.growth_model.proofs.SeatLaws.{covers-from, frames-more, unclaimed-clear}
 
 -- a best place fits, and so does a top one
-pub found-fits : (items : List Item) (q : Query) (place : ℕ) → best items q ≡ Some place
+pub found-fits : (items : List Item) (q : Query) (place : ℕ) → best_place items q ≡ Some place
     → IsPlace false (table_of which.Memory items) (table_of which.Reserved items) q place
-unfolding best
-found-fits items q place found = fits_in-parts false _ _ q place (best_in-fits _ _ _ q place found)
+unfolding best_place
+found-fits items q place found = fits_in-parts false _ _ q place (best_place_in-fits _ _ _ q place found)
 
-pub top-fits : (items : List Item) (q : Query) (mirror : Bool) (place : ℕ) → top items q mirror ≡ Some place
+pub top_place-fits : (items : List Item) (q : Query) (mirror : Bool) (place : ℕ) → top_place items q mirror ≡ Some place
     → IsPlace mirror (table_of which.Memory items) (table_of which.Reserved items) q place
-unfolding top
-top-fits items q mirror place found =
-    fits_in-parts mirror _ _ q place (top_in-fits (record { mirror = mirror; up = upward_of items }) _ _ q place found)
+unfolding top_place
+top_place-fits items q mirror place found =
+    fits_in-parts mirror _ _ q place (top_place_in-fits (record { mirror = mirror; up = upward_of items }) _ _ q place found)
 
 pub no_owner : (o : Option Owner) → without_owner o ≡ None → o ≡ None
 no_owner None e = refl
@@ -44,7 +44,7 @@ fits-unclaimed items q mirror place known x at =
     let inside = covers-from (record { base = place; size = q.size }) x at in
     no_owner (owner_of items x) (known.free x inside.0 inside.1)
 
-pub found-unclaimed : (items : List Item) (q : Query) (place : ℕ) → best items q ≡ Some place
+pub found-unclaimed : (items : List Item) (q : Query) (place : ℕ) → best_place items q ≡ Some place
     → Unclaimed (owner_of items) (record { base = place; size = q.size })
 found-unclaimed items q place found = fits-unclaimed items q false place (found-fits items q place found)
 
@@ -56,7 +56,7 @@ pub record IsNew (items : List Item) (avoid : RangeView) (room place : ℕ) : Ty
   pub clear : Clear avoid (frames_at place (48 * room))
 
 new_between : (items : List Item) (avoid : RangeView) (room lo hi place : ℕ) → hi ≤ limit_of items
-    → ((x : ℕ) → avoid.base ≤ x → x < end_of avoid → lo ≤ x → x < hi → ⊥) → best items (table_query room lo hi) ≡ Some place
+    → ((x : ℕ) → avoid.base ≤ x → x < end_of avoid → lo ≤ x → x < hi → ⊥) → best_place items (table_query room lo hi) ≡ Some place
     → IsNew items avoid room place
 new_between items avoid room lo hi place within beside found =
     let known = found-fits items (table_query room lo hi) place found in
@@ -73,7 +73,7 @@ pub beside-new : (items : List Item) (avoid : RangeView) (room place : ℕ) → 
     → IsNew items avoid room place
 beside-new items avoid room place found =
     let behind = end_of avoid in let limit = limit_of items in let before = min avoid.base limit in
-    elim (either (best items (table_query room behind limit)) (best items (table_query room 0 before)) place found)
+    elim (either (best_place items (table_query room behind limit)) (best_place items (table_query room 0 before)) place found)
     as (λ _. IsNew items avoid room place) [
       | inl above ↦ new_between items avoid room behind limit place (omega arith) (λ x from under low high. omega arith) above
       | inr below ↦ new_between items avoid room 0 before place (omega arith) (λ x from under low high. omega arith) below
@@ -121,13 +121,13 @@ tried_all r limit = tried_append r limit (round r limit r.min) (if r.min == 0 th
 pub record IsFound (r : Request) (items : List Item) (limit place : ℕ) : Type 0 where
   pub attempt : Attempt
   pub tried : IsTried r limit attempt.query
-  pub found : top items attempt.query attempt.mirror ≡ Some place
+  pub found : top_place items attempt.query attempt.mirror ≡ Some place
 
 first_found : (r : Request) (items : List Item) (limit place : ℕ) (all : List Attempt) → AreTried r limit all
     → first_top items all ≡ Some place → IsFound r items limit place
 first_found r items limit place [] tried h = cc
 first_found r items limit place (a ∷ rest) tried h =
-    elim (either (top items a.query a.mirror) (first_top items rest) place h) as (λ _. IsFound r items limit place) [
+    elim (either (top_place items a.query a.mirror) (first_top items rest) place h) as (λ _. IsFound r items limit place) [
       | inl here ↦ record { attempt = a; tried = tried.0; found = here }
       | inr later ↦ first_found r items limit place rest tried.1 later
     ]
@@ -143,23 +143,23 @@ place-unclaimed r items place h =
     let was = place-found r items place h in
     subst (λ (n : ℕ). Unclaimed (owner_of items) (record { base = place; size = n })) was.tried.sized
     (fits-unclaimed items was.attempt.query was.attempt.mirror place
-    (top-fits items was.attempt.query was.attempt.mirror place was.found))
+    (top_place-fits items was.attempt.query was.attempt.mirror place was.found))
 
 pub place-within : (r : Request) (items : List Item) (place : ℕ) → place_for r items ≡ Some place → place + r.size ≤ limit_of items
 place-within r items place h =
     let was = place-found r items place h in
-    let high = (top-fits items was.attempt.query was.attempt.mirror place was.found).high in
+    let high = (top_place-fits items was.attempt.query was.attempt.mirror place was.found).high in
     let tried = was.tried in
     omega arith
 
 -- bytes without an owner meet no table
 pub unclaimed-away : (kernel a : RangeView) (items : List Item) → Seated kernel items → Unclaimed (owner_of items) a → IsAway kernel a items
 unclaimed-away kernel a items placed free = (
-  unclaimed-clear (owner_of items) a (live which.Memory kernel items) free placed.seats.first,
-  unclaimed-clear (owner_of items) a (live which.Reserved kernel items) free placed.seats.second,
+  unclaimed-clear (owner_of items) a (table_bytes which.Memory kernel items) free placed.seats.first,
+  unclaimed-clear (owner_of items) a (table_bytes which.Reserved kernel items) free placed.seats.second,
 )
 
-pub found-away : (kernel : RangeView) (items : List Item) (q : Query) (place : ℕ) → Seated kernel items → best items q ≡ Some place
+pub found-away : (kernel : RangeView) (items : List Item) (q : Query) (place : ℕ) → Seated kernel items → best_place items q ≡ Some place
     → IsAway kernel (record { base = place; size = q.size }) items
 found-away kernel items q place placed found =
     unclaimed-away kernel (record { base = place; size = q.size }) items placed (found-unclaimed items q place found)
@@ -170,12 +170,12 @@ pub away-within : (kernel a b : RangeView) (items : List Item) → ((x : ℕ) �
 away-within kernel a b items inside away = (λ x at. away.0 x (inside x at), λ x at. away.1 x (inside x at))
 
 -- such a range overlaps neither table, as the tables see it, and the other way round
-away_at : (kernel a : RangeView) (items : List Item) (w : Which) → IsAway kernel a items → Meet (live w kernel items) a → ⊥
+away_at : (kernel a : RangeView) (items : List Item) (w : Which) → IsAway kernel a items → Meet (table_bytes w kernel items) a → ⊥
 away_at kernel a items which.Memory away (x, both) = let parts = and_parts _ _ both in away.0 x parts.1 parts.0
 away_at kernel a items which.Reserved away (x, both) = let parts = and_parts _ _ both in away.1 x parts.1 parts.0
 
 live_bytes : (kernel : RangeView) (items : List Item) (t : Contents) (w : Which) → t.memory ≡ table_for which.Memory kernel items
-    → t.reserved ≡ table_for which.Reserved kernel items → bytes_in w t ≡ live w kernel items
+    → t.reserved ≡ table_for which.Reserved kernel items → bytes_in w t ≡ table_bytes w kernel items
 live_bytes kernel items t which.Memory memory reserved = ap bytes_of memory
 live_bytes kernel items t which.Reserved memory reserved = ap bytes_of reserved
 

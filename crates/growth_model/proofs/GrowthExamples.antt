@@ -5,22 +5,22 @@ use Rattle.std.proofs.lemmas.Bool.Decides.{nat_tests}
 use Rattle.bm_base.specs.Range.{RangeView, end_of, covers}
 use Rattle.address_runs.specs.Runs.{RunOf}
 use Rattle.address_runs.specs.Edits.{NothingFrom}
-use Rattle.memblock_model.specs.declared.which.Which.{Which}
-use Rattle.memblock_model.specs.declared.which.Which.TheVariants as which
+use Rattle.memblock_model.specs.declared.owner.Which.{Which}
+use Rattle.memblock_model.specs.declared.owner.Which.TheVariants as which
 use Rattle.memblock_model.specs.declared.owner.Owner.{Owner}
 use Rattle.memblock_model.specs.declared.owner.Owner.TheVariants as owner
 use Rattle.memblock_model.specs.declared.item.Item.{Item}
 use Rattle.memblock_model.specs.declared.item.Item.TheVariants as item
-use Rattle.memblock_model.specs.Labels.{Label, plain_label}
+use Rattle.memblock_model.specs.Labels.{LabelView, plain_label}
 use Rattle.memblock_model.specs.Items.{owner_of}
-use Rattle.memblock_model.specs.Tables.{table_of, records_of, room_of, live}
+use Rattle.memblock_model.specs.Tables.{table_of, records_of, room_of, table_bytes}
 use Rattle.memblock_model.specs.declared.query.Query.{Query}
-use Rattle.memblock_model.specs.Search.{suits, fits_in, top, best}
-use Rattle.memblock_model.proofs.SearchLaws.{IsLastBelow, fits_in-parts, fits_in-whole, top_in-last, top_in-fails, top_in-mirrorless, best_in-last, best_in-fails, plain_or_none}
+use Rattle.memblock_model.specs.Search.{suits, fits_in, top_place, best_place}
+use Rattle.memblock_model.proofs.SearchLaws.{IsLastBelow, fits_in-parts, fits_in-whole, top_place_in-last, top_place_in-fails, top_place_in-mirrorless, best_place_in-last, best_place_in-fails, plain_or_none}
 use Rattle.memblock_model.proofs.TableLaws.{records_for-is}
 use Rattle.memblock_ranges.proofs.CountLaws.{few-pieces}
 use Rattle.growth_model.specs.declared.refusal.Refusal.TheVariants as refusal
-use Rattle.memblock_model.specs.declared.request.Request.{Request}
+use Rattle.memblock_model.specs.declared.query.Request.{Request}
 use Rattle.growth_model.specs.Outcome.{Outcome, Change, joined, after, nothing, step, write, refuse, followed_by, ◌>>◌, if_due, whatever_refused}
 use Rattle.growth_model.specs.Growth.{in_whole_frames, frames_at, count, table_query, place_beside, left, reserved_items, reserved_growth_at, reserved_growth, is_full, new_in, two, grown, claimed, freed, old_frames, leave, memory_growth_at, memory_growth, added, noded, mirrored}
 use Rattle.growth_model.specs.Request.{Attempt, attempt, anywhere, nodes, round, attempts, first_top, place_for}
@@ -138,22 +138,22 @@ window_last lo hi a ends within aligned above low = record {
 }
 
 -- it is the best one, and the one that a search of any memory finds; a search of mirrored memory finds none
-window_place : (lo hi a : ℕ) → a + 8192 ≡ hi → hi ≤ 262144 → a % 4096 ≡ 0 → 81920 ≤ a → lo ≤ a → best small (table_query 128 lo hi) ≡ Some a
-unfolding best
+window_place : (lo hi a : ℕ) → a + 8192 ≡ hi → hi ≤ 262144 → a % 4096 ≡ 0 → 81920 ≤ a → lo ≤ a → best_place small (table_query 128 lo hi) ≡ Some a
+unfolding best_place
 window_place lo hi a ends within aligned above low =
-    best_in-last (table_of which.Memory small) (table_of which.Reserved small) (table_query 128 lo hi) a small_is_plain
+    best_place_in-last (table_of which.Memory small) (table_of which.Reserved small) (table_query 128 lo hi) a small_is_plain
     (window_last lo hi a ends within aligned above low)
 
 window_top : (lo hi a : ℕ) → a + 8192 ≡ hi → hi ≤ 262144 → a % 4096 ≡ 0 → 81920 ≤ a → lo ≤ a
-    → top small (table_query 128 lo hi) false ≡ Some a
-unfolding top
+    → top_place small (table_query 128 lo hi) false ≡ Some a
+unfolding top_place
 window_top lo hi a ends within aligned above low =
-    top_in-last false (table_of which.Memory small) (table_of which.Reserved small) (table_query 128 lo hi) a
+    top_place_in-last false (table_of which.Memory small) (table_of which.Reserved small) (table_query 128 lo hi) a
     (window_last lo hi a ends within aligned above low)
 
-nothing_mirrored : (q : Query) → top small q true ≡ None
-unfolding top
-nothing_mirrored q = top_in-mirrorless false (table_of which.Memory small) (table_of which.Reserved small) q small_is_plain
+nothing_mirrored : (q : Query) → top_place small q true ≡ None
+unfolding top_place
+nothing_mirrored q = top_place_in-mirrorless false (table_of which.Memory small) (table_of which.Reserved small) q small_is_plain
 
 -- nothing fits where no number could
 none_fits : (mirror : Bool) (items : List Item) (q : Query) → ((a : ℕ) → q.lo ≤ a → 4096 ≤ a → a + q.size ≤ q.hi → ⊥) → (a : ℕ)
@@ -162,10 +162,10 @@ none_fits mirror items q never a = false_from_ne_true _ (λ fits.
     let known = fits_in-parts mirror (table_of which.Memory items) (table_of which.Reserved items) q a fits in
     never a known.low known.first known.high)
 
-no_window : (lo hi : ℕ) → hi ≤ lo → best small (table_query 128 lo hi) ≡ None
-unfolding best
+no_window : (lo hi : ℕ) → hi ≤ lo → best_place small (table_query 128 lo hi) ≡ None
+unfolding best_place
 no_window lo hi none =
-    best_in-fails false (table_of which.Memory small) (table_of which.Reserved small) (table_query 128 lo hi)
+    best_place_in-fails false (table_of which.Memory small) (table_of which.Reserved small) (table_query 128 lo hi)
     (λ b lt. none_fits false small (table_query 128 lo hi) (λ a low first high. omega arith) b)
 
 -- above the frame at 128 KiB there is room; above the last 64 KiB there is none, but there is below them
@@ -197,8 +197,8 @@ claimed_before_the_old_place_is_free : (owner_of (moving 1) 131072 ≡ None) × 
 unfolding reserved_items
 claimed_before_the_old_place_is_free = (refl, refl, refl, refl, refl, refl)
 
-moved_with_all_its_room : (live which.Reserved image (moving 0) ≡ record { base = 253952; size = 24 * 256 })
-    × (live which.Reserved image (moving 3) ≡ record { base = 131072; size = 24 * 512 })
+moved_with_all_its_room : (table_bytes which.Reserved image (moving 0) ≡ record { base = 253952; size = 24 * 256 })
+    × (table_bytes which.Reserved image (moving 3) ≡ record { base = 131072; size = 24 * 512 })
 unfolding reserved_items
 moved_with_all_its_room = (refl, refl)
 
@@ -217,10 +217,10 @@ unfolding reserved_growth reserved_growth_at
 growth_below = rw below_place refl
 
 -- the records of the small memory: one in each table
-abbrev memory_records : List (RunOf Label)
+abbrev memory_records : List (RunOf LabelView)
 memory_records = record { base = 0; size = 262144; value = plain_label } ∷ []
 
-abbrev reserved_records : List (RunOf Label)
+abbrev reserved_records : List (RunOf LabelView)
 reserved_records = record { base = 65536; size = 16384; value = plain_label } ∷ []
 
 memory_ends : NothingFrom (2 ^ 64) (table_of which.Memory small)
@@ -360,14 +360,14 @@ memory_grows = rw (window_place 0 262144 253952 refl (omega arith) refl (omega a
 abbrev half_allowed : List Item
 half_allowed = item.Mem (record { base = 0; size = 262144 }) ∷ (item.Claim image owner.Kernel ∷ (item.Limit 131072 ∷ []))
 
-grows_below_the_limit : memory_growth half_allowed ≡ memory_growth_at 128 None (best half_allowed (table_query 128 0 131072)) half_allowed
+grows_below_the_limit : memory_growth half_allowed ≡ memory_growth_at 128 None (best_place half_allowed (table_query 128 0 131072)) half_allowed
 unfolding memory_growth
 grows_below_the_limit = refl
 
 without_memory : memory_growth [] ≡ refuse which.Memory 128 []
-unfolding memory_growth memory_growth_at best
+unfolding memory_growth memory_growth_at best_place
 without_memory = ap (λ (o : Option ℕ). memory_growth_at 128 None o [])
-    (best_in-fails false (table_of which.Memory []) (table_of which.Reserved []) (table_query 128 0 0)
+    (best_place_in-fails false (table_of which.Memory []) (table_of which.Reserved []) (table_query 128 0 0)
     (λ b lt. none_fits false [] (table_query 128 0 0) (λ a low first high. omega arith) b))
 
 -- the searches of an allocation: one frame, from 128 KiB on if it can be, of node 1 if it can be
@@ -439,9 +439,9 @@ two_frames_please = record a_frame { size = 8192 }
 place_at_the_top : place_for two_frames_please small ≡ Some 253952
 place_at_the_top = second_search
 
-no_top : (q : Query) (mirror : Bool) → q.hi ≡ 0 → top small q mirror ≡ None
-unfolding top
-no_top q mirror none = top_in-fails (record { mirror = mirror; up = false }) (table_of which.Memory small)
+no_top : (q : Query) (mirror : Bool) → q.hi ≡ 0 → top_place small q mirror ≡ None
+unfolding top_place
+no_top q mirror none = top_place_in-fails (record { mirror = mirror; up = false }) (table_of which.Memory small)
     (table_of which.Reserved small) q (λ b lt. none_fits mirror small q (λ a low first high. omega arith) b)
 
 no_place_so_low : place_for (record two_frames_please { max = Some 0 }) small ≡ None

@@ -2,14 +2,14 @@
 use Rattle.std.proofs.Common.{◌≡◌, ◌⊎◌, ℕ, ◌+◌, ◌*◌, ◌≤◌, Option, Some, None, List, [], ◌∷◌, ◌++◌, Result, refl, sym, ◌∙◌, ap, inl, inr, arith}
 use Rattle.std.proofs.lemmas.Option.{same_Some}
 use Rattle.bm_base.specs.Range.{RangeView}
-use Rattle.memblock_model.specs.declared.which.Which.TheVariants as which
+use Rattle.memblock_model.specs.declared.owner.Which.TheVariants as which
 use Rattle.memblock_model.specs.declared.owner.Owner.{Owner}
 use Rattle.memblock_model.specs.declared.owner.Owner.TheVariants as owner
 use Rattle.memblock_model.specs.declared.item.Item.{Item}
 use Rattle.memblock_model.specs.declared.item.Item.TheVariants as item
 use Rattle.memblock_model.specs.Items.{limit_of}
 use Rattle.memblock_model.specs.Tables.{room_of, moved_to}
-use Rattle.memblock_model.specs.Search.{best}
+use Rattle.memblock_model.specs.Search.{best_place}
 use Rattle.growth_model.specs.declared.refusal.Refusal.{Refusal}
 use Rattle.growth_model.specs.Outcome.{Change, after, write, ◌>>◌}
 use Rattle.growth_model.specs.Growth.{in_whole_frames, frames_at, table_query, place_beside, reserved_items, reserved_growth_at, reserved_growth, new_in, two, grown, claimed, freed, old_frames, leave, memory_growth_at, memory_growth}
@@ -73,7 +73,7 @@ Limited items t = (moved_to which.Memory t ≡ moved_to which.Memory items)
     ⊎ ((place : ℕ) × (moved_to which.Memory t ≡ Some place) × (place + in_whole_frames (48 * room_of which.Memory items) ≤ limit_of items))
 
 growth-limited : (items : List Item) (found : Option ℕ)
-    → best items (table_query (room_of which.Memory items) 0 (limit_of items)) ≡ found
+    → best_place items (table_query (room_of which.Memory items) 0 (limit_of items)) ≡ found
     → EachCut (Limited items) items (memory_growth_at (room_of which.Memory items) (moved_to which.Memory items) found items).steps
 unfolding memory_growth_at
 growth-limited items None is = inl refl
@@ -99,7 +99,7 @@ growth-limited items (Some place) is =
 
 memory-limited : (items : List Item) → EachCut (Limited items) items (memory_growth items).steps
 unfolding memory_growth
-memory-limited items = growth-limited items (best items (table_query (room_of which.Memory items) 0 (limit_of items))) refl
+memory-limited items = growth-limited items (best_place items (table_query (room_of which.Memory items) 0 (limit_of items))) refl
 
 pub memory-below : {T : Type 0} (result : Result T Refusal) (old new : List Item) (place : ℕ) → Ends result old new memory_growth
     → moved_to which.Memory new ≡ Some place

@@ -5,42 +5,42 @@ use Rattle.std.specs.List.{fold}
 use Rattle.std.proofs.lemmas.List.Sums.{fold-append}
 use Rattle.bm_base.specs.Range.{RangeView}
 use Rattle.address_runs.specs.Edits.{uncover_range, replace_in_range}
-use Rattle.memblock_model.specs.declared.which.Which.{Which}
-use Rattle.memblock_model.specs.declared.which.Which.TheVariants as which
+use Rattle.memblock_model.specs.declared.owner.Which.{Which}
+use Rattle.memblock_model.specs.declared.owner.Which.TheVariants as which
 use Rattle.memblock_model.specs.declared.owner.Owner.{Owner}
 use Rattle.memblock_model.specs.declared.owner.Owner.TheVariants as owner
 use Rattle.memblock_model.specs.declared.item.Item.{Item}
 use Rattle.memblock_model.specs.declared.item.Item.TheVariants as item
 use Rattle.memblock_model.specs.Items.{Owners, owners_after, no_owners, owner_of, limit_after, limit_of}
-use Rattle.memblock_model.specs.Tables.{room_after, room_of, moved_after, moved_to, built_in, live}
+use Rattle.memblock_model.specs.Tables.{room_after, room_of, moved_after, moved_to, built_in_place, table_bytes}
 use Rattle.growth_model.specs.Growth.{frames_at}
 use Rattle.growth_model.specs.Sound.{keeps, Clear, Unclaimed, Seats, Seated, IsAway}
 use Rattle.growth_model.proofs.SeatLaws.{frames, Seats-claim, Seats-clear, Seats-free, Seats-move, Seats-leave}
 
 -- where a table lies, by its newest place and its room
 abbrev pub live_by : Which → RangeView → Option ℕ → ℕ → RangeView
-live_by w kernel place room = record { base = unwrap_or place (built_in w kernel); size = 24 * room }
+live_by w kernel place room = record { base = unwrap_or place (built_in_place w kernel); size = 24 * room }
 
-pub live-is : (w : Which) (kernel : RangeView) (items : List Item) (place : Option ℕ) (room : ℕ) → moved_to w items ≡ place
-    → room_of w items ≡ room → live w kernel items ≡ live_by w kernel place room
-live-is w kernel items place room at wide = rw (at, wide) refl
+pub table_bytes-is : (w : Which) (kernel : RangeView) (items : List Item) (place : Option ℕ) (room : ℕ) → moved_to w items ≡ place
+    → room_of w items ≡ room → table_bytes w kernel items ≡ live_by w kernel place room
+table_bytes-is w kernel items place room at wide = rw (at, wide) refl
 
-pub live-same : (w : Which) (kernel : RangeView) (items t : List Item) → moved_to w t ≡ moved_to w items → room_of w t ≡ room_of w items
-    → live w kernel t ≡ live w kernel items
-live-same w kernel items t at wide = live-is w kernel t (moved_to w items) (room_of w items) at wide
+pub table_bytes-same : (w : Which) (kernel : RangeView) (items t : List Item) → moved_to w t ≡ moved_to w items → room_of w t ≡ room_of w items
+    → table_bytes w kernel t ≡ table_bytes w kernel items
+table_bytes-same w kernel items t at wide = table_bytes-is w kernel t (moved_to w items) (room_of w items) at wide
 
 pub Seats-same : (own now : Owners) (m n r s : RangeView) → now ≡ own → n ≡ m → s ≡ r → Seats own m r → Seats now n s
 Seats-same own now m n r s owners memory reserved known = rw (owners, memory, reserved) known
 
 -- further items, and what becomes of the places
 pub placed-more : (kernel : RangeView) (items more : List Item) (own : Owners) (m r : RangeView) → Seated kernel items
-    → owner_of (items ++ more) ≡ own → live which.Memory kernel (items ++ more) ≡ m → live which.Reserved kernel (items ++ more) ≡ r
+    → owner_of (items ++ more) ≡ own → table_bytes which.Memory kernel (items ++ more) ≡ m → table_bytes which.Reserved kernel (items ++ more) ≡ r
     → Seats own m r → Seated kernel (items ++ more)
 placed-more kernel items more own m r placed owners memory reserved seats = record {
   rest = placed.rest ++ more;
   first = ap (λ (t : List Item). t ++ more) placed.first;
-  seats = Seats-same own (owner_of (items ++ more)) m (live which.Memory kernel (items ++ more)) r
-      (live which.Reserved kernel (items ++ more)) owners memory reserved seats;
+  seats = Seats-same own (owner_of (items ++ more)) m (table_bytes which.Memory kernel (items ++ more)) r
+      (table_bytes which.Reserved kernel (items ++ more)) owners memory reserved seats;
 }
 
 -- what further items make of owners, places and rooms
@@ -58,19 +58,19 @@ limits-of items more = fold-append limit_after 0 items more
 
 -- an item that moves no table
 pub stays : (w : Which) (kernel : RangeView) (items : List Item) (i : Item) → moved_after w (moved_to w items) i ≡ moved_to w items
-    → room_after w (room_of w items) i ≡ room_of w items → live w kernel (items ++ i ∷ []) ≡ live w kernel items
-stays w kernel items i at wide = live-same w kernel items (items ++ i ∷ []) (moves-of w items (i ∷ []) ∙ at)
+    → room_after w (room_of w items) i ≡ room_of w items → table_bytes w kernel (items ++ i ∷ []) ≡ table_bytes w kernel items
+stays w kernel items i at wide = table_bytes-same w kernel items (items ++ i ∷ []) (moves-of w items (i ∷ []) ∙ at)
     (rooms-of w items (i ∷ []) ∙ wide)
 
 -- such an item that makes these owners of those before, among which the places are still good
 still-placed : (kernel : RangeView) (items : List Item) (i : Item)
     → ((w : Which) → moved_after w (moved_to w items) i ≡ moved_to w items)
     → ((w : Which) → room_after w (room_of w items) i ≡ room_of w items) → Seated kernel items
-    → Seats (owners_after (owner_of items) i) (live which.Memory kernel items) (live which.Reserved kernel items)
+    → Seats (owners_after (owner_of items) i) (table_bytes which.Memory kernel items) (table_bytes which.Reserved kernel items)
     → Seated kernel (items ++ i ∷ [])
 still-placed kernel items i at wide placed seats =
-    placed-more kernel items (i ∷ []) (owners_after (owner_of items) i) (live which.Memory kernel items)
-    (live which.Reserved kernel items) placed (owners-of items (i ∷ []))
+    placed-more kernel items (i ∷ []) (owners_after (owner_of items) i) (table_bytes which.Memory kernel items)
+    (table_bytes which.Reserved kernel items) placed (owners-of items (i ∷ []))
     (stays which.Memory kernel items i (at which.Memory) (wide which.Memory))
     (stays which.Reserved kernel items i (at which.Reserved) (wide which.Reserved)) seats
 
@@ -82,9 +82,9 @@ pub claim-placed : (kernel : RangeView) (items : List Item) (r : RangeView) (o :
     → Seated kernel (items ++ item.Claim r o ∷ [])
 claim-placed kernel items r o may placed =
     still-placed kernel items (item.Claim r o) (λ w. refl) (λ w. refl) placed
-    (elim may as (λ _. Seats (replace_in_range r o (owner_of items)) (live which.Memory kernel items) (live which.Reserved kernel items)) [
-      | inl kept ↦ Seats-claim (owner_of items) (live which.Memory kernel items) (live which.Reserved kernel items) r o kept placed.seats
-      | inr away ↦ Seats-clear (owner_of items) (live which.Memory kernel items) (live which.Reserved kernel items) r o away.0 away.1
+    (elim may as (λ _. Seats (replace_in_range r o (owner_of items)) (table_bytes which.Memory kernel items) (table_bytes which.Reserved kernel items)) [
+      | inl kept ↦ Seats-claim (owner_of items) (table_bytes which.Memory kernel items) (table_bytes which.Reserved kernel items) r o kept placed.seats
+      | inr away ↦ Seats-clear (owner_of items) (table_bytes which.Memory kernel items) (table_bytes which.Reserved kernel items) r o away.0 away.1
           placed.seats
     ])
 
@@ -92,7 +92,7 @@ pub free-placed : (kernel : RangeView) (items : List Item) (r : RangeView) → I
     → Seated kernel (items ++ item.Free r ∷ [])
 free-placed kernel items r away placed =
     still-placed kernel items (item.Free r) (λ w. refl) (λ w. refl) placed
-    (Seats-free (owner_of items) (live which.Memory kernel items) (live which.Reserved kernel items) r away.0 away.1 placed.seats)
+    (Seats-free (owner_of items) (table_bytes which.Memory kernel items) (table_bytes which.Reserved kernel items) r away.0 away.1 placed.seats)
 
 pub mem-placed : (kernel : RangeView) (items : List Item) (r : RangeView) → Seated kernel items → Seated kernel (items ++ item.Mem r ∷ [])
 mem-placed kernel items r placed = still-placed kernel items (item.Mem r) (λ w. refl) (λ w. refl) placed placed.seats
@@ -120,7 +120,7 @@ pub record Aside (kernel a : RangeView) (items t : List Item) : Type 0 where
   pub wide : room_of which.Memory t ≡ room_of which.Memory items
   pub bound : limit_of t ≡ limit_of items
   pub free : Unclaimed (owner_of items) a → Unclaimed (owner_of t) a
-  pub clear : Clear a (live which.Reserved kernel items) → Clear a (live which.Reserved kernel t)
+  pub clear : Clear a (table_bytes which.Reserved kernel items) → Clear a (table_bytes which.Reserved kernel t)
 
 pub aside-same : (kernel a : RangeView) (items : List Item) → Aside kernel a items items
 aside-same kernel a items = record { place = refl; wide = refl; bound = refl; free = λ h. h; clear = λ h. h }
@@ -141,7 +141,7 @@ pub record Going (kernel a : RangeView) (items t : List Item) : Type 0 where
 -- the range is away still, and may be taken still
 pub away-still : (kernel a : RangeView) (items t : List Item) → Aside kernel a items t → IsAway kernel a items → IsAway kernel a t
 away-still kernel a items t aside away =
-    (subst (λ (e : RangeView). Clear a e) (sym (live-same which.Memory kernel items t aside.place aside.wide)) away.0, aside.clear away.1)
+    (subst (λ (e : RangeView). Clear a e) (sym (table_bytes-same which.Memory kernel items t aside.place aside.wide)) away.0, aside.clear away.1)
 
 pub take-still : (kernel a : RangeView) (o : Owner) (items t : List Item) → Aside kernel a items t → MayTake kernel items a o
     → MayTake kernel t a o

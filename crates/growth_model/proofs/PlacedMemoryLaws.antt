@@ -2,14 +2,14 @@
 use Rattle.std.proofs.Common.{◌≡◌, ℕ, ◌*◌, ◌%◌, true, Option, Some, None, List, [], ◌∷◌, ◌++◌, Ok, refl, sym, ◌∙◌, ap, subst, inl, inr, arith}
 use Rattle.bm_base.specs.Range.{RangeView, covers}
 use Rattle.address_runs.specs.Edits.{replace_in_range}
-use Rattle.memblock_model.specs.declared.which.Which.TheVariants as which
+use Rattle.memblock_model.specs.declared.owner.Which.TheVariants as which
 use Rattle.memblock_model.specs.declared.owner.Owner.{Owner}
 use Rattle.memblock_model.specs.declared.item.Item.{Item}
 use Rattle.memblock_model.specs.declared.item.Item.TheVariants as item
 use Rattle.memblock_model.specs.Items.{owner_of, limit_of}
-use Rattle.memblock_model.specs.Tables.{room_of, moved_to, live}
-use Rattle.memblock_model.specs.Search.{best}
-use Rattle.memblock_model.specs.declared.request.Request.{Request}
+use Rattle.memblock_model.specs.Tables.{room_of, moved_to, table_bytes}
+use Rattle.memblock_model.specs.Search.{best_place}
+use Rattle.memblock_model.specs.declared.query.Request.{Request}
 use Rattle.growth_model.specs.Outcome.{after, write, ◌>>◌}
 use Rattle.growth_model.specs.Growth.{frames_at, table_query, new_in, two, grown, claimed, old_frames, leave, memory_growth_at, memory_growth, added, noded, mirrored}
 use Rattle.growth_model.specs.Request.{place_for}
@@ -18,7 +18,7 @@ use Rattle.growth_model.specs.Sound.{Clear, Unclaimed, Seats, Seated, IsAway}
 use Rattle.growth_model.proofs.CutLaws.{EachCut, cuts-last, cuts-then, cuts-grown}
 use Rattle.growth_model.proofs.SeatLaws.{frames, apart-clear, old-clear, Seats-swap}
 use Rattle.growth_model.proofs.FoundLaws.{found-fits, found-unclaimed, place-unclaimed, unclaimed-away}
-use Rattle.growth_model.proofs.PlacedLaws.{live_by, live-is, stays, placed-more, owners-of, moves-of, rooms-of, claim-placed, mem-placed, node-placed, mirror-placed, for_table, move-seats}
+use Rattle.growth_model.proofs.PlacedLaws.{live_by, table_bytes-is, stays, placed-more, owners-of, moves-of, rooms-of, claim-placed, mem-placed, node-placed, mirror-placed, for_table, move-seats}
 use Rattle.growth_model.proofs.PlacedReservedLaws.{roomy, room-going, claimed-cuts, freed-cuts, claimed-after, place-inside}
 
 -- a place for the memory table, whose room is that at the items: aligned, and nobody's
@@ -52,12 +52,12 @@ module _ (kernel : RangeView) (t : List Item) (place : ℕ) where
   moved-owners : owner_of (moved t place) ≡ replace_in_range a (for_table which.Memory) (owner_of t)
   moved-owners = owners-of u (grows ∷ []) ∙ owners-of t (claims ∷ [])
 
-  moved-memory : live which.Memory kernel (moved t place) ≡ new_live t place
-  moved-memory = live-is which.Memory kernel (moved t place) (Some place) (2 * room_of which.Memory t)
+  moved-memory : table_bytes which.Memory kernel (moved t place) ≡ new_live t place
+  moved-memory = table_bytes-is which.Memory kernel (moved t place) (Some place) (2 * room_of which.Memory t)
       (moves-of which.Memory u (grows ∷ []))
       (rooms-of which.Memory u (grows ∷ []) ∙ ap (λ (n : ℕ). 2 * n) (rooms-of which.Memory t (claims ∷ [])))
 
-  moved-reserved : live which.Reserved kernel (moved t place) ≡ live which.Reserved kernel t
+  moved-reserved : table_bytes which.Reserved kernel (moved t place) ≡ table_bytes which.Reserved kernel t
   moved-reserved = stays which.Reserved kernel u grows refl refl ∙ stays which.Reserved kernel t claims refl refl
 
   pub taken-placed : Seated kernel t → Seated kernel u
@@ -74,11 +74,11 @@ module _ (kernel : RangeView) (t : List Item) (place : ℕ) where
   pub moved-placed : IsFree t place → Seated kernel t → Seated kernel (moved t place)
   moved-placed new placed =
       placed-more kernel u (grows ∷ []) (replace_in_range a (for_table which.Memory) (owner_of t)) (new_live t place)
-      (live which.Reserved kernel t) (taken-placed placed) moved-owners moved-memory moved-reserved
-      (Seats-swap (replace_in_range a (for_table which.Memory) (owner_of t)) (live which.Reserved kernel t) (new_live t place)
-      (move-seats (owner_of t) (live which.Reserved kernel t) (live which.Memory kernel t) which.Memory (room_of which.Memory t) place
+      (table_bytes which.Reserved kernel t) (taken-placed placed) moved-owners moved-memory moved-reserved
+      (Seats-swap (replace_in_range a (for_table which.Memory) (owner_of t)) (table_bytes which.Reserved kernel t) (new_live t place)
+      (move-seats (owner_of t) (table_bytes which.Reserved kernel t) (table_bytes which.Memory kernel t) which.Memory (room_of which.Memory t) place
       new.aligned new.free
-      (Seats-swap (owner_of t) (live which.Memory kernel t) (live which.Reserved kernel t) placed.seats)))
+      (Seats-swap (owner_of t) (table_bytes which.Memory kernel t) (table_bytes which.Reserved kernel t) placed.seats)))
 
   -- the frames of the old place meet neither table then
   pub old-away : (q : ℕ) → moved_to which.Memory t ≡ Some q → IsFree t place → Seated kernel t
@@ -86,17 +86,17 @@ module _ (kernel : RangeView) (t : List Item) (place : ℕ) where
   old-away q was new placed =
       let room = room_of which.Memory t in
       let before : RangeView = live_by which.Memory kernel (Some q) room in
-      let is : live which.Memory kernel t ≡ before = live-is which.Memory kernel t (Some q) room was refl in
-      let seats : Seats (owner_of t) before (live which.Reserved kernel t) =
-      subst (λ (e : RangeView). Seats (owner_of t) e (live which.Reserved kernel t)) is placed.seats in
+      let is : table_bytes which.Memory kernel t ≡ before = table_bytes-is which.Memory kernel t (Some q) room was refl in
+      let seats : Seats (owner_of t) before (table_bytes which.Reserved kernel t) =
+      subst (λ (e : RangeView). Seats (owner_of t) e (table_bytes which.Reserved kernel t)) is placed.seats in
       let twice : RangeView = new_live t place in
       let e : 48 * room ≡ 24 * (2 * room) = omega arith in
       let free : Unclaimed (owner_of t) (frames twice) = subst (λ (n : ℕ). Unclaimed (owner_of t) (frames_at place n)) e new.free in
       let first : Clear (frames before) twice = λ x at_b at_n.
       old-clear (owner_of t) before twice new.aligned free seats.first x at_b
       (subst (λ (n : ℕ). covers (frames_at place n) x ≡ true) e (place-inside room place x at_n)) in
-      let second : Clear (frames before) (live which.Reserved kernel t) =
-      apart-clear before (live which.Reserved kernel t) seats.first.aligned seats.apart in (
+      let second : Clear (frames before) (table_bytes which.Reserved kernel t) =
+      apart-clear before (table_bytes which.Reserved kernel t) seats.first.aligned seats.apart in (
         subst (λ (n : RangeView). Clear (frames before) n) (sym moved-memory) first,
         subst (λ (n : RangeView). Clear (frames before) n) (sym moved-reserved) second,
       )
@@ -130,7 +130,7 @@ taken-along kernel t room old place wide was aligned free placed =
     rw (sym wide, sym was) (taken-is kernel t place new placed)
 
 pub claimed-taken : {T : Type 0} (x : T) (kernel : RangeView) (items u : List Item) (place : ℕ) → Seated kernel items
-    → best items (table_query (room_of which.Memory items) 0 (limit_of items)) ≡ Some place
+    → best_place items (table_query (room_of which.Memory items) 0 (limit_of items)) ≡ Some place
     → Ends (Ok x) items u (claimed (frames_at place (48 * room_of which.Memory items)) (for_table which.Memory))
     → IsTaken kernel u (room_of which.Memory items) (moved_to which.Memory items) place
 claimed-taken x kernel items u place placed is ends =
@@ -160,7 +160,7 @@ taken-cuts kernel u room old place known =
     (λ _. left-cuts kernel (u ++ moves ∷ []) room old known.next known.left)
 
 growth-at : (kernel : RangeView) (items : List Item) (found : Option ℕ)
-    → best items (table_query (room_of which.Memory items) 0 (limit_of items)) ≡ found → Seated kernel items
+    → best_place items (table_query (room_of which.Memory items) 0 (limit_of items)) ≡ found → Seated kernel items
     → EachCut (Seated kernel) items (memory_growth_at (room_of which.Memory items) (moved_to which.Memory items) found items).steps
 unfolding memory_growth_at
 growth-at kernel items None is placed = placed
@@ -178,7 +178,7 @@ growth-at kernel items (Some place) is placed =
 pub memory-cuts : (kernel : RangeView) (items : List Item) → Seated kernel items → EachCut (Seated kernel) items (memory_growth items).steps
 unfolding memory_growth
 memory-cuts kernel items placed =
-    growth-at kernel items (best items (table_query (room_of which.Memory items) 0 (limit_of items))) refl placed
+    growth-at kernel items (best_place items (table_query (room_of which.Memory items) 0 (limit_of items))) refl placed
 
 -- the items as growths of the memory table leave them
 grown-placed : (kernel : RangeView) (items : List Item) (more : List Item → ℕ) → Seated kernel items

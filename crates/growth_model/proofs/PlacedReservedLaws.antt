@@ -4,19 +4,19 @@ use Rattle.std.proofs.lemmas.Bool.{cases_Bool, false_from_ne_true}
 use Rattle.std.proofs.lemmas.Bool.Decides.{nat_tests}
 use Rattle.bm_base.specs.Range.{RangeView, covers}
 use Rattle.address_runs.specs.Edits.{uncover_range, replace_in_range}
-use Rattle.memblock_model.specs.declared.which.Which.{Which}
-use Rattle.memblock_model.specs.declared.which.Which.TheVariants as which
+use Rattle.memblock_model.specs.declared.owner.Which.{Which}
+use Rattle.memblock_model.specs.declared.owner.Which.TheVariants as which
 use Rattle.memblock_model.specs.declared.owner.Owner.{Owner}
 use Rattle.memblock_model.specs.declared.item.Item.{Item}
 use Rattle.memblock_model.specs.declared.item.Item.TheVariants as item
 use Rattle.memblock_model.specs.Items.{Owners, owner_of, limit_of}
-use Rattle.memblock_model.specs.Tables.{room_after, room_of, moved_after, moved_to, live}
+use Rattle.memblock_model.specs.Tables.{room_after, room_of, moved_after, moved_to, table_bytes}
 use Rattle.growth_model.specs.Outcome.{after, write}
 use Rattle.growth_model.specs.Growth.{frames_at, place_beside, reserved_items, reserved_growth_at, reserved_growth, new_in, two, grown, claimed, freed}
 use Rattle.growth_model.specs.Sound.{Clear, Unclaimed, Seats, Seated, IsAway}
 use Rattle.growth_model.proofs.CutLaws.{EachCut, cuts-last, cuts-then, cuts-grown, cuts-map, after-then, then-unrefused}
 use Rattle.growth_model.proofs.FoundLaws.{IsNew, beside-new}
-use Rattle.growth_model.proofs.PlacedLaws.{live_by, live-is, live-same, placed-more, owners-of, moves-of, rooms-of, limits-of, MayTake, claim-placed, free-placed, Aside, aside-same, aside-on, Going, away-still, take-still, for_table, move-seats, leave-seats}
+use Rattle.growth_model.proofs.PlacedLaws.{live_by, table_bytes-is, table_bytes-same, placed-more, owners-of, moves-of, rooms-of, limits-of, MayTake, claim-placed, free-placed, Aside, aside-same, aside-on, Going, away-still, take-still, for_table, move-seats, leave-seats}
 
 -- bytes without an owner stay so when others are claimed, and when any are freed
 claim-unclaimed : (own : Owners) (a r : RangeView) (o : Owner) → Clear a r → Unclaimed own a → Unclaimed (replace_in_range r o own) a
@@ -50,14 +50,14 @@ reserved-rooms w t room None place = rooms-of w t (reserved_items room None plac
 reserved-rooms w t room (Some q) place = rooms-of w t (reserved_items room (Some q) place)
 
 grew-live : (kernel : RangeView) (t : List Item) (old : Option ℕ) (place : ℕ)
-    → live which.Reserved kernel (grew t old place) ≡ live_by which.Reserved kernel (Some place) (2 * room_of which.Reserved t)
-grew-live kernel t old place = live-is which.Reserved kernel (grew t old place) (Some place) (2 * room_of which.Reserved t)
+    → table_bytes which.Reserved kernel (grew t old place) ≡ live_by which.Reserved kernel (Some place) (2 * room_of which.Reserved t)
+grew-live kernel t old place = table_bytes-is which.Reserved kernel (grew t old place) (Some place) (2 * room_of which.Reserved t)
     (reserved-moves which.Reserved t (room_of which.Reserved t) old place)
     (reserved-rooms which.Reserved t (room_of which.Reserved t) old place)
 
 grew-memory : (kernel : RangeView) (t : List Item) (old : Option ℕ) (place : ℕ)
-    → live which.Memory kernel (grew t old place) ≡ live which.Memory kernel t
-grew-memory kernel t old place = live-same which.Memory kernel t (grew t old place)
+    → table_bytes which.Memory kernel (grew t old place) ≡ table_bytes which.Memory kernel t
+grew-memory kernel t old place = table_bytes-same which.Memory kernel t (grew t old place)
     (reserved-moves which.Memory t (room_of which.Reserved t) old place)
     (reserved-rooms which.Memory t (room_of which.Reserved t) old place)
 
@@ -96,22 +96,22 @@ grew-going : (kernel a : RangeView) (t : List Item) (old : Option ℕ) (place : 
     → IsNew t a (room_of which.Reserved t) place → Seated kernel t → Going kernel a t (grew t old place)
 grew-going kernel a t None place was new placed =
     let room = room_of which.Reserved t in
-    let memory = live which.Memory kernel t in
+    let memory = table_bytes which.Memory kernel t in
     let more = reserved_items room None place in
     record {
       placed = placed-more kernel t more (claimed_place t place) memory (live_by which.Reserved kernel (Some place) (2 * room)) placed
           (grew-owners-first t place) (grew-memory kernel t None place) (grew-live kernel t None place)
-          (move-seats (owner_of t) memory (live which.Reserved kernel t) which.Reserved room place new.aligned new.free placed.seats);
+          (move-seats (owner_of t) memory (table_bytes which.Reserved kernel t) which.Reserved room place new.aligned new.free placed.seats);
       aside = grew-aside kernel a t None place new (λ free.
           subst (λ (f : Owners). Unclaimed f a) (sym (grew-owners-first t place))
           (claim-unclaimed (owner_of t) a (new_place t place) (for_table which.Reserved) new.clear free));
     }
 grew-going kernel a t (Some q) place was new placed =
     let room = room_of which.Reserved t in
-    let memory = live which.Memory kernel t in
+    let memory = table_bytes which.Memory kernel t in
     let more = reserved_items room (Some q) place in
-    let before : live which.Reserved kernel t ≡ live_by which.Reserved kernel (Some q) room =
-    live-is which.Reserved kernel t (Some q) room was refl in
+    let before : table_bytes which.Reserved kernel t ≡ live_by which.Reserved kernel (Some q) room =
+    table_bytes-is which.Reserved kernel t (Some q) room was refl in
     let seats : Seats (owner_of t) memory (live_by which.Reserved kernel (Some q) room) =
     subst (λ (e : RangeView). Seats (owner_of t) memory e) before placed.seats in
     record {

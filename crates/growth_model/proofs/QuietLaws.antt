@@ -3,15 +3,15 @@ use Rattle.std.proofs.Common.{◌≡◌, ℕ, ◌*◌, Bool, List, [], ◌∷◌
 use Rattle.std.proofs.lemmas.Bool.{cases_Bool}
 use Rattle.std.proofs.lemmas.List.{append-nil}
 use Rattle.bm_base.specs.Range.{RangeView}
-use Rattle.memblock_model.specs.declared.which.Which.{Which}
-use Rattle.memblock_model.specs.declared.which.Which.TheVariants as which
+use Rattle.memblock_model.specs.declared.owner.Which.{Which}
+use Rattle.memblock_model.specs.declared.owner.Which.TheVariants as which
 use Rattle.memblock_model.specs.declared.owner.Owner.{Owner}
 use Rattle.memblock_model.specs.declared.owner.Owner.TheVariants as owner
 use Rattle.memblock_model.specs.declared.item.Item.{Item}
 use Rattle.memblock_model.specs.declared.item.Item.TheVariants as item
 use Rattle.memblock_model.specs.Items.{memory_of, limit_of}
 use Rattle.memblock_model.specs.Tables.{room_of, moved_to}
-use Rattle.memblock_model.specs.Search.{best}
+use Rattle.memblock_model.specs.Search.{best_place}
 use Rattle.growth_model.specs.Outcome.{Refused, Outcome, Change, ◌>>◌, followed_by, after, joined, if_due, write}
 use Rattle.growth_model.specs.Growth.{claimed, freed, frames_at, grown, is_full, leave, memory_growth, memory_growth_at, new_in, old_frames, place_beside, reserved_growth, reserved_growth_at, reserved_items, table_query, two}
 use Rattle.growth_model.specs.Carried.{AreQuiet, memory_items}
@@ -84,7 +84,7 @@ pub memory_growth-quiet : IsQuiet memory_growth
 unfolding memory_growth
 memory_growth-quiet = record {
   each = λ items. (memory_at-quiet (room_of which.Memory items) (moved_to which.Memory items)
-      (best items (table_query (room_of which.Memory items) 0 (limit_of items)))).each items;
+      (best_place items (table_query (room_of which.Memory items) 0 (limit_of items)))).each items;
 }
 
 -- so memory and the limit stay as they are

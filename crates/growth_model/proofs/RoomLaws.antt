@@ -8,15 +8,15 @@ use Rattle.std.proofs.lemmas.List.{append-nil}
 use Rattle.bm_base.specs.Range.{RangeView, end_of}
 use Rattle.address_runs.specs.Edits.{cover_range, uncover_range, NothingFrom}
 use Rattle.address_runs.proofs.EditLaws.{nothing-covered, nothing-uncovered}
-use Rattle.memblock_model.specs.declared.which.Which.{Which}
-use Rattle.memblock_model.specs.declared.which.Which.TheVariants as which
+use Rattle.memblock_model.specs.declared.owner.Which.{Which}
+use Rattle.memblock_model.specs.declared.owner.Which.TheVariants as which
 use Rattle.memblock_model.specs.declared.owner.Owner.{Owner}
 use Rattle.memblock_model.specs.declared.owner.Owner.TheVariants as owner
 use Rattle.memblock_model.specs.declared.item.Item.{Item}
 use Rattle.memblock_model.specs.declared.item.Item.TheVariants as item
 use Rattle.memblock_model.specs.Labels.{Labels, plain_label}
 use Rattle.memblock_model.specs.Items.{owner_of, limit_of}
-use Rattle.memblock_model.specs.Search.{best}
+use Rattle.memblock_model.specs.Search.{best_place}
 use Rattle.memblock_model.specs.Tables.{without_owner, reserved_of, table_of, records_for, records_of, room_of, moved_to}
 use Rattle.memblock_model.proofs.ItemLaws.{reserved_of-replaced, reserved_of-uncovered}
 use Rattle.memblock_model.proofs.TableLaws.{room_of-least}
@@ -195,7 +195,7 @@ memory-room_at t (Some place) unrefused =
 memory-room : (t : List Item) → (memory_growth t).refused ≡ None
     → room_of which.Memory (after t (memory_growth t)) ≡ 2 * room_of which.Memory t
 unfolding memory_growth
-memory-room t unrefused = memory-room_at t (best t (table_query (room_of which.Memory t) 0 (limit_of t))) unrefused
+memory-room t unrefused = memory-room_at t (best_place t (table_query (room_of which.Memory t) 0 (limit_of t))) unrefused
 
 memory-well : (t : List Item) → Bounded which.Memory t → (memory_growth t).refused ≡ None
     → Well which.Memory t (after t (memory_growth t))

@@ -7,11 +7,11 @@ use Rattle.bm_base.specs.Range.{RangeView, covers}
 use Rattle.phys_store.specs.Bytes.{bytes_at}
 use Rattle.phys_store.proofs.ByteLists.{told_bytes}
 use Rattle.address_runs.specs.Runs.{RunOf}
-use Rattle.memblock_model.specs.Labels.{Label}
-use Rattle.memblock_model.specs.declared.which.Which.{Which}
-use Rattle.memblock_model.specs.declared.which.Which.TheVariants as which
+use Rattle.memblock_model.specs.Labels.{LabelView}
+use Rattle.memblock_model.specs.declared.owner.Which.{Which}
+use Rattle.memblock_model.specs.declared.owner.Which.TheVariants as which
 use Rattle.memblock_model.specs.declared.item.Item.{Item}
-use Rattle.memblock_model.specs.Tables.{records_of, room_of, place_of, live}
+use Rattle.memblock_model.specs.Tables.{records_of, room_of, table_place, table_bytes}
 use Rattle.memblock_ranges.specs.Spelling.{spelled_table, spelling_of, flags_field, node_field}
 use Rattle.memblock_ranges.proofs.SpellLaws.{length-fields_of}
 use Rattle.growth_model.specs.Sound.{Seated, Fits, Clear}
@@ -19,38 +19,38 @@ use Rattle.growth_model.proofs.ToldLaws.{listed-told, chosen}
 use Rattle.growth_model.specs.Bytes.{table_for, spelled_at, AreSpelled}
 
 -- no byte lies in both tables
-pub live-clear : (kernel : RangeView) (items : List Item) → Seated kernel items →
-    Clear (live which.Memory kernel items) (live which.Reserved kernel items)
-live-clear kernel items placed = λ x here too. placed.seats.apart x x here too refl
+pub table_bytes-clear : (kernel : RangeView) (items : List Item) → Seated kernel items →
+    Clear (table_bytes which.Memory kernel items) (table_bytes which.Reserved kernel items)
+table_bytes-clear kernel items placed = λ x here too. placed.seats.apart x x here too refl
 
 -- the byte at an address of a table's place is that of the spelling
 pub journal-stands : (w : Which) (kernel : RangeView) (items : List Item) (f : ℕ → ℕ) (x : ℕ) → Seated kernel items →
-    AreSpelled (table_for which.Memory kernel items) (table_for which.Reserved kernel items) f → covers (live w kernel items) x ≡ true →
+    AreSpelled (table_for which.Memory kernel items) (table_for which.Reserved kernel items) f → covers (table_bytes w kernel items) x ≡ true →
     f x ≡ spelled_at (table_for w kernel items) x
 journal-stands which.Memory kernel items f x placed spelled here = spelled x ∙ rw here refl
 journal-stands which.Reserved kernel items f x placed spelled here =
-    let beside : covers (live which.Memory kernel items) x ≡ false =
-    false_from_ne_true _ (λ too. live-clear kernel items placed x too here) in
+    let beside : covers (table_bytes which.Memory kernel items) x ≡ false =
+    false_from_ne_true _ (λ too. table_bytes-clear kernel items placed x too here) in
     spelled x ∙ rw (beside, here) refl
 
 -- and the other way round: where the bytes at both places are those of the spellings, the tables lie in their bytes
 pub spelled-from : (kernel : RangeView) (items : List Item) (f : ℕ → ℕ) →
-    ((w : Which) (x : ℕ) → covers (live w kernel items) x ≡ true → f x ≡ spelled_at (table_for w kernel items) x) →
+    ((w : Which) (x : ℕ) → covers (table_bytes w kernel items) x ≡ true → f x ≡ spelled_at (table_for w kernel items) x) →
     AreSpelled (table_for which.Memory kernel items) (table_for which.Reserved kernel items) f
 spelled-from kernel items f each = λ x.
-    chosen (covers (live which.Memory kernel items) x) (covers (live which.Reserved kernel items) x) (f x)
+    chosen (covers (table_bytes which.Memory kernel items) x) (covers (table_bytes which.Reserved kernel items) x) (f x)
     (spelled_at (table_for which.Memory kernel items) x) (spelled_at (table_for which.Reserved kernel items) x) (f x)
     (each which.Memory x) (each which.Reserved x) (λ out too. refl)
 
 -- as lists too
 pub spelled-lists : (kernel : RangeView) (items : List Item) (f : ℕ → ℕ) →
-    ((w : Which) → bytes_at f (place_of w kernel items) (24 * room_of w items) ≡ spelled_table (records_of w items) (room_of w items)) →
+    ((w : Which) → bytes_at f (table_place w kernel items) (24 * room_of w items) ≡ spelled_table (records_of w items) (room_of w items)) →
     AreSpelled (table_for which.Memory kernel items) (table_for which.Reserved kernel items) f
 spelled-lists kernel items f lists =
     spelled-from kernel items f (λ w x here. listed-told (table_for w kernel items) f x (lists w) here)
 
 -- a table with room for its records has 24 bytes for each
-pub length-spelled_table : (rs : List (RunOf Label)) (n : ℕ) → length rs ≤ n → length (spelled_table rs n) ≡ 24 * n
+pub length-spelled_table : (rs : List (RunOf LabelView)) (n : ℕ) → length rs ≤ n → length (spelled_table rs n) ≡ 24 * n
 unfolding spelled_table
 length-spelled_table [] n few = length-replicate (24 * n) 0
 length-spelled_table (r ∷ rs) zero few = absurd (omega arith)
@@ -63,9 +63,9 @@ length-spelled_table (r ∷ rs) (suc n) few =
 
 spelled_here : (w : Which) (kernel : RangeView) (items : List Item) (f : ℕ → ℕ) (k : ℕ) → Seated kernel items →
     AreSpelled (table_for which.Memory kernel items) (table_for which.Reserved kernel items) f → k < 24 * room_of w items →
-    get_or (spelled_table (records_of w items) (room_of w items)) k 0 ≡ f (place_of w kernel items + k)
+    get_or (spelled_table (records_of w items) (room_of w items)) k 0 ≡ f (table_place w kernel items + k)
 spelled_here w kernel items f k placed spelled below =
-    let place = place_of w kernel items in
+    let place = table_place w kernel items in
     let back : place + k - place ≡ k = omega arith in
     sym (journal-stands w kernel items f (place + k) placed spelled (grind (arith, nat_tests, below))
     ∙ ap (λ (i : ℕ). get_or (spelled_table (records_of w items) (room_of w items)) i 0) back)
@@ -73,8 +73,8 @@ spelled_here w kernel items f k placed spelled below =
 -- the same as one list: the bytes at the place of a table are the spelling of its records
 pub list-stands : (w : Which) (kernel : RangeView) (items : List Item) (f : ℕ → ℕ) → Seated kernel items → Fits items →
     AreSpelled (table_for which.Memory kernel items) (table_for which.Reserved kernel items) f →
-    bytes_at f (place_of w kernel items) (24 * room_of w items) ≡ spelled_table (records_of w items) (room_of w items)
+    bytes_at f (table_place w kernel items) (24 * room_of w items) ≡ spelled_table (records_of w items) (room_of w items)
 list-stands w kernel items f placed fits spelled =
-    sym (told_bytes f (place_of w kernel items) (24 * room_of w items) (spelled_table (records_of w items) (room_of w items))
+    sym (told_bytes f (table_place w kernel items) (24 * room_of w items) (spelled_table (records_of w items) (room_of w items))
     (length-spelled_table (records_of w items) (room_of w items) (fits w))
     (λ k below. spelled_here w kernel items f k placed spelled below))

@@ -6,9 +6,9 @@ use Rattle.bm_base.specs.Range.{covers}
 use Rattle.phys_store.specs.Bytes.{Stored, byte_of, bytes_at}
 use Rattle.phys_store.proofs.ByteLists.{get-bytes_at}
 use Rattle.address_runs.specs.Runs.{RunOf}
-use Rattle.memblock_model.specs.Labels.{Label}
-use Rattle.memblock_model.specs.declared.which.Which.{Which}
-use Rattle.memblock_model.specs.declared.which.Which.TheVariants as which
+use Rattle.memblock_model.specs.Labels.{LabelView}
+use Rattle.memblock_model.specs.declared.owner.Which.{Which}
+use Rattle.memblock_model.specs.declared.owner.Which.TheVariants as which
 use Rattle.memblock_ranges.specs.Spelling.{spelled_table}
 use Rattle.memblock_ranges.specs.Tables.{Table, Contents, table_in, bytes_of, bytes_in, StandsIn}
 use Rattle.growth_model.specs.Bytes.{spelled_at, shown_by, left_by}
@@ -45,7 +45,7 @@ beside-one which.Memory t x first second = first
 beside-one which.Reserved t x first second = second
 
 -- after an edit of one table's records (`insert`, `remove`, and at the memory table `set_node`, `trim`)
-pub edit-told : (w : Which) (old new : Contents) (records : List (RunOf Label)) →
+pub edit-told : (w : Which) (old new : Contents) (records : List (RunOf LabelView)) →
     table_in w new ≡ record (table_in w old) { records = records } →
     ((x : ℕ) → covers (bytes_in w old) x ≡ false → byte_of new.store x ≡ byte_of old.store x) → StandsIn new.memory new.store →
     StandsIn new.reserved new.store → (x : ℕ) → byte_of new.store x ≡ shown_by new.memory new.reserved x (byte_of old.store x)

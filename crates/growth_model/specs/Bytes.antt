@@ -2,17 +2,17 @@
 -- nothing else is written. And what stands at an address after further items, whatever stood there before.
 use Rattle.std.specs.Prelude.{◌≡◌, ℕ, ◌+◌, ◌-◌, ◌≤◌, ◌==◌, Bool, false, ◌&&◌, ◌||◌, if◌then◌else◌, List, [], ◌∷◌, ◌++◌, drop, length, get_or}
 use Rattle.bm_base.specs.Range.{RangeView, covers}
-use Rattle.memblock_model.specs.declared.which.Which.{Which}
-use Rattle.memblock_model.specs.declared.which.Which.TheVariants as which
+use Rattle.memblock_model.specs.declared.owner.Which.{Which}
+use Rattle.memblock_model.specs.declared.owner.Which.TheVariants as which
 use Rattle.memblock_model.specs.declared.item.Item.{Item}
 use Rattle.memblock_model.specs.declared.item.Item.TheVariants as item
-use Rattle.memblock_model.specs.Tables.{records_of, room_of, place_of, live}
+use Rattle.memblock_model.specs.Tables.{records_of, room_of, table_place, table_bytes}
 use Rattle.memblock_ranges.specs.Spelling.{spelled_table}
 use Rattle.memblock_ranges.specs.Tables.{Table, bytes_of}
 
 -- the table that the items stand for
 abbrev pub table_for : Which → RangeView → List Item → Table
-table_for w kernel items = record { records = records_of w items; place = place_of w kernel items; room = room_of w items }
+table_for w kernel items = record { records = records_of w items; place = table_place w kernel items; room = room_of w items }
 
 -- the byte at an address inside a table: of its records, and behind them 0
 abbrev pub spelled_at : Table → ℕ → ℕ
@@ -37,7 +37,7 @@ shown kernel items x b = shown_by (table_for which.Memory kernel items) (table_f
 
 -- whether the item, behind these items, moves a table away from the address
 abbrev pub leaves : RangeView → List Item → Item → ℕ → Bool
-leaves kernel items (item.Grown w place room) x = covers (live w kernel items) x
+leaves kernel items (item.Grown w place room) x = covers (table_bytes w kernel items) x
 leaves kernel items i x = false
 
 -- whether one of the further items does

@@ -4,8 +4,8 @@ use Rattle.std.specs.Prelude.{ℕ, ◌+◌, ◌-◌, ◌*◌, ◌/◌, Bool, nat
 use Rattle.std.specs.Option.{option_map, option_or}
 use Rattle.bm_base.specs.Range.{RangeView, end_of}
 use Rattle.bm_base.specs.declared.range.TheConstants.{FRAME_SIZE}
-use Rattle.memblock_model.specs.declared.which.Which.{Which}
-use Rattle.memblock_model.specs.declared.which.Which.TheVariants as which
+use Rattle.memblock_model.specs.declared.owner.Which.{Which}
+use Rattle.memblock_model.specs.declared.owner.Which.TheVariants as which
 use Rattle.memblock_model.specs.declared.owner.Owner.{Owner}
 use Rattle.memblock_model.specs.declared.owner.Owner.TheVariants as owner
 use Rattle.memblock_model.specs.declared.query.Query.{Query}
@@ -13,7 +13,7 @@ use Rattle.memblock_model.specs.declared.item.Item.{Item}
 use Rattle.memblock_model.specs.declared.item.Item.TheVariants as item
 use Rattle.memblock_model.specs.Items.{limit_of}
 use Rattle.memblock_model.specs.Tables.{table_of, records_of, room_of, moved_to, pieces}
-use Rattle.memblock_model.specs.Search.{best}
+use Rattle.memblock_model.specs.Search.{best_place}
 use Rattle.growth_model.specs.Outcome.{Change, ◌>>◌, nothing, step, write, refuse, if_due, whatever_refused}
 
 -- that many bytes, rounded up to frames
@@ -36,8 +36,8 @@ table_query room lo hi = record { lo = lo; hi = hi; size = in_whole_frames (48 *
 -- below the limit both times
 abbrev pub place_beside : RangeView → ℕ → List Item → Option ℕ
 place_beside avoid room items = option_or
-    (best items (table_query room (end_of avoid) (limit_of items)))
-    (best items (table_query room 0 (min avoid.base (limit_of items))))
+    (best_place items (table_query room (end_of avoid) (limit_of items)))
+    (best_place items (table_query room 0 (min avoid.base (limit_of items))))
 
 -- the frames of a table's old place are freed, where it isn't the built-in one
 abbrev pub left : ℕ → Option ℕ → List Item
@@ -106,7 +106,7 @@ memory_growth_at room old (Some place) =
 unfoldable pub memory_growth : Change
 memory_growth items =
     memory_growth_at (room_of which.Memory items) (moved_to which.Memory items)
-    (best items (table_query (room_of which.Memory items) 0 (limit_of items))) items
+    (best_place items (table_query (room_of which.Memory items) 0 (limit_of items))) items
 
 -- a range becomes memory (`memblock_add`)
 unfoldable pub added : RangeView → Change

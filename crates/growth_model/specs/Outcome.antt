@@ -1,7 +1,7 @@
 -- What a change of memory comes to, as a function of the items so far: the items that it writes, and whether a table that had to grow
 -- found no place.
 use Rattle.std.specs.Prelude.{ℕ, Bool, if◌then◌else◌, Option, Some, None, List, [], ◌∷◌, ◌++◌}
-use Rattle.memblock_model.specs.declared.which.Which.{Which}
+use Rattle.memblock_model.specs.declared.owner.Which.{Which}
 use Rattle.memblock_model.specs.declared.item.Item.{Item}
 
 -- a growth that found no place: the table, and its room, which was too small

@@ -4,8 +4,8 @@ use Rattle.std.specs.Option.{option_or}
 use Rattle.memblock_model.specs.declared.query.Query.{Query}
 use Rattle.memblock_model.specs.declared.item.Item.{Item}
 use Rattle.memblock_model.specs.Items.{limit_of}
-use Rattle.memblock_model.specs.Search.{top}
-use Rattle.memblock_model.specs.declared.request.Request.{Request}
+use Rattle.memblock_model.specs.Search.{top_place}
+use Rattle.memblock_model.specs.declared.query.Request.{Request}
 
 -- one search: what it asks for, and whether mirrored memory alone will do
 pub record Attempt : Type 0 where
@@ -38,7 +38,7 @@ attempts r limit = round r limit r.min ++ (if r.min == 0 then [] else round r li
 -- the place of the first search that has one
 abbrev pub first_top : List Item → List Attempt → Option ℕ
 first_top items [] = None
-first_top items (a ∷ rest) = option_or (top items a.query a.mirror) (first_top items rest)
+first_top items (a ∷ rest) = option_or (top_place items a.query a.mirror) (first_top items rest)
 
 abbrev pub place_for : Request → List Item → Option ℕ
 place_for r items = first_top items (attempts r (limit_of items))

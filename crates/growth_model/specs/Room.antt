@@ -1,7 +1,7 @@
 -- What a growth makes of a table's room, and when the table has room enough.
 use Rattle.std.specs.Prelude.{◌≡◌, ℕ, ◌+◌, ◌*◌, ◌^◌, ◌≤◌, false, None, List}
 use Rattle.address_runs.specs.Edits.{NothingFrom}
-use Rattle.memblock_model.specs.declared.which.Which.{Which}
+use Rattle.memblock_model.specs.declared.owner.Which.{Which}
 use Rattle.memblock_model.specs.declared.item.Item.{Item}
 use Rattle.memblock_model.specs.Items.{limit_of}
 use Rattle.memblock_model.specs.Tables.{table_of, room_of}

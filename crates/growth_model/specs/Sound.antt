@@ -3,14 +3,14 @@
 use Rattle.std.specs.Prelude.{◌≡◌, ◌≢◌, ◌⊎◌, ℕ, ◌*◌, ◌/◌, ◌%◌, ◌≤◌, Bool, true, false, Option, Some, None, List, [], ◌∷◌}
 use Rattle.bm_base.specs.Range.{RangeView, end_of, covers}
 use Rattle.bm_base.specs.declared.range.TheConstants.{FRAME_SIZE}
-use Rattle.memblock_model.specs.declared.which.Which.{Which}
-use Rattle.memblock_model.specs.declared.which.Which.TheVariants as which
+use Rattle.memblock_model.specs.declared.owner.Which.{Which}
+use Rattle.memblock_model.specs.declared.owner.Which.TheVariants as which
 use Rattle.memblock_model.specs.declared.owner.Owner.{Owner}
 use Rattle.memblock_model.specs.declared.owner.Owner.TheVariants as owner
 use Rattle.memblock_model.specs.declared.item.Item.{Item}
 use Rattle.memblock_model.specs.declared.item.Item.TheVariants as item
 use Rattle.memblock_model.specs.Items.{Owners, owner_of}
-use Rattle.memblock_model.specs.Tables.{room_of, live}
+use Rattle.memblock_model.specs.Tables.{room_of, table_bytes}
 use Rattle.growth_model.specs.Growth.{count}
 
 -- an owner in whose bytes a table may lie: any but an allocation of the early script
@@ -46,7 +46,7 @@ pub record Seats (own : Owners) (memory reserved : RangeView) : Type 0 where
 pub record Seated (kernel : RangeView) (items : List Item) : Type 0 where
   pub rest : List Item
   pub first : items ≡ item.Claim kernel owner.Kernel ∷ rest
-  pub seats : Seats (owner_of items) (live which.Memory kernel items) (live which.Reserved kernel items)
+  pub seats : Seats (owner_of items) (table_bytes which.Memory kernel items) (table_bytes which.Reserved kernel items)
 
 -- each table has room for its records
 abbrev pub Fits : List Item → Type 0
@@ -69,7 +69,7 @@ HasBegun (i ∷ is) = Unit {0}
 
 -- the range meets neither table
 abbrev pub IsAway : RangeView → RangeView → List Item → Type 0
-IsAway kernel range items = Clear range (live which.Memory kernel items) × Clear range (live which.Reserved kernel items)
+IsAway kernel range items = Clear range (table_bytes which.Memory kernel items) × Clear range (table_bytes which.Reserved kernel items)
 
 -- what may be claimed: first the kernel's image for the kernel; then any range, but for the script one that meets neither table
 abbrev pub MayClaim : RangeView → List Item → RangeView → Owner → Type 0

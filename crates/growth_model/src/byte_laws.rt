@@ -11,11 +11,11 @@ ghost use Rattle.std.specs.Prelude.{◌≡◌, ℕ, ◌*◌, true, false, List, 
 ghost use Rattle.bm_base.specs.Range.{RangeView, covers};
 ghost use Rattle.phys_store.specs.Bytes.{byte_of, bytes_at};
 ghost use Rattle.address_runs.specs.Runs.{RunOf};
-ghost use Rattle.memblock_model.specs.Labels.{Label};
-ghost use Rattle.memblock_model.specs.declared.which.Which.{Which};
-ghost use Rattle.memblock_model.specs.declared.which.Which.TheVariants as which;
+ghost use Rattle.memblock_model.specs.Labels.{LabelView};
+ghost use Rattle.memblock_model.specs.declared.owner.Which.{Which};
+ghost use Rattle.memblock_model.specs.declared.owner.Which.TheVariants as which;
 ghost use Rattle.memblock_model.specs.declared.item.Item.{Item};
-ghost use Rattle.memblock_model.specs.Tables.{records_of, room_of, place_of, live};
+ghost use Rattle.memblock_model.specs.Tables.{records_of, room_of, table_place, table_bytes};
 ghost use Rattle.memblock_ranges.specs.Spelling.{spelled_table};
 ghost use Rattle.memblock_ranges.specs.Tables.{Contents, table_in, bytes_in, StandsIn};
 ghost use Rattle.growth_model.specs.Sound.{Seated, Fits, IsAway};
@@ -56,16 +56,16 @@ pub fn bytes_follow_calls()
 pub fn tables_are_spelled()
     ensures each { (w : Which) (kernel : RangeView) (items : List Item) (f : ℕ → ℕ) (x : ℕ) → Seated kernel items →
         AreSpelled (table_for which.Memory kernel items) (table_for which.Reserved kernel items) f →
-        covers (live w kernel items) x ≡ true → f x ≡ spelled_at (table_for w kernel items) x }
+        covers (table_bytes w kernel items) x ≡ true → f x ≡ spelled_at (table_for w kernel items) x }
     ensures list { (w : Which) (kernel : RangeView) (items : List Item) (f : ℕ → ℕ) → Seated kernel items → Fits items →
         AreSpelled (table_for which.Memory kernel items) (table_for which.Reserved kernel items) f →
-        bytes_at f (place_of w kernel items) (24 * room_of w items) ≡ spelled_table (records_of w items) (room_of w items) }
+        bytes_at f (table_place w kernel items) (24 * room_of w items) ≡ spelled_table (records_of w items) (room_of w items) }
 {}
 
 /// A law: what an edit of one table's records, and a move of one table, make of every byte, where both tables
 /// stand in the store behind it.
 pub fn edits_are_told()
-    ensures edited { (w : Which) (old new : Contents) (records : List (RunOf Label)) →
+    ensures edited { (w : Which) (old new : Contents) (records : List (RunOf LabelView)) →
         table_in w new ≡ record (table_in w old) { records = records } →
         ((x : ℕ) → covers (bytes_in w old) x ≡ false → byte_of new.store x ≡ byte_of old.store x) →
         StandsIn new.memory new.store → StandsIn new.reserved new.store → (x : ℕ) →

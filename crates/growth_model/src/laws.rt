@@ -6,7 +6,7 @@
 ghost use Rattle.std.specs.Prelude.{◌≡◌, ◌⊎◌, ℕ, ◌+◌, ◌*◌, ◌%◌, ◌^◌, ◌<◌, ◌≤◌, Bool, false, Option, Some, None, IsSome, List, [], ◌∷◌, ◌++◌, Result, Ok, Err};
 ghost use Rattle.bm_base.specs.Range.{RangeView, end_of};
 ghost use Rattle.bm_base.specs.declared.range.TheConstants.{FRAME_SIZE};
-ghost use Rattle.memblock_model.specs.declared.which.Which.TheVariants as which;
+ghost use Rattle.memblock_model.specs.declared.owner.Which.TheVariants as which;
 ghost use Rattle.memblock_model.specs.declared.owner.Owner.{Owner};
 ghost use Rattle.memblock_model.specs.declared.owner.Owner.TheVariants as owner;
 ghost use Rattle.memblock_model.specs.declared.query.Query.{Query};
@@ -14,9 +14,9 @@ ghost use Rattle.memblock_model.specs.declared.item.Item.{Item};
 ghost use Rattle.memblock_model.specs.declared.item.Item.TheVariants as item;
 ghost use Rattle.memblock_model.specs.Items.{owner_of, limit_of};
 ghost use Rattle.memblock_model.specs.Tables.{room_of, moved_to};
-ghost use Rattle.memblock_model.specs.Search.{best};
+ghost use Rattle.memblock_model.specs.Search.{best_place};
 ghost use Rattle.growth_model.specs.declared.refusal.Refusal.{Refusal};
-ghost use Rattle.memblock_model.specs.declared.request.Request.{Request};
+ghost use Rattle.memblock_model.specs.declared.query.Request.{Request};
 ghost use Rattle.growth_model.specs.Outcome.{Change, ◌>>◌ as in_turn, after, write};
 ghost use Rattle.growth_model.specs.Growth.{in_whole_frames, frames_at, is_full, new_in, two, place_beside, reserved_growth, claimed, freed, memory_growth, added, noded, mirrored};
 ghost use Rattle.growth_model.specs.Request.{place_for};
@@ -74,9 +74,9 @@ pub fn allocations_keep_places()
 /// reserved table lies beside the range that is avoided, and below the limit. However a growth of the
 /// memory table ends, that table lies where it did, or in a new place below the limit.
 pub fn found_places_are_free()
-    ensures unclaimed { (items : List Item) (query : Query) (place : ℕ) → best items query ≡ Some place →
+    ensures unclaimed { (items : List Item) (query : Query) (place : ℕ) → best_place items query ≡ Some place →
         Unclaimed (owner_of items) (record { base = place; size = query.size }) }
-    ensures away { (kernel : RangeView) (items : List Item) (query : Query) (place : ℕ) → Seated kernel items → best items query ≡ Some place →
+    ensures away { (kernel : RangeView) (items : List Item) (query : Query) (place : ℕ) → Seated kernel items → best_place items query ≡ Some place →
         IsAway kernel (record { base = place; size = query.size }) items }
     ensures allocated { (items : List Item) (request : Request) (place : ℕ) → place_for request items ≡ Some place →
         Unclaimed (owner_of items) (record { base = place; size = request.size }) }

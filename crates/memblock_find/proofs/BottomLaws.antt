@@ -5,33 +5,33 @@ use Rattle.std.specs.Int.Bits.{bit_and}
 use Rattle.std.proofs.lemmas.Nat.{div-add-mod', mod-mul-add, mod_below}
 use Rattle.std.proofs.lemmas.Bool.{cases_lt, false_from_ne_true, true≢false}
 use Rattle.address_runs.specs.Sweep.{Stays}
-use Rattle.memblock_model.specs.Labels.{Label, Labels}
-use Rattle.memblock_model.specs.Search.{fits_in, top_in}
+use Rattle.memblock_model.specs.Labels.{LabelView, Labels}
+use Rattle.memblock_model.specs.Search.{fits_in, top_place_in}
 use Rattle.memblock_model.specs.declared.query.Query.{Query}
-use Rattle.memblock_model.proofs.SearchLaws.{fits_in-parts, top_in-first, top_in-fails}
+use Rattle.memblock_model.proofs.SearchLaws.{fits_in-parts, top_place_in-first, top_place_in-fails}
 use Rattle.memblock_find.specs.Free.{unclaimed, IsUpTo}
 use Rattle.memblock_find.specs.Places.{IsBetween, serves, NoPlaceBegins, IsBestFrom}
 use Rattle.memblock_find.proofs.PlaceLaws.{le_from_not_lt, label_of_place, held_somewhere, place_serves, place_of_bytes, some_align, mask_rest}
 
 -- a place that begins in a run lies in it
-record StaysIn (memory : Labels) (until : ℕ) (label : Option Label) (last : ℕ) (b : ℕ) : Type 0 where
+record StaysIn (memory : Labels) (until : ℕ) (label : Option LabelView) (last : ℕ) (b : ℕ) : Type 0 where
   below : last ≤ until
   carries : memory b ≡ label
   held : label ≢ None
 
 -- what is known of the stretch of addresses in which a place is sought
-pub record IsRise (memory reserved : Labels) (from until : ℕ) (label : Option Label) : Type 0 where
+pub record IsRise (memory reserved : Labels) (from until : ℕ) (label : Option LabelView) : Type 0 where
   pub stays : Stays (unclaimed memory reserved) from until label
   pub up : label ≢ None → IsUpTo (unclaimed memory reserved) from until label
 
-from_run : (mirror : Bool) (memory reserved : Labels) (q : Query) (from until b : ℕ) (label : Option Label) → 1 ≤ q.size
+from_run : (mirror : Bool) (memory reserved : Labels) (q : Query) (from until b : ℕ) (label : Option LabelView) → 1 ≤ q.size
     → IsRise memory reserved from until label → fits_in mirror memory reserved q b ≡ true → from ≤ b → b < until
     → StaysIn memory until label (b + q.size) b
 from_run mirror memory reserved q from until b label some known fits above under =
     let place = fits_in-parts mirror memory reserved q b fits in
     let carries : memory b ≡ label = sym (label_of_place mirror memory reserved q b b place (omega arith) (omega arith))
     ∙ known.stays b above under in
-    let held : label ≢ None = subst (λ (o : Option Label). o ≢ None) carries (held_somewhere (memory b) place.held) in
+    let held : label ≢ None = subst (λ (o : Option LabelView). o ≢ None) carries (held_somewhere (memory b) place.held) in
     record {
       below = le_from_not_lt until (b + q.size) (λ lt.
           (known.up held).another (label_of_place mirror memory reserved q b until place (omega arith) lt ∙ carries));
@@ -40,12 +40,12 @@ from_run mirror memory reserved q from until b label some known fits above under
     }
 
 -- no place begins in a stretch that isn't unclaimed memory, or whose label doesn't serve
-pub none_begins_bare : (mirror : Bool) (memory reserved : Labels) (q : Query) (from until : ℕ) (label : Option Label) → 1 ≤ q.size
+pub none_begins_bare : (mirror : Bool) (memory reserved : Labels) (q : Query) (from until : ℕ) (label : Option LabelView) → 1 ≤ q.size
     → IsRise memory reserved from until label → label ≡ None → NoPlaceBegins mirror memory reserved q from until
 none_begins_bare mirror memory reserved q from until label some known bare b fits above =
     le_from_not_lt b until (λ under. (from_run mirror memory reserved q from until b label some known fits above under).held bare)
 
-pub none_begins_refused : (mirror : Bool) (memory reserved : Labels) (q : Query) (from until : ℕ) (label : Option Label) (found : Label)
+pub none_begins_refused : (mirror : Bool) (memory reserved : Labels) (q : Query) (from until : ℕ) (label : Option LabelView) (found : LabelView)
     → 1 ≤ q.size → IsRise memory reserved from until label → label ≡ Some found
     → serves mirror q.node (Some found) ≡ false → NoPlaceBegins mirror memory reserved q from until
 none_begins_refused mirror memory reserved q from until label found some known is refused b fits above =
@@ -53,10 +53,10 @@ none_begins_refused mirror memory reserved q from until label found some known i
     let lies = from_run mirror memory reserved q from until b label some known fits above under in
     let place = fits_in-parts mirror memory reserved q b fits in
     true≢false (sym (place_serves mirror memory reserved q b place)
-    ∙ ap (λ (o : Option Label). serves mirror q.node o) (lies.carries ∙ is) ∙ refused))
+    ∙ ap (λ (o : Option LabelView). serves mirror q.node o) (lies.carries ∙ is) ∙ refused))
 
 -- a place that begins in a stretch of memory lies between its ends, in the window
-between_ends : (mirror : Bool) (memory reserved : Labels) (q : Query) (from until b : ℕ) (label : Option Label) → 1 ≤ q.size
+between_ends : (mirror : Bool) (memory reserved : Labels) (q : Query) (from until b : ℕ) (label : Option LabelView) → 1 ≤ q.size
     → IsRise memory reserved from until label → fits_in mirror memory reserved q b ≡ true → from ≤ b → b < until
     → IsBetween from (min until q.hi) q.size q.align b
 between_ends mirror memory reserved q from until b label some known fits above under =
@@ -65,7 +65,7 @@ between_ends mirror memory reserved q from until b label some known fits above u
     record { aligned = place.aligned; above = above; below = omega (arith, inside.below, place.high) }
 
 -- so what is answered of a stretch of memory that serves, the first place between its ends, is the lowest place in it, or there is none
-pub first_of_stretch : (mirror : Bool) (memory reserved : Labels) (q : Query) (from until : ℕ) (label : Option Label) (found : Label)
+pub first_of_stretch : (mirror : Bool) (memory reserved : Labels) (q : Query) (from until : ℕ) (label : Option LabelView) (found : LabelView)
     (answer : Option ℕ) → 1 ≤ q.size → q.lo ≤ from → 4096 ≤ from
     → IsRise memory reserved from until label → label ≡ Some found → serves mirror q.node (Some found) ≡ true
     → MatchOption answer ((b : ℕ) → IsBetween from (min until q.hi) q.size q.align b → ⊥)
@@ -90,11 +90,11 @@ first_of_stretch mirror memory reserved q from until label found (Some a) some l
 pub lowest_answer : (mirror : Bool) (memory reserved : Labels) (q : Query) (at until : ℕ) (answer : Option ℕ) → 1 ≤ q.size
     → NoPlaceBegins mirror memory reserved q (max q.lo 4096) at
     → MatchOption answer (NoPlaceBegins mirror memory reserved q at until) (IsBestFrom mirror memory reserved q at)
-    → is_some answer ≡ true → q.hi < 2 ^ 64 → answer ≡ top_in (record { mirror = mirror; up = true }) memory reserved q
+    → is_some answer ≡ true → q.hi < 2 ^ 64 → answer ≡ top_place_in (record { mirror = mirror; up = true }) memory reserved q
 lowest_answer mirror memory reserved q at until None size past best some small = absurd (true≢false (sym some))
 lowest_answer mirror memory reserved q at until (Some a) size past best some small =
     let high = (fits_in-parts mirror memory reserved q a best.fits).high in
-    sym (top_in-first mirror memory reserved q a (record {
+    sym (top_place_in-first mirror memory reserved q a (record {
       below = omega arith;
       passes = best.fits;
       first = λ b less fits.
@@ -113,8 +113,8 @@ none_yet mirror memory reserved q low at until (Some a) past best is = absurd (t
 -- and where the walk has come to the window's end there is none
 pub none_at_all : (mirror : Bool) (memory reserved : Labels) (q : Query) (at : ℕ) → 1 ≤ q.size
     → NoPlaceBegins mirror memory reserved q (max q.lo 4096) at → q.hi ≤ at
-    → top_in (record { mirror = mirror; up = true }) memory reserved q ≡ None
-none_at_all mirror memory reserved q at some past high = top_in-fails (record { mirror = mirror; up = true }) memory reserved q (λ b less.
+    → top_place_in (record { mirror = mirror; up = true }) memory reserved q ≡ None
+none_at_all mirror memory reserved q at some past high = top_place_in-fails (record { mirror = mirror; up = true }) memory reserved q (λ b less.
     false_from_ne_true (fits_in mirror memory reserved q b) (λ fits.
     let place = fits_in-parts mirror memory reserved q b fits in
     let begins = past b fits (omega (arith, place.low, place.first)) in

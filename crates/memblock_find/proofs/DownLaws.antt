@@ -3,14 +3,14 @@ use Rattle.std.proofs.Common.{◌≡◌, ◌≢◌, ◌⊎◌, ℕ, ◌+◌, ◌
 use Rattle.std.proofs.lemmas.Bool.{cases_lt}
 use Rattle.address_runs.specs.Runs.{RunOf, run_end, value_at, AreRuns}
 use Rattle.address_runs.specs.Sweep.{Stays}
-use Rattle.memblock_model.specs.Labels.{Label, Labels}
+use Rattle.memblock_model.specs.Labels.{LabelView, Labels}
 use Rattle.memblock_find.specs.declared.cursor.Cursor.{Cursor}
 use Rattle.memblock_find.specs.Free.{unclaimed, IsDownTo}
 use Rattle.memblock_find.specs.Walk.{run_at, BegunAmong, BegunBelow, IsLookDown, IsDownAt, label_at}
 use Rattle.memblock_find.proofs.SlotLaws.{ends_before, ends_ascend, bases_ascend, size_at, value_in, none_beside, other_under}
 
 -- with no record below the address nothing is there
-pub look_bottom : (rs : List (RunOf Label)) (at : ℕ) → BegunBelow at rs 0 → IsLookDown rs at (record { label = None; bound = 0; slot = 0 })
+pub look_bottom : (rs : List (RunOf LabelView)) (at : ℕ) → BegunBelow at rs 0 → IsLookDown rs at (record { label = None; bound = 0; slot = 0 })
 look_bottom rs at begun = record {
   down = record {
     stays = λ x above under. none_beside x rs (λ i less. let base = begun.behind i (omega arith) less in inr (omega arith));
@@ -22,7 +22,7 @@ look_bottom rs at begun = record {
 }
 
 -- down to the end of the last record below the address there is nothing
-pub look_gap : (rs : List (RunOf Label)) (slot at : ℕ) → 0 < slot → BegunBelow at rs slot → run_end (run_at rs (slot - 1)) < at
+pub look_gap : (rs : List (RunOf LabelView)) (slot at : ℕ) → 0 < slot → BegunBelow at rs slot → run_end (run_at rs (slot - 1)) < at
     → IsLookDown rs at (record { label = None; bound = run_end (run_at rs (slot - 1)); slot = slot })
 look_gap rs slot at some begun under_at =
     let runs : AreRuns rs = begun.runs in
@@ -51,7 +51,7 @@ look_gap rs slot at some begun under_at =
     }
 
 -- in the last record that begins below the address there is its label
-pub look_in : (rs : List (RunOf Label)) (slot at : ℕ) → 0 < slot → BegunBelow at rs slot → at ≤ run_end (run_at rs (slot - 1))
+pub look_in : (rs : List (RunOf LabelView)) (slot at : ℕ) → 0 < slot → BegunBelow at rs slot → at ≤ run_end (run_at rs (slot - 1))
     → IsLookDown rs at (record { label = Some (run_at rs (slot - 1)).value; bound = (run_at rs (slot - 1)).base; slot = slot - 1 })
 look_in rs slot at some begun at_end =
     let runs : AreRuns rs = begun.runs in
@@ -77,26 +77,26 @@ look_in rs slot at some begun at_end =
     }
 
 -- what is unclaimed follows from what both tables say
-pub unclaimed_is : (memory reserved : Labels) (x : ℕ) (a b : Option Label) → memory x ≡ a → reserved x ≡ b
+pub unclaimed_is : (memory reserved : Labels) (x : ℕ) (a b : Option LabelView) → memory x ≡ a → reserved x ≡ b
     → unclaimed memory reserved x ≡ (if is_none b then a else None)
 unclaimed_is memory reserved x a b m r =
-    ap (λ (o : Option Label). if is_none o then memory x else None) r ∙ ap (λ (o : Option Label). if is_none b then o else None) m
+    ap (λ (o : Option LabelView). if is_none o then memory x else None) r ∙ ap (λ (o : Option LabelView). if is_none b then o else None) m
 
 -- the addresses of a cursor's stretch carry its label
-pub stretch_stays : (ms rs : List (RunOf Label)) (c : Cursor) (from : ℕ) (label : Option Label) → IsDownAt ms rs c
+pub stretch_stays : (ms rs : List (RunOf LabelView)) (c : Cursor) (from : ℕ) (label : Option LabelView) → IsDownAt ms rs c
     → from ≡ max c.memory.bound c.reserved.bound → label ≡ label_at c → Stays (unclaimed (value_at ms) (value_at rs)) from c.at label
 stretch_stays ms rs c from label known from_is label_is x above under =
     unclaimed_is (value_at ms) (value_at rs) x c.memory.label c.reserved.label
     (known.memory.down.stays x (omega arith) under) (known.reserved.down.stays x (omega arith) under) ∙ sym label_is
 
 -- where memory or the claims change, something else is unclaimed
-pub unclaimed_changes : (carried claimed label : Option Label) → (carried ≢ label) ⊎ (claimed ≢ None) → label ≢ None
+pub unclaimed_changes : (carried claimed label : Option LabelView) → (carried ≢ label) ⊎ (claimed ≢ None) → label ≢ None
     → (if is_none claimed then carried else None) ≢ label
 unclaimed_changes carried None label (inl other) some = other
 unclaimed_changes carried None label (inr other) some = absurd (other refl)
 unclaimed_changes carried (Some v) label changes some = λ same. some (sym same)
 
-stretch_ends : (memory reserved : Labels) (x m r : ℕ) (a b : Option Label) → ((y : ℕ) → y + 1 ≡ m → memory y ≢ a)
+stretch_ends : (memory reserved : Labels) (x m r : ℕ) (a b : Option LabelView) → ((y : ℕ) → y + 1 ≡ m → memory y ≢ a)
     → ((y : ℕ) → y + 1 ≡ r → reserved y ≢ b) → x + 1 ≡ max m r → (if is_none b then a else None) ≢ None
     → unclaimed memory reserved x ≢ (if is_none b then a else None)
 stretch_ends memory reserved x m r a (Some v) other_m other_r next some = absurd (some refl)
@@ -107,11 +107,11 @@ stretch_ends memory reserved x m r a None other_m other_r next some =
     ]
 
 -- and where they are unclaimed memory, the address below them carries something else
-pub stretch_down : (ms rs : List (RunOf Label)) (c : Cursor) (from : ℕ) (label : Option Label) → IsDownAt ms rs c
+pub stretch_down : (ms rs : List (RunOf LabelView)) (c : Cursor) (from : ℕ) (label : Option LabelView) → IsDownAt ms rs c
     → from ≡ max c.memory.bound c.reserved.bound → label ≡ label_at c → label ≢ None
     → IsDownTo (unclaimed (value_at ms) (value_at rs)) from c.at label
 stretch_down ms rs c from label known from_is label_is some =
-    let held : label_at c ≢ None = subst (λ (o : Option Label). o ≢ None) label_is some in
+    let held : label_at c ≢ None = subst (λ (o : Option LabelView). o ≢ None) label_is some in
     let ends : (x : ℕ) → x + 1 ≡ from → unclaimed (value_at ms) (value_at rs) x ≢ label_at c = λ x next.
     stretch_ends (value_at ms) (value_at rs) x c.memory.bound c.reserved.bound
     c.memory.label c.reserved.label known.memory.down.another known.reserved.down.another (next ∙ from_is) held in
@@ -121,7 +121,7 @@ stretch_down ms rs c from label known from_is label_is some =
     }
 
 -- no more records begin below an address than there are
-pub among_all : (rs : List (RunOf Label)) (at count : ℕ) → AreRuns rs → count ≡ length rs → BegunAmong at rs count
+pub among_all : (rs : List (RunOf LabelView)) (at count : ℕ) → AreRuns rs → count ≡ length rs → BegunAmong at rs count
 among_all rs at count runs all = record {
   runs = runs;
   within = omega arith;
@@ -129,7 +129,7 @@ among_all rs at count runs all = record {
 }
 
 -- the records of a table that is searched for those that begin below an address: all that may, where the last of them does
-pub all_begun : (rs : List (RunOf Label)) (at count : ℕ) → BegunAmong at rs count → (0 < count → (run_at rs (count - 1)).base < at)
+pub all_begun : (rs : List (RunOf LabelView)) (at count : ℕ) → BegunAmong at rs count → (0 < count → (run_at rs (count - 1)).base < at)
     → BegunBelow at rs count
 all_begun rs at count among last = record {
   runs = among.runs;
@@ -142,10 +142,10 @@ all_begun rs at count among last = record {
   behind = among.behind;
 }
 
-pub begun_so_far : (rs : List (RunOf Label)) (at middle : ℕ) → AreRuns rs → middle < length rs → (run_at rs middle).base < at
+pub begun_so_far : (rs : List (RunOf LabelView)) (at middle : ℕ) → AreRuns rs → middle < length rs → (run_at rs middle).base < at
     → (i : ℕ) → i < middle + 1 → (run_at rs i).base < at
 begun_so_far rs at middle runs within begun i less = omega (arith, bases_ascend i middle rs runs (omega arith) within)
 
-pub not_begun_from : (rs : List (RunOf Label)) (at middle : ℕ) → AreRuns rs → at ≤ (run_at rs middle).base
+pub not_begun_from : (rs : List (RunOf LabelView)) (at middle : ℕ) → AreRuns rs → at ≤ (run_at rs middle).base
     → (i : ℕ) → middle ≤ i → i < length rs → at ≤ (run_at rs i).base
 not_begun_from rs at middle runs behind i from within = omega (arith, bases_ascend middle i rs runs from within)

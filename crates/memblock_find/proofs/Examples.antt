@@ -3,7 +3,7 @@ use Rattle.std.proofs.Common.{◌≡◌, ℕ, zero, suc, ◌+◌, ◌-◌, ◌^�
 use Rattle.std.proofs.lemmas.Bool.{true≢false}
 use Rattle.std.proofs.lemmas.Bool.Decides.{nat_tests}
 use Rattle.address_runs.specs.Runs.{RunOf, value_at, AreRuns}
-use Rattle.memblock_model.specs.Labels.{Label, Labels, plain_label, with_node, with_mirror}
+use Rattle.memblock_model.specs.Labels.{LabelView, Labels, plain_label, with_node, with_mirror}
 use Rattle.memblock_model.specs.declared.query.Query.{Query}
 use Rattle.memblock_model.specs.Search.{fits_in}
 use Rattle.memblock_model.proofs.SearchLaws.{fits_in-parts, fits_in-whole}
@@ -19,13 +19,13 @@ use Rattle.memblock_find.proofs.PlaceLaws.{le_from_not_lt}
 use Rattle.memblock_find.proofs.UpLaws.{look_top, look_over, ended_so_far, not_ended_from}
 
 -- 0x1000 to 0x1FFF of node 0 and 0x2000 to 0x2FFF of node 1, of which 0x1800 to 0x18FF are claimed
-abbrev of_node : ℕ → Label
+abbrev of_node : ℕ → LabelView
 of_node node = with_node (Some node) plain_label
 
-abbrev memory_runs : List (RunOf Label)
+abbrev memory_runs : List (RunOf LabelView)
 memory_runs = record { base = 0x1000; size = 0x1000; value = of_node 0 } ∷ (record { base = 0x2000; size = 0x1000; value = of_node 1 } ∷ [])
 
-abbrev claims : List (RunOf Label)
+abbrev claims : List (RunOf LabelView)
 claims = record { base = 0x1800; size = 0x100; value = plain_label } ∷ []
 
 abbrev tables : Contents
@@ -39,7 +39,7 @@ abbrev free : Labels
 free = free_in tables
 
 -- the node of what a byte carries, as a number
-abbrev number : Option Label → ℕ
+abbrev number : Option LabelView → ℕ
 number None = 2
 number (Some label) = unwrap_or label.node 3
 
@@ -197,7 +197,7 @@ record_examples = (refl, refl)
 memory_in_order : AreRuns memory_runs
 memory_in_order = (
   omega arith,
-  (omega arith, λ touch same. let there : 0 ≡ 1 = ap (λ (l : Label). unwrap_or l.node 3) same in omega arith),
+  (omega arith, λ touch same. let there : 0 ≡ 1 = ap (λ (l : LabelView). unwrap_or l.node 3) same in omega arith),
   (omega arith, tt, tt),
 )
 

@@ -3,7 +3,7 @@ use Rattle.std.proofs.Common.{◌≡◌, ℕ, zero, suc, ◌+◌, ◌-◌, ◌<�
 use Rattle.std.proofs.lemmas.Bool.{cases_lt, true≢false}
 use Rattle.address_runs.specs.Runs.{RunOf, run_end, value_at, AreRuns}
 use Rattle.address_runs.proofs.RunsLaws.{inside, below, behind}
-use Rattle.memblock_model.specs.Labels.{Label, Labels}
+use Rattle.memblock_model.specs.Labels.{LabelView, Labels}
 use Rattle.memblock_model.specs.declared.query.Query.{Query}
 use Rattle.memblock_model.proofs.SearchLaws.{fits_in-parts}
 use Rattle.memblock_find.specs.declared.cursor.Look.{Look}
@@ -13,7 +13,7 @@ use Rattle.memblock_find.proofs.PlaceLaws.{le_from_not_lt, place_serves}
 use Rattle.memblock_find.proofs.SlotLaws.{ends_before, ends_ascend, bases_ascend, size_at, value_in}
 
 -- the records that begin below a look's bound end by it
-pub ends_by_bound : (rs : List (RunOf Label)) (from count at : ℕ) (look : Look) → IsLookDown rs from look → count ≤ look.slot
+pub ends_by_bound : (rs : List (RunOf LabelView)) (from count at : ℕ) (look : Look) → IsLookDown rs from look → count ≤ look.slot
     → (count ≡ 0 → at ≡ 0) → (0 < count → at ≡ run_end (run_at rs (count - 1))) → at ≤ look.bound
 ends_by_bound rs from count at look known fewer none end =
     elim (cases_lt 0 count) as (λ _. at ≤ look.bound) [
@@ -33,7 +33,7 @@ ends_by_bound rs from count at look known fewer none end =
     ]
 
 -- just the records up to the last one begin below its end
-pub begun_at_end : (rs : List (RunOf Label)) (count at : ℕ) → AreRuns rs → count ≤ length rs
+pub begun_at_end : (rs : List (RunOf LabelView)) (count at : ℕ) → AreRuns rs → count ≤ length rs
     → (count ≡ 0 → at ≡ 0) → (0 < count → at ≡ run_end (run_at rs (count - 1))) → BegunBelow at rs count
 begun_at_end rs count at runs within none end =
     record {
@@ -55,7 +55,7 @@ begun_at_end rs count at runs within none end =
     }
 
 -- an address that lies in no record that serves isn't memory that serves, where bytes without memory don't serve
-pub not_serving : (mirror : Bool) (node : Option ℕ) (x : ℕ) (rs : List (RunOf Label)) → serves mirror node None ≡ false
+pub not_serving : (mirror : Bool) (node : Option ℕ) (x : ℕ) (rs : List (RunOf LabelView)) → serves mirror node None ≡ false
     → ((i : ℕ) → i < length rs → (run_at rs i).base ≤ x → x < run_end (run_at rs i) → serves mirror node (Some (run_at rs i).value) ≡ false)
     → serves mirror node (value_at rs x) ≡ false
 not_serving mirror node x [] narrow other = narrow
@@ -70,7 +70,7 @@ not_serving mirror node x (r ∷ rs) narrow other =
     ]
 
 -- so none is, from the end of the last record before them up to the bound
-pub passed_over : (rs : List (RunOf Label)) (mirror : Bool) (node : Option ℕ) (from count at : ℕ) (look : Look) → IsLookDown rs from look
+pub passed_over : (rs : List (RunOf LabelView)) (mirror : Bool) (node : Option ℕ) (from count at : ℕ) (look : Look) → IsLookDown rs from look
     → serves mirror node None ≡ false → count ≤ look.slot → (0 < count → at ≡ run_end (run_at rs (count - 1)))
     → ((i : ℕ) → count ≤ i → i < look.slot → serves mirror node (Some (run_at rs i).value) ≡ false)
     → NoAddressServes mirror (value_at rs) node at look.bound
@@ -97,4 +97,4 @@ past_refused mirror memory reserved q at from some barred past b fits ends =
     let refused = barred last (omega arith) (omega arith) in
     let label = place.label last (omega arith) (omega arith) in
     true≢false (sym (place_serves mirror memory reserved q b place)
-    ∙ ap (λ (o : Option Label). serves mirror q.node o) (sym label) ∙ refused))
+    ∙ ap (λ (o : Option LabelView). serves mirror q.node o) (sym label) ∙ refused))

@@ -5,28 +5,28 @@ use Rattle.address_runs.specs.Runs.{RunOf, run_end, value_at}
 use Rattle.address_runs.specs.Edits.{NothingFrom}
 use Rattle.memblock_model.specs.declared.item.Item.{Item}
 use Rattle.memblock_model.specs.declared.query.Query.{Query}
-use Rattle.memblock_model.specs.declared.which.Which.{Which}
-use Rattle.memblock_model.specs.declared.which.Which.TheVariants as which
-use Rattle.memblock_model.specs.Labels.{Label, Labels}
+use Rattle.memblock_model.specs.declared.owner.Which.{Which}
+use Rattle.memblock_model.specs.declared.owner.Which.TheVariants as which
+use Rattle.memblock_model.specs.Labels.{LabelView, Labels}
 use Rattle.memblock_model.specs.Items.{upward_of}
 use Rattle.memblock_model.specs.Tables.{table_of, records_of}
-use Rattle.memblock_model.specs.Search.{top_in, top, best_in, best}
+use Rattle.memblock_model.specs.Search.{top_place_in, top_place, best_place_in, best_place}
 use Rattle.memblock_model.proofs.TableLaws.{value_at-records}
 use Rattle.memblock_ranges.specs.Tables.{Contents}
 use Rattle.memblock_find.specs.Free.{unclaimed, free_in, IsRunBelow}
 use Rattle.memblock_find.proofs.PlaceLaws.{le_from_not_lt}
 
 -- records that are those of the items say what the items say
-says : (w : Which) (items : List Item) (rs : List (RunOf Label)) → NothingFrom (2 ^ 64) (table_of w items) → rs ≡ records_of w items
+says : (w : Which) (items : List Item) (rs : List (RunOf LabelView)) → NothingFrom (2 ^ 64) (table_of w items) → rs ≡ records_of w items
     → value_at rs ≡ table_of w items
 unfolding records_of
-says w items rs ends is = ap (λ (ss : List (RunOf Label)). value_at ss) is ∙ value_at-records (table_of w items) ends
+says w items rs ends is = ap (λ (ss : List (RunOf LabelView)). value_at ss) is ∙ value_at-records (table_of w items) ends
 
 pub best_says : (items : List Item) (t : Contents) (q : Query)
     → NothingFrom (2 ^ 64) (table_of which.Memory items) → NothingFrom (2 ^ 64) (table_of which.Reserved items)
     → t.memory.records ≡ records_of which.Memory items → t.reserved.records ≡ records_of which.Reserved items
-    → best_in (upward_of items) (value_at t.memory.records) (value_at t.reserved.records) q ≡ best items q
-unfolding best
+    → best_place_in (upward_of items) (value_at t.memory.records) (value_at t.reserved.records) q ≡ best_place items q
+unfolding best_place
 best_says items t q memory_ends reserved_ends memory reserved =
     rw (
       says which.Memory items t.memory.records memory_ends memory,
@@ -36,9 +36,9 @@ best_says items t q memory_ends reserved_ends memory reserved =
 pub top_says : (items : List Item) (t : Contents) (q : Query) (mirror : Bool)
     → NothingFrom (2 ^ 64) (table_of which.Memory items) → NothingFrom (2 ^ 64) (table_of which.Reserved items)
     → t.memory.records ≡ records_of which.Memory items → t.reserved.records ≡ records_of which.Reserved items
-    → top_in (record { mirror = mirror; up = upward_of items }) (value_at t.memory.records) (value_at t.reserved.records) q
-    ≡ top items q mirror
-unfolding top
+    → top_place_in (record { mirror = mirror; up = upward_of items }) (value_at t.memory.records) (value_at t.reserved.records) q
+    ≡ top_place items q mirror
+unfolding top_place
 top_says items t q mirror memory_ends reserved_ends memory reserved =
     rw (
       says which.Memory items t.memory.records memory_ends memory,
@@ -53,13 +53,13 @@ free_says items t memory_ends reserved_ends memory reserved =
     ap (λ (f : Labels). unclaimed f (value_at t.reserved.records)) (says which.Memory items t.memory.records memory_ends memory)
     ∙ ap (λ (f : Labels). unclaimed (table_of which.Memory items) f) (says which.Reserved items t.reserved.records reserved_ends reserved)
 
-same_run : (r s : RunOf Label) → r.base ≡ s.base → run_end r ≡ run_end s → r.value ≡ s.value → r ≡ s
+same_run : (r s : RunOf LabelView) → r.base ≡ s.base → run_end r ≡ run_end s → r.value ≡ s.value → r ≡ s
 same_run r s bases ends values =
     let sizes : r.size ≡ s.size = omega arith in
     λ j. record { base = bases j; size = sizes j; value = values j }
 
 -- of two runs below an address the one ends no earlier than the other
-no_lower_end : (f : Labels) (below : ℕ) (r s : RunOf Label) → IsRunBelow f below r → IsRunBelow f below s → run_end s ≤ run_end r
+no_lower_end : (f : Labels) (below : ℕ) (r s : RunOf LabelView) → IsRunBelow f below r → IsRunBelow f below s → run_end s ≤ run_end r
 no_lower_end f below r s one two =
     le_from_not_lt (run_end r) (run_end s) (λ lt.
     let x : ℕ = run_end s - 1 in
@@ -70,16 +70,16 @@ no_lower_end f below r s one two =
     cc)
 
 -- and begins no later, where both carry the same
-no_higher_base : (f : Labels) (below : ℕ) (r s : RunOf Label) → IsRunBelow f below r → IsRunBelow f below s → run_end r ≡ run_end s
+no_higher_base : (f : Labels) (below : ℕ) (r s : RunOf LabelView) → IsRunBelow f below r → IsRunBelow f below s → run_end r ≡ run_end s
     → r.value ≡ s.value → s.base ≤ r.base
 no_higher_base f below r s one two ends values =
     le_from_not_lt r.base s.base (λ lt.
     let x : ℕ = s.base - 1 in
     let some = two.some in
     let here : f x ≡ Some r.value = one.run.stays x (omega arith) (omega arith) in
-    two.run.another x (omega arith) (here ∙ ap (λ (v : Label). Some v) values))
+    two.run.another x (omega arith) (here ∙ ap (λ (v : LabelView). Some v) values))
 
-pub one_below : (f : Labels) (below : ℕ) (r s : RunOf Label) → IsRunBelow f below r → IsRunBelow f below s → r ≡ s
+pub one_below : (f : Labels) (below : ℕ) (r s : RunOf LabelView) → IsRunBelow f below r → IsRunBelow f below s → r ≡ s
 one_below f below r s one two =
     let upper = no_lower_end f below r s one two in
     let lower = no_lower_end f below s r two one in

@@ -6,10 +6,10 @@ use Rattle.std.proofs.lemmas.Nat.{le-div, div-add-mod', mod-mul-add, and_mask}
 use Rattle.std.proofs.lemmas.Bool.{cases_lt, false_from_ne_true, true≢false, and_from, and_parts}
 use Rattle.address_runs.specs.Edits.{NothingFrom}
 use Rattle.address_runs.specs.Sweep.{Stays}
-use Rattle.memblock_model.specs.Labels.{Label, Labels}
-use Rattle.memblock_model.specs.Search.{allows, suits, fits_in, top_in}
+use Rattle.memblock_model.specs.Labels.{LabelView, Labels}
+use Rattle.memblock_model.specs.Search.{allows, suits, fits_in, top_place_in}
 use Rattle.memblock_model.specs.declared.query.Query.{Query}
-use Rattle.memblock_model.proofs.SearchLaws.{IsPlace, fits_in-parts, fits_in-whole, top_in-last, top_in-fails}
+use Rattle.memblock_model.proofs.SearchLaws.{IsPlace, fits_in-parts, fits_in-whole, top_place_in-last, top_place_in-fails}
 use Rattle.memblock_find.specs.Free.{unclaimed, IsDownTo}
 use Rattle.memblock_find.specs.Places.{IsBetween, serves, NoPlaceEnds, IsBestBy}
 
@@ -37,9 +37,9 @@ pub label_of_place : (mirror : Bool) (memory reserved : Labels) (q : Query) (b x
     → x < b + q.size
     → unclaimed memory reserved x ≡ memory b
 label_of_place mirror memory reserved q b x place above under =
-    ap (λ (o : Option Label). if is_none o then memory x else None) (place.free x above under) ∙ place.label x above under
+    ap (λ (o : Option LabelView). if is_none o then memory x else None) (place.free x above under) ∙ place.label x above under
 
-pub held_somewhere : (o : Option Label) → is_some o ≡ true → o ≢ None
+pub held_somewhere : (o : Option LabelView) → is_some o ≡ true → o ≢ None
 held_somewhere None h = λ same. true≢false (sym h)
 held_somewhere (Some v) h = λ same. cc
 
@@ -49,17 +49,17 @@ pub place_serves : (mirror : Bool) (memory reserved : Labels) (q : Query) (b : �
 place_serves mirror memory reserved q b place = and_from (allows q.node (memory b)) (suits mirror (memory b)) place.allowed place.suited
 
 -- what is known of the stretch of addresses in which a place is sought
-pub record IsStretch (memory reserved : Labels) (from until : ℕ) (label : Option Label) : Type 0 where
+pub record IsStretch (memory reserved : Labels) (from until : ℕ) (label : Option LabelView) : Type 0 where
   pub stays : Stays (unclaimed memory reserved) from until label
   pub down : label ≢ None → IsDownTo (unclaimed memory reserved) from until label
 
 -- a place that ends in a run lies in it
-pub record LiesIn (memory : Labels) (from : ℕ) (label : Option Label) (b : ℕ) : Type 0 where
+pub record LiesIn (memory : Labels) (from : ℕ) (label : Option LabelView) (b : ℕ) : Type 0 where
   pub above : from ≤ b
   pub carries : memory b ≡ label
   pub held : label ≢ None
 
-pub in_run : (mirror : Bool) (memory reserved : Labels) (q : Query) (from until b : ℕ) (label : Option Label) → 1 ≤ q.size
+pub in_run : (mirror : Bool) (memory reserved : Labels) (q : Query) (from until b : ℕ) (label : Option LabelView) → 1 ≤ q.size
     → IsStretch memory reserved from until label
     → fits_in mirror memory reserved q b ≡ true → b + q.size ≤ until → from < b + q.size → LiesIn memory from label b
 in_run mirror memory reserved q from until b label some known fits ends past =
@@ -67,7 +67,7 @@ in_run mirror memory reserved q from until b label some known fits ends past =
     let last : ℕ = b + q.size - 1 in
     let carries : memory b ≡ label = sym (label_of_place mirror memory reserved q b last place (omega arith) (omega arith))
     ∙ known.stays last (omega arith) (omega arith) in
-    let held : label ≢ None = subst (λ (o : Option Label). o ≢ None) carries (held_somewhere (memory b) place.held) in
+    let held : label ≢ None = subst (λ (o : Option LabelView). o ≢ None) carries (held_somewhere (memory b) place.held) in
     record {
       above = le_from_not_lt b from (λ lt.
           let x : ℕ = from - 1 in
@@ -78,12 +78,12 @@ in_run mirror memory reserved q from until b label some known fits ends past =
     }
 
 -- no place ends in a stretch that isn't unclaimed memory, or whose label doesn't serve
-pub none_bare : (mirror : Bool) (memory reserved : Labels) (q : Query) (from until : ℕ) (label : Option Label) → 1 ≤ q.size
+pub none_bare : (mirror : Bool) (memory reserved : Labels) (q : Query) (from until : ℕ) (label : Option LabelView) → 1 ≤ q.size
     → IsStretch memory reserved from until label → label ≡ None → NoPlaceEnds mirror memory reserved q from until
 none_bare mirror memory reserved q from until label some known bare b fits ends =
     le_from_not_lt from (b + q.size) (λ past. (in_run mirror memory reserved q from until b label some known fits ends past).held bare)
 
-pub none_served : (mirror : Bool) (memory reserved : Labels) (q : Query) (from until : ℕ) (label : Option Label) (found : Label)
+pub none_served : (mirror : Bool) (memory reserved : Labels) (q : Query) (from until : ℕ) (label : Option LabelView) (found : LabelView)
     → 1 ≤ q.size
     → IsStretch memory reserved from until label → label ≡ Some found
     → serves mirror q.node (Some found) ≡ false → NoPlaceEnds mirror memory reserved q from until
@@ -92,7 +92,7 @@ none_served mirror memory reserved q from until label found some known is refuse
     let lies = in_run mirror memory reserved q from until b label some known fits ends past in
     let place = fits_in-parts mirror memory reserved q b fits in
     true≢false (sym (place_serves mirror memory reserved q b place)
-    ∙ ap (λ (o : Option Label). serves mirror q.node o) (lies.carries ∙ is) ∙ refused))
+    ∙ ap (λ (o : Option LabelView). serves mirror q.node o) (lies.carries ∙ is) ∙ refused))
 
 -- no place ends above all memory
 pub none_above : (mirror : Bool) (memory reserved : Labels) (q : Query) (at : ℕ) → 1 ≤ q.size → NothingFrom at memory
@@ -104,13 +104,13 @@ none_above mirror memory reserved q at some none b fits ends =
     held_somewhere (memory b) place.held (sym (place.label last (omega arith) (omega arith)) ∙ none last (omega arith)))
 
 -- what is unclaimed memory is memory, and isn't claimed
-pub memory_there : (carried claimed : Option Label) (label : Label) → (if is_none claimed then carried else None) ≡ Some label
+pub memory_there : (carried claimed : Option LabelView) (label : LabelView) → (if is_none claimed then carried else None) ≡ Some label
     → (carried ≡ Some label) × (claimed ≡ None)
 memory_there carried None label same = (same, refl)
 memory_there carried (Some v) label same = cc
 
 -- bytes in the window that are unclaimed memory of one label that serves are a place
-pub place_of_bytes : (mirror : Bool) (memory reserved : Labels) (q : Query) (a : ℕ) (found : Label) → 1 ≤ q.size
+pub place_of_bytes : (mirror : Bool) (memory reserved : Labels) (q : Query) (a : ℕ) (found : LabelView) → 1 ≤ q.size
     → IsBetween (max q.lo 4096) q.hi q.size q.align a
     → ((x : ℕ) → a ≤ x → x < a + q.size → unclaimed memory reserved x ≡ Some found)
     → serves mirror q.node (Some found) ≡ true → fits_in mirror memory reserved q a ≡ true
@@ -125,14 +125,14 @@ place_of_bytes mirror memory reserved q a found some lies carry served =
       first = omega (arith, lies.above);
       high = lies.below;
       held = ap is_some first;
-      allowed = ap (λ (o : Option Label). allows q.node o) first ∙ parts.0;
-      suited = ap (λ (o : Option Label). suits mirror o) first ∙ parts.1;
+      allowed = ap (λ (o : Option LabelView). allows q.node o) first ∙ parts.0;
+      suited = ap (λ (o : Option LabelView). suits mirror o) first ∙ parts.1;
       label = λ x above under. (there x above under).0 ∙ sym first;
       free = λ x above under. (there x above under).1;
     })
 
 -- a place that ends in a stretch of memory lies between its ends, in the window
-between_ends : (mirror : Bool) (memory reserved : Labels) (q : Query) (from until b : ℕ) (label : Option Label) → 1 ≤ q.size
+between_ends : (mirror : Bool) (memory reserved : Labels) (q : Query) (from until b : ℕ) (label : Option LabelView) → 1 ≤ q.size
     → IsStretch memory reserved from until label → fits_in mirror memory reserved q b ≡ true → b + q.size ≤ until → from < b + q.size
     → IsBetween (max (max from q.lo) 4096) until q.size q.align b
 between_ends mirror memory reserved q from until b label some known fits ends past =
@@ -141,7 +141,7 @@ between_ends mirror memory reserved q from until b label some known fits ends pa
     record { aligned = place.aligned; above = omega (arith, inside.above, place.low, place.first); below = ends }
 
 -- so what is answered of a stretch of memory that serves, the last place between its ends, is the best place in it, or there is none
-pub best_of_stretch : (mirror : Bool) (memory reserved : Labels) (q : Query) (from until : ℕ) (label : Option Label) (found : Label)
+pub best_of_stretch : (mirror : Bool) (memory reserved : Labels) (q : Query) (from until : ℕ) (label : Option LabelView) (found : LabelView)
     (answer : Option ℕ)
     → 1 ≤ q.size → until ≤ q.hi
     → IsStretch memory reserved from until label → label ≡ Some found → serves mirror q.node (Some found) ≡ true
@@ -166,8 +166,8 @@ best_of_stretch mirror memory reserved q from until label found (Some a) some wi
 
 -- and where the walk has come below the window there is none
 pub none_found : (mirror : Bool) (memory reserved : Labels) (q : Query) (at : ℕ) → 1 ≤ q.size → NoPlaceEnds mirror memory reserved q at q.hi
-    → at ≤ max q.lo 4096 → top_in (record { mirror = mirror; up = false }) memory reserved q ≡ None
-none_found mirror memory reserved q at some past low = top_in-fails (record { mirror = mirror; up = false }) memory reserved q (λ b less.
+    → at ≤ max q.lo 4096 → top_place_in (record { mirror = mirror; up = false }) memory reserved q ≡ None
+none_found mirror memory reserved q at some past low = top_place_in-fails (record { mirror = mirror; up = false }) memory reserved q (λ b less.
     false_from_ne_true (fits_in mirror memory reserved q b) (λ fits.
     let place = fits_in-parts mirror memory reserved q b fits in
     let ends = past b fits place.high in
@@ -177,11 +177,11 @@ none_found mirror memory reserved q at some past low = top_in-fails (record { mi
 pub best_answer : (mirror : Bool) (memory reserved : Labels) (q : Query) (from at : ℕ) (answer : Option ℕ)
     → NoPlaceEnds mirror memory reserved q at q.hi
     → MatchOption answer (NoPlaceEnds mirror memory reserved q from at) (IsBestBy mirror memory reserved q at)
-    → is_some answer ≡ true → q.hi < 2 ^ 64 → answer ≡ top_in (record { mirror = mirror; up = false }) memory reserved q
+    → is_some answer ≡ true → q.hi < 2 ^ 64 → answer ≡ top_place_in (record { mirror = mirror; up = false }) memory reserved q
 best_answer mirror memory reserved q from at None past best some small = absurd (true≢false (sym some))
 best_answer mirror memory reserved q from at (Some a) past best some small =
     let high = (fits_in-parts mirror memory reserved q a best.fits).high in
-    sym (top_in-last mirror memory reserved q a (record {
+    sym (top_place_in-last mirror memory reserved q a (record {
       below = omega arith;
       passes = best.fits;
       last = λ b less fits. best.last b fits (past b fits (fits_in-parts mirror memory reserved q b fits).high);

@@ -5,46 +5,46 @@ use Rattle.address_runs.specs.Runs.{RunOf, run_end, value_at, AreRuns}
 use Rattle.address_runs.specs.Edits.{NothingFrom}
 use Rattle.address_runs.specs.Sweep.{StartAtOrPast}
 use Rattle.address_runs.proofs.RunsLaws.{inside, below, behind, none_below, rest_from, other_behind}
-use Rattle.memblock_model.specs.Labels.{Label}
+use Rattle.memblock_model.specs.Labels.{LabelView}
 use Rattle.memblock_ranges.specs.declared.region.Region.{Region}
 use Rattle.memblock_ranges.specs.Spelling.{region_of}
 use Rattle.memblock_find.specs.Walk.{run_at}
 
 -- what is read of a record
-pub read_of : (g : Region) (r : RunOf Label) → g ≡ region_of r → (g.base ≡ r.base) × (g.size ≡ r.size)
+pub read_of : (g : Region) (r : RunOf LabelView) → g ≡ region_of r → (g.base ≡ r.base) × (g.size ≡ r.size)
 read_of g r is = (ap (λ (h : Region). h.base) is, ap (λ (h : Region). h.size) is)
 
-start_sooner : (at from : ℕ) (rs : List (RunOf Label)) → at ≤ from → StartAtOrPast from rs → StartAtOrPast at rs
+start_sooner : (at from : ℕ) (rs : List (RunOf LabelView)) → at ≤ from → StartAtOrPast from rs → StartAtOrPast at rs
 start_sooner at from [] le start = tt
 start_sooner at from (r ∷ rs) le start = omega arith
 
-start_at : (at i : ℕ) (rs : List (RunOf Label)) → AreRuns rs → StartAtOrPast at rs → i < length rs → at ≤ (run_at rs i).base
+start_at : (at i : ℕ) (rs : List (RunOf LabelView)) → AreRuns rs → StartAtOrPast at rs → i < length rs → at ≤ (run_at rs i).base
 start_at at i [] runs start less = absurd (omega arith)
 start_at at zero (r ∷ rs) runs start less = start
 start_at at (suc i) (r ∷ rs) runs start less =
     start_at at i rs runs.2 (start_sooner at (run_end r) rs (omega arith) (rest_from r rs runs)) (omega arith)
 
 -- a record ends before any later one begins
-pub ends_before : (i j : ℕ) (rs : List (RunOf Label)) → AreRuns rs → i < j → j < length rs → run_end (run_at rs i) ≤ (run_at rs j).base
+pub ends_before : (i j : ℕ) (rs : List (RunOf LabelView)) → AreRuns rs → i < j → j < length rs → run_end (run_at rs i) ≤ (run_at rs j).base
 ends_before i j [] runs less within = absurd (omega arith)
 ends_before i zero (r ∷ rs) runs less within = absurd (omega arith)
 ends_before zero (suc j) (r ∷ rs) runs less within = start_at (run_end r) j rs runs.2 (rest_from r rs runs) (omega arith)
 ends_before (suc i) (suc j) (r ∷ rs) runs less within = ends_before i j rs runs.2 (omega arith) (omega arith)
 
-pub size_at : (i : ℕ) (rs : List (RunOf Label)) → AreRuns rs → i < length rs → 0 < (run_at rs i).size
+pub size_at : (i : ℕ) (rs : List (RunOf LabelView)) → AreRuns rs → i < length rs → 0 < (run_at rs i).size
 size_at i [] runs less = absurd (omega arith)
 size_at zero (r ∷ rs) runs less = runs.0
 size_at (suc i) (r ∷ rs) runs less = size_at i rs runs.2 (omega arith)
 
 -- so a later one begins no earlier, and ends no earlier
-pub bases_ascend : (i j : ℕ) (rs : List (RunOf Label)) → AreRuns rs → i ≤ j → j < length rs → (run_at rs i).base ≤ (run_at rs j).base
+pub bases_ascend : (i j : ℕ) (rs : List (RunOf LabelView)) → AreRuns rs → i ≤ j → j < length rs → (run_at rs i).base ≤ (run_at rs j).base
 bases_ascend i j rs runs order within =
     elim (cases_lt i j) as (λ _. (run_at rs i).base ≤ (run_at rs j).base) [
       | inl less ↦ let ends = ends_before i j rs runs less within in omega arith
       | inr ge ↦ let same : i ≡ j = omega arith in let bases = ap (λ (k : ℕ). (run_at rs k).base) same in omega arith
     ]
 
-pub ends_ascend : (i j : ℕ) (rs : List (RunOf Label)) → AreRuns rs → i ≤ j → j < length rs → run_end (run_at rs i) ≤ run_end (run_at rs j)
+pub ends_ascend : (i j : ℕ) (rs : List (RunOf LabelView)) → AreRuns rs → i ≤ j → j < length rs → run_end (run_at rs i) ≤ run_end (run_at rs j)
 ends_ascend i j rs runs order within =
     elim (cases_lt i j) as (λ _. run_end (run_at rs i) ≤ run_end (run_at rs j)) [
       | inl less ↦ let ends = ends_before i j rs runs less within in omega arith
@@ -52,7 +52,7 @@ ends_ascend i j rs runs order within =
     ]
 
 -- in a record the list gives its value
-pub value_in : (i x : ℕ) (rs : List (RunOf Label)) → AreRuns rs → i < length rs → (run_at rs i).base ≤ x → x < run_end (run_at rs i)
+pub value_in : (i x : ℕ) (rs : List (RunOf LabelView)) → AreRuns rs → i < length rs → (run_at rs i).base ≤ x → x < run_end (run_at rs i)
     → value_at rs x ≡ Some (run_at rs i).value
 value_in i x [] runs less above under = absurd (omega arith)
 value_in zero x (r ∷ rs) runs less above under = rw (inside r x above under) refl
@@ -61,7 +61,7 @@ value_in (suc i) x (r ∷ rs) runs less above under =
     rw (behind r x (omega arith)) (value_in i x rs runs.2 (omega arith) above under)
 
 -- beside all records it gives nothing
-pub none_beside : (x : ℕ) (rs : List (RunOf Label)) → ((i : ℕ) → i < length rs → (run_end (run_at rs i) ≤ x) ⊎ (x < (run_at rs i).base))
+pub none_beside : (x : ℕ) (rs : List (RunOf LabelView)) → ((i : ℕ) → i < length rs → (run_end (run_at rs i) ≤ x) ⊎ (x < (run_at rs i).base))
     → value_at rs x ≡ None
 none_beside x [] beside = refl
 none_beside x (r ∷ rs) beside =
@@ -72,7 +72,7 @@ none_beside x (r ∷ rs) beside =
     ]
 
 -- from the end of the last record on it gives nothing
-pub nothing_behind : (rs : List (RunOf Label)) (at : ℕ) → AreRuns rs → (0 < length rs → at ≡ run_end (run_at rs (length rs - 1)))
+pub nothing_behind : (rs : List (RunOf LabelView)) (at : ℕ) → AreRuns rs → (0 < length rs → at ≡ run_end (run_at rs (length rs - 1)))
     → NothingFrom at (value_at rs)
 nothing_behind rs at runs end x from = none_beside x rs (λ i less.
     let is = end (omega arith) in
@@ -80,7 +80,7 @@ nothing_behind rs at runs end x from = none_beside x rs (λ i less.
     inl (omega arith))
 
 -- right below a record the list gives another value than in it
-pub other_under : (i x : ℕ) (rs : List (RunOf Label)) → AreRuns rs → i < length rs → x + 1 ≡ (run_at rs i).base
+pub other_under : (i x : ℕ) (rs : List (RunOf LabelView)) → AreRuns rs → i < length rs → x + 1 ≡ (run_at rs i).base
     → value_at rs x ≢ Some (run_at rs i).value
 other_under i x [] runs less next = absurd (omega arith)
 other_under zero x (r ∷ rs) runs less next =
@@ -104,7 +104,7 @@ other_under (suc (suc i)) x (r ∷ rs) runs less next =
     rw (behind r x (omega arith)) (other_under (suc i) x rs runs.2 (omega arith) next)
 
 -- and right behind it
-pub other_past : (i : ℕ) (rs : List (RunOf Label)) → AreRuns rs → i < length rs
+pub other_past : (i : ℕ) (rs : List (RunOf LabelView)) → AreRuns rs → i < length rs
     → value_at rs (run_end (run_at rs i)) ≢ Some (run_at rs i).value
 other_past i [] runs less = absurd (omega arith)
 other_past zero (r ∷ rs) runs less = rw (behind r (run_end r) (omega arith)) (other_behind r rs runs)

@@ -4,7 +4,7 @@ use Rattle.std.proofs.lemmas.Bool.{cases_lt}
 use Rattle.address_runs.specs.Runs.{RunOf, run_end, value_at, AreRuns}
 use Rattle.address_runs.specs.Edits.{NothingFrom}
 use Rattle.address_runs.specs.Sweep.{Stays}
-use Rattle.memblock_model.specs.Labels.{Label}
+use Rattle.memblock_model.specs.Labels.{LabelView}
 use Rattle.memblock_find.specs.declared.cursor.Look.{Look}
 use Rattle.memblock_find.specs.declared.cursor.Cursor.{Cursor}
 use Rattle.memblock_find.specs.Free.{unclaimed, IsUpTo}
@@ -13,10 +13,10 @@ use Rattle.memblock_find.proofs.DownLaws.{unclaimed_is, unclaimed_changes}
 use Rattle.memblock_find.proofs.SlotLaws.{ends_before, ends_ascend, bases_ascend, size_at, value_in, none_beside, other_past}
 
 -- with every record behind it nothing is at the address or above
-none_left : (rs : List (RunOf Label)) (at : ℕ) → EndedBy at rs (length rs) → NothingFrom at (value_at rs)
+none_left : (rs : List (RunOf LabelView)) (at : ℕ) → EndedBy at rs (length rs) → NothingFrom at (value_at rs)
 none_left rs at ended x above = none_beside x rs (λ i less. let ends = ended.before i less in inl (omega arith))
 
-pub look_top : (rs : List (RunOf Label)) (slot at : ℕ) → slot ≡ length rs → at < 2 ^ 64 → EndedBy at rs slot
+pub look_top : (rs : List (RunOf LabelView)) (slot at : ℕ) → slot ≡ length rs → at < 2 ^ 64 → EndedBy at rs slot
     → IsLookUp rs at (record { label = None; bound = 2 ^ 64 - 1; slot = slot })
 look_top rs slot at all small known =
     let ended : EndedBy at rs (length rs) = subst (λ (n : ℕ). EndedBy at rs n) all known in
@@ -37,7 +37,7 @@ look_top rs slot at all small known =
     }
 
 -- up to the next record there is nothing
-pub look_hole : (rs : List (RunOf Label)) (slot at : ℕ) → slot < length rs → EndedBy at rs slot → at < (run_at rs slot).base
+pub look_hole : (rs : List (RunOf LabelView)) (slot at : ℕ) → slot < length rs → EndedBy at rs slot → at < (run_at rs slot).base
     → (run_at rs slot).base < 2 ^ 64
     → IsLookUp rs at (record { label = None; bound = (run_at rs slot).base; slot = slot })
 look_hole rs slot at within ended before_base base_small =
@@ -70,7 +70,7 @@ look_hole rs slot at within ended before_base base_small =
     }
 
 -- and in it there is its label
-pub look_over : (rs : List (RunOf Label)) (slot at : ℕ) → slot < length rs → EndedBy at rs slot → (run_at rs slot).base ≤ at
+pub look_over : (rs : List (RunOf LabelView)) (slot at : ℕ) → slot < length rs → EndedBy at rs slot → (run_at rs slot).base ≤ at
     → run_end (run_at rs slot) < 2 ^ 64
     → IsLookUp rs at (record { label = Some (run_at rs slot).value; bound = run_end (run_at rs slot); slot = slot + 1 })
 look_over rs slot at within ended from_base end_small =
@@ -96,22 +96,22 @@ look_over rs slot at within ended from_base end_small =
     }
 
 -- the records of a table that is searched for those that end by an address
-pub ended_so_far : (rs : List (RunOf Label)) (at middle : ℕ) → AreRuns rs → middle < length rs → run_end (run_at rs middle) ≤ at
+pub ended_so_far : (rs : List (RunOf LabelView)) (at middle : ℕ) → AreRuns rs → middle < length rs → run_end (run_at rs middle) ≤ at
     → (i : ℕ) → i < middle + 1 → run_end (run_at rs i) ≤ at
 ended_so_far rs at middle runs within ended i less = omega (arith, ends_ascend i middle rs runs (omega arith) within)
 
-pub not_ended_from : (rs : List (RunOf Label)) (at middle : ℕ) → AreRuns rs → at < run_end (run_at rs middle)
+pub not_ended_from : (rs : List (RunOf LabelView)) (at middle : ℕ) → AreRuns rs → at < run_end (run_at rs middle)
     → (i : ℕ) → middle ≤ i → i < length rs → at < run_end (run_at rs i)
 not_ended_from rs at middle runs behind i from within = omega (arith, ends_ascend middle i rs runs from within)
 
 -- the addresses of a cursor's stretch upward carry its label
-pub stretch_rises : (ms rs : List (RunOf Label)) (c : Cursor) (until : ℕ) (label : Option Label) → IsUpAt ms rs c
+pub stretch_rises : (ms rs : List (RunOf LabelView)) (c : Cursor) (until : ℕ) (label : Option LabelView) → IsUpAt ms rs c
     → until ≡ min c.memory.bound c.reserved.bound → label ≡ label_at c → Stays (unclaimed (value_at ms) (value_at rs)) c.at until label
 stretch_rises ms rs c until label known until_is label_is x above under =
     unclaimed_is (value_at ms) (value_at rs) x c.memory.label c.reserved.label
     (known.memory.stays x above (omega arith)) (known.reserved.stays x above (omega arith)) ∙ sym label_is
 
-stretch_stops : (ms rs : List (RunOf Label)) (at : ℕ) (m r : Look) → IsLookUp ms at m → IsLookUp rs at r → r.label ≡ None → m.label ≢ None
+stretch_stops : (ms rs : List (RunOf LabelView)) (at : ℕ) (m r : Look) → IsLookUp ms at m → IsLookUp rs at r → r.label ≡ None → m.label ≢ None
     → unclaimed (value_at ms) (value_at rs) (min m.bound r.bound) ≢ m.label
 stretch_stops ms rs at m r memory reserved bare some =
     elim (cases_lt r.bound m.bound) as (λ _. unclaimed (value_at ms) (value_at rs) (min m.bound r.bound) ≢ m.label) [
@@ -126,20 +126,20 @@ stretch_stops ms rs at m r memory reserved bare some =
     ]
 
 -- of what both looks tell: memory's label, and no claim
-bare_claims : (carried claimed : Option Label) → (if is_none claimed then carried else None) ≢ None
+bare_claims : (carried claimed : Option LabelView) → (if is_none claimed then carried else None) ≢ None
     → (claimed ≡ None) × ((if is_none claimed then carried else None) ≡ carried)
 bare_claims carried None some = (refl, refl)
 bare_claims carried (Some v) some = absurd (some refl)
 
 -- and where they are unclaimed memory, the address behind them carries something else
-pub stretch_up : (ms rs : List (RunOf Label)) (c : Cursor) (until : ℕ) (label : Option Label) → IsUpAt ms rs c
+pub stretch_up : (ms rs : List (RunOf LabelView)) (c : Cursor) (until : ℕ) (label : Option LabelView) → IsUpAt ms rs c
     → until ≡ min c.memory.bound c.reserved.bound → label ≡ label_at c → label ≢ None
     → IsUpTo (unclaimed (value_at ms) (value_at rs)) c.at until label
 stretch_up ms rs c until label known until_is label_is some =
-    let held : label_at c ≢ None = subst (λ (o : Option Label). o ≢ None) label_is some in
+    let held : label_at c ≢ None = subst (λ (o : Option LabelView). o ≢ None) label_is some in
     let parts = bare_claims c.memory.label c.reserved.label held in
     let is : label ≡ c.memory.label = label_is ∙ parts.1 in
-    let told : c.memory.label ≢ None = subst (λ (o : Option Label). o ≢ None) is some in
+    let told : c.memory.label ≢ None = subst (λ (o : Option LabelView). o ≢ None) is some in
     record {
       stays = stretch_rises ms rs c until label known until_is label_is;
       another = λ same. stretch_stops ms rs c.at c.memory c.reserved known.memory known.reserved parts.0 told

@@ -2,7 +2,7 @@
 use Rattle.std.specs.Prelude.{◌≡◌, ◌≢◌, ℕ, ◌+◌, ◌<◌, ◌≤◌, is_none, if◌then◌else◌, Option, Some, None, List}
 use Rattle.address_runs.specs.Runs.{RunOf, run_end, value_at}
 use Rattle.address_runs.specs.Sweep.{Stays}
-use Rattle.memblock_model.specs.Labels.{Label, Labels}
+use Rattle.memblock_model.specs.Labels.{LabelView, Labels}
 use Rattle.memblock_ranges.specs.Tables.{Contents}
 
 -- the labels of the bytes that are memory and that nobody has
@@ -15,8 +15,8 @@ free_in t = unclaimed (value_at t.memory.records) (value_at t.reserved.records)
 
 -- a pass over unclaimed memory from an address up: the records of both tables, and where it is
 pub record Pass : Type 0 where
-  pub memory : List (RunOf Label)
-  pub reserved : List (RunOf Label)
+  pub memory : List (RunOf LabelView)
+  pub reserved : List (RunOf LabelView)
   pub at : ℕ
 
 -- the labels that it goes over
@@ -24,24 +24,24 @@ abbrev pub free_of : Pass → Labels
 free_of p = unclaimed (value_at p.memory) (value_at p.reserved)
 
 -- the addresses from the one up to the other carry one label, or all none, and the address before them carries something else
-pub record IsDownTo (f : Labels) (from until : ℕ) (label : Option Label) : Type 0 where
+pub record IsDownTo (f : Labels) (from until : ℕ) (label : Option LabelView) : Type 0 where
   pub stays : Stays f from until label
   pub another : (x : ℕ) → x + 1 ≡ from → f x ≢ label
 
 -- and so upward: the address behind them carries something else
-pub record IsUpTo (f : Labels) (from until : ℕ) (label : Option Label) : Type 0 where
+pub record IsUpTo (f : Labels) (from until : ℕ) (label : Option LabelView) : Type 0 where
   pub stays : Stays f from until label
   pub another : f until ≢ label
 
 -- the highest run whose first address is under `below`, cut to end there
-pub record IsRunBelow (f : Labels) (below : ℕ) (r : RunOf Label) : Type 0 where
+pub record IsRunBelow (f : Labels) (below : ℕ) (r : RunOf LabelView) : Type 0 where
   pub some : 0 < r.size
   pub ends : run_end r ≤ below
   pub run : IsDownTo f r.base (run_end r) (Some r.value)
   pub behind : Stays f (run_end r) below None
 
 -- the lowest run whose last address is `from` or above, cut to begin there
-pub record IsRunFrom (f : Labels) (from : ℕ) (r : RunOf Label) : Type 0 where
+pub record IsRunFrom (f : Labels) (from : ℕ) (r : RunOf LabelView) : Type 0 where
   pub some : 0 < r.size
   pub starts : from ≤ r.base
   pub run : IsUpTo f r.base (run_end r) (Some r.value)

@@ -1,6 +1,6 @@
 -- Words for the places that a search has seen: those in one stretch of addresses, and those that are left.
 use Rattle.std.specs.Prelude.{◌≡◌, ℕ, ◌+◌, ◌%◌, ◌≤◌, ◌<◌, Bool, true, false, ◌&&◌, Option}
-use Rattle.memblock_model.specs.Labels.{Label, Labels}
+use Rattle.memblock_model.specs.Labels.{LabelView, Labels}
 use Rattle.memblock_model.specs.Search.{allows, suits, fits_in}
 use Rattle.memblock_model.specs.declared.query.Query.{Query}
 
@@ -11,7 +11,7 @@ pub record IsBetween (low high size align a : ℕ) : Type 0 where
   pub below : a + size ≤ high
 
 -- whether a byte that carries this may be answered to a search for the node, or for any, in mirrored memory alone, or in any
-abbrev pub serves : Bool → Option ℕ → Option Label → Bool
+abbrev pub serves : Bool → Option ℕ → Option LabelView → Bool
 serves mirror node carried = allows node carried && suits mirror carried
 
 -- each place that ends by `until` ends by `from` already

@@ -3,8 +3,8 @@
 ghost use Rattle.std.specs.Prelude.{◌≡◌, ◌≢◌, ℕ, ◌^◌, ◌≤◌, true, max, min, MatchOption, Option, Some, None};
 ghost use Rattle.address_runs.specs.Runs.{value_at};
 ghost use Rattle.address_runs.specs.Sweep.{Stays};
-ghost use Rattle.memblock_model.specs.Labels.{Label as AnyLabel, Labels};
-ghost use Rattle.memblock_model.specs.Search.{top_in};
+ghost use Rattle.memblock_model.specs.Labels.{LabelView, Labels};
+ghost use Rattle.memblock_model.specs.Search.{top_place_in};
 ghost use Rattle.memblock_find.specs.Free.{unclaimed, IsUpTo};
 ghost use Rattle.memblock_find.specs.Places.{IsBetween, NoPlaceBegins, IsBestFrom};
 
@@ -21,7 +21,7 @@ use memblock_ranges::Tables;
 pub fn find_upward(tables: &Tables, query: &Query, mirror: bool) -> Option<u64>
     requires some { 1 ≤ query.now.size }
     requires aligned { (k : ℕ) × (query.now.align ≡ 2 ^ k) }
-    ensures { result ≡ top_in (record { mirror = mirror; up = true })
+    ensures { result ≡ top_place_in (record { mirror = mirror; up = true })
         (value_at tables.now.memory.records) (value_at tables.now.reserved.records) query.now }
 {
     let lists = lists_of(tables);

@@ -28,10 +28,10 @@ pub struct FreeRange {
 impl Model for FreeRange {
     ghost use Rattle.std.specs.Prelude.{◌+◌, ◌^◌, ◌<◌, ◌≤◌};
     ghost use Rattle.address_runs.specs.Runs.{RunOf};
-    ghost use Rattle.memblock_model.specs.Labels.{Label as AnyLabel};
+    ghost use Rattle.memblock_model.specs.Labels.{LabelView};
     ghost use Rattle.memblock_ranges.specs.Spelling.{node_of_field, node_field};
 
-    ghost Value = { RunOf AnyLabel };
+    ghost Value = { RunOf LabelView };
 
     ghost view = { λ r. record { base = r.range.base; size = r.range.size; value = record { node = node_of_field r.node; mirror = r.mirror } } };
 
@@ -52,7 +52,7 @@ impl FreeRange {
                 size: until - from,
             },
             node: node_field(label),
-            mirror: label.mirror(),
+            mirror: label.has_mirror_flag(),
         }
     }
 }

@@ -5,11 +5,11 @@ ghost use Rattle.address_runs.specs.Runs.{RunOf, value_at};
 ghost use Rattle.address_runs.specs.Edits.{NothingFrom};
 ghost use Rattle.memblock_model.specs.declared.item.Item.{Item};
 ghost use Rattle.memblock_model.specs.declared.query.Query.{Query as AnyQuery};
-ghost use Rattle.memblock_model.specs.declared.which.Which.TheVariants as which;
-ghost use Rattle.memblock_model.specs.Labels.{Label, Labels};
+ghost use Rattle.memblock_model.specs.declared.owner.Which.TheVariants as which;
+ghost use Rattle.memblock_model.specs.Labels.{LabelView, Labels};
 ghost use Rattle.memblock_model.specs.Items.{upward_of};
 ghost use Rattle.memblock_model.specs.Tables.{table_of, records_of};
-ghost use Rattle.memblock_model.specs.Search.{top_in, top, best_in, best};
+ghost use Rattle.memblock_model.specs.Search.{top_place_in, top_place, best_place_in, best_place};
 ghost use Rattle.memblock_ranges.specs.Tables.{Contents};
 ghost use Rattle.memblock_find.specs.Free.{unclaimed, free_in, IsRunBelow, IsRunFrom};
 
@@ -19,12 +19,12 @@ pub fn searches_follow_the_items()
     ensures best { (items : List Item) (t : Contents) (q : AnyQuery) →
         NothingFrom (2 ^ 64) (table_of which.Memory items) → NothingFrom (2 ^ 64) (table_of which.Reserved items) →
         t.memory.records ≡ records_of which.Memory items → t.reserved.records ≡ records_of which.Reserved items →
-        best_in (upward_of items) (value_at t.memory.records) (value_at t.reserved.records) q ≡ best items q }
+        best_place_in (upward_of items) (value_at t.memory.records) (value_at t.reserved.records) q ≡ best_place items q }
     ensures top { (items : List Item) (t : Contents) (q : AnyQuery) (mirror : Bool) →
         NothingFrom (2 ^ 64) (table_of which.Memory items) → NothingFrom (2 ^ 64) (table_of which.Reserved items) →
         t.memory.records ≡ records_of which.Memory items → t.reserved.records ≡ records_of which.Reserved items →
-        top_in (record { mirror = mirror; up = upward_of items }) (value_at t.memory.records) (value_at t.reserved.records) q ≡
-        top items q mirror }
+        top_place_in (record { mirror = mirror; up = upward_of items }) (value_at t.memory.records) (value_at t.reserved.records) q ≡
+        top_place items q mirror }
     ensures free { (items : List Item) (t : Contents) →
         NothingFrom (2 ^ 64) (table_of which.Memory items) → NothingFrom (2 ^ 64) (table_of which.Reserved items) →
         t.memory.records ≡ records_of which.Memory items → t.reserved.records ≡ records_of which.Reserved items →
@@ -33,6 +33,6 @@ pub fn searches_follow_the_items()
 
 /// A law: there is one highest run below an address, and one lowest run from an address on.
 pub fn runs_are_one()
-    ensures below { (f : Labels) (below : ℕ) (r s : RunOf Label) → IsRunBelow f below r → IsRunBelow f below s → r ≡ s }
-    ensures from { (f : Labels) (from : ℕ) (r s : RunOf Label) → IsRunFrom f from r → IsRunFrom f from s → r ≡ s }
+    ensures below { (f : Labels) (below : ℕ) (r s : RunOf LabelView) → IsRunBelow f below r → IsRunBelow f below s → r ≡ s }
+    ensures from { (f : Labels) (from : ℕ) (r s : RunOf LabelView) → IsRunFrom f from r → IsRunFrom f from s → r ≡ s }
 {}

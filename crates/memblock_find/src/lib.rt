@@ -3,7 +3,7 @@
 //! Unclaimed memory is what `memblock.memory` covers and `memblock.reserved` doesn't. [`find`] answers the
 //! greatest address at which a place fits a [`Query`], or the least, and takes mirrored memory alone or any, as
 //! its [`Mode`] says (`memblock_find_in_range_node`): aligned, in the window, not in the first frame, and all of
-//! it unclaimed memory of one label. It is `top_in` of `memblock_model`, said of what the records of both tables
+//! it unclaimed memory of one label. It is `top_place_in` of `memblock_model`, said of what the records of both tables
 //! give at each address.
 //!
 //! [`prev_free`] and [`next_free`] answer one run of unclaimed memory (`for_each_free_mem_range`), below an

@@ -2,7 +2,7 @@
 //! a time, and reads nothing of it but its label; the claims are looked at again where it goes on.
 ghost use Rattle.std.specs.Prelude.{◌≡◌, ℕ, ◌-◌, ◌^◌, ◌<◌, ◌≤◌, false, max, Some, None, length};
 ghost use Rattle.address_runs.specs.Runs.{run_end, value_at};
-ghost use Rattle.memblock_model.specs.Search.{top_in};
+ghost use Rattle.memblock_model.specs.Search.{top_place_in};
 ghost use Rattle.memblock_find.specs.Places.{serves, NoAddressServes};
 ghost use Rattle.memblock_find.specs.Walk.{run_at, IsDownAt};
 
@@ -21,7 +21,7 @@ pub fn serves(mirror: bool, node: Option<u32>, label: Label) -> bool
         None => true,
         Some(_) => label.node() == node,
     };
-    allowed && (!mirror || label.mirror())
+    allowed && (!mirror || label.has_mirror_flag())
 }
 
 /// How many of the first `count` records are left, up to the last one that serves.
@@ -109,7 +109,7 @@ pub fn find_served(tables: &Tables, query: &Query, mirror: bool) -> Option<u64>
     requires narrow { serves mirror query.now.node None ≡ false }
     requires some { 1 ≤ query.now.size }
     requires aligned { (k : ℕ) × (query.now.align ≡ 2 ^ k) }
-    ensures { result ≡ top_in (record { mirror = mirror; up = false })
+    ensures { result ≡ top_place_in (record { mirror = mirror; up = false })
         (value_at tables.now.memory.records) (value_at tables.now.reserved.records) query.now }
 {
     let lists = lists_of(tables);

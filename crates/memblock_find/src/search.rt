@@ -5,8 +5,8 @@
 ghost use Rattle.std.specs.Prelude.{◌≡◌, ◌≢◌, ℕ, ◌^◌, ◌≤◌, false, max, MatchOption, Option, Some, None};
 ghost use Rattle.address_runs.specs.Runs.{value_at};
 ghost use Rattle.address_runs.specs.Sweep.{Stays};
-ghost use Rattle.memblock_model.specs.Labels.{Label as AnyLabel, Labels};
-ghost use Rattle.memblock_model.specs.Search.{top_in};
+ghost use Rattle.memblock_model.specs.Labels.{LabelView, Labels};
+ghost use Rattle.memblock_model.specs.Search.{top_place_in};
 ghost use Rattle.memblock_find.specs.Free.{unclaimed, IsDownTo};
 ghost use Rattle.memblock_find.specs.Places.{IsBetween, NoPlaceEnds, IsBestBy};
 
@@ -26,7 +26,7 @@ use memblock_ranges::Tables;
 pub fn find(tables: &Tables, query: &Query, mode: Mode) -> Option<u64>
     requires some { 1 ≤ query.now.size }
     requires aligned { (k : ℕ) × (query.now.align ≡ 2 ^ k) }
-    ensures { result ≡ top_in mode (value_at tables.now.memory.records) (value_at tables.now.reserved.records) query.now }
+    ensures { result ≡ top_place_in mode (value_at tables.now.memory.records) (value_at tables.now.reserved.records) query.now }
 {
     let Mode { mirror, up } = mode;
     if up {
@@ -43,7 +43,7 @@ pub fn find(tables: &Tables, query: &Query, mode: Mode) -> Option<u64>
 fn find_in(lists: &Lists<'_>, query: &Query) -> Option<u64>
     requires some { 1 ≤ query.now.size }
     requires aligned { (k : ℕ) × (query.now.align ≡ 2 ^ k) }
-    ensures { result ≡ top_in (record { mirror = false; up = false }) (value_at lists.now.memory) (value_at lists.now.reserved) query.now }
+    ensures { result ≡ top_place_in (record { mirror = false; up = false }) (value_at lists.now.memory) (value_at lists.now.reserved) query.now }
 {
     let low = query.lo.max(FRAME_SIZE);
     let end = end_of(&lists.memory, lists.memory.count());

@@ -6,7 +6,7 @@ use Rattle.std.proofs.lemmas.Bool.Decides.{nat_tests}
 use Rattle.bm_base.specs.Range.{RangeView, covers}
 use Rattle.phys_store.specs.Bytes.{Stored, is_ready}
 use Rattle.address_runs.specs.Runs.{value_at}
-use Rattle.memblock_model.specs.declared.which.Which.TheVariants as which
+use Rattle.memblock_model.specs.declared.owner.Which.TheVariants as which
 use Rattle.memblock_model.specs.declared.owner.Owner.TheVariants as owner
 use Rattle.memblock_model.specs.declared.query.Query.{Query}
 use Rattle.memblock_model.specs.declared.item.Item.{Item}
@@ -14,7 +14,7 @@ use Rattle.memblock_model.specs.declared.item.Item.TheVariants as item
 use Rattle.memblock_model.specs.Labels.{Labels, plain_label, with_mirror}
 use Rattle.memblock_model.specs.Tables.{table_of}
 use Rattle.memblock_model.specs.Search.{suits, fits_in}
-use Rattle.memblock_model.proofs.SearchLaws.{IsLastBelow, fits_in-parts, fits_in-whole, top_in-last, top_in-mirrorless, best_in-last, best_in-fails, plain_or_none}
+use Rattle.memblock_model.proofs.SearchLaws.{IsLastBelow, fits_in-parts, fits_in-whole, top_place_in-last, top_place_in-mirrorless, best_place_in-last, best_place_in-fails, plain_or_none}
 use Rattle.memblock_ranges.specs.Tables.{Table, Contents}
 use Rattle.memblock_ranges.proofs.CountLaws.{one-piece}
 use Rattle.growth_model.specs.declared.refusal.Refusal.TheVariants as refusal
@@ -29,7 +29,7 @@ use Rattle.memblock_grow.specs.Kept.{AreKept, IsMemblock, IsKept, AllowsClaim, A
 use Rattle.memblock_grow.specs.Prepared.{is_grown_over, Prepares, PreparesBy}
 use Rattle.memblock_grow.specs.Places.{KnowsMirrors, top_of, mirrored_of, best_of, frames_between, frames_beside, left_frames, first_of}
 use Rattle.memblock_grow.specs.More.{more_by, more_in, HasRoom, EndsInSpace}
-use Rattle.memblock_grow.proofs.PlaceLaws.{best_in-large}
+use Rattle.memblock_grow.proofs.PlaceLaws.{best_place_in-large}
 
 abbrev image : RangeView
 image = record { base = 65536; size = 16384 }
@@ -191,15 +191,15 @@ last_frame = last_at (frame_below 16384) 12288 refl (omega arith) (omega arith) 
 
 best_examples : (best_of plain false (frame_below 16384) ≡ Some 12288) × (best_of plain false (frame_below 4095) ≡ None)
 best_examples = (
-  best_in-last memory reserved (frame_below 16384) 12288 none_mirrored last_frame,
-  best_in-large false memory reserved (frame_below 4095) (omega arith),
+  best_place_in-last memory reserved (frame_below 16384) 12288 none_mirrored last_frame,
+  best_place_in-large false memory reserved (frame_below 4095) (omega arith),
 )
 
 no_mirrored_frame : mirrored_of plain false (frame_below 16384) ≡ None
-no_mirrored_frame = top_in-mirrorless false memory reserved (frame_below 16384) none_mirrored
+no_mirrored_frame = top_place_in-mirrorless false memory reserved (frame_below 16384) none_mirrored
 
 top_frame : top_of plain false (any_memory (frame_below 16384)) ≡ Some 12288
-top_frame = top_in-last false memory reserved (frame_below 16384) 12288 last_frame
+top_frame = top_place_in-last false memory reserved (frame_below 16384) 12288 last_frame
 
 -- the first search that has a place decides
 first_examples : (first_of plain false (record { query = frame_below 16384; mirror = true } ∷ (any_memory (frame_below 16384)
@@ -208,17 +208,17 @@ first_examples = (rw (no_mirrored_frame, top_frame) refl, refl)
 
 -- two frames for 256 records
 best_frames : best_of plain false (table_query 128 0 61440) ≡ Some 53248
-best_frames = best_in-last memory reserved (table_query 128 0 61440) 53248 none_mirrored (last_at (table_query 128 0 61440) 53248 refl
+best_frames = best_place_in-last memory reserved (table_query 128 0 61440) 53248 none_mirrored (last_at (table_query 128 0 61440) 53248 refl
     (omega arith) (omega arith) (omega arith) (omega arith) (omega arith) refl (λ b aligned high. omega arith))
 
 between_examples : (frames_between plain false 128 0 61440 ≡ Some (record { base = 53248; size = 8192 }))
     × (frames_between plain false 128 0 8191 ≡ None)
 between_examples =
-    (rw best_frames refl, rw (best_in-large false memory reserved (table_query 128 0 8191) (omega arith)) refl)
+    (rw best_frames refl, rw (best_place_in-large false memory reserved (table_query 128 0 8191) (omega arith)) refl)
 
 -- above the last frame of the memory there is none, so below it
 none_above : best_of plain false (table_query 128 65536 65536) ≡ None
-none_above = best_in-fails false memory reserved (table_query 128 65536 65536) (λ b lt.
+none_above = best_place_in-fails false memory reserved (table_query 128 65536 65536) (λ b lt.
     false_from_ne_true (fits_in false memory reserved (table_query 128 65536 65536) b) (λ fits.
     let known = fits_in-parts false memory reserved (table_query 128 65536 65536) b fits in
     let low = known.low in let high = known.high in omega (arith, low, high)))
@@ -230,8 +230,8 @@ beside_examples : (frames_beside plain (aimed 65536 false) 128 (record { base = 
 beside_examples = (
   rw (none_above, best_frames) refl,
   rw (
-    best_in-large false memory reserved (table_query 128 65536 8191) (omega arith),
-    best_in-large false memory reserved (table_query 128 0 8191) (omega arith),
+    best_place_in-large false memory reserved (table_query 128 65536 8191) (omega arith),
+    best_place_in-large false memory reserved (table_query 128 0 8191) (omega arith),
   ) refl,
 )
 

@@ -3,14 +3,14 @@
 use Rattle.std.proofs.Common.{◌≡◌, ℕ, Option, Some, None, List, [], ◌∷◌, ◌++◌, Result, Ok, Err, IfSome, OnOk, refl, sym, ◌∙◌, subst}
 use Rattle.bm_base.specs.Range.{RangeView}
 use Rattle.phys_store.specs.Bytes.{byte_of}
-use Rattle.memblock_model.specs.declared.which.Which.{Which}
-use Rattle.memblock_model.specs.declared.which.Which.TheVariants as which
+use Rattle.memblock_model.specs.declared.owner.Which.{Which}
+use Rattle.memblock_model.specs.declared.owner.Which.TheVariants as which
 use Rattle.memblock_model.specs.declared.owner.Owner.{Owner}
 use Rattle.memblock_model.specs.declared.item.Item.{Item}
 use Rattle.memblock_model.specs.declared.item.Item.TheVariants as item
 use Rattle.memblock_model.specs.declared.query.Query.{Query}
-use Rattle.memblock_model.specs.Search.{best}
-use Rattle.memblock_model.specs.Tables.{live}
+use Rattle.memblock_model.specs.Search.{best_place}
+use Rattle.memblock_model.specs.Tables.{table_bytes}
 use Rattle.growth_model.specs.declared.refusal.Refusal.{Refusal}
 use Rattle.growth_model.specs.Growth.{claimed, new_in}
 use Rattle.growth_model.specs.Ends.{Ends}
@@ -18,7 +18,7 @@ use Rattle.growth_model.specs.Sound.{Clear, Seated, IsAway}
 use Rattle.growth_model.specs.Bytes.{table_for, AreSpelled}
 use Rattle.growth_model.proofs.FollowLaws.{follows-next, follows-none}
 use Rattle.growth_model.proofs.FoundLaws.{found-away}
-use Rattle.growth_model.proofs.PlacedLaws.{live-same, moves-of, rooms-of, away-still}
+use Rattle.growth_model.proofs.PlacedLaws.{table_bytes-same, moves-of, rooms-of, away-still}
 use Rattle.growth_model.proofs.PlacedReservedLaws.{roomy, room-going, claimed-after}
 use Rattle.memblock_grow.specs.Contents.{Contents}
 use Rattle.memblock_grow.specs.Going.{GoesOn}
@@ -40,7 +40,7 @@ goes-none m memory reserved spelled = record {
   ready = λ x h. h;
 }
 
-pub place-away : (kernel : RangeView) (items : List Item) (query : Query) (place : Option ℕ) → Seated kernel items → place ≡ best items query
+pub place-away : (kernel : RangeView) (items : List Item) (query : Query) (place : Option ℕ) → Seated kernel items → place ≡ best_place items query
     → IfSome place (λ base. IsAway kernel (record { base = base; size = query.size }) items)
 place-away kernel items query None seated same = tt
 place-away kernel items query (Some base) seated same = found-away kernel items query base seated (sym same)
@@ -54,8 +54,8 @@ claimed-away kernel r items new who placed away ends =
     let still : IsAway kernel r t =
     away-still kernel r items t (room-going kernel r (new_in which.Reserved r) items placed).aside away in
     let is : new ≡ t ++ one = ends.1 ∙ claimed-after items r who ends.0 in
-    let clear : (w : Which) → Clear r (live w kernel t) → Clear r (live w kernel (t ++ one)) = λ w.
-    subst (Clear r) (sym (live-same w kernel t (t ++ one) (moves-of w t one) (rooms-of w t one))) in
+    let clear : (w : Which) → Clear r (table_bytes w kernel t) → Clear r (table_bytes w kernel (t ++ one)) = λ w.
+    subst (Clear r) (sym (table_bytes-same w kernel t (t ++ one) (moves-of w t one) (rooms-of w t one))) in
     rw is (clear which.Memory still.0, clear which.Reserved still.1)
 
 pub claim-away : (result : Result (Unit {0}) Refusal) (kernel r : RangeView) (items new : List Item) (who : Owner) → Seated kernel items

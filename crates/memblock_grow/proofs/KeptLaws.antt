@@ -4,14 +4,14 @@ use Rattle.std.proofs.lemmas.Option.{same_Some}
 use Rattle.bm_base.specs.Range.{RangeView, end_of}
 use Rattle.address_runs.specs.Runs.{RunOf, value_at}
 use Rattle.address_runs.specs.Edits.{cover_range, uncover_range, relabel_range, NothingFrom}
-use Rattle.memblock_model.specs.declared.which.Which.{Which}
-use Rattle.memblock_model.specs.declared.which.Which.TheVariants as which
+use Rattle.memblock_model.specs.declared.owner.Which.{Which}
+use Rattle.memblock_model.specs.declared.owner.Which.TheVariants as which
 use Rattle.memblock_model.specs.declared.owner.Owner.{Owner}
 use Rattle.memblock_model.specs.declared.item.Item.{Item}
 use Rattle.memblock_model.specs.declared.item.Item.TheVariants as item
-use Rattle.memblock_model.specs.Labels.{Label, Labels, plain_label, with_node, with_mirror}
-use Rattle.memblock_model.specs.Items.{trimmed, limit_after, upward_after}
-use Rattle.memblock_model.specs.Tables.{table_of, table_after, records_for, records_of, pieces, room_of, room_after, moved_to, moved_after, place_of}
+use Rattle.memblock_model.specs.Labels.{LabelView, Labels, plain_label, with_node, with_mirror}
+use Rattle.memblock_model.specs.Items.{trim_frames, limit_after, upward_after}
+use Rattle.memblock_model.specs.Tables.{table_of, table_after, records_for, records_of, pieces, room_of, room_after, moved_to, moved_after, table_place}
 use Rattle.memblock_model.proofs.ItemLaws.{limit_of-push, upward_of-push, table_of-push, room_of-push, moved_to-push}
 use Rattle.memblock_model.proofs.TableLaws.{value_at-records}
 use Rattle.memblock_ranges.specs.Steps.{EndsInSpace}
@@ -46,13 +46,13 @@ module _ {kernel : RangeView} {items : List Item} {t : Contents} {at : Aim} (kep
   pub room-is : (w : Which) → room_in w t ≡ room_of w items
   room-is w = ap (λ (s : Table). s.room) (table-is w)
 
-  pub place-is : (w : Which) → place_in w t ≡ place_of w kernel items
+  pub place-is : (w : Which) → place_in w t ≡ table_place w kernel items
   place-is w = ap (λ (s : Table). s.place) (table-is w)
 
   -- what a table says
   pub values-are : (w : Which) → value_at (records_in w t) ≡ table_of w items
   unfolding records_of
-  values-are w = ap (λ (rs : List (RunOf Label)). value_at rs) (records-are w) ∙ value_at-records (table_of w items) (kept.ends w)
+  values-are w = ap (λ (rs : List (RunOf LabelView)). value_at rs) (records-are w) ∙ value_at-records (table_of w items) (kept.ends w)
 
   values-end : (w : Which) → NothingFrom (2 ^ 64) (value_at (records_in w t))
   values-end w = subst (λ (f : Labels). NothingFrom (2 ^ 64) f) (sym (values-are w)) (kept.ends w)
@@ -78,7 +78,7 @@ module _ {kernel : RangeView} {items : List Item} {t : Contents} {at : Aim} (kep
   few-uncovered w range =
       let few = length-uncovered range (value_at (records_in w t)) (values-end w) in omega (arith, few, ap length (records-again w))
 
-  few-relabelled : (range : RangeView) (change : Label → Label)
+  few-relabelled : (range : RangeView) (change : LabelView → LabelView)
       → length (records_for (relabel_range range change (value_at t.memory.records))) ≤ length t.memory.records + 2
   few-relabelled range change =
       let few = length-relabelled range change (value_at t.memory.records) (values-end which.Memory) in
@@ -221,7 +221,7 @@ module _ {kernel : RangeView} {items : List Item} {t : Contents} {at : Aim} (kep
       let few = few-relabelled kept range with_mirror in
       kept-memory (item.Mirror range) (λ w n. refl, λ w o. refl) (omega arith) refl refl (λ f. refl) is same (omega (arith, few, room))
 
-  pub kept-trim : u.memory ≡ record t.memory { records = records_for (trimmed (value_at t.memory.records)) } → u.reserved ≡ t.reserved
+  pub kept-trim : u.memory ≡ record t.memory { records = records_for (trim_frames (value_at t.memory.records)) } → u.reserved ≡ t.reserved
       → AreKept kernel (items ++ item.Trim ∷ []) u at
   kept-trim is same =
       let few = length-trimmed (value_at t.memory.records) (values-end kept which.Memory) in

@@ -4,10 +4,10 @@ use Rattle.std.proofs.lemmas.Bool.Decides.{nat_tests}
 use Rattle.std.proofs.lemmas.List.{get_or-replicate, get_or_past, length-replicate}
 use Rattle.bm_base.specs.Range.{RangeView}
 use Rattle.phys_store.specs.Bytes.{Stored, byte_of, Wrote}
-use Rattle.memblock_model.specs.declared.which.Which.{Which}
-use Rattle.memblock_model.specs.declared.which.Which.TheVariants as which
+use Rattle.memblock_model.specs.declared.owner.Which.{Which}
+use Rattle.memblock_model.specs.declared.owner.Which.TheVariants as which
 use Rattle.memblock_model.specs.declared.item.Item.{Item}
-use Rattle.memblock_model.specs.Tables.{records_of, table_of, built_in}
+use Rattle.memblock_model.specs.Tables.{records_of, table_of, built_in_place}
 use Rattle.memblock_model.proofs.TableLaws.{records_for-is}
 use Rattle.memblock_ranges.specs.Spelling.{spelled_table}
 use Rattle.memblock_ranges.specs.Tables.{Table, Contents, bytes_of}
@@ -37,7 +37,7 @@ shown-empty m r x first second = let a = empty_at m x first in let b = empty_at 
 
 -- at first
 abbrev pub first_table : Which → RangeView → Table
-first_table w kernel = record { records = []; place = built_in w kernel; room = 128 }
+first_table w kernel = record { records = []; place = built_in_place w kernel; room = 128 }
 
 no_records_at_first : (w : Which) → records_of w [] ≡ []
 unfolding records_of

@@ -3,13 +3,13 @@ use Rattle.std.proofs.Common.{◌≡◌, ℕ, ◌*◌, ◌^◌, ◌<◌, Option,
 use Rattle.std.specs.Option.{option_map, IfSome}
 use Rattle.bm_base.specs.Range.{RangeView, end_of}
 use Rattle.phys_store.specs.Bytes.{byte_of}
-use Rattle.memblock_model.specs.declared.which.Which.TheVariants as which
+use Rattle.memblock_model.specs.declared.owner.Which.TheVariants as which
 use Rattle.memblock_model.specs.declared.owner.Owner.TheVariants as owner
 use Rattle.memblock_model.specs.declared.item.Item.{Item}
 use Rattle.memblock_model.specs.declared.item.Item.TheVariants as item
 use Rattle.memblock_model.specs.Items.{owner_of, limit_of}
 use Rattle.memblock_model.specs.Tables.{room_of, moved_to}
-use Rattle.memblock_model.specs.Search.{best}
+use Rattle.memblock_model.specs.Search.{best_place}
 use Rattle.memblock_ranges.specs.declared.region.Head.{Head}
 use Rattle.memblock_ranges.specs.Tables.{Table, Contents, room_in, head_of, Overlaps}
 use Rattle.growth_model.specs.declared.refusal.Refusal.{Refusal}
@@ -34,21 +34,21 @@ use Rattle.memblock_grow.proofs.ReservedLaws.{left-size}
 
 -- the best place below the limit
 pub record IsBest (items : List Item) (place : RangeView) : Type 0 where
-  pub found : best items (table_query (room_of which.Memory items) 0 (limit_of items)) ≡ Some place.base
+  pub found : best_place items (table_query (room_of which.Memory items) 0 (limit_of items)) ≡ Some place.base
   pub is : place ≡ frames_at place.base (48 * room_of which.Memory items)
 
 module _ {kernel : RangeView} {items : List Item} {t : Contents} {at : Aim} (kept : AreKept kernel items t at) where
-  best-along : {head : Head} {o : Option RangeView} → head ≡ head_of t.memory → o ≡ frames_between t at.upward head.room 0 at.limit
+  best_place-along : {head : Head} {o : Option RangeView} → head ≡ head_of t.memory → o ≡ frames_between t at.upward head.room 0 at.limit
       → o ≡ option_map (λ place. frames_at place (48 * room_of which.Memory items))
-      (best items (table_query (room_of which.Memory items) 0 (limit_of items)))
-  best-along said is = rw (is, said, sym kept.limit) (between-is kept 0 (limit_of items))
+      (best_place items (table_query (room_of which.Memory items) 0 (limit_of items)))
+  best_place-along said is = rw (is, said, sym kept.limit) (between-is kept 0 (limit_of items))
 
-  pub best-found : {head : Head} {o : Option RangeView} {place : RangeView} → head ≡ head_of t.memory
+  pub best_place-found : {head : Head} {o : Option RangeView} {place : RangeView} → head ≡ head_of t.memory
       → o ≡ frames_between t at.upward head.room 0 at.limit → o ≡ Some place → IsBest items place
-  best-found {place} said is some =
+  best_place-found {place} said is some =
       let n = room_of which.Memory items in
-      let found = best items (table_query n 0 (limit_of items)) in
-      let known = mapped-some found (48 * n) place (sym (best-along said is) ∙ some) in
+      let found = best_place items (table_query n 0 (limit_of items)) in
+      let known = mapped-some found (48 * n) place (sym (best_place-along said is) ∙ some) in
       record { found = known.found; is = known.is }
 
   pub memory-none : {head : Head} {o : Option RangeView} → head ≡ head_of t.memory
@@ -57,8 +57,8 @@ module _ {kernel : RangeView} {items : List Item} {t : Contents} {at : Aim} (kep
   unfolding memory_growth memory_growth_at
   memory-none said is none =
       let n = room_of which.Memory items in
-      let found = best items (table_query n 0 (limit_of items)) in
-      let nowhere : found ≡ None = mapped-none found (48 * n) (sym (best-along said is) ∙ none) in
+      let found = best_place items (table_query n 0 (limit_of items)) in
+      let nowhere : found ≡ None = mapped-none found (48 * n) (sym (best_place-along said is) ∙ none) in
       rw (ap (λ (h : Head). h.room) said ∙ room-is kept which.Memory, nowhere) (Ends-refused (Unit {0}) which.Memory n items)
 
 -- the three changes of a growth that found a place
@@ -72,8 +72,8 @@ abbrev moving : List Item → RangeView → Change
 moving items place = write (item.Grown which.Memory place.base (2 * room_of which.Memory items))
 
 module _ {items : List Item} {place : RangeView} (known : IsBest items place) where
-  pub best-free : Unclaimed (owner_of items) place
-  best-free =
+  pub best_place-free : Unclaimed (owner_of items) place
+  best_place-free =
       rw known.is (found-unclaimed items (table_query (room_of which.Memory items) 0 (limit_of items)) place.base known.found)
 
   memory-some : (taking place >> (moving items place >> leaving items)) items ≡ memory_growth items
@@ -113,10 +113,10 @@ module _ {items : List Item} {place : RangeView} (known : IsBest items place) wh
       (Ends-step {T = Unit {0}} tt mid (i ∷ [])) last))
 
   -- behind the claim of the new place
-  pub best-taken : (kernel : RangeView) (mid : List Item) → Seated kernel items
+  pub best_place-taken : (kernel : RangeView) (mid : List Item) → Seated kernel items
       → Ends {T = Unit {0}} (Ok tt) items mid (claimed place (owner.Table which.Memory))
       → IsTaken kernel mid (room_of which.Memory items) (moved_to which.Memory items) place.base
-  best-taken kernel mid placed was =
+  best_place-taken kernel mid placed was =
       claimed-taken {T = Unit {0}} tt kernel items mid place.base placed known.found
       (subst (λ (e : RangeView). Ends {T = Unit {0}} (Ok tt) items mid (claimed e (owner.Table which.Memory))) known.is was)
 

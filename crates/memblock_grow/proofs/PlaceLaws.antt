@@ -6,16 +6,16 @@ use Rattle.std.specs.Prelude.{unwrap_or}
 use Rattle.std.specs.Option.{option_map, SomeIff}
 use Rattle.bm_base.specs.Range.{RangeView}
 use Rattle.address_runs.specs.Runs.{value_at}
-use Rattle.memblock_model.specs.declared.which.Which.{Which}
-use Rattle.memblock_model.specs.declared.which.Which.TheVariants as which
+use Rattle.memblock_model.specs.declared.owner.Which.{Which}
+use Rattle.memblock_model.specs.declared.owner.Which.TheVariants as which
 use Rattle.memblock_model.specs.declared.query.Query.{Query}
 use Rattle.memblock_model.specs.declared.item.Item.{Item}
 use Rattle.memblock_model.specs.declared.item.Item.TheVariants as item
 use Rattle.memblock_model.specs.Labels.{Labels}
 use Rattle.memblock_model.specs.Same.{same_which}
-use Rattle.memblock_model.specs.Tables.{room_of, room_after, moved_to, moved_after, built_in}
-use Rattle.memblock_model.specs.Search.{suits, fits_in, best_in, top, best}
-use Rattle.memblock_model.proofs.SearchLaws.{top_in-mirrorless, best_in-fits, best_in-fails, fits_in-parts}
+use Rattle.memblock_model.specs.Tables.{room_of, room_after, moved_to, moved_after, built_in_place}
+use Rattle.memblock_model.specs.Search.{suits, fits_in, best_place_in, top_place, best_place}
+use Rattle.memblock_model.proofs.SearchLaws.{top_place_in-mirrorless, best_place_in-fits, best_place_in-fails, fits_in-parts}
 use Rattle.memblock_ranges.specs.Tables.{Contents, room_in, place_in}
 use Rattle.boot_journal.specs.Mirrors.{mirrors_in}
 use Rattle.boot_journal.proofs.MirrorLaws.{unmirrored}
@@ -27,22 +27,22 @@ use Rattle.memblock_grow.specs.Places.{KnowsMirrors, top_of, mirrored_of, best_o
 use Rattle.memblock_grow.proofs.KeptLaws.{values-are, room-is, place-is}
 
 -- a window that is too small has no place
-pub best_in-large : (up : Bool) (memory reserved : Labels) (q : Query) → q.hi < q.size → best_in up memory reserved q ≡ None
-best_in-large up memory reserved q small =
-    best_in-fails up memory reserved q (λ b lt. false_from_ne_true (fits_in false memory reserved q b) (λ fits.
+pub best_place_in-large : (up : Bool) (memory reserved : Labels) (q : Query) → q.hi < q.size → best_place_in up memory reserved q ≡ None
+best_place_in-large up memory reserved q small =
+    best_place_in-fails up memory reserved q (λ b lt. false_from_ne_true (fits_in false memory reserved q b) (λ fits.
     let high = (fits_in-parts false memory reserved q b fits).high in omega (arith, high, small)))
 
 -- what is found ends in the window
-pub best_in-high : (up : Bool) (memory reserved : Labels) (q : Query) (place : ℕ) → best_in up memory reserved q ≡ Some place
+pub best_place_in-high : (up : Bool) (memory reserved : Labels) (q : Query) (place : ℕ) → best_place_in up memory reserved q ≡ Some place
     → place + q.size ≤ q.hi
-best_in-high up memory reserved q place found =
-    (fits_in-parts false memory reserved q place (best_in-fits up memory reserved q place found)).high
+best_place_in-high up memory reserved q place found =
+    (fits_in-parts false memory reserved q place (best_place_in-fits up memory reserved q place found)).high
 
 -- without a mirror no search finds mirrored memory
-pub top-mirrorless : (items : List Item) (t : Contents) (up : Bool) (q : Query) → KnowsMirrors items t → mirrors_in items ≡ false
+pub top_place-mirrorless : (items : List Item) (t : Contents) (up : Bool) (q : Query) → KnowsMirrors items t → mirrors_in items ≡ false
     → mirrored_of t up q ≡ None
-top-mirrorless items t up q knows none =
-    top_in-mirrorless up (value_at t.memory.records) (value_at t.reserved.records) q (knows none)
+top_place-mirrorless items t up q knows none =
+    top_place_in-mirrorless up (value_at t.memory.records) (value_at t.reserved.records) q (knows none)
 
 module _ {kernel : RangeView} {items : List Item} {t : Contents} {at : Aim} (kept : AreKept kernel items t at) where
   -- the tables know of each mirror
@@ -50,23 +50,23 @@ module _ {kernel : RangeView} {items : List Item} {t : Contents} {at : Aim} (kep
   knows-mirrors none x = ap (λ (f : Labels). suits true (f x)) (values-are kept which.Memory) ∙ unmirrored items none x
 
   -- the top and the best place by the tables are those by the items
-  pub top-is : (a : Attempt) → top_of t at.upward a ≡ top items a.query a.mirror
-  unfolding top
-  top-is a = rw (values-are kept which.Memory, values-are kept which.Reserved, kept.upward) refl
+  pub top_place-is : (a : Attempt) → top_of t at.upward a ≡ top_place items a.query a.mirror
+  unfolding top_place
+  top_place-is a = rw (values-are kept which.Memory, values-are kept which.Reserved, kept.upward) refl
 
-  pub best-is : (q : Query) → best_of t at.upward q ≡ best items q
-  unfolding best
-  best-is q = rw (values-are kept which.Memory, values-are kept which.Reserved, kept.upward) refl
+  pub best_place-is : (q : Query) → best_of t at.upward q ≡ best_place items q
+  unfolding best_place
+  best_place-is q = rw (values-are kept which.Memory, values-are kept which.Reserved, kept.upward) refl
 
   pub between-is : (lo hi : ℕ) → frames_between t at.upward (room_in which.Memory t) lo hi
       ≡ option_map (λ place. frames_at place (48 * room_of which.Memory items))
-      (best items (table_query (room_of which.Memory items) lo hi))
-  between-is lo hi = rw (room-is kept which.Memory, best-is (table_query (room_of which.Memory items) lo hi)) refl
+      (best_place items (table_query (room_of which.Memory items) lo hi))
+  between-is lo hi = rw (room-is kept which.Memory, best_place-is (table_query (room_of which.Memory items) lo hi)) refl
 
   pub beside-is : (avoid : RangeView) → frames_beside t at (room_in which.Reserved t) avoid
       ≡ option_map (λ place. frames_at place (48 * room_of which.Reserved items))
       (place_beside avoid (room_of which.Reserved items) items)
-  beside-is avoid = rw (room-is kept which.Reserved, best-is, best-is, kept.limit) refl
+  beside-is avoid = rw (room-is kept which.Reserved, best_place-is, best_place-is, kept.limit) refl
 
 -- what is found among frames is found
 pub record IsPlaceOf (o : Option ℕ) (n : ℕ) (place : RangeView) : Type 0 where
@@ -126,11 +126,11 @@ module _ {kernel : RangeView} {items : List Item} {t : Contents} {at : Aim} (kep
   -- what a table leaves is what the items say of its old place
   pub left-is : (w : Which) → left_frames (place_in w t) (room_in w t) ≡ old_frames (room_of w items) (moved_to w items)
   left-is w =
-      rw (place-is kept w, room-is kept w) (left-by (room_of w items) (built_in w kernel) (moved_to w items) (moved-is w items))
+      rw (place-is kept w, room-is kept w) (left-by (room_of w items) (built_in_place w kernel) (moved_to w items) (moved-is w items))
 
   pub left-far : (w : Which) → room_in w t ≢ 128 → place_in w t + in_whole_frames (24 * room_in w t) < 2 ^ 64
   left-far w other =
-      let here = far-by (room_of w items) (built_in w kernel) (moved_to w items) (moved-is w items) (λ e. other (room-is kept w ∙ e))
+      let here = far-by (room_of w items) (built_in_place w kernel) (moved_to w items) (moved-is w items) (λ e. other (room-is kept w ∙ e))
       (kept.far w) in
       rw (place-is kept w, room-is kept w) here
 
@@ -139,7 +139,7 @@ pub between-none : (t : Contents) (up : Bool) (room lo hi : ℕ) → hi < 2 ^ 64
     → None ≡ frames_between t up room lo hi
 between-none t up room lo hi small large =
     let high : hi < in_whole_frames (48 * room) = omega (arith, large) in
-    rw (best_in-large up (value_at t.memory.records) (value_at t.reserved.records) (table_query room lo hi) high) refl
+    rw (best_place_in-large up (value_at t.memory.records) (value_at t.reserved.records) (table_query room lo hi) high) refl
 
 abbrev sized : ℕ → ℕ → ℕ → Query
 sized lo hi size = record { lo = lo; hi = hi; size = size; align = 4096; node = None }
@@ -153,5 +153,5 @@ pub between-some : (t : Contents) (up : Bool) (room lo hi size base : ℕ) (o : 
     → best_of t up (sized lo hi size) ≡ Some base → SomeIff o (base + size < 2 ^ 64) (record { base = base; size = size }) → hi < 2 ^ 64
     → o ≡ frames_between t up room lo hi
 between-some t up room lo hi size base o is found new small =
-    let high : base + size ≤ hi = best_in-high up (value_at t.memory.records) (value_at t.reserved.records) (sized lo hi size) base found in
+    let high : base + size ≤ hi = best_place_in-high up (value_at t.memory.records) (value_at t.reserved.records) (sized lo hi size) base found in
     new_some o base size new (omega arith) ∙ rw (is, rw is at found) refl

@@ -8,7 +8,7 @@ use Rattle.boot_journal.specs.Mirrors.{mirrors_in}
 use Rattle.memblock_ranges.specs.Tables.{Contents}
 use Rattle.growth_model.specs.declared.refusal.Refusal.{Refusal}
 use Rattle.growth_model.specs.declared.refusal.Refusal.TheVariants as refusal
-use Rattle.memblock_model.specs.declared.request.Request.{Request}
+use Rattle.memblock_model.specs.declared.query.Request.{Request}
 use Rattle.growth_model.specs.Growth.{claimed}
 use Rattle.growth_model.specs.Request.{Attempt, attempt, anywhere, nodes, attempts, first_top, place_for}
 use Rattle.growth_model.specs.Ends.{Ends, Allocates}
@@ -19,7 +19,7 @@ use Rattle.growth_model.proofs.SoundLaws.{may-away}
 use Rattle.memblock_grow.specs.declared.aim.Aim.{Aim}
 use Rattle.memblock_grow.specs.Kept.{AreKept, IsMemblock, AllowsClaim}
 use Rattle.memblock_grow.specs.Places.{KnowsMirrors, first_of}
-use Rattle.memblock_grow.proofs.PlaceLaws.{top-is, top-mirrorless}
+use Rattle.memblock_grow.proofs.PlaceLaws.{top_place-is, top_place-mirrorless}
 use Rattle.memblock_grow.proofs.ChangeLaws.{handed}
 
 -- where nothing is mirrored no search of mirrored memory finds a place
@@ -27,18 +27,18 @@ anywhere-mirrorless : (items : List Item) (t : Contents) (up : Bool) (r : Reques
     → mirrors_in items ≡ false → first_of t up (anywhere r limit lo true wanted) ≡ None
 anywhere-mirrorless items t up r limit lo None knows none = refl
 anywhere-mirrorless items t up r limit lo (Some node) knows none =
-    let nowhere = top-mirrorless items t up (attempt r limit lo true None).query knows none in grind (arith, nowhere)
+    let nowhere = top_place-mirrorless items t up (attempt r limit lo true None).query knows none in grind (arith, nowhere)
 
 pub nodes-mirrorless : (items : List Item) (t : Contents) (up : Bool) (r : Request) (limit lo : ℕ) → KnowsMirrors items t
     → mirrors_in items ≡ false → first_of t up (nodes r limit lo true) ≡ None
 nodes-mirrorless items t up r limit lo knows none =
-    rw (top-mirrorless items t up (attempt r limit lo true r.node).query knows none)
+    rw (top_place-mirrorless items t up (attempt r limit lo true r.node).query knows none)
     (anywhere-mirrorless items t up r limit lo r.node knows none)
 
 module _ {kernel : RangeView} {items : List Item} {t : Contents} {at : Aim} (kept : AreKept kernel items t at) where
   first-is : (all : List Attempt) → first_of t at.upward all ≡ first_top items all
   first-is [] = refl
-  first-is (a ∷ rest) = rw (top-is kept a, first-is rest) refl
+  first-is (a ∷ rest) = rw (top_place-is kept a, first-is rest) refl
 
   pub place-is-for : (r : Request) {o found : Option ℕ} → o ≡ first_of t at.upward (attempts r at.limit) → o ≡ found
       → place_for r items ≡ found

@@ -5,8 +5,8 @@ use Rattle.bm_base.specs.Range.{RangeView, end_of, covers}
 use Rattle.phys_store.specs.Bytes.{Stored, byte_of, is_ready}
 use Rattle.address_runs.specs.Runs.{value_at}
 use Rattle.address_runs.specs.Edits.{cover_range, uncover_range}
-use Rattle.memblock_model.specs.declared.which.Which.{Which}
-use Rattle.memblock_model.specs.declared.which.Which.TheVariants as which
+use Rattle.memblock_model.specs.declared.owner.Which.{Which}
+use Rattle.memblock_model.specs.declared.owner.Which.TheVariants as which
 use Rattle.memblock_model.specs.declared.owner.Owner.TheVariants as owner
 use Rattle.memblock_model.specs.declared.item.Item.{Item}
 use Rattle.memblock_model.specs.declared.item.Item.TheVariants as item

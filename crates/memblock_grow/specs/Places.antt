@@ -5,7 +5,7 @@ use Rattle.bm_base.specs.Range.{RangeView, end_of}
 use Rattle.address_runs.specs.Runs.{value_at}
 use Rattle.memblock_model.specs.declared.query.Query.{Query}
 use Rattle.memblock_model.specs.declared.item.Item.{Item}
-use Rattle.memblock_model.specs.Search.{suits, top_in, best_in}
+use Rattle.memblock_model.specs.Search.{suits, top_place_in, best_place_in}
 use Rattle.boot_journal.specs.Mirrors.{mirrors_in}
 use Rattle.memblock_ranges.specs.Tables.{Contents}
 use Rattle.growth_model.specs.Growth.{frames_at, table_query}
@@ -18,14 +18,14 @@ KnowsMirrors items t = mirrors_in items ≡ false → (x : ℕ) → suits true (
 
 -- the top place by what both tables say, of one search, and of a query in mirrored memory
 abbrev pub top_of : Contents → Bool → Attempt → Option ℕ
-top_of t up a = top_in (record { mirror = a.mirror; up = up }) (value_at t.memory.records) (value_at t.reserved.records) a.query
+top_of t up a = top_place_in (record { mirror = a.mirror; up = up }) (value_at t.memory.records) (value_at t.reserved.records) a.query
 
 abbrev pub mirrored_of : Contents → Bool → Query → Option ℕ
 mirrored_of t up q = top_of t up (record { query = q; mirror = true })
 
 -- the best place
 abbrev pub best_of : Contents → Bool → Query → Option ℕ
-best_of t up q = best_in up (value_at t.memory.records) (value_at t.reserved.records) q
+best_of t up q = best_place_in up (value_at t.memory.records) (value_at t.reserved.records) q
 
 -- the frames of twice as many records at the best place in a window
 abbrev pub frames_between : Contents → Bool → ℕ → ℕ → ℕ → Option RangeView

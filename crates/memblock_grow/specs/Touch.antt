@@ -1,10 +1,10 @@
 -- Ranges that meet a table.
 use Rattle.std.specs.Prelude.{List}
 use Rattle.bm_base.specs.Range.{RangeView, Meet}
-use Rattle.memblock_model.specs.declared.which.Which.{Which}
+use Rattle.memblock_model.specs.declared.owner.Which.{Which}
 use Rattle.memblock_model.specs.declared.item.Item.{Item}
-use Rattle.memblock_model.specs.Tables.{live}
+use Rattle.memblock_model.specs.Tables.{table_bytes}
 
 -- some address of the range is a byte of a table, as the items have them
 abbrev pub TouchesTable : RangeView → RangeView → List Item → Type 0
-TouchesTable kernel range items = (w : Which) × Meet (live w kernel items) range
+TouchesTable kernel range items = (w : Which) × Meet (table_bytes w kernel items) range

@@ -4,7 +4,7 @@ ghost use Rattle.address_runs.specs.Runs.{value_at};
 ghost use Rattle.address_runs.specs.Edits.{cover_range, uncover_range, relabel_range};
 ghost use Rattle.phys_store.specs.Bytes.{byte_of, is_ready, AreReady};
 ghost use Rattle.memblock_model.specs.Labels.{plain_label, with_node, with_mirror};
-ghost use Rattle.memblock_model.specs.Items.{trimmed};
+ghost use Rattle.memblock_model.specs.Items.{trim_frames};
 ghost use Rattle.memblock_model.specs.Tables.{records_for, pieces};
 ghost use Rattle.bm_base.specs.Range.{end_of};
 ghost use Rattle.memblock_ranges.specs.Tables.{table_in, other_in, records_in, room_in, Overlaps, StandsIn};
@@ -94,7 +94,7 @@ pub fn mirror(tables: &mut Tables, range: Range)
 
 /// Memory is cut to whole frames.
 pub fn trim(tables: &mut Tables)
-    ensures memory { tables.new.memory ≡ record tables.old.memory { records = records_for (trimmed (value_at tables.old.memory.records)) } }
+    ensures memory { tables.new.memory ≡ record tables.old.memory { records = records_for (trim_frames (value_at tables.old.memory.records)) } }
     ensures reserved { tables.new.reserved ≡ tables.old.reserved }
     ensures bytes { AreTold tables.old tables.new }
     ensures ready { (x : ℕ) → is_ready tables.new.store x ≡ is_ready tables.old.store x }

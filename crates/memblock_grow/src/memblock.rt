@@ -10,12 +10,12 @@ ghost use Rattle.std.specs.Prelude.{◌≡◌, ℕ, ◌+◌, ◌-◌, ◌*◌, �
 ghost use Rattle.bm_base.specs.Range.{covers};
 ghost use Rattle.address_runs.specs.Edits.{NothingFrom};
 ghost use Rattle.phys_store.specs.Bytes.{AreReady, byte_of, is_ready, bytes_at};
-ghost use Rattle.memblock_model.specs.declared.which.Which.{Which as AnyWhich};
-ghost use Rattle.memblock_model.specs.declared.which.Which.TheVariants as tables_of;
+ghost use Rattle.memblock_model.specs.declared.owner.Which.{Which as AnyWhich};
+ghost use Rattle.memblock_model.specs.declared.owner.Which.TheVariants as tables_of;
 ghost use Rattle.memblock_model.specs.declared.item.Item.TheVariants as item;
 ghost use Rattle.memblock_model.specs.Items.{memory_of};
-ghost use Rattle.memblock_model.specs.Tables.{records_of, room_of, place_of, live};
-ghost use Rattle.memblock_model.specs.Search.{best};
+ghost use Rattle.memblock_model.specs.Tables.{records_of, room_of, table_place, table_bytes};
+ghost use Rattle.memblock_model.specs.Search.{best_place};
 ghost use Rattle.memblock_ranges.specs.Spelling.{spelled_table};
 ghost use Rattle.memblock_ranges.specs.Tables.{head_of, StandsIn, HaveNoNode};
 ghost use Rattle.growth_model.specs.Growth.{claimed, freed, added, noded, mirrored, new_in, two, is_full as is_full_by};
@@ -70,7 +70,7 @@ impl Memblock {
         ensures journal { IfOk result (λ m. m.journal ≡ record { items = []; spare = 0 }) }
         ensures bytes { IfOk result (λ m. (x : ℕ) → byte_of m.tables.store x ≡ byte_by kernel [] [] x) }
         ensures prepared { IfOk result (λ m. (x : ℕ) → is_ready m.tables.store x
-            ≡ (covers (live tables_of.Reserved kernel []) x || covers (live tables_of.Memory kernel []) x)) }
+            ≡ (covers (table_bytes tables_of.Reserved kernel []) x || covers (table_bytes tables_of.Memory kernel []) x)) }
     {
         let journal = Journal::new(alloc);
         let tables = Tables::new(alloc, kernel)?;
@@ -219,7 +219,7 @@ impl Memblock {
     pub fn find(&self, query: &Query) -> Option<u64>
         requires some { 1 ≤ query.now.size }
         requires aligned { (k : ℕ) × (query.now.align ≡ 2 ^ k) }
-        ensures place { result ≡ best self.now.journal.items query.now }
+        ensures place { result ≡ best_place self.now.journal.items query.now }
         ensures away { HasBegun self.now.journal.items → IfSome result (λ base.
             IsAway self.now.kernel (record { base = base; size = query.now.size }) self.now.journal.items) }
     {
@@ -295,7 +295,7 @@ impl Memblock {
         ensures within { NothingFrom (2 ^ 64) (memory_of self.now.journal.items) }
         ensures bytes { AreSpelled result.now.memory result.now.reserved (byte_of result.now.store) }
         ensures still { GoesOn self.now self.now }
-        ensures spelled { (w : AnyWhich) → bytes_at (byte_of self.now.tables.store) (place_of w self.now.kernel self.now.journal.items)
+        ensures spelled { (w : AnyWhich) → bytes_at (byte_of self.now.tables.store) (table_place w self.now.kernel self.now.journal.items)
             (24 * room_of w self.now.journal.items)
             ≡ spelled_table (records_of w self.now.journal.items) (room_of w self.now.journal.items) }
     {

@@ -4,7 +4,7 @@
 //! Where that last growth is refused the old place stays claimed, and the call goes on (`memblock_double_array` ignores it).
 ghost use Rattle.std.specs.Prelude.{◌≡◌, ◌⊎◌, ◌+◌, ◌-◌, ◌<◌, ◌≤◌, false, OnOk, OnErr, IsOk, IfSome, length};
 ghost use Rattle.phys_store.specs.Bytes.{AreReady};
-ghost use Rattle.memblock_model.specs.declared.which.Which.TheVariants as tables_of;
+ghost use Rattle.memblock_model.specs.declared.owner.Which.TheVariants as tables_of;
 ghost use Rattle.memblock_model.specs.declared.owner.Owner.TheVariants as owners;
 ghost use Rattle.memblock_model.specs.Items.{owner_of};
 ghost use Rattle.growth_model.specs.Outcome.{if_due};

@@ -4,7 +4,7 @@
 //! then, unless no other node will do, of any: first in mirrored memory, where some is, and then in any (`choose_memblock_flags`). Behind
 //! that comes, where there is a minimum, the same without it (`memblock_alloc_range_nid`).
 ghost use Rattle.std.specs.Prelude.{◌≡◌, ℕ, ◌+◌, ◌-◌, ◌^◌, ◌<◌, ◌≤◌, true, false, Some, IsOk, IfOk};
-ghost use Rattle.memblock_model.specs.declared.which.Which.TheVariants as tables_of;
+ghost use Rattle.memblock_model.specs.declared.owner.Which.TheVariants as tables_of;
 ghost use Rattle.growth_model.specs.Growth.{new_in, is_full as is_full_by};
 ghost use Rattle.growth_model.specs.Request.{attempt as attempt_by, nodes, round, attempts, place_for as place_by};
 ghost use Rattle.growth_model.specs.Ends.{Allocates};

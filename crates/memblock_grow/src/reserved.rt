@@ -5,7 +5,7 @@
 ghost use Rattle.std.specs.Prelude.{◌≡◌, ◌≢◌, ◌+◌, ◌-◌, ◌<◌, ◌≤◌, false, None, Err, OnOk, OnErr, IsOk, length};
 ghost use Rattle.memblock_model.specs.declared.owner.Owner.{Owner as ModelOwner};
 ghost use Rattle.memblock_model.specs.Items.{owner_of};
-ghost use Rattle.memblock_model.specs.declared.which.Which.TheVariants as tables_of;
+ghost use Rattle.memblock_model.specs.declared.owner.Which.TheVariants as tables_of;
 ghost use Rattle.growth_model.specs.declared.refusal.Refusal.TheVariants as refusals;
 ghost use Rattle.growth_model.specs.Outcome.{if_due};
 ghost use Rattle.growth_model.specs.Growth.{reserved_growth, grown, claimed, freed, new_in, two, is_full as is_full_by};

@@ -5,14 +5,14 @@ use Rattle.address_runs.specs.Runs.{RunOf, runs_from}
 use Rattle.address_runs.proofs.RunsLaws.{the_list}
 use Rattle.memblock_model.specs.declared.owner.Owner.{Owner}
 use Rattle.memblock_model.specs.declared.owner.Owner.TheVariants as owner
-use Rattle.memblock_model.specs.declared.which.Which.TheVariants as which
-use Rattle.memblock_model.specs.declared.tag.Tag.TheVariants as tag
+use Rattle.memblock_model.specs.declared.owner.Which.TheVariants as which
+use Rattle.memblock_model.specs.declared.label.Tag.TheVariants as tag
 use Rattle.memblock_model.specs.declared.item.Item.{Item}
 use Rattle.memblock_model.specs.declared.item.Item.TheVariants as item
 use Rattle.bm_base.specs.Each.{each_from, each_in}
 use Rattle.memblock_model.specs.Labels.{Labels, plain_label, with_node, with_mirror}
 use Rattle.memblock_model.specs.Same.{same_owner}
-use Rattle.memblock_model.specs.Items.{IsItem, AreItems, owners_after, no_owners, owner_of, memory_after, no_memory, trimmed, memory_of, tag_of, limit_after, limit_of, upward_after, upward_of, owner_runs_of}
+use Rattle.memblock_model.specs.Items.{IsItem, AreItems, owners_after, no_owners, owner_of, memory_after, no_memory, trim_frames, memory_of, tag_of, limit_after, limit_of, upward_after, upward_of, owner_runs_of}
 use Rattle.memblock_model.proofs.SameLaws.{owner_tells}
 use Rattle.memblock_model.proofs.LabelExamples.{bytes}
 
@@ -102,7 +102,7 @@ trim_examples : (tag_of (item.Mem (bytes 0 4096) ∷ (item.Trim ∷ [])) 5 ≡ t
     × (tag_of (item.Mem (bytes 0 4095) ∷ (item.Trim ∷ [])) 5 ≡ tag.Absent)
     × (tag_of (item.Mem (bytes 0 4096) ∷ (item.Mirror (bytes 0 100) ∷ (item.Trim ∷ []))) 5 ≡ tag.Absent)
     × (tag_of (item.Mem (bytes 0 4096) ∷ (item.Node (bytes 0 100) 1 ∷ (item.Trim ∷ []))) 5 ≡ tag.Absent)
-unfolding trimmed each_in each_from
+unfolding trim_frames each_in each_from
 trim_examples = (refl, refl, refl, refl)
 
 -- the first frame carries one label, the second too but for its last byte, which carries another, and the third but for one byte
@@ -111,9 +111,9 @@ frames x = if nat_lt x 8191 then Some plain_label else (if x == 8191 then Some (
     (if nat_lt x 12287 then Some plain_label else None))
 
 -- the whole frame up to its last byte; two labels, at the first byte and at the last; one byte short
-trimmed_examples : (trimmed frames 4095 ≡ Some plain_label) × (trimmed frames 4096 ≡ None) × (trimmed frames 8191 ≡ None)
-    × (trimmed frames 8192 ≡ None)
-unfolding trimmed each_in each_from
+trimmed_examples : (trim_frames frames 4095 ≡ Some plain_label) × (trim_frames frames 4096 ≡ None) × (trim_frames frames 8191 ≡ None)
+    × (trim_frames frames 8192 ≡ None)
+unfolding trim_frames each_in each_from
 trimmed_examples = (refl, refl, refl, refl)
 
 -- a limit is set, and another item leaves it

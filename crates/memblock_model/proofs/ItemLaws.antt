@@ -6,15 +6,15 @@ use Rattle.std.specs.Prelude.{unwrap_or}
 use Rattle.std.specs.Option.{option_map}
 use Rattle.bm_base.specs.Range.{RangeView, covers}
 use Rattle.memblock_model.specs.declared.owner.Owner.{Owner}
-use Rattle.memblock_model.specs.declared.which.Which.{Which}
-use Rattle.memblock_model.specs.declared.which.Which.TheVariants as which
+use Rattle.memblock_model.specs.declared.owner.Which.{Which}
+use Rattle.memblock_model.specs.declared.owner.Which.TheVariants as which
 use Rattle.memblock_model.specs.declared.item.Item.{Item}
 use Rattle.memblock_model.specs.declared.item.Item.TheVariants as item
 use Rattle.address_runs.specs.Edits.{cover_range, uncover_range, relabel_range, replace_in_range}
-use Rattle.memblock_model.specs.Labels.{Label, Labels, plain_label, with_node, with_mirror}
+use Rattle.memblock_model.specs.Labels.{LabelView, Labels, plain_label, with_node, with_mirror}
 use Rattle.memblock_model.specs.Items.{IsItem, AreItems, Owners, owners_after, no_owners, owner_of, memory_after, no_memory, memory_of, limit_after, limit_of, upward_after, upward_of}
 use Rattle.memblock_model.specs.Tables.{without_owner, reserved_of, reserved_after, table_of, table_after, room_after, room_of, moved_after, moved_to}
-use Rattle.memblock_model.proofs.LabelLaws.{IsInFrame, frame_join, frame_back, trimmed-local}
+use Rattle.memblock_model.proofs.LabelLaws.{IsInFrame, frame_join, frame_back, trim_frames-local}
 
 pub owner_of-push : (items : List Item) (i : Item) → owner_of (items ++ i ∷ []) ≡ owners_after (owner_of items) i
 owner_of-push items i = fold-append owners_after no_owners items (i ∷ [])
@@ -62,17 +62,17 @@ table_of-push which.Memory items i = memory_of-push items i
 table_of-push which.Reserved items i = ap reserved_of (owner_of-push items i) ∙ reserved_of-after (owner_of items) i
 
 -- what memory is in a frame depends on what it was there
-covers_alike : (r : RangeView) (v : Label) (f g : Labels) (y : ℕ) → f y ≡ g y → cover_range r v f y ≡ cover_range r v g y
+covers_alike : (r : RangeView) (v : LabelView) (f g : Labels) (y : ℕ) → f y ≡ g y → cover_range r v f y ≡ cover_range r v g y
 covers_alike r v f g y e = ap (λ o. if covers r y then Some (unwrap_or o v) else o) e
 
-relabels_alike : (r : RangeView) (change : Label → Label) (f g : Labels) (y : ℕ) → f y ≡ g y → relabel_range r change f y
+relabels_alike : (r : RangeView) (change : LabelView → LabelView) (f g : Labels) (y : ℕ) → f y ≡ g y → relabel_range r change f y
     ≡ relabel_range r change g y
 relabels_alike r change f g y e = ap (λ o. if covers r y then option_map change o else o) e
 
 pub memory_after-local : (f g : Labels) (i : Item) (x : ℕ) → ((y : ℕ) → IsInFrame x y → f y ≡ g y) → (y : ℕ) → IsInFrame x y
     → memory_after f i y ≡ memory_after g i y
 memory_after-local f g (item.Mem range) x alike y at_y = covers_alike range plain_label f g y (alike y at_y)
-memory_after-local f g item.Trim x alike y at_y = trimmed-local f g y (λ z at_z. alike z (frame_join y x z (frame_back x y at_y) at_z))
+memory_after-local f g item.Trim x alike y at_y = trim_frames-local f g y (λ z at_z. alike z (frame_join y x z (frame_back x y at_y) at_z))
 memory_after-local f g (item.Node range node) x alike y at_y = relabels_alike range (with_node (Some node)) f g y (alike y at_y)
 memory_after-local f g (item.Mirror range) x alike y at_y = relabels_alike range with_mirror f g y (alike y at_y)
 memory_after-local f g i x alike y at_y = alike y at_y

@@ -2,7 +2,7 @@
 use Rattle.std.proofs.Common.{◌≡◌, ℕ, true, false, Some, None, refl}
 use Rattle.bm_base.specs.Range.{RangeView}
 use Rattle.memblock_model.specs.Labels.{plain_label, with_node, with_mirror, tag_for, node_of_tag}
-use Rattle.memblock_model.specs.declared.tag.Tag.TheVariants as tag
+use Rattle.memblock_model.specs.declared.label.Tag.TheVariants as tag
 
 abbrev pub bytes : ℕ → ℕ → RangeView
 bytes base size = record { base = base; size = size }

@@ -10,7 +10,7 @@ use Rattle.bm_base.specs.Frames.{frame_around}
 use Rattle.bm_base.specs.Each.{each_in}
 use Rattle.memblock_model.specs.Labels.{Labels}
 use Rattle.memblock_model.specs.Same.{same_label}
-use Rattle.memblock_model.specs.Items.{trimmed}
+use Rattle.memblock_model.specs.Items.{trim_frames}
 use Rattle.memblock_model.proofs.SameLaws.{label_tells}
 
 -- the two addresses lie in one frame
@@ -30,55 +30,55 @@ frame_join x y z h k =
     record { above = omega arith; below = omega arith }
 
 -- a frame of one label keeps it
-pub trimmed-whole : (f : Labels) (x : ℕ)
-    → ((y : ℕ) → IsInFrame x y → f y ≡ f x) → trimmed f x ≡ f x
-unfolding trimmed
-trimmed-whole f x all =
+pub trim_frames-whole : (f : Labels) (x : ℕ)
+    → ((y : ℕ) → IsInFrame x y → f y ≡ f x) → trim_frames f x ≡ f x
+unfolding trim_frames
+trim_frames-whole f x all =
     let whole : each_in (frame_around x) (λ y. agree same_label (f y) (f x)) ≡ true =
     each_in-all (frame_around x) (λ y. agree same_label (f y) (f x))
     (λ y above below. agree-same same_label label_tells (f y) (f x) (all y (record { above = above; below = below }))) in
     rw whole refl
 
 -- what is trimmed is the label of the whole frame, or nothing
-pub trimmed-cases : (f : Labels) (x : ℕ)
-    → ((y : ℕ) → IsInFrame x y → f y ≡ f x) ⊎ (trimmed f x ≡ None)
-unfolding trimmed
-trimmed-cases f x =
+pub trim_frames-cases : (f : Labels) (x : ℕ)
+    → ((y : ℕ) → IsInFrame x y → f y ≡ f x) ⊎ (trim_frames f x ≡ None)
+unfolding trim_frames
+trim_frames-cases f x =
     elim (cases_Bool (each_in (frame_around x) (λ u. agree same_label (f u) (f x)))) as (λ _. ((y : ℕ) → IsInFrame x y → f y ≡ f x)
-    ⊎ (trimmed f x ≡ None)) [
+    ⊎ (trim_frames f x ≡ None)) [
       | inl holds ↦ inl (λ y at_y. agree-yes same_label label_tells (f y) (f x)
           (each_in-each (frame_around x) (λ u. agree same_label (f u) (f x)) holds y at_y.above at_y.below))
       | inr fails ↦ inr (rw fails refl)
     ]
 
 -- a frame of two labels becomes bare
-pub trimmed-unlike : (f : Labels) (x y z : ℕ)
-    → IsInFrame x y → IsInFrame x z → f y ≢ f z → trimmed f x ≡ None
-trimmed-unlike f x y z at_y at_z unlike =
-    elim (trimmed-cases f x) as (λ _. trimmed f x ≡ None)
+pub trim_frames-unlike : (f : Labels) (x y z : ℕ)
+    → IsInFrame x y → IsInFrame x z → f y ≢ f z → trim_frames f x ≡ None
+trim_frames-unlike f x y z at_y at_z unlike =
+    elim (trim_frames-cases f x) as (λ _. trim_frames f x ≡ None)
     [ inl one ↦ absurd (unlike (one y at_y ∙ sym (one z at_z))) | inr bare ↦ bare ]
 
 -- a trimmed frame has one label
-pub trimmed-frame : (f : Labels) (x y : ℕ) → IsInFrame x y → trimmed f y ≡ trimmed f x
-trimmed-frame f x y at_y =
-    elim (trimmed-cases f x) as (λ _. trimmed f y ≡ trimmed f x) [
+pub trim_frames-frame : (f : Labels) (x y : ℕ) → IsInFrame x y → trim_frames f y ≡ trim_frames f x
+trim_frames-frame f x y at_y =
+    elim (trim_frames-cases f x) as (λ _. trim_frames f y ≡ trim_frames f x) [
       | inl one ↦
-          trimmed-whole f y (λ z at_z. one z (frame_join y x z (frame_back x y at_y) at_z) ∙ sym (one y at_y))
-          ∙ one y at_y ∙ sym (trimmed-whole f x one)
+          trim_frames-whole f y (λ z at_z. one z (frame_join y x z (frame_back x y at_y) at_z) ∙ sym (one y at_y))
+          ∙ one y at_y ∙ sym (trim_frames-whole f x one)
       | inr none ↦
-          elim (trimmed-cases f y) as (λ _. trimmed f y ≡ trimmed f x) [
+          elim (trim_frames-cases f y) as (λ _. trim_frames f y ≡ trim_frames f x) [
             | inl one ↦
                 let here : f x ≡ f y = one x (frame_back x y at_y) in
-                trimmed-whole f y one ∙ sym here
-                ∙ sym (trimmed-whole f x (λ z at_z. one z (frame_join x y z at_y at_z) ∙ sym here))
+                trim_frames-whole f y one ∙ sym here
+                ∙ sym (trim_frames-whole f x (λ z at_z. one z (frame_join x y z at_y at_z) ∙ sym here))
             | inr none_too ↦ none_too ∙ sym none
           ]
     ]
 
 -- trimming looks at the frame alone
-pub trimmed-local : (f g : Labels) (x : ℕ) → ((y : ℕ) → IsInFrame x y → f y ≡ g y) → trimmed f x ≡ trimmed g x
-unfolding trimmed
-trimmed-local f g x alike =
+pub trim_frames-local : (f g : Labels) (x : ℕ) → ((y : ℕ) → IsInFrame x y → f y ≡ g y) → trim_frames f x ≡ trim_frames g x
+unfolding trim_frames
+trim_frames-local f g x alike =
     let here : f x ≡ g x = alike x (in_own_frame x) in
     let tests : each_in (frame_around x) (λ y. agree same_label (f y) (f x))
     ≡ each_in (frame_around x) (λ y. agree same_label (g y) (g x)) =

@@ -1,9 +1,9 @@
 -- Tables, labels and owners that are the same, and that are not.
 use Rattle.std.proofs.Common.{◌≡◌, true, false, Some, None, refl}
-use Rattle.memblock_model.specs.declared.which.Which.TheVariants as which
+use Rattle.memblock_model.specs.declared.owner.Which.TheVariants as which
 use Rattle.memblock_model.specs.declared.owner.Owner.TheVariants as owner
 use Rattle.memblock_model.specs.Labels.{plain_label, with_node, with_mirror}
-use Rattle.memblock_model.specs.Same.{same_which, same_node, same_switch, same_label, variant_of, owner_number, same_owner}
+use Rattle.memblock_model.specs.Same.{same_which, same_node_or_none, same_switch, same_label, variant_of, owner_number, same_owner}
 
 -- each table is itself, and not the other one
 which_examples : (same_which which.Memory which.Memory ≡ true) × (same_which which.Reserved which.Reserved ≡ true)
@@ -11,8 +11,8 @@ which_examples : (same_which which.Memory which.Memory ≡ true) × (same_which 
 which_examples = (refl, refl, refl, refl)
 
 -- one node, no node twice, and two nodes; no node is none of the nodes, not node 0 either
-node_examples : (same_node (Some 3) (Some 3) ≡ true) × (same_node None None ≡ true) × (same_node (Some 3) (Some 4) ≡ false)
-    × (same_node None (Some 0) ≡ false) × (same_node (Some 0) None ≡ false)
+node_examples : (same_node_or_none (Some 3) (Some 3) ≡ true) × (same_node_or_none None None ≡ true) × (same_node_or_none (Some 3) (Some 4) ≡ false)
+    × (same_node_or_none None (Some 0) ≡ false) × (same_node_or_none (Some 0) None ≡ false)
 node_examples = (refl, refl, refl, refl, refl)
 
 -- both on, both off, or one of each

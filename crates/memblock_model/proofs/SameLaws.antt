@@ -2,19 +2,19 @@
 use Rattle.std.proofs.Common.{◌≡◌, ℕ, ◌==◌, Bool, true, false, if◌then◌else◌, Option, Some, None, refl, sym, ◌∙◌, ap}
 use Rattle.std.proofs.lemmas.Bool.{eqb-true, eq-eqb, and_parts, and_from}
 use Rattle.address_runs.specs.Runs.{DecidesEquality}
-use Rattle.memblock_model.specs.declared.which.Which.TheVariants as which
+use Rattle.memblock_model.specs.declared.owner.Which.TheVariants as which
 use Rattle.memblock_model.specs.declared.owner.Owner.{Owner}
 use Rattle.memblock_model.specs.declared.owner.Owner.TheVariants as owner
-use Rattle.memblock_model.specs.Labels.{Label}
-use Rattle.memblock_model.specs.Same.{same_node, same_switch, same_label, variant_of, owner_number, same_owner}
+use Rattle.memblock_model.specs.Labels.{LabelView}
+use Rattle.memblock_model.specs.Same.{same_node_or_none, same_switch, same_label, variant_of, owner_number, same_owner}
 
-node_yes : (a b : Option ℕ) → same_node a b ≡ true → a ≡ b
+node_yes : (a b : Option ℕ) → same_node_or_none a b ≡ true → a ≡ b
 node_yes None None h = refl
 node_yes None (Some n) h = cc
 node_yes (Some m) None h = cc
 node_yes (Some m) (Some n) h = ap (λ k. Some k) (eqb-true m n h)
 
-pub node_self : (a : Option ℕ) → same_node a a ≡ true
+pub node_self : (a : Option ℕ) → same_node_or_none a a ≡ true
 node_self None = refl
 node_self (Some n) = eq-eqb n n refl
 
@@ -29,17 +29,17 @@ switch_self true = refl
 switch_self false = refl
 
 -- labels are the same where their parts are
-label_yes : (a b : Label) → same_label a b ≡ true → a ≡ b
+label_yes : (a b : LabelView) → same_label a b ≡ true → a ≡ b
 label_yes a b h =
-    let parts = and_parts (same_node a.node b.node) (same_switch a.mirror b.mirror) h in
-    ap (λ (n : Option ℕ). let label : Label = record { node = n; mirror = a.mirror } in label) (node_yes a.node b.node parts.0)
-    ∙ ap (λ (m : Bool). let label : Label = record { node = b.node; mirror = m } in label) (switch_yes a.mirror b.mirror parts.1)
+    let parts = and_parts (same_node_or_none a.node b.node) (same_switch a.mirror b.mirror) h in
+    ap (λ (n : Option ℕ). let label : LabelView = record { node = n; mirror = a.mirror } in label) (node_yes a.node b.node parts.0)
+    ∙ ap (λ (m : Bool). let label : LabelView = record { node = b.node; mirror = m } in label) (switch_yes a.mirror b.mirror parts.1)
 
-pub label_self : (a : Label) → same_label a a ≡ true
-label_self a = and_from (same_node a.node a.node) (same_switch a.mirror a.mirror) (node_self a.node) (switch_self a.mirror)
+pub label_self : (a : LabelView) → same_label a a ≡ true
+label_self a = and_from (same_node_or_none a.node a.node) (same_switch a.mirror a.mirror) (node_self a.node) (switch_self a.mirror)
 
 pub label_tells : DecidesEquality same_label
-label_tells = record { true_is_equal = label_yes; equal_is_true = λ a b e. ap (λ (l : Label). same_label a l) (sym e) ∙ label_self a }
+label_tells = record { true_is_equal = label_yes; equal_is_true = λ a b e. ap (λ (l : LabelView). same_label a l) (sym e) ∙ label_self a }
 
 -- the owner of the variant that carries the number
 numbered : ℕ → ℕ → Owner

@@ -4,20 +4,20 @@ use Rattle.std.proofs.lemmas.Bool.{false_from_ne_true}
 use Rattle.std.proofs.lemmas.Bool.Decides.{nat_tests}
 use Rattle.bm_base.specs.Range.{covers}
 use Rattle.memblock_model.specs.declared.owner.Owner.TheVariants as owner
-use Rattle.memblock_model.specs.declared.which.Which.TheVariants as which
+use Rattle.memblock_model.specs.declared.owner.Which.TheVariants as which
 use Rattle.memblock_model.specs.declared.query.Query.{Query}
 use Rattle.memblock_model.specs.declared.item.Item.{Item}
 use Rattle.memblock_model.specs.declared.item.Item.TheVariants as item
 use Rattle.bm_base.specs.Each.{each_from, each_in}
-use Rattle.memblock_model.specs.Labels.{Label, Labels, plain_label, with_node, with_mirror}
+use Rattle.memblock_model.specs.Labels.{LabelView, Labels, plain_label, with_node, with_mirror}
 use Rattle.memblock_model.specs.Items.{no_memory}
 use Rattle.memblock_model.specs.Tables.{table_of}
-use Rattle.memblock_model.specs.Search.{last_below, first_below, outermost, allows, suits, fits_in, top_in, fits, top, best}
-use Rattle.memblock_model.proofs.SearchLaws.{fits_in-parts, top_in-first, best_in-plain, best_in-last, best_in-fails, plain_or_none}
+use Rattle.memblock_model.specs.Search.{last_below, first_below, outermost_below, allows, suits, fits_in, top_place_in, fits, top_place, best_place}
+use Rattle.memblock_model.proofs.SearchLaws.{fits_in-parts, top_place_in-first, best_place_in-plain, best_place_in-last, best_place_in-fails, plain_or_none}
 use Rattle.memblock_model.proofs.LabelExamples.{bytes}
 
 -- the first of all that pass, or the last
-outermost_examples : (outermost true (λ n. nat_lt 2 n) 10 ≡ Some 3) × (outermost false (λ n. nat_lt 2 n) 10 ≡ Some 9)
+outermost_examples : (outermost_below true (λ n. nat_lt 2 n) 10 ≡ Some 3) × (outermost_below false (λ n. nat_lt 2 n) 10 ≡ Some 9)
 unfolding first_below last_below
 outermost_examples = (refl, refl)
 
@@ -26,7 +26,7 @@ suits_examples : (suits false (Some plain_label) ≡ true) × (suits true (Some 
     × (suits true (Some (with_mirror plain_label)) ≡ true) × (suits true None ≡ false)
 suits_examples = (refl, refl, refl, refl)
 
-abbrev of_node : ℕ → Label
+abbrev of_node : ℕ → LabelView
 of_node node = with_node (Some node) plain_label
 
 -- a query for any node takes memory without one, too; a query for a node that node's memory, not another's, not what is
@@ -105,9 +105,9 @@ page_ends b h = let high = (fits_in-parts false (table_of which.Memory small) (t
 small_is_plain : (x : ℕ) → suits true (table_of which.Memory small x) ≡ false
 small_is_plain x = plain_or_none (covers (bytes 0 0x10000) x)
 
-best_page : best small page ≡ Some 0xF000
-unfolding best fits
-best_page = best_in-last (table_of which.Memory small) (table_of which.Reserved small) page 0xF000 small_is_plain
+best_page : best_place small page ≡ Some 0xF000
+unfolding best_place fits
+best_page = best_place_in-last (table_of which.Memory small) (table_of which.Reserved small) page 0xF000 small_is_plain
     (record { below = omega arith; passes = page_fits; last = λ b lt h. page_ends b h })
 
 abbrev crowded : List Item
@@ -126,9 +126,9 @@ nothing_fits b h =
     let free : Some plain_label ≡ None = rw inside at (place.free b (omega arith) (omega arith)) in
     cc
 
-nothing_best : best crowded page ≡ None
-unfolding best
-nothing_best = best_in-fails false (table_of which.Memory crowded) (table_of which.Reserved crowded) page
+nothing_best : best_place crowded page ≡ None
+unfolding best_place
+nothing_best = best_place_in-fails false (table_of which.Memory crowded) (table_of which.Reserved crowded) page
     (λ b lt. false_from_ne_true _ (nothing_fits b))
 
 -- its lowest page, where the search goes up: never the first frame
@@ -139,22 +139,22 @@ page_fits_low : fits turned page false 0x1000 ≡ true
 unfolding fits fits_in each_in each_from
 page_fits_low = refl
 
-lowest_page : top_in (record { mirror = false; up = true }) (table_of which.Memory turned) (table_of which.Reserved turned) page
+lowest_page : top_place_in (record { mirror = false; up = true }) (table_of which.Memory turned) (table_of which.Reserved turned) page
     ≡ Some 0x1000
 unfolding fits
-lowest_page = top_in-first false (table_of which.Memory turned) (table_of which.Reserved turned) page 0x1000 (record {
+lowest_page = top_place_in-first false (table_of which.Memory turned) (table_of which.Reserved turned) page 0x1000 (record {
   below = omega arith;
   passes = page_fits_low;
   first = λ b lt h. (fits_in-parts false (table_of which.Memory turned) (table_of which.Reserved turned) page b h).first;
 })
 
-top_page : top turned page false ≡ Some 0x1000
-unfolding top
+top_page : top_place turned page false ≡ Some 0x1000
+unfolding top_place
 top_page = lowest_page
 
 turned_is_plain : (x : ℕ) → suits true (table_of which.Memory turned x) ≡ false
 turned_is_plain x = plain_or_none (covers (bytes 0 0x10000) x)
 
-best_page_upward : best turned page ≡ Some 0x1000
-unfolding best
-best_page_upward = best_in-plain true (table_of which.Memory turned) (table_of which.Reserved turned) page turned_is_plain ∙ lowest_page
+best_page_upward : best_place turned page ≡ Some 0x1000
+unfolding best_place
+best_page_upward = best_place_in-plain true (table_of which.Memory turned) (table_of which.Reserved turned) page turned_is_plain ∙ lowest_page

@@ -9,10 +9,10 @@ use Rattle.bm_base.specs.Range.{RangeView}
 use Rattle.address_runs.specs.Edits.{agree}
 use Rattle.address_runs.proofs.EditLaws.{agree-yes, agree-same}
 use Rattle.bm_base.specs.Each.{each_in}
-use Rattle.memblock_model.specs.Labels.{Label, Labels, plain_label}
+use Rattle.memblock_model.specs.Labels.{LabelView, Labels, plain_label}
 use Rattle.memblock_model.specs.Same.{same_label}
-use Rattle.memblock_model.specs.declared.mode.Mode.{Mode}
-use Rattle.memblock_model.specs.Search.{last_below, first_below, outermost, allows, suits, fits_in, top_in, best_in}
+use Rattle.memblock_model.specs.declared.query.Mode.{Mode}
+use Rattle.memblock_model.specs.Search.{last_below, first_below, outermost_below, allows, suits, fits_in, top_place_in, best_place_in}
 use Rattle.memblock_model.proofs.SameLaws.{label_tells}
 use Rattle.bm_base.proofs.EachLaws.{each_in-all, each_in-each}
 
@@ -101,7 +101,7 @@ pub record IsPlace (mirror : Bool) (memory reserved : Labels) (q : Query) (a : �
   pub label : (x : ℕ) → a ≤ x → x < a + q.size → memory x ≡ memory a
   pub free : (x : ℕ) → a ≤ x → x < a + q.size → reserved x ≡ None
 
-no_label : (o : Option Label) → is_none o ≡ true → o ≡ None
+no_label : (o : Option LabelView) → is_none o ≡ true → o ≡ None
 no_label None h = refl
 no_label (Some n) h = absurd (true≢false (sym h))
 
@@ -260,81 +260,81 @@ first_below-fails p (suc n) none = let here : p n ≡ false = none n (omega arit
     rw (first_below-fails p n (λ b lt. none b (omega arith)), here) refl
 
 -- the top place passes, and where there is none, none passes
-pub outermost-passes : (up : Bool) (p : ℕ → Bool) (n a : ℕ) → outermost up p n ≡ Some a → p a ≡ true
-outermost-passes true p n a h = (first_below-is p n a h).passes
-outermost-passes false p n a h = (last_below-is p n a h).passes
+pub outermost_below-passes : (up : Bool) (p : ℕ → Bool) (n a : ℕ) → outermost_below up p n ≡ Some a → p a ≡ true
+outermost_below-passes true p n a h = (first_below-is p n a h).passes
+outermost_below-passes false p n a h = (last_below-is p n a h).passes
 
-pub outermost-none : (up : Bool) (p : ℕ → Bool) (n : ℕ) → outermost up p n ≡ None → (b : ℕ) → b < n → p b ≡ false
-outermost-none true p n h = first_below-none p n h
-outermost-none false p n h = last_below-none p n h
+pub outermost_below-none : (up : Bool) (p : ℕ → Bool) (n : ℕ) → outermost_below up p n ≡ None → (b : ℕ) → b < n → p b ≡ false
+outermost_below-none true p n h = first_below-none p n h
+outermost_below-none false p n h = last_below-none p n h
 
-pub outermost-fails : (up : Bool) (p : ℕ → Bool) (n : ℕ) → ((b : ℕ) → b < n → p b ≡ false) → outermost up p n ≡ None
-outermost-fails true p n none = first_below-fails p n none
-outermost-fails false p n none = last_below-fails p n none
+pub outermost_below-fails : (up : Bool) (p : ℕ → Bool) (n : ℕ) → ((b : ℕ) → b < n → p b ≡ false) → outermost_below up p n ≡ None
+outermost_below-fails true p n none = first_below-fails p n none
+outermost_below-fails false p n none = last_below-fails p n none
 
 -- the top place
-pub top_in-fits : (mode : Mode) (memory reserved : Labels) (q : Query) (a : ℕ) → top_in mode memory reserved q ≡ Some a
+pub top_place_in-fits : (mode : Mode) (memory reserved : Labels) (q : Query) (a : ℕ) → top_place_in mode memory reserved q ≡ Some a
     → fits_in mode.mirror memory reserved q a ≡ true
-unfolding top_in
-top_in-fits mode memory reserved q a h = outermost-passes mode.up (fits_in mode.mirror memory reserved q) (2 ^ 64) a h
+unfolding top_place_in
+top_place_in-fits mode memory reserved q a h = outermost_below-passes mode.up (fits_in mode.mirror memory reserved q) (2 ^ 64) a h
 
-pub top_in-none : (mode : Mode) (memory reserved : Labels) (q : Query) → top_in mode memory reserved q ≡ None → (b : ℕ) → b < 2 ^ 64
+pub top_place_in-none : (mode : Mode) (memory reserved : Labels) (q : Query) → top_place_in mode memory reserved q ≡ None → (b : ℕ) → b < 2 ^ 64
     → fits_in mode.mirror memory reserved q b ≡ false
-unfolding top_in
-top_in-none mode memory reserved q h b lt = outermost-none mode.up (fits_in mode.mirror memory reserved q) (2 ^ 64) h b lt
+unfolding top_place_in
+top_place_in-none mode memory reserved q h b lt = outermost_below-none mode.up (fits_in mode.mirror memory reserved q) (2 ^ 64) h b lt
 
-pub top_in-fails : (mode : Mode) (memory reserved : Labels) (q : Query)
-    → ((b : ℕ) → b < 2 ^ 64 → fits_in mode.mirror memory reserved q b ≡ false) → top_in mode memory reserved q ≡ None
-unfolding top_in
-top_in-fails mode memory reserved q none = outermost-fails mode.up (fits_in mode.mirror memory reserved q) (2 ^ 64) none
+pub top_place_in-fails : (mode : Mode) (memory reserved : Labels) (q : Query)
+    → ((b : ℕ) → b < 2 ^ 64 → fits_in mode.mirror memory reserved q b ≡ false) → top_place_in mode memory reserved q ≡ None
+unfolding top_place_in
+top_place_in-fails mode memory reserved q none = outermost_below-fails mode.up (fits_in mode.mirror memory reserved q) (2 ^ 64) none
 
 -- and to prove that an address is it: the last one downward, the first one upward
-pub top_in-last : (mirror : Bool) (memory reserved : Labels) (q : Query) (a : ℕ) → IsLastBelow (fits_in mirror memory reserved q) (2 ^ 64) a
-    → top_in (record { mirror = mirror; up = false }) memory reserved q ≡ Some a
-unfolding top_in
-top_in-last mirror memory reserved q a known = last_below-last (fits_in mirror memory reserved q) (2 ^ 64) a known
+pub top_place_in-last : (mirror : Bool) (memory reserved : Labels) (q : Query) (a : ℕ) → IsLastBelow (fits_in mirror memory reserved q) (2 ^ 64) a
+    → top_place_in (record { mirror = mirror; up = false }) memory reserved q ≡ Some a
+unfolding top_place_in
+top_place_in-last mirror memory reserved q a known = last_below-last (fits_in mirror memory reserved q) (2 ^ 64) a known
 
-pub top_in-first : (mirror : Bool) (memory reserved : Labels) (q : Query) (a : ℕ)
+pub top_place_in-first : (mirror : Bool) (memory reserved : Labels) (q : Query) (a : ℕ)
     → IsFirstBelow (fits_in mirror memory reserved q) (2 ^ 64) a
-    → top_in (record { mirror = mirror; up = true }) memory reserved q ≡ Some a
-unfolding top_in
-top_in-first mirror memory reserved q a known = first_below-first (fits_in mirror memory reserved q) (2 ^ 64) a known
+    → top_place_in (record { mirror = mirror; up = true }) memory reserved q ≡ Some a
+unfolding top_place_in
+top_place_in-first mirror memory reserved q a known = first_below-first (fits_in mirror memory reserved q) (2 ^ 64) a known
 
 -- the best place is the top one of mirrored memory, where there is one, and else that of any
-pub best_in-mirrored : (up : Bool) (memory reserved : Labels) (q : Query) (a : ℕ)
-    → top_in (record { mirror = true; up = up }) memory reserved q ≡ Some a → best_in up memory reserved q ≡ Some a
-unfolding best_in
-best_in-mirrored up memory reserved q a h = rw h refl
+pub best_place_in-mirrored : (up : Bool) (memory reserved : Labels) (q : Query) (a : ℕ)
+    → top_place_in (record { mirror = true; up = up }) memory reserved q ≡ Some a → best_place_in up memory reserved q ≡ Some a
+unfolding best_place_in
+best_place_in-mirrored up memory reserved q a h = rw h refl
 
-pub best_in-other : (up : Bool) (memory reserved : Labels) (q : Query) → top_in (record { mirror = true; up = up }) memory reserved q ≡ None
-    → best_in up memory reserved q ≡ top_in (record { mirror = false; up = up }) memory reserved q
-unfolding best_in
-best_in-other up memory reserved q h = rw h refl
+pub best_place_in-other : (up : Bool) (memory reserved : Labels) (q : Query) → top_place_in (record { mirror = true; up = up }) memory reserved q ≡ None
+    → best_place_in up memory reserved q ≡ top_place_in (record { mirror = false; up = up }) memory reserved q
+unfolding best_place_in
+best_place_in-other up memory reserved q h = rw h refl
 
 -- it fits
-pub best_in-fits : (up : Bool) (memory reserved : Labels) (q : Query) (a : ℕ) → best_in up memory reserved q ≡ Some a
+pub best_place_in-fits : (up : Bool) (memory reserved : Labels) (q : Query) (a : ℕ) → best_place_in up memory reserved q ≡ Some a
     → fits_in false memory reserved q a ≡ true
-unfolding best_in
-best_in-fits up memory reserved q a h =
-    elim (either (top_in (record { mirror = true; up = up }) memory reserved q)
-    (top_in (record { mirror = false; up = up }) memory reserved q) a h)
+unfolding best_place_in
+best_place_in-fits up memory reserved q a h =
+    elim (either (top_place_in (record { mirror = true; up = up }) memory reserved q)
+    (top_place_in (record { mirror = false; up = up }) memory reserved q) a h)
     as (λ _. fits_in false memory reserved q a ≡ true) [
       | inl mirrored ↦ fits_unmirrored true memory reserved q a
-          (top_in-fits (record { mirror = true; up = up }) memory reserved q a mirrored)
-      | inr other ↦ top_in-fits (record { mirror = false; up = up }) memory reserved q a other
+          (top_place_in-fits (record { mirror = true; up = up }) memory reserved q a mirrored)
+      | inr other ↦ top_place_in-fits (record { mirror = false; up = up }) memory reserved q a other
     ]
 
-pub best_in-none : (up : Bool) (memory reserved : Labels) (q : Query) → best_in up memory reserved q ≡ None → (b : ℕ) → b < 2 ^ 64
+pub best_place_in-none : (up : Bool) (memory reserved : Labels) (q : Query) → best_place_in up memory reserved q ≡ None → (b : ℕ) → b < 2 ^ 64
     → fits_in false memory reserved q b ≡ false
-unfolding best_in
-best_in-none up memory reserved q h b lt = top_in-none (record { mirror = false; up = up }) memory reserved q (neither _ _ h) b lt
+unfolding best_place_in
+best_place_in-none up memory reserved q h b lt = top_place_in-none (record { mirror = false; up = up }) memory reserved q (neither _ _ h) b lt
 
-pub best_in-fails : (up : Bool) (memory reserved : Labels) (q : Query) → ((b : ℕ) → b < 2 ^ 64 → fits_in false memory reserved q b ≡ false)
-    → best_in up memory reserved q ≡ None
-unfolding best_in
-best_in-fails up memory reserved q none =
-    rw (top_in-fails (record { mirror = true; up = up }) memory reserved q (λ b lt. unfit true memory reserved q b (none b lt)))
-    (top_in-fails (record { mirror = false; up = up }) memory reserved q none)
+pub best_place_in-fails : (up : Bool) (memory reserved : Labels) (q : Query) → ((b : ℕ) → b < 2 ^ 64 → fits_in false memory reserved q b ≡ false)
+    → best_place_in up memory reserved q ≡ None
+unfolding best_place_in
+best_place_in-fails up memory reserved q none =
+    rw (top_place_in-fails (record { mirror = true; up = up }) memory reserved q (λ b lt. unfit true memory reserved q b (none b lt)))
+    (top_place_in-fails (record { mirror = false; up = up }) memory reserved q none)
 
 -- plain memory is not mirrored
 pub plain_or_none : (b : Bool) → suits true (if b then Some plain_label else None) ≡ false
@@ -342,16 +342,16 @@ plain_or_none true = refl
 plain_or_none false = refl
 
 -- where nothing is mirrored it is the top one of any memory
-pub top_in-mirrorless : (up : Bool) (memory reserved : Labels) (q : Query) → ((x : ℕ) → suits true (memory x) ≡ false)
-    → top_in (record { mirror = true; up = up }) memory reserved q ≡ None
-top_in-mirrorless up memory reserved q none = top_in-fails (record { mirror = true; up = up }) memory reserved q
+pub top_place_in-mirrorless : (up : Bool) (memory reserved : Labels) (q : Query) → ((x : ℕ) → suits true (memory x) ≡ false)
+    → top_place_in (record { mirror = true; up = up }) memory reserved q ≡ None
+top_place_in-mirrorless up memory reserved q none = top_place_in-fails (record { mirror = true; up = up }) memory reserved q
     (λ b lt. unsuited true memory reserved q b (none b))
 
-pub best_in-plain : (up : Bool) (memory reserved : Labels) (q : Query) → ((x : ℕ) → suits true (memory x) ≡ false)
-    → best_in up memory reserved q ≡ top_in (record { mirror = false; up = up }) memory reserved q
-best_in-plain up memory reserved q none = best_in-other up memory reserved q (top_in-mirrorless up memory reserved q none)
+pub best_place_in-plain : (up : Bool) (memory reserved : Labels) (q : Query) → ((x : ℕ) → suits true (memory x) ≡ false)
+    → best_place_in up memory reserved q ≡ top_place_in (record { mirror = false; up = up }) memory reserved q
+best_place_in-plain up memory reserved q none = best_place_in-other up memory reserved q (top_place_in-mirrorless up memory reserved q none)
 
 -- and to prove that an address is the best one: where nothing is mirrored, the last one that fits
-pub best_in-last : (memory reserved : Labels) (q : Query) (a : ℕ) → ((x : ℕ) → suits true (memory x) ≡ false)
-    → IsLastBelow (fits_in false memory reserved q) (2 ^ 64) a → best_in false memory reserved q ≡ Some a
-best_in-last memory reserved q a none known = best_in-plain false memory reserved q none ∙ top_in-last false memory reserved q a known
+pub best_place_in-last : (memory reserved : Labels) (q : Query) (a : ℕ) → ((x : ℕ) → suits true (memory x) ≡ false)
+    → IsLastBelow (fits_in false memory reserved q) (2 ^ 64) a → best_place_in false memory reserved q ≡ Some a
+best_place_in-last memory reserved q a none known = best_place_in-plain false memory reserved q none ∙ top_place_in-last false memory reserved q a known

@@ -5,18 +5,18 @@ use Rattle.bm_base.specs.Range.{RangeView}
 use Rattle.address_runs.specs.Edits.{gaps_in_range, NothingFrom}
 use Rattle.address_runs.specs.Runs.{RunOf, runs_from}
 use Rattle.memblock_model.specs.declared.owner.Owner.TheVariants as owner
-use Rattle.memblock_model.specs.declared.which.Which.TheVariants as which
+use Rattle.memblock_model.specs.declared.owner.Which.TheVariants as which
 use Rattle.memblock_model.specs.declared.item.Item.{Item}
 use Rattle.memblock_model.specs.declared.item.Item.TheVariants as item
-use Rattle.memblock_model.specs.Labels.{Label, Labels, plain_label, with_node}
+use Rattle.memblock_model.specs.Labels.{LabelView, Labels, plain_label, with_node}
 use Rattle.memblock_model.specs.Same.{same_label}
 use Rattle.memblock_model.specs.Items.{no_owners, owner_of, no_memory}
-use Rattle.memblock_model.specs.Tables.{without_owner, reserved_of, reserved_after, table_of, table_after, records_for, records_of, pieces, room_after, room_of, moved_after, moved_to, built_in, place_of, live}
+use Rattle.memblock_model.specs.Tables.{without_owner, reserved_of, reserved_after, table_of, table_after, records_for, records_of, pieces, room_after, room_of, moved_after, moved_to, built_in_place, table_place, table_bytes}
 use Rattle.memblock_model.proofs.TableLaws.{records_for-is}
 use Rattle.memblock_model.proofs.LabelExamples.{bytes}
 
 -- memory of node 7
-abbrev seventh : Label
+abbrev seventh : LabelView
 seventh = with_node (Some 7) plain_label
 
 -- the reserved table knows that a byte is claimed, and not for whom; nothing stays nothing
@@ -61,14 +61,14 @@ unfolding runs_from
 nodes_are_two_records = refl
 
 -- over all addresses, by the laws: the two tables of the one journal
-abbrev memory_records : List (RunOf Label)
+abbrev memory_records : List (RunOf LabelView)
 memory_records = record { base = 1; size = 2; value = plain_label } ∷ (record { base = 3; size = 2; value = seventh } ∷ [])
 
 memory_ends : NothingFrom (2 ^ 64) (table_of which.Memory few)
 memory_ends x le = grind (arith, nat_tests)
 
 plain_is_another : plain_label ≡ seventh → ⊥
-plain_is_another same = let apart : plain_label.node ≡ seventh.node = ap (λ (l : Label). l.node) same in cc
+plain_is_another same = let apart : plain_label.node ≡ seventh.node = ap (λ (l : LabelView). l.node) same in cc
 
 records_of_memory : records_of which.Memory few ≡ memory_records
 unfolding records_of
@@ -78,7 +78,7 @@ records_of_memory = sym (records_for-is (table_of which.Memory few) memory_recor
       each = λ x. grind (arith, nat_tests);
     }))
 
-abbrev reserved_records : List (RunOf Label)
+abbrev reserved_records : List (RunOf LabelView)
 reserved_records = record { base = 2; size = 2; value = plain_label } ∷ []
 
 reserved_ends : NothingFrom (2 ^ 64) (table_of which.Reserved few)
@@ -100,7 +100,7 @@ bare_examples = (refl, refl)
 abbrev partly : Labels
 partly = table_of which.Memory (item.Mem (bytes 3 2) ∷ [])
 
-abbrev two_runs : List (RunOf Label)
+abbrev two_runs : List (RunOf LabelView)
 two_runs = record { base = 1; size = 2; value = plain_label } ∷ (record { base = 5; size = 2; value = plain_label } ∷ [])
 
 bare_ends : NothingFrom (2 ^ 64) (gaps_in_range (bytes 1 6) plain_label partly)
@@ -162,15 +162,15 @@ abbrev kernel : RangeView
 kernel = bytes 0x1000000 0x2000000
 
 -- the built-in places are its last two frames
-built_in_examples : (built_in which.Memory kernel ≡ 0x2FFE000) × (built_in which.Reserved kernel ≡ 0x2FFF000)
+built_in_examples : (built_in_place which.Memory kernel ≡ 0x2FFE000) × (built_in_place which.Reserved kernel ≡ 0x2FFF000)
 built_in_examples = (refl, refl)
 
 -- the built-in place at first, then the newest
-place_of_examples : (place_of which.Memory kernel [] ≡ 0x2FFE000)
-    × (place_of which.Reserved kernel (item.Grown which.Reserved 8192 256 ∷ (item.Grown which.Memory 4096 256 ∷ [])) ≡ 8192)
+place_of_examples : (table_place which.Memory kernel [] ≡ 0x2FFE000)
+    × (table_place which.Reserved kernel (item.Grown which.Reserved 8192 256 ∷ (item.Grown which.Memory 4096 256 ∷ [])) ≡ 8192)
 place_of_examples = (refl, refl)
 
 -- the bytes of a table at first, and when it has grown
-live_examples : (live which.Reserved kernel [] ≡ bytes 0x2FFF000 3072)
-    × (live which.Memory kernel (item.Grown which.Memory 4096 256 ∷ []) ≡ bytes 4096 6144)
+live_examples : (table_bytes which.Reserved kernel [] ≡ bytes 0x2FFF000 3072)
+    × (table_bytes which.Memory kernel (item.Grown which.Memory 4096 256 ∷ []) ≡ bytes 4096 6144)
 live_examples = (refl, refl)

@@ -4,15 +4,15 @@ use Rattle.std.proofs.lemmas.Bool.{cases_Bool}
 use Rattle.std.specs.List.{fold}
 use Rattle.address_runs.specs.Runs.{RunOf, value_at, IsRunsOf}
 use Rattle.address_runs.proofs.RunsLaws.{by_address, the_list}
-use Rattle.memblock_model.specs.declared.which.Which.{Which}
+use Rattle.memblock_model.specs.declared.owner.Which.{Which}
 use Rattle.memblock_model.specs.declared.item.Item.{Item}
 use Rattle.memblock_model.specs.declared.item.Item.TheVariants as item
 use Rattle.address_runs.specs.Edits.{NothingFrom}
-use Rattle.memblock_model.specs.Labels.{Label, Labels}
+use Rattle.memblock_model.specs.Labels.{LabelView, Labels}
 use Rattle.memblock_model.specs.Same.{same_which, same_label}
-use Rattle.memblock_model.specs.Items.{trimmed}
+use Rattle.memblock_model.specs.Items.{trim_frames}
 use Rattle.memblock_model.specs.Tables.{records_for, room_after, room_of}
-use Rattle.memblock_model.proofs.LabelLaws.{trimmed-whole, trimmed-cases}
+use Rattle.memblock_model.proofs.LabelLaws.{trim_frames-whole, trim_frames-cases}
 use Rattle.memblock_model.proofs.SameLaws.{label_tells}
 
 -- the records are the runs
@@ -21,7 +21,7 @@ unfolding records_for
 records_for-runs f ends = by_address same_label label_tells f ends
 
 -- and each list of the runs is the records
-pub records_for-is : (f : Labels) (rs : List (RunOf Label)) → NothingFrom (2 ^ 64) f → IsRunsOf f rs → rs ≡ records_for f
+pub records_for-is : (f : Labels) (rs : List (RunOf LabelView)) → NothingFrom (2 ^ 64) f → IsRunsOf f rs → rs ≡ records_for f
 unfolding records_for
 records_for-is f rs ends known = the_list same_label label_tells f rs ends known
 
@@ -30,15 +30,15 @@ pub value_at-records : (f : Labels) → NothingFrom (2 ^ 64) f → value_at (rec
 value_at-records f ends = λ k x. (records_for-runs f ends).each x k
 
 -- an edit of the records by a word is the edit of what they stand for
-pub records-edit : (edit : Labels → Labels) (f g : Labels) (rs now : List (RunOf Label)) → NothingFrom (2 ^ 64) f → rs ≡ records_for f
+pub records-edit : (edit : Labels → Labels) (f g : Labels) (rs now : List (RunOf LabelView)) → NothingFrom (2 ^ 64) f → rs ≡ records_for f
     → now ≡ records_for (edit (value_at rs)) → g ≡ edit f → now ≡ records_for g
 records-edit edit f g rs now ends old new same =
     new ∙ ap (λ (t : Labels). records_for (edit t)) (ap value_at old ∙ value_at-records f ends) ∙ ap records_for (sym same)
 
 -- a trim leaves nothing where nothing was
-pub nothing-trimmed : (at : ℕ) (f : Labels) → NothingFrom at f → NothingFrom at (trimmed f)
+pub nothing-trimmed : (at : ℕ) (f : Labels) → NothingFrom at f → NothingFrom at (trim_frames f)
 nothing-trimmed at f none x le =
-    elim (trimmed-cases f x) as (λ _. trimmed f x ≡ None) [ inl one ↦ trimmed-whole f x one ∙ none x le | inr bare ↦ bare ]
+    elim (trim_frames-cases f x) as (λ _. trim_frames f x ≡ None) [ inl one ↦ trim_frames-whole f x one ∙ none x le | inr bare ↦ bare ]
 
 -- there is room for 128 records at least
 room_after-least : (w : Which) (n : ℕ) (i : Item) → 128 ≤ n → 128 ≤ room_after w n i

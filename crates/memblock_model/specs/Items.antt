@@ -7,7 +7,7 @@ use Rattle.bm_base.specs.Each.{each_in}
 use Rattle.memblock_model.specs.Labels.{Labels, plain_label, with_node, with_mirror, tag_for}
 use Rattle.memblock_model.specs.Same.{same_label, same_owner}
 use Rattle.memblock_model.specs.declared.owner.Owner.{Owner}
-use Rattle.memblock_model.specs.declared.tag.Tag.{Tag}
+use Rattle.memblock_model.specs.declared.label.Tag.{Tag}
 use Rattle.memblock_model.specs.declared.item.Item.{Item}
 use Rattle.memblock_model.specs.declared.item.Item.TheVariants as item
 
@@ -42,14 +42,14 @@ abbrev pub owner_of : List Item → Owners
 owner_of items = fold owners_after no_owners items
 
 -- a byte keeps what it carries where all bytes of its frame carry the same, and else carries nothing (`memblock_trim_memory`)
-unfoldable pub trimmed : Labels → Labels
-trimmed f x = if each_in (frame_around x) (λ y. agree same_label (f y) (f x)) then f x else None
+unfoldable pub trim_frames : Labels → Labels
+trim_frames f x = if each_in (frame_around x) (λ y. agree same_label (f y) (f x)) then f x else None
 
 -- what an item makes of memory and its labels (`memblock_add`, `memblock_trim_memory`, `memblock_set_node`,
 -- `memblock_mark_mirror`)
 abbrev pub memory_after : Labels → Item → Labels
 memory_after f (item.Mem range) = cover_range range plain_label f
-memory_after f item.Trim = trimmed f
+memory_after f item.Trim = trim_frames f
 memory_after f (item.Node range node) = relabel_range range (with_node (Some node)) f
 memory_after f (item.Mirror range) = relabel_range range with_mirror f
 memory_after f i = f

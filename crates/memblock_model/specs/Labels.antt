@@ -1,31 +1,31 @@
 -- What a byte of memory carries beside being memory: its label. And what a table says of each byte.
 use Rattle.std.specs.Prelude.{ℕ, Bool, true, false, Option, Some, None}
-use Rattle.memblock_model.specs.declared.tag.Tag.{Tag}
-use Rattle.memblock_model.specs.declared.tag.Tag.TheVariants as tag
+use Rattle.memblock_model.specs.declared.label.Tag.{Tag}
+use Rattle.memblock_model.specs.declared.label.Tag.TheVariants as tag
 
 -- the node, or none yet, and whether it is mirrored (`struct memblock_region`: `nid`, `MEMBLOCK_MIRROR` of `flags`)
-pub record Label : Type 0 where
+pub record LabelView : Type 0 where
   pub node : Option ℕ
   pub mirror : Bool
 
 -- what a table says of each byte: not covered, or covered with a label
 abbrev pub Labels : Type 0
-Labels = ℕ → Option Label
+Labels = ℕ → Option LabelView
 
 -- the label of new memory, and of all that the reserved table covers (`memblock_add`, `memblock_reserve`)
-abbrev pub plain_label : Label
+abbrev pub plain_label : LabelView
 plain_label = record { node = None; mirror = false }
 
 -- the label with the node
-abbrev pub with_node : Option ℕ → Label → Label
+abbrev pub with_node : Option ℕ → LabelView → LabelView
 with_node node label = record label { node = node }
 
 -- the label of memory that is mirrored (`memblock_mark_mirror`)
-abbrev pub with_mirror : Label → Label
+abbrev pub with_mirror : LabelView → LabelView
 with_mirror label = record label { mirror = true }
 
 -- the tag of a byte of which the memory table says this
-abbrev pub tag_for : Option Label → Tag
+abbrev pub tag_for : Option LabelView → Tag
 tag_for None = tag.Absent
 tag_for (Some label) = tag.Memory label.node label.mirror
 

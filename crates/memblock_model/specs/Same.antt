@@ -1,8 +1,8 @@
 -- Tests of whether two tables, two labels, two owners are the same.
 use Rattle.std.specs.Prelude.{ℕ, ◌==◌, Bool, true, false, ◌&&◌, Option, Some, None}
-use Rattle.memblock_model.specs.Labels.{Label}
-use Rattle.memblock_model.specs.declared.which.Which.{Which}
-use Rattle.memblock_model.specs.declared.which.Which.TheVariants as which
+use Rattle.memblock_model.specs.Labels.{LabelView}
+use Rattle.memblock_model.specs.declared.owner.Which.{Which}
+use Rattle.memblock_model.specs.declared.owner.Which.TheVariants as which
 use Rattle.memblock_model.specs.declared.owner.Owner.{Owner}
 use Rattle.memblock_model.specs.declared.owner.Owner.TheVariants as owner
 
@@ -13,11 +13,11 @@ same_which which.Reserved which.Memory = false
 same_which which.Reserved which.Reserved = true
 
 -- both have no node, or the same
-abbrev pub same_node : Option ℕ → Option ℕ → Bool
-same_node None None = true
-same_node None (Some n) = false
-same_node (Some m) None = false
-same_node (Some m) (Some n) = m == n
+abbrev pub same_node_or_none : Option ℕ → Option ℕ → Bool
+same_node_or_none None None = true
+same_node_or_none None (Some n) = false
+same_node_or_none (Some m) None = false
+same_node_or_none (Some m) (Some n) = m == n
 
 -- both are on, or both off
 abbrev pub same_switch : Bool → Bool → Bool
@@ -26,8 +26,8 @@ same_switch false true = false
 same_switch false false = true
 
 -- the parts of both labels are the same
-abbrev pub same_label : Label → Label → Bool
-same_label a b = same_node a.node b.node && same_switch a.mirror b.mirror
+abbrev pub same_label : LabelView → LabelView → Bool
+same_label a b = same_node_or_none a.node b.node && same_switch a.mirror b.mirror
 
 -- the place of the owner's variant in the list of them
 abbrev pub variant_of : Owner → ℕ

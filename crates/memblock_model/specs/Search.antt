@@ -5,13 +5,13 @@ use Rattle.std.specs.Option.{option_or}
 use Rattle.address_runs.specs.Edits.{agree}
 use Rattle.bm_base.specs.Each.{each_in}
 use Rattle.bm_base.specs.declared.range.TheConstants.{FRAME_SIZE}
-use Rattle.memblock_model.specs.Labels.{Label, Labels}
-use Rattle.memblock_model.specs.Same.{same_node, same_label}
+use Rattle.memblock_model.specs.Labels.{LabelView, Labels}
+use Rattle.memblock_model.specs.Same.{same_node_or_none, same_label}
 use Rattle.memblock_model.specs.Items.{upward_of}
 use Rattle.memblock_model.specs.Tables.{table_of}
 use Rattle.memblock_model.specs.declared.query.Query.{Query}
-use Rattle.memblock_model.specs.declared.mode.Mode.{Mode}
-use Rattle.memblock_model.specs.declared.which.Which.TheVariants as which
+use Rattle.memblock_model.specs.declared.query.Mode.{Mode}
+use Rattle.memblock_model.specs.declared.owner.Which.TheVariants as which
 use Rattle.memblock_model.specs.declared.item.Item.{Item}
 
 -- the greatest number below n that passes the test
@@ -25,18 +25,18 @@ first_below p zero = None
 first_below p (suc n) = option_or (first_below p n) (if p n then Some n else None)
 
 -- the least of them, or the greatest
-abbrev pub outermost : Bool → (ℕ → Bool) → ℕ → Option ℕ
-outermost true p n = first_below p n
-outermost false p n = last_below p n
+abbrev pub outermost_below : Bool → (ℕ → Bool) → ℕ → Option ℕ
+outermost_below true p n = first_below p n
+outermost_below false p n = last_below p n
 
 -- whether a byte that carries this may be answered to a query for the node, or for any
-abbrev pub allows : Option ℕ → Option Label → Bool
+abbrev pub allows : Option ℕ → Option LabelView → Bool
 allows None carried = true
 allows (Some node) None = false
-allows (Some node) (Some label) = same_node label.node (Some node)
+allows (Some node) (Some label) = same_node_or_none label.node (Some node)
 
 -- whether a byte that carries this may be answered where mirrored memory alone is wanted, or any
-abbrev pub suits : Bool → Option Label → Bool
+abbrev pub suits : Bool → Option LabelView → Bool
 suits false carried = true
 suits true None = false
 suits true (Some label) = label.mirror
@@ -50,21 +50,21 @@ fits_in mirror memory reserved q a =
     && each_in (record { base = a; size = q.size }) (λ x. agree same_label (memory x) (memory a) && is_none (reserved x))
 
 -- the greatest address that fits, or the least where the search goes up
-unfoldable pub top_in : Mode → Labels → Labels → Query → Option ℕ
-top_in mode memory reserved q = outermost mode.up (fits_in mode.mirror memory reserved q) (2 ^ 64)
+unfoldable pub top_place_in : Mode → Labels → Labels → Query → Option ℕ
+top_place_in mode memory reserved q = outermost_below mode.up (fits_in mode.mirror memory reserved q) (2 ^ 64)
 
 -- such an address in mirrored memory, or in any where none fits there. Where nothing is mirrored nothing fits there
-unfoldable pub best_in : Bool → Labels → Labels → Query → Option ℕ
-best_in up memory reserved q =
-    option_or (top_in (record { mirror = true; up = up }) memory reserved q) (top_in (record { mirror = false; up = up }) memory reserved q)
+unfoldable pub best_place_in : Bool → Labels → Labels → Query → Option ℕ
+best_place_in up memory reserved q =
+    option_or (top_place_in (record { mirror = true; up = up }) memory reserved q) (top_place_in (record { mirror = false; up = up }) memory reserved q)
 
 -- the same of what the items say, in the direction that they set
 unfoldable pub fits : List Item → Query → Bool → ℕ → Bool
 fits items q mirror a = fits_in mirror (table_of which.Memory items) (table_of which.Reserved items) q a
 
-unfoldable pub top : List Item → Query → Bool → Option ℕ
-top items q mirror =
-    top_in (record { mirror = mirror; up = upward_of items }) (table_of which.Memory items) (table_of which.Reserved items) q
+unfoldable pub top_place : List Item → Query → Bool → Option ℕ
+top_place items q mirror =
+    top_place_in (record { mirror = mirror; up = upward_of items }) (table_of which.Memory items) (table_of which.Reserved items) q
 
-unfoldable pub best : List Item → Query → Option ℕ
-best items q = best_in (upward_of items) (table_of which.Memory items) (table_of which.Reserved items) q
+unfoldable pub best_place : List Item → Query → Option ℕ
+best_place items q = best_place_in (upward_of items) (table_of which.Memory items) (table_of which.Reserved items) q

@@ -4,17 +4,17 @@ use Rattle.bm_base.specs.Range.{RangeView, end_of}
 use Rattle.bm_base.specs.declared.range.TheConstants.{FRAME_SIZE}
 use Rattle.address_runs.specs.Runs.{RunOf, runs_of}
 use Rattle.address_runs.specs.Edits.{cover_range, uncover_range, gaps_in_range}
-use Rattle.memblock_model.specs.Labels.{Label, Labels, plain_label}
+use Rattle.memblock_model.specs.Labels.{LabelView, Labels, plain_label}
 use Rattle.memblock_model.specs.Same.{same_which, same_label}
 use Rattle.memblock_model.specs.Items.{Owners, owner_of, memory_of, memory_after}
 use Rattle.memblock_model.specs.declared.owner.Owner.{Owner}
-use Rattle.memblock_model.specs.declared.which.Which.{Which}
-use Rattle.memblock_model.specs.declared.which.Which.TheVariants as which
+use Rattle.memblock_model.specs.declared.owner.Which.{Which}
+use Rattle.memblock_model.specs.declared.owner.Which.TheVariants as which
 use Rattle.memblock_model.specs.declared.item.Item.{Item}
 use Rattle.memblock_model.specs.declared.item.Item.TheVariants as item
 
 -- the reserved table says that a byte is claimed, and not whose it is
-abbrev pub without_owner : Option Owner → Option Label
+abbrev pub without_owner : Option Owner → Option LabelView
 without_owner None = None
 without_owner (Some owner) = Some plain_label
 
@@ -38,11 +38,11 @@ table_after which.Memory f i = memory_after f i
 table_after which.Reserved f i = reserved_after f i
 
 -- the records of what a table says: its runs (`memblock_add_range` merges what touches and agrees)
-unfoldable pub records_for : Labels → List (RunOf Label)
+unfoldable pub records_for : Labels → List (RunOf LabelView)
 records_for f = runs_of same_label f
 
 -- the records of a table
-unfoldable pub records_of : Which → List Item → List (RunOf Label)
+unfoldable pub records_of : Which → List Item → List (RunOf LabelView)
 records_of w items = records_for (table_of w items)
 
 -- the number of records that covering the range adds before any are merged (`memblock_add_range`, its count)
@@ -67,14 +67,14 @@ moved_to w items = fold (moved_after w) None items
 
 -- where the table lies at first: in the last two frames of the kernel's image. There the kernel has its arrays too
 -- (`memblock_memory_init_regions`, `memblock_reserved_init_regions`); the places are this project's own
-abbrev pub built_in : Which → RangeView → ℕ
-built_in which.Memory kernel = end_of kernel - 2 * FRAME_SIZE
-built_in which.Reserved kernel = end_of kernel - FRAME_SIZE
+abbrev pub built_in_place : Which → RangeView → ℕ
+built_in_place which.Memory kernel = end_of kernel - 2 * FRAME_SIZE
+built_in_place which.Reserved kernel = end_of kernel - FRAME_SIZE
 
 -- where the table lies
-abbrev pub place_of : Which → RangeView → List Item → ℕ
-place_of w kernel items = unwrap_or (moved_to w items) (built_in w kernel)
+abbrev pub table_place : Which → RangeView → List Item → ℕ
+table_place w kernel items = unwrap_or (moved_to w items) (built_in_place w kernel)
 
 -- the bytes of the table: 24 for each record that there is room for (`struct memblock_region`)
-abbrev pub live : Which → RangeView → List Item → RangeView
-live w kernel items = record { base = place_of w kernel items; size = 24 * room_of w items }
+abbrev pub table_bytes : Which → RangeView → List Item → RangeView
+table_bytes w kernel items = record { base = table_place w kernel items; size = 24 * room_of w items }

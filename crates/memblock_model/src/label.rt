@@ -2,7 +2,6 @@
 //!
 //! It is a record, so that a further mark of memory is a further field here, in its test and in the item that sets it.
 
-use crate::tag::Tag;
 use address_runs::RunValue;
 use std::marker::Model;
 
@@ -21,9 +20,9 @@ pub struct Label {
 
 impl Model for Label {
     ghost use Rattle.std.specs.Prelude.{◌≡◌, ◌<◌, ◌==◌, if◌then◌else◌, unwrap_or};
-    ghost use Rattle.memblock_model.specs.Labels.{Label as AnyLabel};
+    ghost use Rattle.memblock_model.specs.Labels.{LabelView};
 
-    ghost Value = { AnyLabel };
+    ghost Value = { LabelView };
 
     ghost view = { λ l. record { node = l.node; mirror = l.flags == 2 } };
 
@@ -43,7 +42,7 @@ impl Label {
     ghost use Rattle.memblock_model.specs.Labels.{plain_label, with_node, with_mirror};
 
     /// The label of new memory: no node, and not mirrored.
-    pub fn plain() -> Label
+    pub fn new() -> Label
         ensures { result ≡ plain_label }
     {
         Label {
@@ -54,7 +53,7 @@ impl Label {
 
     /// The label of memory of the node, which is below 1,024, or of none, that has the flags, mirrored where they are
     /// [`MIRROR_FLAG`].
-    pub fn of(node: Option<u32>, flags: u32) -> Label
+    pub fn from_parts(node: Option<u32>, flags: u32) -> Label
         requires { unwrap_or node 0 < 1024 }
         ensures { result ≡ record { node = node; mirror = flags == 2 } }
     {
@@ -91,7 +90,7 @@ impl Label {
     }
 
     /// Whether it is mirrored.
-    pub fn mirror(self) -> bool
+    pub fn has_mirror_flag(self) -> bool
         ensures { result ≡ self.mirror }
     {
         self.flags == MIRROR_FLAG
@@ -113,9 +112,9 @@ pub struct Marks {
 }
 
 impl Model for Marks {
-    ghost use Rattle.memblock_model.specs.Labels.{Label as AnyLabel};
+    ghost use Rattle.memblock_model.specs.Labels.{LabelView};
 
-    ghost Value = { AnyLabel };
+    ghost Value = { LabelView };
 
     ghost view = { λ m. record { node = m.node; mirror = m.mirror } };
 
@@ -127,7 +126,7 @@ impl Marks {
     ghost use Rattle.memblock_model.specs.Labels.{plain_label, tag_for, with_node, with_mirror};
 
     /// Those of new memory.
-    pub fn plain() -> Marks
+    pub fn new() -> Marks
         ensures { result ≡ plain_label }
     {
         Marks {
@@ -165,4 +164,13 @@ impl Marks {
             mirror: self.mirror,
         }
     }
+}
+
+/// What a byte is to the memory table.
+#[derive(Clone, Copy, Debug, PartialEq, Eq)]
+pub enum Tag {
+    /// It isn't memory.
+    Absent,
+    /// It is memory: of the node, or of none yet (`MAX_NUMNODES`), and mirrored (`MEMBLOCK_MIRROR`) or not.
+    Memory { node: Option<u32>, mirror: bool },
 }

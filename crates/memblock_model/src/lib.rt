@@ -19,24 +19,16 @@
 mod item;
 mod label;
 mod laws;
-mod mode;
 mod owner;
 mod query;
-mod request;
 mod run;
-mod tag;
-mod which;
 
 pub use item::Item;
-pub use label::{Label, MIRROR_FLAG, Marks};
+pub use label::{Label, MIRROR_FLAG, Marks, Tag};
 pub use laws::{
-    best_is_mirrored_first, item_at_the_end, lists_are_runs, tables_go_by_themselves, tests_tell,
+    best_is_mirrored_first, appended_item_acts_last, lists_are_runs, tables_need_no_owners, tests_decide_equality,
     top_is_outermost, trimmed_frame_is_whole,
 };
-pub use mode::Mode;
-pub use owner::Owner;
-pub use query::Query;
-pub use request::Request;
+pub use owner::{Owner, Which};
+pub use query::{Mode, Query, Request};
 pub use run::OwnerRun;
-pub use tag::Tag;
-pub use which::Which;

@@ -3,8 +3,6 @@
 //! The kernel's reserved table forgets it. Here it is kept to the end, so that each frame that isn't handed out can name
 //! its owner.
 
-use crate::Which;
-
 /// For whom bytes are claimed. The kernel's own table doesn't say; it is known where it reserves.
 #[derive(Clone, Copy, Debug, PartialEq, Eq)]
 pub enum Owner {
@@ -36,4 +34,13 @@ pub enum Owner {
     Map(u32),
     /// An allocation of the early script, by its ID.
     Script(u32),
+}
+
+/// One of memblock's two tables.
+#[derive(Clone, Copy, Debug, PartialEq, Eq)]
+pub enum Which {
+    /// The memory that there is (`memblock.memory`).
+    Memory,
+    /// The memory that someone has (`memblock.reserved`).
+    Reserved,
 }

@@ -6,7 +6,7 @@ use Rattle.std.proofs.lemmas.List.{set_at, take_at, drop_at}
 use Rattle.phys_store.specs.Bytes.{Stored, byte_of, is_ready, bytes_at, Wrote}
 use Rattle.phys_store.proofs.ByteLists.{told_bytes}
 use Rattle.address_runs.specs.Runs.{RunOf}
-use Rattle.memblock_model.specs.Labels.{Label}
+use Rattle.memblock_model.specs.Labels.{LabelView}
 use Rattle.memblock_ranges.specs.declared.region.Head.{Head}
 use Rattle.memblock_ranges.specs.Spelling.{run_in, spelling_of, records_at, FitsRecord, IsRecord}
 use Rattle.memblock_ranges.specs.Tables.{IsTable, outside, kept_of}
@@ -25,7 +25,7 @@ module _ (f g : ℕ → ℕ) (a i : ℕ) (below : (x : ℕ) → a ≤ x → x < 
       let back : records_at g (a + 24 * i + 24) m ≡ records_at f (a + 24 * i + 24) m =
       same_records f g (a + 24 * i + 24) (a + 24 * i + 24) m (λ k less. behind (a + 24 * i + 24 + k) (omega arith) (omega arith)) in
       split_records g a i (suc m) ∙ rw (front, new, back) refl
-      ∙ sym (ap (λ (rs : List (RunOf Label)). set rs i (run_in bs)) (split_records f a i (suc m))
+      ∙ sym (ap (λ (rs : List (RunOf LabelView)). set rs i (run_in bs)) (split_records f a i (suc m))
       ∙ set_at (records_at f a i) (run_in (bytes_at f (a + 24 * i) 24)) (records_at f (a + 24 * i + 24) m) (run_in bs) i
       (length-records_at f a i))
 
@@ -78,19 +78,19 @@ pub record_there : (f g : ℕ → ℕ) (a b : ℕ) → ((k : ℕ) → k < 24 →
 record_there f g a b same known = subst IsRecord (sym (same_bytes f g a b 24 same)) known
 
 -- what an edit of a table comes to
-pub record Edited (s u : List Stored) (place room count : ℕ) (list : List (RunOf Label)) : Type 0 where
+pub record Edited (s u : List Stored) (place room count : ℕ) (list : List (RunOf LabelView)) : Type 0 where
   pub list_is : records_at (byte_of u) place count ≡ list
   pub table : IsTable (byte_of u) (is_ready u) place room count
   pub others : outside (byte_of u) place room ≡ outside (byte_of s) place room
   pub ready : is_ready u ≡ is_ready s
 
 -- and it keeps the rest
-pub edited_kept : (s u : List Stored) (place room count : ℕ) (list : List (RunOf Label)) → Edited s u place room count list →
+pub edited_kept : (s u : List Stored) (place room count : ℕ) (list : List (RunOf LabelView)) → Edited s u place room count list →
     let h : Head = record { place = place; room = room; count = count } in kept_of u h ≡ kept_of s h
 edited_kept s u place room count list e = λ j. record { place = place; room = room; others = e.others j; ready = e.ready j }
 
 -- a record is written over the i-th
-pub put_table : (s t : List Stored) (place room count i at n : ℕ) (r : RunOf Label) (bs : List ℕ) →
+pub put_table : (s t : List Stored) (place room count i at n : ℕ) (r : RunOf LabelView) (bs : List ℕ) →
     IsTable (byte_of s) (is_ready s) place room count →
     i < count → FitsRecord r → bs ≡ spelling_of r → Wrote s t at n (λ k. get_or bs k 0) → at ≡ place + 24 * i → n ≡ length bs →
     Edited s t place room count (set (records_at (byte_of s) place count) i r)
@@ -128,7 +128,7 @@ put_table s t place room count i at n r bs table less fits is w here size =
     }
 
 -- the records from the i-th on move up, and a record is written in the gap
-pub insert_table : (s t u : List Stored) (place room count i to rest at n : ℕ) (r : RunOf Label) (bs : List ℕ) →
+pub insert_table : (s t u : List Stored) (place room count i to rest at n : ℕ) (r : RunOf LabelView) (bs : List ℕ) →
     IsTable (byte_of s) (is_ready s) place room count →
     i ≤ count → count < room → FitsRecord r → bs ≡ spelling_of r →
     Wrote s t to rest (λ k. byte_of s (at + k)) → Wrote t u at n (λ k. get_or bs k 0) →

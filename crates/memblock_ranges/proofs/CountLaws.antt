@@ -12,9 +12,9 @@ use Rattle.run_edits.specs.Records.{stretch}
 use Rattle.run_edits.specs.Ends.{edge, edges, total, spike}
 use Rattle.run_edits.proofs.EndLaws.{total-alike, total-fewer, total-add, total-quiet, spikes_few, all_ends}
 use Rattle.run_edits.proofs.CountLaws.{covered_length, uncovered_length, relabelled_length}
-use Rattle.memblock_model.specs.Labels.{Label, Labels, plain_label}
+use Rattle.memblock_model.specs.Labels.{LabelView, Labels, plain_label}
 use Rattle.memblock_model.specs.Same.{same_label}
-use Rattle.memblock_model.specs.Items.{trimmed}
+use Rattle.memblock_model.specs.Items.{trim_frames}
 use Rattle.memblock_model.specs.Tables.{records_for, pieces}
 use Rattle.memblock_model.proofs.SameLaws.{label_tells}
 use Rattle.memblock_model.proofs.TableLaws.{records_for-runs, records_for-is, value_at-records, nothing-trimmed}
@@ -22,7 +22,7 @@ use Rattle.memblock_ranges.proofs.EditLaws.{pieces_are}
 use Rattle.memblock_ranges.proofs.PieceLaws.{edge_bare, one_at_most}
 use Rattle.memblock_ranges.proofs.TrimLaws.{Turns, turns_all, turns_next, trim_step, trim_all}
 
-pub length-covered : (r : RangeView) (v : Label) (f : Labels) → end_of r ≤ 2 ^ 64 → NothingFrom (2 ^ 64) f →
+pub length-covered : (r : RangeView) (v : LabelView) (f : Labels) → end_of r ≤ 2 ^ 64 → NothingFrom (2 ^ 64) f →
     length (records_for (cover_range r v f)) ≤ length (records_for f) + pieces r f
 unfolding records_for pieces
 length-covered r v f ends none = covered_length same_label label_tells r v plain_label f ends none
@@ -32,20 +32,20 @@ pub length-uncovered : (r : RangeView) (f : Labels) → NothingFrom (2 ^ 64) f �
 unfolding records_for
 length-uncovered r f none = uncovered_length same_label label_tells r f none
 
-pub length-relabelled : (r : RangeView) (change : Label → Label) (f : Labels) → NothingFrom (2 ^ 64) f →
+pub length-relabelled : (r : RangeView) (change : LabelView → LabelView) (f : Labels) → NothingFrom (2 ^ 64) f →
     length (records_for (relabel_range r change f)) ≤ length (records_for f) + 2
 unfolding records_for
 length-relabelled r change f none = relabelled_length same_label label_tells r change f none
 
 -- each record is cut to one record or to none
-one_stretch : (start until : ℕ) (v : Label) → length (stretch start until (Some v)) ≤ 1
+one_stretch : (start until : ℕ) (v : LabelView) → length (stretch start until (Some v)) ≤ 1
 one_stretch start until v = elim (cases_Bool (nat_lt start until)) as (λ _. length (stretch start until (Some v)) ≤ 1) [
   | inl some ↦ rw some (omega arith)
   | inr none ↦ rw none (omega arith)
 ]
 
-cut_few : (f : Labels) (at : ℕ) (rs xs : List (RunOf Label)) → Turns f at rs → IsSweptTo (trimmed f) at xs →
-    (ss : List (RunOf Label)) × IsRunsOf (trimmed f) ss × (length ss ≤ length xs + length rs)
+cut_few : (f : Labels) (at : ℕ) (rs xs : List (RunOf LabelView)) → Turns f at rs → IsSweptTo (trim_frames f) at xs →
+    (ss : List (RunOf LabelView)) × IsRunsOf (trim_frames f) ss × (length ss ≤ length xs + length rs)
 cut_few f at [] xs turns swept = (xs, trim_all f at xs swept turns, omega arith)
 cut_few f at (r ∷ rs) xs turns swept =
     let up : ℕ = r.base + (4096 - r.base % 4096) % 4096 in
@@ -56,13 +56,13 @@ cut_few f at (r ∷ rs) xs turns swept =
     let few = one_stretch up down r.value in
     (next.0, next.1, omega (arith, next.2, few, length-append xs one))
 
-pub length-trimmed : (f : Labels) → NothingFrom (2 ^ 64) f → length (records_for (trimmed f)) ≤ length (records_for f)
+pub length-trimmed : (f : Labels) → NothingFrom (2 ^ 64) f → length (records_for (trim_frames f)) ≤ length (records_for f)
 length-trimmed f none =
     let rs = records_for f in
     let runs = records_for-runs f none in
     let turns : Turns f 0 rs = subst (λ (g : Labels). Turns g 0 rs) (value_at-records f none) (turns_all rs runs.runs) in
-    let cut = cut_few f 0 rs [] turns (swept_none (trimmed f)) in
-    let is : cut.0 ≡ records_for (trimmed f) = records_for-is (trimmed f) cut.0 (nothing-trimmed (2 ^ 64) f none) cut.1 in
+    let cut = cut_few f 0 rs [] turns (swept_none (trim_frames f)) in
+    let is : cut.0 ≡ records_for (trim_frames f) = records_for-is (trim_frames f) cut.0 (nothing-trimmed (2 ^ 64) f none) cut.1 in
     omega (arith, cut.2, ap length is)
 
 -- pieces end as often as they begin: what ends at an address, and what begins behind it
@@ -92,7 +92,7 @@ end_as_begun h (suc n) x =
     omega (arith, rest, step, last)
 
 -- a piece begins where the range does, or where a record ends
-begin_at : (here next : Bool) (a b : Option Label) (s : ℕ) → (here ≡ false → next ≡ true → s ≡ 1) →
+begin_at : (here next : Bool) (a b : Option LabelView) (s : ℕ) → (here ≡ false → next ≡ true → s ≡ 1) →
     one (not (here && is_none a) && (next && is_none b)) ≤ edge same_label a b + s
 begin_at false false a b s first = omega arith
 begin_at false true a None s first = let is = first refl refl in omega arith
@@ -142,7 +142,7 @@ pub one-piece : (r : RangeView) (f : Labels) → end_of r ≤ 2 ^ 64 → 0 < r.s
 unfolding pieces
 one-piece r f ends some blank =
     let g = gaps_in_range r plain_label f in
-    let whole : RunOf Label = record { base = r.base; size = r.size; value = plain_label } in
+    let whole : RunOf LabelView = record { base = r.base; size = r.size; value = plain_label } in
     let each : (x : ℕ) → value_at (whole ∷ []) x ≡ g x = λ x. elim (cases_Bool (covers r x)) as (λ _. value_at (whole ∷ []) x ≡ g x) [
       | inl lies ↦ rw (lies, blank x (grind (arith, nat_tests)) (grind (arith, nat_tests))) refl
       | inr out ↦ rw out refl

@@ -8,7 +8,7 @@ use Rattle.run_edits.specs.Ends.{edges, total, HasRoomToEdit}
 use Rattle.run_edits.proofs.EndLaws.{all_ends, total-split}
 use Rattle.run_edits.proofs.AmendLaws.{amended_ends}
 use Rattle.run_edits.proofs.CountLaws.{room_by, covered_edges, pieces_ends}
-use Rattle.memblock_model.specs.Labels.{Label, Labels, plain_label}
+use Rattle.memblock_model.specs.Labels.{LabelView, Labels, plain_label}
 use Rattle.memblock_model.specs.Same.{same_label}
 use Rattle.memblock_model.specs.Tables.{records_for, pieces}
 use Rattle.memblock_model.proofs.SameLaws.{label_tells}
@@ -22,7 +22,7 @@ unfolding pieces records_for
 pieces_are r f ends = pieces_ends same_label label_tells r plain_label f ends
 
 -- there is room to cover a range where there is room for its pieces
-pub cover_room : (rs : List (RunOf Label)) (r : RangeView) (v : Label) (room : ℕ) → AreRecords rs → r.base + r.size ≤ 2 ^ 64 →
+pub cover_room : (rs : List (RunOf LabelView)) (r : RangeView) (v : LabelView) (room : ℕ) → AreRecords rs → r.base + r.size ≤ 2 ^ 64 →
     length rs + pieces r (value_at rs) ≤ room → HasRoomToEdit same_label (value_at rs) (cover_range r v (value_at rs)) room
 cover_room rs r v room known ends fits =
     let f = value_at rs in
@@ -36,14 +36,14 @@ cover_room rs r v room known ends fits =
     (omega (arith, count, fits))
 
 -- what an edit leaves are the records of what the addresses carry then
-pub edited_list : (change : Option Label → Option Label) (r : RangeView) (rs now : List (RunOf Label)) → AreRecords rs →
+pub edited_list : (change : Option LabelView → Option LabelView) (r : RangeView) (rs now : List (RunOf LabelView)) → AreRecords rs →
     r.base + r.size ≤ 2 ^ 64 →
     IsRunsOf (change_range change r (value_at rs)) now → now ≡ records_for (change_range change r (value_at rs))
 edited_list change r rs now known ends runs =
     records_for-is (change_range change r (value_at rs)) now (amended_ends change r (value_at rs) (2 ^ 64) ends known.within) runs
 
 -- an empty range changes nothing
-pub no_edit : (change : Option Label → Option Label) (r : RangeView) (rs : List (RunOf Label)) → AreRecords rs → r.size ≡ 0 →
+pub no_edit : (change : Option LabelView → Option LabelView) (r : RangeView) (rs : List (RunOf LabelView)) → AreRecords rs → r.size ≡ 0 →
     rs ≡ records_for (change_range change r (value_at rs))
 no_edit change r rs known empty =
     let f = value_at rs in

@@ -5,8 +5,8 @@ use Rattle.address_runs.proofs.RunsLaws.{behind}
 use Rattle.std.proofs.lemmas.Bool.Decides.{nat_tests}
 use Rattle.phys_store.specs.Bytes.{Stored, byte_of, bytes_at}
 use Rattle.address_runs.specs.Runs.{RunOf, AreRuns}
-use Rattle.memblock_model.specs.Labels.{Label, plain_label, with_node, with_mirror}
-use Rattle.memblock_model.specs.declared.which.Which.TheVariants as which
+use Rattle.memblock_model.specs.Labels.{LabelView, plain_label, with_node, with_mirror}
+use Rattle.memblock_model.specs.declared.owner.Which.TheVariants as which
 use Rattle.memblock_model.specs.declared.owner.Owner.TheVariants as owner
 use Rattle.memblock_model.specs.declared.item.Item.TheVariants as item
 use Rattle.memblock_ranges.specs.declared.region.Head.{Head}
@@ -22,21 +22,21 @@ use Rattle.memblock_ranges.proofs.TableSpelling.{stands}
 abbrev first_record : List ℕ
 first_record = 0 ∷ 0x10 ∷ 0 ∷ 0 ∷ 0 ∷ 0 ∷ 0 ∷ 0 ∷ 0 ∷ 0xE0 ∷ 9 ∷ 0 ∷ 0 ∷ 0 ∷ 0 ∷ 0 ∷ 0 ∷ 0 ∷ 0 ∷ 0 ∷ 0 ∷ 0 ∷ 0 ∷ 0 ∷ []
 
-abbrev in_node_0 : Label
+abbrev in_node_0 : LabelView
 in_node_0 = with_node (Some 0) plain_label
 
-abbrev first_run : RunOf Label
+abbrev first_run : RunOf LabelView
 first_run = record { base = 0x1000; size = 0x9E000; value = in_node_0 }
 
 -- the same memory, mirrored: its flags, at 16, are 2
 abbrev mirrored_record : List ℕ
 mirrored_record = 0 ∷ 0x10 ∷ 0 ∷ 0 ∷ 0 ∷ 0 ∷ 0 ∷ 0 ∷ 0 ∷ 0xE0 ∷ 9 ∷ 0 ∷ 0 ∷ 0 ∷ 0 ∷ 0 ∷ 2 ∷ 0 ∷ 0 ∷ 0 ∷ 0 ∷ 0 ∷ 0 ∷ 0 ∷ []
 
-abbrev mirrored_run : RunOf Label
+abbrev mirrored_run : RunOf LabelView
 mirrored_run = record { base = 0x1000; size = 0x9E000; value = with_mirror in_node_0 }
 
 -- a record of the reserved table
-abbrev kernel_run : RunOf Label
+abbrev kernel_run : RunOf LabelView
 kernel_run = record { base = 0x1000000; size = 0x2000000; value = plain_label }
 
 -- of memory, of mirrored memory, and of a claim
@@ -87,7 +87,7 @@ fits_examples = (
 no_fit : ¬ FitsRecord (record { base = 0; size = 1; value = with_node (Some 1024) plain_label })
     × ¬ FitsRecord (record { base = 1; size = 2 ^ 64 - 1; value = plain_label })
 no_fit = (
-  (λ fits. let clash : None ≡ Some 1024 = ap (λ (l : Label). l.node) fits.back in cc clash),
+  (λ fits. let clash : None ≡ Some 1024 = ap (λ (l : LabelView). l.node) fits.back in cc clash),
   λ fits. absurd (omega (arith, fits.small)),
 )
 
@@ -186,7 +186,7 @@ touching known = known.runs.1.1 refl refl
 parted : AreRuns (first_run ∷ record { base = 0x9F000; size = 1; value = with_mirror in_node_0 } ∷ [])
 parted = (
   omega arith,
-  (omega arith, λ touch same. let clash : false ≡ true = ap (λ (l : Label). l.mirror) same in cc clash),
+  (omega arith, λ touch same. let clash : false ≡ true = ap (λ (l : LabelView). l.mirror) same in cc clash),
   (omega arith, tt, tt),
 )
 
@@ -227,7 +227,7 @@ node_examples = (omega arith, omega arith, refl, λ no. absurd (omega (arith, no
 no_nodes : HaveNoNode [] × ¬ HaveNoNode (first_run ∷ [])
 no_nodes = (
   (λ x label is. cc is),
-  λ plain. let clash : Some 0 ≡ None = ap (λ (l : Label). l.node) (plain 0x1000 in_node_0 refl) in
+  λ plain. let clash : Some 0 ≡ None = ap (λ (l : LabelView). l.node) (plain 0x1000 in_node_0 refl) in
       cc clash,
 )
 

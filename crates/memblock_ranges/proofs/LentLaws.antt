@@ -6,7 +6,7 @@ use Rattle.std.proofs.lemmas.List.{get_or-take, get_or-drop, length-take-le, len
 use Rattle.phys_store.specs.Bytes.{Stored, byte_of, bytes_at}
 use Rattle.phys_store.proofs.ByteLists.{length-bytes_at, get-bytes_at, told_bytes}
 use Rattle.address_runs.specs.Runs.{RunOf}
-use Rattle.memblock_model.specs.Labels.{Label}
+use Rattle.memblock_model.specs.Labels.{LabelView}
 use Rattle.memblock_ranges.specs.declared.region.Head.{Head}
 use Rattle.memblock_ranges.specs.Spelling.{flags_in, node_in, label_of, region_in, region_of, run_in, records_at, node_field, FitsRecord, IsRecord}
 use Rattle.memblock_ranges.specs.Tables.{HasTable, AreRecords, list_in}
@@ -28,7 +28,7 @@ runs_at f a m x zero within = refl
 runs_at f a m x (suc count) within =
     let there : a + (x + 24) ≡ a + x + 24 = omega arith in
     ap (λ (bs : List ℕ). run_in bs ∷ records_at (slice_index (bytes_at f a m)) (x + 24) count) (piece_at f a m x 24 (omega arith))
-    ∙ ap (λ (rs : List (RunOf Label)). run_in (bytes_at f (a + x) 24) ∷ rs) (runs_at f a m (x + 24) count (omega arith)
+    ∙ ap (λ (rs : List (RunOf LabelView)). run_in (bytes_at f (a + x) 24) ∷ rs) (runs_at f a m (x + 24) count (omega arith)
     ∙ ap (λ (y : ℕ). records_at f y count) there)
 
 -- the table's records are those that its bytes spell
@@ -58,7 +58,7 @@ slice_is bs from until n is within =
     (λ k less. get_or-take (until - from) (drop from bs) k 0 (omega arith) ∙ get_or-drop from bs k 0)
 
 -- what is read of a record tells all of it
-pub record_is : (bs : List ℕ) (count i : ℕ) (r : RunOf Label) → AreLent bs count → i < count
+pub record_is : (bs : List ℕ) (count i : ℕ) (r : RunOf LabelView) → AreLent bs count → i < count
     → region_in (bytes_at (slice_index bs) (24 * i) 24) ≡ region_of (get_or (runs_in bs count) i r)
 record_is bs count i r lent less =
     let here : 0 + 24 * i ≡ 24 * i = omega arith in
@@ -75,7 +75,7 @@ run_fits bs known =
           ∙ ap (label_of (flags_in bs)) back;
     }
 
-pub record_fits : (bs : List ℕ) (count i : ℕ) (r : RunOf Label) → AreLent bs count → i < count
+pub record_fits : (bs : List ℕ) (count i : ℕ) (r : RunOf LabelView) → AreLent bs count → i < count
     → FitsRecord (get_or (runs_in bs count) i r)
 record_fits bs count i r lent less =
     let here : 0 + 24 * i ≡ 24 * i = omega arith in

@@ -5,7 +5,7 @@ use Rattle.std.proofs.lemmas.Bool.Decides.{nat_tests}
 use Rattle.bm_base.specs.Range.{covers}
 use Rattle.phys_store.specs.Bytes.{Stored, byte_of, is_ready}
 use Rattle.address_runs.specs.Runs.{RunOf}
-use Rattle.memblock_model.specs.Labels.{Label}
+use Rattle.memblock_model.specs.Labels.{LabelView}
 use Rattle.memblock_ranges.specs.declared.region.Head.{Head}
 use Rattle.memblock_ranges.specs.Spelling.{records_at}
 use Rattle.memblock_ranges.specs.Tables.{HasTable, list_in, Table, table_by, bytes_by, AreRecords, AreTables, HaveNoNode}
@@ -56,5 +56,5 @@ new_tables s end long small zeros ready = record {
 }
 
 pub first_table : (s : List Stored) (place : ℕ) → table_by s (first_head place) ≡ record { records = []; place = place; room = 128 }
-first_table s place = ap (λ (rs : List (RunOf Label)). let t : Table = record { records = rs; place = place; room = 128 } in
+first_table s place = ap (λ (rs : List (RunOf LabelView)). let t : Table = record { records = rs; place = place; room = 128 } in
     t) (no_records s place)

@@ -7,11 +7,11 @@ use Rattle.bm_base.specs.Range.{RangeView, covers, Meet}
 use Rattle.phys_store.specs.Bytes.{Stored, byte_of, is_ready, Wrote}
 use Rattle.address_runs.specs.Runs.{RunOf, value_at}
 use Rattle.address_runs.specs.Edits.{change_range, cover_range, uncover_range}
-use Rattle.memblock_model.specs.Labels.{Label, Labels, plain_label}
+use Rattle.memblock_model.specs.Labels.{LabelView, Labels, plain_label}
 use Rattle.memblock_model.specs.Tables.{records_for}
 use Rattle.memblock_model.proofs.TableLaws.{value_at-records}
 use Rattle.run_edits.proofs.AmendLaws.{amended_ends}
-use Rattle.memblock_model.specs.declared.which.Which.TheVariants as which
+use Rattle.memblock_model.specs.declared.owner.Which.TheVariants as which
 use Rattle.memblock_ranges.specs.declared.region.Head.{Head}
 use Rattle.memblock_ranges.specs.Tables.{HasTable, list_in, Contents, Overlaps, table_by, bytes_by, Table, Edits, Moves, AreRecords, AreTables, HaveNoNode}
 use Rattle.memblock_ranges.proofs.SpellLaws.{same_records}
@@ -41,19 +41,19 @@ stays s t h same ready table =
         zeros = λ x low high. at x (omega arith) high ∙ table.zeros x low high;
         prepared = λ x low high. ready x (table.prepared x low high);
       },
-      ap (λ (rs : List (RunOf Label)). let q : Table = record { records = rs; place = h.place; room = h.room } in q)
+      ap (λ (rs : List (RunOf LabelView)). let q : Table = record { records = rs; place = h.place; room = h.room } in q)
           (same_records (byte_of s) (byte_of t) h.place h.place h.count (λ k in_it. at (h.place + k) (omega arith) (omega arith))),
     )
 
 -- beside the table that is edited no byte changes
-pub edited_at : (s t : List Stored) (g h : Head) (list : List (RunOf Label)) → Edits s t g h list → (x : ℕ) →
+pub edited_at : (s t : List Stored) (g h : Head) (list : List (RunOf LabelView)) → Edits s t g h list → (x : ℕ) →
     covers (bytes_by g) x ≡ false → byte_of t x ≡ byte_of s x
 edited_at s t g h list e x out = rw out at (ap (λ (o : ℕ → ℕ). o x) e.others)
 
-pub edited_ready : (s t : List Stored) (g h : Head) (list : List (RunOf Label)) → Edits s t g h list → (x : ℕ) → is_ready t x ≡ is_ready s x
+pub edited_ready : (s t : List Stored) (g h : Head) (list : List (RunOf LabelView)) → Edits s t g h list → (x : ℕ) → is_ready t x ≡ is_ready s x
 edited_ready s t g h list e x = ap (λ (o : ℕ → Bool). o x) e.ready
 
-same_bytes_by : (s t : List Stored) (g h : Head) (list : List (RunOf Label)) → Edits s t g h list → bytes_by h ≡ bytes_by g
+same_bytes_by : (s t : List Stored) (g h : Head) (list : List (RunOf LabelView)) → Edits s t g h list → bytes_by h ≡ bytes_by g
 same_bytes_by s t g h list e = rw (e.place_is, e.room_is) refl
 
 -- a reserved table that stays, beside a table of memory
@@ -74,7 +74,7 @@ beside_memory s t m r h both other table apart known =
       other.1,
     )
 
-pub pair_memory : (s t : List Stored) (m r h : Head) (list : List (RunOf Label)) → AreTables s m r → Edits s t m h list →
+pub pair_memory : (s t : List Stored) (m r h : Head) (list : List (RunOf LabelView)) → AreTables s m r → Edits s t m h list →
     AreRecords (list_in t h) →
     AreTables t h r × (table_by t r ≡ table_by s r)
 pair_memory s t m r h list both e known =
@@ -83,7 +83,7 @@ pair_memory s t m r h list both e known =
     beside_memory s t m r h both other e.table
     (λ meet. both.apart (subst (λ (q : RangeView). Meet q (bytes_by r)) (same_bytes_by s t m h list e) meet)) known
 
-pub pair_reserved : (s t : List Stored) (m r h : Head) (list : List (RunOf Label)) → AreTables s m r → Edits s t r h list →
+pub pair_reserved : (s t : List Stored) (m r h : Head) (list : List (RunOf LabelView)) → AreTables s m r → Edits s t r h list →
     AreRecords (list_in t h) →
     HaveNoNode list → AreTables t m h × (table_by t m ≡ table_by s m)
 pair_reserved s t m r h list both e known plain =
@@ -103,9 +103,9 @@ pair_reserved s t m r h list both e known plain =
     )
 
 -- no edit of the reserved table gives a record a node, where what it writes has none
-plain_amended : (change : Option Label → Option Label)
-    → ((o : Option Label) (label : Label) → ((l : Label) → o ≡ Some l → l ≡ plain_label) → change o ≡ Some label → label ≡ plain_label)
-    → (r : RangeView) (rs : List (RunOf Label)) → AreRecords rs → HaveNoNode rs → r.base + r.size ≤ 2 ^ 64 →
+plain_amended : (change : Option LabelView → Option LabelView)
+    → ((o : Option LabelView) (label : LabelView) → ((l : LabelView) → o ≡ Some l → l ≡ plain_label) → change o ≡ Some label → label ≡ plain_label)
+    → (r : RangeView) (rs : List (RunOf LabelView)) → AreRecords rs → HaveNoNode rs → r.base + r.size ≤ 2 ^ 64 →
     HaveNoNode (records_for (change_range change r (value_at rs)))
 plain_amended change written r rs known plain ends x label is =
     let f = value_at rs in
@@ -117,18 +117,18 @@ plain_amended change written r rs known plain ends x label is =
       | inr out ↦ plain x label (rw out at carried)
     ]
 
-plain_or : (o : Option Label) (label : Label) → ((l : Label) → o ≡ Some l → l ≡ plain_label) →
+plain_or : (o : Option LabelView) (label : LabelView) → ((l : LabelView) → o ≡ Some l → l ≡ plain_label) →
     Some (unwrap_or o plain_label) ≡ Some label → label ≡ plain_label
 plain_or None label plain is = sym (cc is)
 plain_or (Some l) label plain is = plain label is
 
-pub plain_covered : (r : RangeView) (rs : List (RunOf Label)) → AreRecords rs → HaveNoNode rs → r.base + r.size ≤ 2 ^ 64 →
+pub plain_covered : (r : RangeView) (rs : List (RunOf LabelView)) → AreRecords rs → HaveNoNode rs → r.base + r.size ≤ 2 ^ 64 →
     HaveNoNode (records_for (cover_range r plain_label (value_at rs)))
 plain_covered = plain_amended (λ carried. Some (unwrap_or carried plain_label)) plain_or
 
-pub plain_uncovered : (r : RangeView) (rs : List (RunOf Label)) → AreRecords rs → HaveNoNode rs → r.base + r.size ≤ 2 ^ 64 →
+pub plain_uncovered : (r : RangeView) (rs : List (RunOf LabelView)) → AreRecords rs → HaveNoNode rs → r.base + r.size ≤ 2 ^ 64 →
     HaveNoNode (records_for (uncover_range r (value_at rs)))
-plain_uncovered = plain_amended (λ (carried : Option Label). None) (λ o label plain is. cc is)
+plain_uncovered = plain_amended (λ (carried : Option LabelView). None) (λ o label plain is. cc is)
 
 -- a table that moves beside another one
 moved_apart : (s t : List Stored) (g h o : Head) (place : ℕ) → Moves s t g h place →

@@ -9,7 +9,7 @@ use Rattle.address_runs.specs.Edits.{gaps_in_range}
 use Rattle.address_runs.specs.Sweep.{Stays}
 use Rattle.run_edits.specs.Ends.{edge, edges, total}
 use Rattle.run_edits.proofs.EndLaws.{total-split, total-quiet, total-next, edge-self}
-use Rattle.memblock_model.specs.Labels.{Label, Labels, plain_label}
+use Rattle.memblock_model.specs.Labels.{LabelView, Labels, plain_label}
 use Rattle.memblock_model.specs.Same.{same_label}
 use Rattle.memblock_model.specs.Tables.{pieces}
 use Rattle.memblock_model.proofs.SameLaws.{label_tells}
@@ -31,7 +31,7 @@ stretch_ends same tells g from to v less stays =
     let here : edges same g last ≡ edge same v (g to) = rw (stays last (omega arith) (omega arith), at_end) refl in
     omega (arith, parts, quiet, one, rest, here)
 
-abbrev pub bare_label : Bool → Option Label
+abbrev pub bare_label : Bool → Option LabelView
 bare_label b = if b then Some plain_label else None
 
 -- what a bare byte carries, and its neighbour
@@ -88,7 +88,7 @@ one_at_most true = omega arith
 one_at_most false = omega arith
 
 -- what a test for nothing tells
-pub none_told : (b : Bool) (o : Option Label) → is_some o ≡ not b → b ≡ is_none o
+pub none_told : (b : Bool) (o : Option LabelView) → is_some o ≡ not b → b ≡ is_none o
 none_told true None told = refl
 none_told true (Some l) told = absurd (false≢true (sym told))
 none_told false None told = absurd (false≢true told)

@@ -8,7 +8,7 @@ use Rattle.byteorder.specs.Numbers.{little_number-reads_back, length-bytes_low_f
 use Rattle.phys_store.specs.Bytes.{bytes_at}
 use Rattle.phys_store.proofs.ByteLists.{length-bytes_at, get-bytes_at, told_bytes}
 use Rattle.address_runs.specs.Runs.{RunOf}
-use Rattle.memblock_model.specs.Labels.{Label}
+use Rattle.memblock_model.specs.Labels.{LabelView}
 use Rattle.memblock_ranges.specs.declared.region.Region.{Region}
 use Rattle.memblock_ranges.specs.Spelling.{base_in, size_in, flags_in, node_in, region_in, fields_of, label_of, flags_field, node_field, run_in, region_of, spelling_of, records_at, FitsRecord, IsRecord}
 
@@ -35,7 +35,7 @@ split_records f a (suc m) n =
     let more : suc m + n ≡ suc (m + n) = omega arith in
     let there : a + 24 + 24 * m ≡ a + 24 * suc m = omega arith in
     ap (λ k. records_at f a k) more
-    ∙ ap (λ (rs : List (RunOf Label)). run_in (bytes_at f a 24) ∷ rs)
+    ∙ ap (λ (rs : List (RunOf LabelView)). run_in (bytes_at f a 24) ∷ rs)
     (split_records f (a + 24) m n ∙ ap (λ x. records_at f (a + 24) m ++ records_at f x n) there)
 
 pub length-records_at : (f : ℕ → ℕ) (a n : ℕ) → length (records_at f a n) ≡ n
@@ -43,7 +43,7 @@ unfolding records_at
 length-records_at f a zero = refl
 length-records_at f a (suc n) = let rest = length-records_at f (a + 24) n in omega (arith, rest)
 
-pub get-records_at : (f : ℕ → ℕ) (a n i : ℕ) (d : RunOf Label) → i < n → get_or (records_at f a n) i d ≡ run_in (bytes_at f (a + 24 * i) 24)
+pub get-records_at : (f : ℕ → ℕ) (a n i : ℕ) (d : RunOf LabelView) → i < n → get_or (records_at f a n) i d ≡ run_in (bytes_at f (a + 24 * i) 24)
 unfolding records_at
 get-records_at f a zero i d below = absurd (omega arith)
 get-records_at f a (suc n) zero d below = ap (λ x. run_in (bytes_at f x 24)) (omega arith)
@@ -112,14 +112,14 @@ node-fields_of base size flags node small =
     ap (little_number 4) (behind_flags base size flags node) ∙ little_number-reads_back 4 node [] small
 
 -- the flags of a label are few
-few_flags : (label : Label) → flags_field label ≤ 2
+few_flags : (label : LabelView) → flags_field label ≤ 2
 few_flags label = elim (cases_Bool label.mirror) as (λ _. flags_field label ≤ 2) [
   | inl on ↦ rw on (omega arith)
   | inr off ↦ rw off (omega arith)
 ]
 
 -- all that a record's bytes say is read back
-read_back : (r : RunOf Label) → FitsRecord r → region_in (spelling_of r) ≡ region_of r
+read_back : (r : RunOf LabelView) → FitsRecord r → region_in (spelling_of r) ≡ region_of r
 read_back r fits =
     let few = few_flags r.value in
     let f = flags_field r.value in
@@ -130,18 +130,18 @@ read_back r fits =
     let node = node-fields_of r.base r.size f n (omega (arith, fits.node)) in
     λ j. record { base = base j; size = size j; flags = flags j; node = node j }
 
-pub run_back : (r : RunOf Label) → FitsRecord r → run_in (spelling_of r) ≡ r
+pub run_back : (r : RunOf LabelView) → FitsRecord r → run_in (spelling_of r) ≡ r
 run_back r fits =
     ap (λ (g : Region). record { base = g.base; size = g.size; value = label_of g.flags g.node }) (read_back r fits)
-    ∙ ap (λ (l : Label). record { base = r.base; size = r.size; value = l }) fits.back
+    ∙ ap (λ (l : LabelView). record { base = r.base; size = r.size; value = l }) fits.back
 
-pub is_record : (r : RunOf Label) → FitsRecord r → IsRecord (spelling_of r)
+pub is_record : (r : RunOf LabelView) → FitsRecord r → IsRecord (spelling_of r)
 is_record r fits =
     let is = read_back r fits in
     record {
       spells = sym (ap (λ (g : Region). fields_of g.base g.size g.flags g.node) is);
       within = subst (λ (g : Region). g.base + g.size < 2 ^ 64) (sym is) fits.small;
       flags = ap (λ (g : Region). g.flags) is
-          ∙ sym (ap (λ (l : Label). flags_field l) (ap (λ (g : Region). label_of g.flags g.node) is ∙ fits.back));
+          ∙ sym (ap (λ (l : LabelView). flags_field l) (ap (λ (g : Region). label_of g.flags g.node) is ∙ fits.back));
       node = subst (λ (g : Region). g.node ≤ 1024) (sym is) fits.node;
     }

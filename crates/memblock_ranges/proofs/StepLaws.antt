@@ -5,23 +5,23 @@ use Rattle.std.specs.Option.{option_map}
 use Rattle.address_runs.specs.Runs.{RunOf, value_at}
 use Rattle.address_runs.specs.Edits.{NothingFrom}
 use Rattle.run_edits.proofs.AmendLaws.{amended_ends}
-use Rattle.memblock_model.specs.declared.which.Which.{Which}
-use Rattle.memblock_model.specs.declared.which.Which.TheVariants as which
+use Rattle.memblock_model.specs.declared.owner.Which.{Which}
+use Rattle.memblock_model.specs.declared.owner.Which.TheVariants as which
 use Rattle.memblock_model.specs.declared.item.Item.{Item}
 use Rattle.memblock_model.specs.declared.item.Item.TheVariants as item
-use Rattle.memblock_model.specs.Labels.{Label, Labels, plain_label, with_node, with_mirror}
+use Rattle.memblock_model.specs.Labels.{LabelView, Labels, plain_label, with_node, with_mirror}
 use Rattle.memblock_model.specs.Tables.{table_of, table_after, records_for, records_of}
 use Rattle.memblock_model.proofs.ItemLaws.{table_of-push}
 use Rattle.memblock_model.proofs.TableLaws.{records-edit, nothing-trimmed}
 use Rattle.memblock_ranges.specs.Steps.{EndsInSpace}
 
-pub edited-items : (w : Which) (items : List Item) (i : Item) (old new : List (RunOf Label)) → NothingFrom (2 ^ 64) (table_of w items) →
+pub edited-items : (w : Which) (items : List Item) (i : Item) (old new : List (RunOf LabelView)) → NothingFrom (2 ^ 64) (table_of w items) →
     old ≡ records_of w items → new ≡ records_for (table_after w (value_at old) i) → new ≡ records_of w (items ++ i ∷ [])
 unfolding records_of
 edited-items w items i old new none was is =
     records-edit (λ f. table_after w f i) (table_of w items) (table_of w (items ++ i ∷ [])) old new none was is (table_of-push w items i)
 
-pub untouched-items : (w : Which) (items : List Item) (i : Item) (old : List (RunOf Label)) → old ≡ records_of w items →
+pub untouched-items : (w : Which) (items : List Item) (i : Item) (old : List (RunOf LabelView)) → old ≡ records_of w items →
     table_after w (table_of w items) i ≡ table_of w items → old ≡ records_of w (items ++ i ∷ [])
 unfolding records_of
 untouched-items w items i old was same = was ∙ ap records_for (sym (table_of-push w items i ∙ same))
@@ -43,7 +43,7 @@ after_within which.Reserved f (item.Node range node) ends none = none
 after_within which.Reserved f (item.Mirror range) ends none = none
 after_within which.Reserved f (item.Claim range owner) ends none =
     amended_ends (λ carried. Some (unwrap_or carried plain_label)) range f (2 ^ 64) ends none
-after_within which.Reserved f (item.Free range) ends none = amended_ends (λ (carried : Option Label). None) range f (2 ^ 64) ends none
+after_within which.Reserved f (item.Free range) ends none = amended_ends (λ (carried : Option LabelView). None) range f (2 ^ 64) ends none
 after_within which.Reserved f (item.Limit at) ends none = none
 after_within which.Reserved f (item.Upward on) ends none = none
 after_within which.Reserved f (item.Grown v place room) ends none = none

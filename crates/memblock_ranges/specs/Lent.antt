@@ -2,12 +2,12 @@
 use Rattle.std.specs.Prelude.{◌≡◌, ℕ, ◌*◌, ◌^◌, ◌<◌, List, length, slice_index}
 use Rattle.phys_store.specs.Bytes.{bytes_at}
 use Rattle.address_runs.specs.Runs.{RunOf}
-use Rattle.memblock_model.specs.Labels.{Label}
+use Rattle.memblock_model.specs.Labels.{LabelView}
 use Rattle.memblock_ranges.specs.Spelling.{IsRecord, records_at}
 use Rattle.memblock_ranges.specs.Tables.{AreRecords}
 
 -- the runs of the first so many records that the bytes spell
-abbrev pub runs_in : List ℕ → ℕ → List (RunOf Label)
+abbrev pub runs_in : List ℕ → ℕ → List (RunOf LabelView)
 runs_in bs count = records_at (slice_index bs) 0 count
 
 -- the bytes are those of so many records, which are in order

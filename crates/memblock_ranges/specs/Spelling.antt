@@ -5,7 +5,7 @@ use Rattle.std.specs.Prelude.{◌≡◌, ℕ, zero, suc, ◌+◌, ◌-◌, ◌*�
 use Rattle.byteorder.specs.Endian.{little_number, little_bytes}
 use Rattle.phys_store.specs.Bytes.{bytes_at}
 use Rattle.address_runs.specs.Runs.{RunOf, run_end}
-use Rattle.memblock_model.specs.Labels.{Label}
+use Rattle.memblock_model.specs.Labels.{LabelView}
 use Rattle.memblock_ranges.specs.declared.region.Region.{Region}
 
 -- the numbers at the offsets of a record
@@ -33,38 +33,38 @@ fields_of base size flags node = little_bytes 8 base ++ (little_bytes 8 size ++ 
 abbrev pub node_of_field : ℕ → Option ℕ
 node_of_field field = if field == 1024 then None else Some field
 
-abbrev pub label_of : ℕ → ℕ → Label
+abbrev pub label_of : ℕ → ℕ → LabelView
 label_of flags field = record { node = node_of_field field; mirror = flags == 2 }
 
 -- the flags and the node field of a label
-abbrev pub flags_field : Label → ℕ
+abbrev pub flags_field : LabelView → ℕ
 flags_field label = if label.mirror then 2 else 0
 
-abbrev pub node_field : Label → ℕ
+abbrev pub node_field : LabelView → ℕ
 node_field label = unwrap_or label.node 1024
 
 -- the run that a record stands for, and the region and the bytes of a run
-abbrev pub run_in : List ℕ → RunOf Label
+abbrev pub run_in : List ℕ → RunOf LabelView
 run_in bs = record { base = base_in bs; size = size_in bs; value = label_of (flags_in bs) (node_in bs) }
 
-abbrev pub region_of : RunOf Label → Region
+abbrev pub region_of : RunOf LabelView → Region
 region_of r = record { base = r.base; size = r.size; flags = flags_field r.value; node = node_field r.value }
 
-abbrev pub spelling_of : RunOf Label → List ℕ
+abbrev pub spelling_of : RunOf LabelView → List ℕ
 spelling_of r = fields_of r.base r.size (flags_field r.value) (node_field r.value)
 
 -- the runs of the n records from the address a on
-unfoldable pub records_at : (ℕ → ℕ) → ℕ → ℕ → List (RunOf Label)
+unfoldable pub records_at : (ℕ → ℕ) → ℕ → ℕ → List (RunOf LabelView)
 records_at f a zero = []
 records_at f a (suc n) = run_in (bytes_at f a 24) ∷ records_at f (a + 24) n
 
 -- the records of a table with room for n: the bytes of its runs, then zeros
-unfoldable pub spelled_table : List (RunOf Label) → ℕ → List ℕ
+unfoldable pub spelled_table : List (RunOf LabelView) → ℕ → List ℕ
 spelled_table [] n = replicate (24 * n) 0
 spelled_table (r ∷ rs) n = spelling_of r ++ spelled_table rs (n - 1)
 
 -- the run can be written as a record, and is read back
-pub record FitsRecord (r : RunOf Label) : Type 0 where
+pub record FitsRecord (r : RunOf LabelView) : Type 0 where
   pub small : run_end r < 2 ^ 64
   pub node : node_field r.value ≤ 1024
   pub back : label_of (flags_field r.value) (node_field r.value) ≡ r.value

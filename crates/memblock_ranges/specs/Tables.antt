@@ -4,9 +4,9 @@ use Rattle.bm_base.specs.Range.{RangeView, covers, Meet}
 use Rattle.phys_store.specs.Bytes.{Stored, byte_of, is_ready, AreReady, bytes_at}
 use Rattle.address_runs.specs.Runs.{RunOf, AreRuns, value_at}
 use Rattle.address_runs.specs.Edits.{NothingFrom}
-use Rattle.memblock_model.specs.Labels.{Label, plain_label}
-use Rattle.memblock_model.specs.declared.which.Which.{Which}
-use Rattle.memblock_model.specs.declared.which.Which.TheVariants as which
+use Rattle.memblock_model.specs.Labels.{LabelView, plain_label}
+use Rattle.memblock_model.specs.declared.owner.Which.{Which}
+use Rattle.memblock_model.specs.declared.owner.Which.TheVariants as which
 use Rattle.memblock_ranges.specs.Spelling.{IsRecord, region_in, region_of, records_at, spelled_table}
 use Rattle.memblock_ranges.specs.declared.region.Head.{Head}
 
@@ -34,14 +34,14 @@ abbrev pub kept_of : List Stored → Head → Kept
 kept_of s h = record { place = h.place; room = h.room; others = outside (byte_of s) h.place h.room; ready = is_ready s }
 
 -- the table of a head in a store
-abbrev pub list_in : List Stored → Head → List (RunOf Label)
+abbrev pub list_in : List Stored → Head → List (RunOf LabelView)
 list_in s h = records_at (byte_of s) h.place h.count
 
 abbrev pub HasTable : List Stored → Head → Type 0
 HasTable s h = IsTable (byte_of s) (is_ready s) h.place h.room h.count
 
 -- the head's table has other records then, and all else is as it was
-pub record Edits (s t : List Stored) (g h : Head) (list : List (RunOf Label)) : Type 0 where
+pub record Edits (s t : List Stored) (g h : Head) (list : List (RunOf LabelView)) : Type 0 where
   pub list_is : list_in t h ≡ list
   pub table : HasTable t h
   pub place_is : h.place ≡ g.place
@@ -50,13 +50,13 @@ pub record Edits (s t : List Stored) (g h : Head) (list : List (RunOf Label)) : 
   pub ready : is_ready t ≡ is_ready s
 
 -- records in order, none empty, no two that could be one, and none passes the end of addresses
-pub record AreRecords (rs : List (RunOf Label)) : Type 0 where
+pub record AreRecords (rs : List (RunOf LabelView)) : Type 0 where
   pub runs : AreRuns rs
   pub within : NothingFrom (2 ^ 64) (value_at rs)
 
 -- a table as contracts see it: its records as runs, where it lies, and how many records it has room for
 pub record Table : Type 0 where
-  pub records : List (RunOf Label)
+  pub records : List (RunOf LabelView)
   pub place : ℕ
   pub room : ℕ
 
@@ -74,7 +74,7 @@ abbrev pub other_in : Which → Contents → Table
 other_in which.Memory t = t.reserved
 other_in which.Reserved t = t.memory
 
-abbrev pub records_in : Which → Contents → List (RunOf Label)
+abbrev pub records_in : Which → Contents → List (RunOf LabelView)
 records_in w t = (table_in w t).records
 
 abbrev pub place_in : Which → Contents → ℕ
@@ -105,7 +105,7 @@ pub record StandsIn (t : Table) (store : List Stored) : Type 0 where
   pub fits : t.place + 24 * t.room < 2 ^ 64
   pub records : AreRecords t.records
   pub bytes : bytes_at (byte_of store) t.place (24 * t.room) ≡ spelled_table t.records t.room
-  pub regions : (i : ℕ) (r : RunOf Label) → i < length t.records →
+  pub regions : (i : ℕ) (r : RunOf LabelView) → i < length t.records →
       region_in (bytes_at (byte_of store) (t.place + 24 * i) 24) ≡ region_of (get_or t.records i r)
   pub prepared : AreReady store t.place (24 * t.room)
 
@@ -115,8 +115,8 @@ IsNodeOf which.Memory node = node ≤ 1024
 IsNodeOf which.Reserved node = node ≡ 1024
 
 -- no record has a node
-abbrev pub HaveNoNode : List (RunOf Label) → Type 0
-HaveNoNode rs = (x : ℕ) (label : Label) → value_at rs x ≡ Some label → label ≡ plain_label
+abbrev pub HaveNoNode : List (RunOf LabelView) → Type 0
+HaveNoNode rs = (x : ℕ) (label : LabelView) → value_at rs x ≡ Some label → label ≡ plain_label
 
 -- the table of a head, as contracts see it
 abbrev pub table_by : List Stored → Head → Table

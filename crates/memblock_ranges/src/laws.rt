@@ -4,10 +4,10 @@ ghost use Rattle.std.specs.Prelude.{◌≡◌, ℕ, ◌+◌, ◌^◌, ◌<◌, �
 ghost use Rattle.bm_base.specs.Range.{RangeView, end_of};
 ghost use Rattle.address_runs.specs.Runs.{RunOf, value_at};
 ghost use Rattle.address_runs.specs.Edits.{cover_range, uncover_range, relabel_range, NothingFrom};
-ghost use Rattle.memblock_model.specs.declared.which.Which.{Which};
+ghost use Rattle.memblock_model.specs.declared.owner.Which.{Which};
 ghost use Rattle.memblock_model.specs.declared.item.Item.{Item};
-ghost use Rattle.memblock_model.specs.Labels.{Label, Labels};
-ghost use Rattle.memblock_model.specs.Items.{trimmed};
+ghost use Rattle.memblock_model.specs.Labels.{LabelView, Labels};
+ghost use Rattle.memblock_model.specs.Items.{trim_frames};
 ghost use Rattle.memblock_model.specs.Tables.{table_of, table_after, records_for, records_of, pieces};
 ghost use Rattle.memblock_ranges.specs.Steps.{EndsInSpace};
 
@@ -15,14 +15,14 @@ ghost use Rattle.memblock_ranges.specs.Steps.{EndsInSpace};
 /// (`memblock_add_range`, its count), to uncover one adds one, to give it a node two
 /// (`memblock_isolate_range`), and to trim none.
 pub fn edits_add_few_records()
-    ensures covered { (r : RangeView) (label : Label) (f : Labels) → end_of r ≤ 2 ^ 64 → NothingFrom (2 ^ 64) f →
+    ensures covered { (r : RangeView) (label : LabelView) (f : Labels) → end_of r ≤ 2 ^ 64 → NothingFrom (2 ^ 64) f →
         length (records_for (cover_range r label f)) ≤ length (records_for f) + pieces r f }
     ensures uncovered { (r : RangeView) (f : Labels) → NothingFrom (2 ^ 64) f →
         length (records_for (uncover_range r f)) ≤ length (records_for f) + 1 }
-    ensures relabelled { (r : RangeView) (change : Label → Label) (f : Labels) → NothingFrom (2 ^ 64) f →
+    ensures relabelled { (r : RangeView) (change : LabelView → LabelView) (f : Labels) → NothingFrom (2 ^ 64) f →
         length (records_for (relabel_range r change f)) ≤ length (records_for f) + 2 }
     ensures trimmed { (f : Labels) → NothingFrom (2 ^ 64) f →
-        length (records_for (trimmed f)) ≤ length (records_for f) }
+        length (records_for (trim_frames f)) ≤ length (records_for f) }
 {}
 
 /// A law: a range has at most one piece more than there are records, and one piece where nothing of it
@@ -37,10 +37,10 @@ pub fn pieces_are_few()
 /// A law: where a table has the records of a list of items, and then what an item makes of them, it has
 /// the records of the list with the item; and where the item changes nothing of it, the records stay.
 pub fn edits_follow_the_items()
-    ensures edited { (w : Which) (items : List Item) (i : Item) (old new : List (RunOf Label)) →
+    ensures edited { (w : Which) (items : List Item) (i : Item) (old new : List (RunOf LabelView)) →
         NothingFrom (2 ^ 64) (table_of w items) → old ≡ records_of w items →
         new ≡ records_for (table_after w (value_at old) i) → new ≡ records_of w (items ++ i ∷ []) }
-    ensures untouched { (w : Which) (items : List Item) (i : Item) (old : List (RunOf Label)) →
+    ensures untouched { (w : Which) (items : List Item) (i : Item) (old : List (RunOf LabelView)) →
         old ≡ records_of w items → table_after w (table_of w items) i ≡ table_of w items →
         old ≡ records_of w (items ++ i ∷ []) }
     ensures within { (w : Which) (items : List Item) (i : Item) → EndsInSpace i →

@@ -5,8 +5,8 @@ ghost use Rattle.bm_base.specs.Range.{Meet};
 ghost use Rattle.phys_store.specs.Bytes.{AreReady};
 ghost use Rattle.address_runs.specs.Runs.{RunOf, value_at};
 ghost use Rattle.address_runs.specs.Edits.{cover_range, uncover_range, relabel_range};
-ghost use Rattle.memblock_model.specs.Labels.{Label as AnyLabel, with_node, with_mirror};
-ghost use Rattle.memblock_model.specs.Items.{trimmed};
+ghost use Rattle.memblock_model.specs.Labels.{LabelView, with_node, with_mirror};
+ghost use Rattle.memblock_model.specs.Items.{trim_frames};
 ghost use Rattle.memblock_model.specs.Tables.{records_for, pieces};
 ghost use Rattle.memblock_ranges.specs.Spelling.{region_of, FitsRecord};
 ghost use Rattle.memblock_ranges.specs.Tables.{HasTable, list_in, bytes_by, Edits, Moves, AreRecords};
@@ -82,7 +82,7 @@ pub fn trim(store: &mut Store, head: &mut Head)
     requires records { AreRecords (list_in store.old head.old) }
     ensures records { AreRecords (list_in store.new head.new) }
     ensures edits { Edits store.old store.new head.old head.new
-        (records_for (trimmed (value_at (list_in store.old head.old)))) }
+        (records_for (trim_frames (value_at (list_in store.old head.old)))) }
 {
     let mut live = Live { store, head };
     trim::trim(&mut live);
@@ -133,8 +133,8 @@ pub fn pieces(store: &Store, head: &Head, range: &Range) -> u64
 pub fn region(store: &Store, head: &Head, i: u64) -> Region
     requires table { HasTable store.now head.now }
     requires within { i < length (list_in store.now head.now) }
-    ensures region { (r : RunOf AnyLabel) → result ≡ region_of (get_or (list_in store.now head.now) i r) }
-    ensures fits { (r : RunOf AnyLabel) → FitsRecord (get_or (list_in store.now head.now) i r) }
+    ensures region { (r : RunOf LabelView) → result ≡ region_of (get_or (list_in store.now head.now) i r) }
+    ensures fits { (r : RunOf LabelView) → FitsRecord (get_or (list_in store.now head.now) i r) }
 {
     let seen = Seen { store, head };
     region_of(&seen.get(i))

@@ -27,7 +27,7 @@ pub fn label_of(flags: u32, node: u32) -> Label
     requires { node ≤ 1024 }
     ensures { result ≡ label_of flags node }
 {
-    Label::of(node_of_field(node), flags)
+    Label::from_parts(node_of_field(node), flags)
 }
 
 /// The node field of a label: the node, or 1,024 for none.

@@ -2,7 +2,7 @@
 //! its 24 bytes from then on: what a walk over a table reads.
 ghost use Rattle.std.specs.Prelude.{◌≡◌, ◌<◌, length, get_or};
 ghost use Rattle.address_runs.specs.Runs.{RunOf};
-ghost use Rattle.memblock_model.specs.Labels.{Label as AnyLabel};
+ghost use Rattle.memblock_model.specs.Labels.{LabelView};
 ghost use Rattle.memblock_ranges.specs.Spelling.{region_of, FitsRecord};
 ghost use Rattle.memblock_ranges.specs.Tables.{AreRecords};
 
@@ -21,10 +21,10 @@ pub struct Records<'a> {
 impl<'a> Model for Records<'a> {
     ghost use Rattle.std.specs.Prelude.{List};
     ghost use Rattle.address_runs.specs.Runs.{RunOf};
-    ghost use Rattle.memblock_model.specs.Labels.{Label as AnyLabel};
+    ghost use Rattle.memblock_model.specs.Labels.{LabelView};
     ghost use Rattle.memblock_ranges.specs.Lent.{runs_in, AreLent};
 
-    ghost Value = { List (RunOf AnyLabel) };
+    ghost Value = { List (RunOf LabelView) };
 
     ghost view = { λ r. runs_in r.bytes.now r.count };
 
@@ -56,8 +56,8 @@ impl Records<'_> {
     /// 1,024, or 1,024 for none.
     pub fn get(&self, i: u64) -> Region
         requires { i < length self.now }
-        ensures region { (r : RunOf AnyLabel) → result ≡ region_of (get_or self.now i r) }
-        ensures fits { (r : RunOf AnyLabel) → FitsRecord (get_or self.now i r) }
+        ensures region { (r : RunOf LabelView) → result ≡ region_of (get_or self.now i r) }
+        ensures fits { (r : RunOf LabelView) → FitsRecord (get_or self.now i r) }
     {
         let bytes = self.bytes;
         let from = (RECORD_SIZE * i) as usize;
@@ -67,7 +67,7 @@ impl Records<'_> {
     /// What the record of that index says of its addresses.
     pub fn label(&self, i: u64) -> Label
         requires { i < length self.now }
-        ensures { (r : RunOf AnyLabel) → result ≡ (get_or self.now i r).value }
+        ensures { (r : RunOf LabelView) → result ≡ (get_or self.now i r).value }
     {
         let region = self.get(i);
         label_of(region.flags, region.node)

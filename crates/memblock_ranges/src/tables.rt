@@ -4,11 +4,11 @@ ghost use Rattle.bm_base.specs.Range.{covers, end_of, Meet};
 ghost use Rattle.phys_store.specs.Bytes.{byte_of, is_ready, AreReady, Wrote, bytes_at};
 ghost use Rattle.address_runs.specs.Runs.{RunOf, value_at};
 ghost use Rattle.address_runs.specs.Edits.{cover_range, uncover_range, relabel_range};
-ghost use Rattle.memblock_model.specs.declared.which.Which.{Which as AnyWhich};
-ghost use Rattle.memblock_model.specs.declared.which.Which.TheVariants as which;
-ghost use Rattle.memblock_model.specs.Labels.{Label as AnyLabel, with_node, with_mirror};
-ghost use Rattle.memblock_model.specs.Items.{trimmed};
-ghost use Rattle.memblock_model.specs.Tables.{records_for, pieces, built_in};
+ghost use Rattle.memblock_model.specs.declared.owner.Which.{Which as AnyWhich};
+ghost use Rattle.memblock_model.specs.declared.owner.Which.TheVariants as which;
+ghost use Rattle.memblock_model.specs.Labels.{LabelView, with_node, with_mirror};
+ghost use Rattle.memblock_model.specs.Items.{trim_frames};
+ghost use Rattle.memblock_model.specs.Tables.{records_for, pieces, built_in_place};
 ghost use Rattle.memblock_ranges.specs.Spelling.{label_of, region_of, FitsRecord};
 ghost use Rattle.memblock_ranges.specs.Tables.{table_in, other_in, records_in, place_in, room_in, bytes_of, bytes_in, head_of, Overlaps, StandsIn, IsNodeOf, HaveNoNode};
 
@@ -53,8 +53,8 @@ impl Tables {
     #[tactic(auto, using(crate::proofs::NewLaws::first_table))]
     pub fn new(alloc: Global, kernel: Range) -> Result<Tables, Memory>
         requires { 8192 ≤ kernel.size }
-        ensures memory { IfOk result (λ t. t.memory ≡ record { records = []; place = built_in which.Memory kernel; room = 128 }) }
-        ensures reserved { IfOk result (λ t. t.reserved ≡ record { records = []; place = built_in which.Reserved kernel; room = 128 }) }
+        ensures memory { IfOk result (λ t. t.memory ≡ record { records = []; place = built_in_place which.Memory kernel; room = 128 }) }
+        ensures reserved { IfOk result (λ t. t.reserved ≡ record { records = []; place = built_in_place which.Reserved kernel; room = 128 }) }
         ensures bytes { IfOk result (λ t. (x : ℕ) → byte_of t.store x ≡ 0) }
         ensures ready { IfOk result (λ t. (x : ℕ) →
             is_ready t.store x ≡ (covers (bytes_in which.Reserved t) x || covers (bytes_in which.Memory t) x)) }
@@ -87,8 +87,8 @@ impl Tables {
     /// end is a `u64`, and its node below 1,024, or 1,024 for none.
     pub fn region(&self, which: Which, i: u64) -> Region
         requires { i < length (records_in which self.now) }
-        ensures region { (r : RunOf AnyLabel) → result ≡ region_of (get_or (records_in which self.now) i r) }
-        ensures fits { (r : RunOf AnyLabel) → FitsRecord (get_or (records_in which self.now) i r) }
+        ensures region { (r : RunOf LabelView) → result ≡ region_of (get_or (records_in which self.now) i r) }
+        ensures fits { (r : RunOf LabelView) → FitsRecord (get_or (records_in which self.now) i r) }
     {
         match which {
             Which::Memory => lent::region(&self.store, &self.heads.memory, i),
@@ -193,7 +193,7 @@ impl Tables {
     /// Memory is cut to whole frames: a byte keeps its label where all bytes of its frame have it, and
     /// else is memory no more (`memblock_trim_memory`).
     pub fn trim(&mut self)
-        ensures memory { self.new.memory ≡ record self.old.memory { records = records_for (trimmed (value_at self.old.memory.records)) } }
+        ensures memory { self.new.memory ≡ record self.old.memory { records = records_for (trim_frames (value_at self.old.memory.records)) } }
         ensures reserved { self.new.reserved ≡ self.old.reserved }
         ensures elsewhere { (x : ℕ) → covers (bytes_of self.old.memory) x ≡ false → byte_of self.new.store x ≡ byte_of self.old.store x }
         ensures ready { (x : ℕ) → is_ready self.new.store x ≡ is_ready self.old.store x }

@@ -3,7 +3,7 @@
 ghost use Rattle.std.specs.Prelude.{◌≡◌, ◌+◌, ◌-◌, ◌%◌, ◌<◌, ◌≤◌};
 ghost use Rattle.bm_base.specs.Range.{end_of};
 ghost use Rattle.address_runs.specs.Runs.{value_at};
-ghost use Rattle.memblock_model.specs.Items.{trimmed};
+ghost use Rattle.memblock_model.specs.Items.{trim_frames};
 ghost use Rattle.memblock_model.specs.Tables.{records_for};
 ghost use Rattle.memblock_ranges.specs.Tables.{AreRecords};
 
@@ -29,7 +29,7 @@ fn frames(range: &Range) -> (u64, u64)
 /// Each record is cut to whole frames, and dropped where it has none.
 pub fn trim<T: Slots<Record>>(table: &mut T)
     requires { AreRecords (T.list table.old) }
-    ensures list { T.list table.new ≡ records_for (trimmed (value_at (T.list table.old))) }
+    ensures list { T.list table.new ≡ records_for (trim_frames (value_at (T.list table.old))) }
     ensures records { AreRecords (T.list table.new) }
     ensures keeps { T.keeps table.old table.new }
 {

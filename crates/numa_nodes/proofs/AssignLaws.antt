@@ -4,10 +4,10 @@ use Rattle.std.proofs.lemmas.List.Elements.{All-cons}
 use Rattle.bm_base.specs.Range.{RangeView}
 use Rattle.address_runs.specs.Runs.{RunOf, value_at}
 use Rattle.address_runs.specs.Edits.{NothingFrom}
-use Rattle.memblock_model.specs.declared.which.Which.TheVariants as which
+use Rattle.memblock_model.specs.declared.owner.Which.TheVariants as which
 use Rattle.memblock_model.specs.declared.item.Item.{Item}
 use Rattle.memblock_model.specs.Items.{limit_of, memory_of}
-use Rattle.memblock_model.specs.Labels.{Label, Labels}
+use Rattle.memblock_model.specs.Labels.{LabelView, Labels}
 use Rattle.memblock_model.specs.Tables.{records_of}
 use Rattle.memblock_model.proofs.TableLaws.{value_at-records}
 use Rattle.memblock_ranges.specs.Tables.{Table}
@@ -102,13 +102,13 @@ unfolding assigned
 assigned-is table off items = refl
 
 -- the records of the memory table tell memory
-pub records-tell : (kernel : RangeView) (items : List Item) (records : List (RunOf Label)) (t : Table) → records ≡ t.records
+pub records-tell : (kernel : RangeView) (items : List Item) (records : List (RunOf LabelView)) (t : Table) → records ≡ t.records
     → t ≡ table_for which.Memory kernel items → NothingFrom (2 ^ 64) (memory_of items) → value_at records ≡ memory_of items
 unfolding records_of
 records-tell kernel items records t is table within =
     ap value_at (is ∙ ap (λ (s : Table). s.records) table) ∙ value_at-records (memory_of items) within
 
-pub ranges-tell : (items : List Item) (ranges : List RangeView) (records : List (RunOf Label))
+pub ranges-tell : (items : List Item) (ranges : List RangeView) (records : List (RunOf LabelView))
     → ((x : ℕ) → in_any ranges x ≡ is_some (value_at records x)) → value_at records ≡ memory_of items → in_any ranges ≡ is_memory items
 ranges-tell items ranges records each same = λ i x. (each x ∙ ap (λ (f : Labels). is_some (f x)) same) i
 

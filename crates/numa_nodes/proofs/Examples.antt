@@ -1,9 +1,9 @@
 -- Worked examples: which ranges get a node, what that makes of memory, which nodes have memory, and what is asked for their data.
 use Rattle.std.proofs.Common.{◌≡◌, ℕ, true, false, Some, None, [], ◌∷◌, Ok, Err, refl, ap, arith}
 use Rattle.std.specs.List.{Contains}
-use Rattle.memblock_model.specs.declared.which.Which.TheVariants as which
+use Rattle.memblock_model.specs.declared.owner.Which.TheVariants as which
 use Rattle.memblock_model.specs.declared.item.Item.TheVariants as item
-use Rattle.memblock_model.specs.Labels.{Label, Labels, plain_label, with_node}
+use Rattle.memblock_model.specs.Labels.{LabelView, Labels, plain_label, with_node}
 use Rattle.memblock_model.specs.Items.{memory_of}
 use Rattle.node_hulls.specs.declared.reasons.Why.TheVariants as why
 use Rattle.node_hulls.specs.Hulls.{NumaBlock}
@@ -39,7 +39,7 @@ range_examples = (refl, refl, refl)
 abbrev memory_below : ℕ → Labels
 memory_below end x = memory_of (item.Mem (record { base = 0; size = end }) ∷ []) x
 
-abbrev of_node : ℕ → Label
+abbrev of_node : ℕ → LabelView
 of_node node = with_node (Some node) plain_label
 
 byte_of_each : (noded_all (low ∷ (high ∷ (last ∷ []))) (memory_below 0x9000) 0x3FFF ≡ Some (of_node 1))

@@ -8,12 +8,12 @@ use Rattle.bm_base.specs.Range.{RangeView, covers}
 use Rattle.address_runs.specs.Edits.{relabel_range}
 use Rattle.address_runs.specs.Runs.{extent_of}
 use Rattle.srat_reader.specs.Table.{Affinity}
-use Rattle.memblock_model.specs.declared.which.Which.TheVariants as which
+use Rattle.memblock_model.specs.declared.owner.Which.TheVariants as which
 use Rattle.memblock_model.specs.declared.item.Item.{Item}
 use Rattle.memblock_model.specs.declared.item.Item.TheVariants as item
 use Rattle.memblock_model.specs.declared.owner.Owner.TheVariants as owner
 use Rattle.memblock_model.specs.Items.{limit_after, limit_of, memory_after, memory_of, no_memory}
-use Rattle.memblock_model.specs.Labels.{Label, Labels, with_node}
+use Rattle.memblock_model.specs.Labels.{LabelView, Labels, with_node}
 use Rattle.growth_model.specs.Carried.{AreQuiet}
 use Rattle.growth_model.specs.Growth.{grown, memory_growth, noded, two}
 use Rattle.growth_model.specs.Outcome.{Outcome, Refused, followed_by, write}
@@ -78,11 +78,11 @@ given-memory b items answered =
     (λ refused. absurd (refused (none-refused (growth items)
     (write (item.Node (extent_of b) b.value) (after_change items (growth items))) (growth items).refused refl answered)))
 
-map-some : (change : Label → Label) (o : Option Label) → is_some (option_map change o) ≡ is_some o
+map-some : (change : LabelView → LabelView) (o : Option LabelView) → is_some (option_map change o) ≡ is_some o
 map-some change None = refl
 map-some change (Some label) = refl
 
-pub relabel_range-some : (range : RangeView) (change : Label → Label) (f : Labels) (x : ℕ) → is_some (relabel_range range change f x) ≡ is_some (f x)
+pub relabel_range-some : (range : RangeView) (change : LabelView → LabelView) (f : Labels) (x : ℕ) → is_some (relabel_range range change f x) ≡ is_some (f x)
 relabel_range-some range change f x = elim (cases_Bool (covers range x)) as (λ _. is_some (relabel_range range change f x) ≡ is_some (f x)) [
   | inl here ↦ rw here (map-some change (f x))
   | inr not_here ↦ rw not_here refl

@@ -13,7 +13,7 @@ use Rattle.address_runs.proofs.RunsLaws.{none_below, rest_from}
 use Rattle.srat_reader.specs.Table.{Affinity}
 use Rattle.memblock_model.specs.declared.item.Item.{Item}
 use Rattle.memblock_model.specs.Items.{limit_of, memory_of}
-use Rattle.memblock_model.specs.Labels.{Label, Labels, with_node}
+use Rattle.memblock_model.specs.Labels.{LabelView, Labels, with_node}
 use Rattle.node_hulls.specs.declared.reasons.Why.TheVariants as why
 use Rattle.node_hulls.specs.Hulls.{NumaBlock}
 use Rattle.node_hulls.specs.Judgement.{Judgement, judged}
@@ -27,7 +27,7 @@ use Rattle.numa_nodes.proofs.AssignLaws.{ranges-cases}
 use Rattle.numa_nodes.proofs.MemoryLaws.{behind-answer, noded_all}
 
 -- a label with a node, where there is one to give
-abbrev relabel : Option ℕ → Option Label → Option Label
+abbrev relabel : Option ℕ → Option LabelView → Option LabelView
 relabel None o = o
 relabel (Some n) o = option_map (with_node (Some n)) o
 
@@ -51,10 +51,10 @@ noded-append [] ss f = refl
 noded-append (r ∷ rs) ss f = noded-append rs ss (relabel_range (extent_of r) (with_node (Some r.value)) f)
 
 -- where one of two gives a node, the label has that node
-abbrev labelled : Option ℕ → Option Label → Option Label
+abbrev labelled : Option ℕ → Option LabelView → Option LabelView
 labelled node o = option_map (with_node node) o
 
-both-relabel : (a b : Option ℕ) (o : Option Label) → (is_some o ≡ true → (is_some a || is_some b) ≡ true)
+both-relabel : (a b : Option ℕ) (o : Option LabelView) → (is_some o ≡ true → (is_some a || is_some b) ≡ true)
     → relabel b (relabel a o) ≡ labelled (option_or b a) o
 both-relabel (Some n) (Some m) None covered = refl
 both-relabel (Some n) (Some m) (Some l) covered = refl
@@ -80,9 +80,9 @@ record IsGiven (limit : ℕ) (f g : Labels) (nodes : ℕ → Option ℕ) : Type 
   whole : (x : ℕ) → is_some (f x) ≡ true → is_some (nodes x) ≡ true
   frames : (x : ℕ) → x < limit → nodes x ≡ nodes (4096 * (x / 4096))
 
-label-node : (n : Option ℕ) (o : Option Label) (label : Label) → labelled n o ≡ Some label → (is_some o ≡ true) × (label.node ≡ n)
+label-node : (n : Option ℕ) (o : Option LabelView) (label : LabelView) → labelled n o ≡ Some label → (is_some o ≡ true) × (label.node ≡ n)
 label-node n None label at = absurd (none-some label at)
-label-node n (Some l) label at = (refl, ap (λ (k : Label). k.node) (sym (same_Some (with_node n l) label at)))
+label-node n (Some l) label at = (refl, ap (λ (k : LabelView). k.node) (sym (same_Some (with_node n l) label at)))
 
 -- so memory is noded
 is-noded : (limit : ℕ) (f g : Labels) (nodes : ℕ → Option ℕ) → IsGiven limit f g nodes → AreOfFrames f
@@ -97,7 +97,7 @@ is-noded limit f g nodes by frames within = record {
       noded x label (nodes x) known.1 refl (by.whole x known.0);
   within = λ x far. rw (within x far) at (by.given x);
 } where
-  noded : (x : ℕ) (label : Label) (o : Option ℕ) → label.node ≡ o → nodes x ≡ o → is_some o ≡ true
+  noded : (x : ℕ) (label : LabelView) (o : Option ℕ) → label.node ≡ o → nodes x ≡ o → is_some o ≡ true
       → (node : ℕ) × (label.node ≡ Some node) × (node < 1024)
   noded x label None has at some = absurd (true≢false (sym some))
   noded x label (Some n) has at some = (n, has, by.small x n at)

@@ -5,15 +5,15 @@ use Rattle.address_runs.specs.Runs.{extent_of}
 use Rattle.memblock_model.specs.declared.item.Item.{Item}
 use Rattle.memblock_model.specs.declared.owner.Owner.TheVariants as owner
 use Rattle.memblock_model.specs.Items.{memory_of, limit_of}
-use Rattle.memblock_model.specs.Labels.{Label, Labels}
-use Rattle.memblock_model.specs.Same.{same_node}
+use Rattle.memblock_model.specs.Labels.{LabelView, Labels}
+use Rattle.memblock_model.specs.Same.{same_node_or_none}
 use Rattle.srat_reader.specs.Table.{Affinity}
 use Rattle.node_hulls.specs.declared.reasons.Why.{Why}
 use Rattle.node_hulls.specs.declared.reasons.Why.TheVariants as why
 use Rattle.node_hulls.specs.declared.reasons.TheConstants.{MAX_NODES}
 use Rattle.node_hulls.specs.Hulls.{NumaBlock}
 use Rattle.node_hulls.specs.Judgement.{Judgement, judged}
-use Rattle.memblock_model.specs.declared.request.Request.{Request}
+use Rattle.memblock_model.specs.declared.query.Request.{Request}
 use Rattle.growth_model.specs.Growth.{noded}
 use Rattle.memblock_grow.specs.declared.stop.What.TheVariants as what
 use Rattle.stage_model.specs.Causes.{StageCause}
@@ -39,9 +39,9 @@ abbrev pub given : Unit {0} → NumaBlock → Doing StageCause (Unit {0})
 given done r = carried (noded (extent_of r) r.value)
 
 -- whether the byte is memory of the node
-abbrev pub is_of_node : ℕ → Option Label → Bool
+abbrev pub is_of_node : ℕ → Option LabelView → Bool
 is_of_node node None = false
-is_of_node node (Some label) = same_node label.node (Some node)
+is_of_node node (Some label) = same_node_or_none label.node (Some node)
 
 -- whether some byte is
 abbrev pub has_node : Labels → ℕ → Bool

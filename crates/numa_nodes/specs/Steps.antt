@@ -2,15 +2,15 @@
 use Rattle.std.specs.Prelude.{ℕ, ◌<◌, Bool, Some, List}
 use Rattle.std.specs.List.{list_any, All}
 use Rattle.address_runs.specs.Runs.{RunOf}
-use Rattle.memblock_model.specs.Labels.{Label}
-use Rattle.memblock_model.specs.Same.{same_node}
+use Rattle.memblock_model.specs.Labels.{LabelView}
+use Rattle.memblock_model.specs.Same.{same_node_or_none}
 use Rattle.memblock_grow.specs.Contents.{Contents}
 use Rattle.memblock_grow.specs.Going.{GoesOn}
 use Rattle.node_hulls.specs.Hulls.{NumaBlock}
 
 -- a record of the table is of the node
-abbrev pub has_record : List (RunOf Label) → ℕ → Bool
-has_record records node = list_any (λ (r : RunOf Label). same_node r.value.node (Some node)) records
+abbrev pub has_record : List (RunOf LabelView) → ℕ → Bool
+has_record records node = list_any (λ (r : RunOf LabelView). same_node_or_none r.value.node (Some node)) records
 
 -- each range has an address, and its node is below 1,024
 abbrev pub CanGetNodes : List NumaBlock → Type 0

@@ -13,7 +13,7 @@ use Rattle.debugfs_reports.specs.declared.report.Report.{Report}
 use Rattle.debugfs_reports.specs.ReportList.{shown_list, text_of}
 use Rattle.debugfs_reports.specs.Stand.{TablesStand, records_at_heads}
 use Rattle.debugfs_reports.proofs.StandLaws.{HaveTables, tables_shown, tables_stand}
-use Rattle.memblock_model.specs.declared.which.Which.TheVariants as which
+use Rattle.memblock_model.specs.declared.owner.Which.TheVariants as which
 use Rattle.program_end.specs.Fetches.{FitsError}
 use Rattle.boot_inputs.specs.Input.{place}
 use Rattle.program_run.specs.Outcome.{reported}

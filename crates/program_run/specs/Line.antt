@@ -8,8 +8,8 @@ use Rattle.boot_inputs.specs.Input.{word_for}
 use Rattle.boot_inputs.specs.Reason.{Reason}
 use Rattle.program_end.specs.declared.failure.Failure.{Failure}
 use Rattle.program_end.specs.Line.{failure_line as end_line, memory_line}
-use Rattle.memblock_model.specs.declared.which.Which.{Which}
-use Rattle.memblock_model.specs.declared.which.Which.TheVariants as which
+use Rattle.memblock_model.specs.declared.owner.Which.{Which}
+use Rattle.memblock_model.specs.declared.owner.Which.TheVariants as which
 use Rattle.memblock_grow.specs.declared.stop.What.{What}
 use Rattle.memblock_grow.specs.declared.stop.What.TheVariants as what
 use Rattle.boot_model.specs.declared.stop.Cause.{Cause}

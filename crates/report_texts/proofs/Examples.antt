@@ -9,8 +9,8 @@ use Rattle.boot_options.specs.Crash.{no_crash}
 use Rattle.memblock_model.specs.declared.item.Item.TheVariants as item
 use Rattle.memblock_model.specs.declared.owner.Owner.{Owner}
 use Rattle.memblock_model.specs.declared.owner.Owner.TheVariants as owner
-use Rattle.memblock_model.specs.declared.which.Which.TheVariants as which
-use Rattle.memblock_model.specs.Labels.{Label, plain_label, with_node}
+use Rattle.memblock_model.specs.declared.owner.Which.TheVariants as which
+use Rattle.memblock_model.specs.Labels.{LabelView, plain_label, with_node}
 use Rattle.memblock_ranges.specs.declared.region.Head.{Head}
 use Rattle.report_texts.specs.Lines.{index_text, lines_from, range_text}
 use Rattle.report_texts.specs.JournalText.{switch_text, item_line, item_text, journal_text}
@@ -128,10 +128,10 @@ unfolding first_MiB digits
 item_examples = (refl, refl, refl, refl, refl, refl, refl, refl, refl, refl, refl, refl, refl, refl, refl, refl)
 
 -- records, without their nodes; a record that ends at 2^64
-of_node_1 : RunOf Label
+of_node_1 : RunOf LabelView
 of_node_1 = record { base = 0x1000; size = 0x9E000; value = with_node (Some 1) plain_label }
 
-of_no_node : RunOf Label
+of_no_node : RunOf LabelView
 of_no_node = record { base = 0x100000; size = 0x7EE0000; value = plain_label }
 
 record_examples : (extent_line 0 first_MiB ≡ codes "   0: 0x0000000000000000..0x00000000000fffff\n")

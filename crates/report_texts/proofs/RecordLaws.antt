@@ -3,7 +3,7 @@
 use Rattle.std.proofs.Common.{◌≡◌, ℕ, suc, ◌+◌, ◌*◌, ◌<◌, List, [], ◌∷◌, ◌++◌, length, drop, get_or, refl, sym, ◌∙◌, ap, add-zero, arith}
 use Rattle.phys_store.specs.Bytes.{Stored, byte_of, bytes_at}
 use Rattle.address_runs.specs.Runs.{RunOf}
-use Rattle.memblock_model.specs.Labels.{Label}
+use Rattle.memblock_model.specs.Labels.{LabelView}
 use Rattle.memblock_ranges.specs.declared.region.Head.{Head}
 use Rattle.memblock_ranges.specs.declared.region.Region.{Region}
 use Rattle.memblock_ranges.specs.Spelling.{records_at, region_in, region_of, run_in}
@@ -20,13 +20,13 @@ pub next_line : (store : List Stored) (head : Head) (i : ℕ) (region : Region) 
     → lines_from record_line i (drop i (list_in store head))
     ≡ region_line i region ++ lines_from record_line (i + 1) (drop (i + 1) (list_in store head))
 next_line store head i region within is =
-    let r : RunOf Label = run_in (bytes_at (byte_of store) (head.place + 24 * i) 24) in
+    let r : RunOf LabelView = run_in (bytes_at (byte_of store) (head.place + 24 * i) 24) in
     rw is (lines_at record_line (list_in store head) i r r (sym (record_by_bytes store head i r within))
     (omega (arith, count_is store head)))
 
 -- the records of a table have the same lines as the records that are read from its bytes
-lines_alike : (f : ℕ → ℕ) (a n : ℕ) (rs : List (RunOf Label))
-    → ((i : ℕ) (r : RunOf Label) → i < length rs → region_in (bytes_at f (a + 24 * i) 24) ≡ region_of (get_or rs i r))
+lines_alike : (f : ℕ → ℕ) (a n : ℕ) (rs : List (RunOf LabelView))
+    → ((i : ℕ) (r : RunOf LabelView) → i < length rs → region_in (bytes_at f (a + 24 * i) 24) ≡ region_of (get_or rs i r))
     → lines_from record_line n (records_at f a (length rs)) ≡ lines_from record_line n rs
 unfolding records_at
 lines_alike f a n [] regions = refl

@@ -3,7 +3,7 @@
 use Rattle.std.specs.Prelude.{ℕ, List, ◌++◌, codes}
 use Rattle.bm_base.specs.Range.{RangeView}
 use Rattle.address_runs.specs.Runs.{RunOf, extent_of}
-use Rattle.memblock_model.specs.Labels.{Label}
+use Rattle.memblock_model.specs.Labels.{LabelView}
 use Rattle.memblock_ranges.specs.declared.region.Region.{Region}
 use Rattle.report_texts.specs.Lines.{index_text, lines_from, range_text}
 
@@ -13,11 +13,11 @@ extent_line n r = index_text n ++ range_text r ++ codes "\n"
 
 -- the line of a record: its index and its range, without its flags and its node; and that of a
 -- record as it is read from bytes
-abbrev pub record_line : ℕ → RunOf Label → List ℕ
+abbrev pub record_line : ℕ → RunOf LabelView → List ℕ
 record_line n r = extent_line n (extent_of r)
 
 abbrev pub region_line : ℕ → Region → List ℕ
 region_line n r = extent_line n (record { base = r.base; size = r.size })
 
-abbrev pub records_text : List (RunOf Label) → List ℕ
+abbrev pub records_text : List (RunOf LabelView) → List ℕ
 records_text records = lines_from record_line 0 records

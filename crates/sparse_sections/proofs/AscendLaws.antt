@@ -4,7 +4,7 @@ use Rattle.std.specs.List.{All}
 use Rattle.std.proofs.lemmas.Bool.{cases_lt}
 use Rattle.std.proofs.lemmas.List.{append-nil, get_or_append_left, get_or_push}
 use Rattle.std.proofs.lemmas.List.Elements.{All-append, All-cons, All-nil}
-use Rattle.memblock_model.specs.Labels.{Label, Labels}
+use Rattle.memblock_model.specs.Labels.{LabelView, Labels}
 use Rattle.memblock_grow.specs.declared.section.Section.{Section}
 use Rattle.stage_model.specs.Noded.{IsNoded}
 use Rattle.sparse_sections.specs.Present.{section_label, section_of, section_for, sections_below, present, AreSections}
@@ -43,7 +43,7 @@ ascend-of : (n : ℕ) (ss : List Section) (o : Option ℕ) → Ascend n ss → A
 ascend-of n ss None so_far = rw append-nil (ascend-later n ss so_far)
 ascend-of n ss (Some node) so_far = ascend-push n node ss so_far
 
-ascend-for : (n : ℕ) (ss : List Section) (o : Option Label) → Ascend n ss → Ascend (suc n) (ss ++ section_for n o)
+ascend-for : (n : ℕ) (ss : List Section) (o : Option LabelView) → Ascend n ss → Ascend (suc n) (ss ++ section_for n o)
 ascend-for n ss None so_far = rw append-nil (ascend-later n ss so_far)
 ascend-for n ss (Some label) so_far = ascend-of n ss label.node so_far
 

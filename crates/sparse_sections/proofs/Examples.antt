@@ -1,7 +1,7 @@
 -- Worked examples: frames of which some are memory, records that end within sections, sections and their roots.
 use Rattle.std.proofs.Common.{◌≡◌, ℕ, true, false, Some, None, List, [], ◌∷◌, ◌++◌, refl, sym, ◌∙◌, ap, subst, arith, lit<, lit≤}
 use Rattle.address_runs.specs.Runs.{RunOf, value_at, AreRuns}
-use Rattle.memblock_model.specs.Labels.{Label, Labels, plain_label, with_node}
+use Rattle.memblock_model.specs.Labels.{LabelView, Labels, plain_label, with_node}
 use Rattle.memblock_grow.specs.declared.section.Section.{Section}
 use Rattle.sparse_sections.specs.Present.{first_label, section_for, present, sections_from, IsWholeNoded, IsLowest, IsSectionAt, AreSections}
 use Rattle.sparse_sections.specs.Roots.{root_of, is_root, firsts_behind, small_request}
@@ -9,10 +9,10 @@ use Rattle.sparse_sections.proofs.PresentLaws.{IsLeft, left-all, left-next, sect
 use Rattle.sparse_sections.proofs.AscendLaws.{present-ascends}
 use Rattle.address_runs.proofs.RunsLaws.{none_below}
 
-abbrev of_node : ℕ → Label
+abbrev of_node : ℕ → LabelView
 of_node node = with_node (Some node) plain_label
 
-abbrev record_at : ℕ → ℕ → ℕ → RunOf Label
+abbrev record_at : ℕ → ℕ → ℕ → RunOf LabelView
 record_at base size node = record { base = base; size = size; value = of_node node }
 
 abbrev section : ℕ → ℕ → Section
@@ -41,7 +41,7 @@ unfolding sections_from
 one_node = (refl, refl)
 
 -- the last frame of section 0 and the first of section 1
-abbrev across : List (RunOf Label)
+abbrev across : List (RunOf LabelView)
 across = record_at 0x7FFF000 0x2000 3 ∷ []
 
 across_runs : AreRuns across
@@ -51,14 +51,14 @@ both_sections : present (value_at across) ≡ section 0 3 ∷ section 1 3 ∷ []
 unfolding sections_from
 both_sections =
     let f : Labels = value_at across in
-    let r : RunOf Label = record_at 0x7FFF000 0x2000 3 in
+    let r : RunOf LabelView = record_at 0x7FFF000 0x2000 3 in
     let left : IsLeft f 0 (r ∷ []) = left-all across across_runs in
     let last : IsLeft f 2 [] = left-next f 0 r [] left in
     sym (present-end f 2 last (lit≤ tt)) ∙ sections-record f 0 r [] 0 2 3 left refl refl refl refl
     ∙ ap (λ (ss : List Section). ss ++ sections_from 0 2 3) (present-none f)
 
 -- two records in section 0: it is there once, with the node of the lower one
-abbrev shared : List (RunOf Label)
+abbrev shared : List (RunOf LabelView)
 shared = record_at 0x1000 0x1000 1 ∷ record_at 0x3000 0x1000 2 ∷ []
 
 shared_runs : AreRuns shared
@@ -68,8 +68,8 @@ one_section : present (value_at shared) ≡ section 0 1 ∷ []
 unfolding sections_from
 one_section =
     let f : Labels = value_at shared in
-    let r : RunOf Label = record_at 0x1000 0x1000 1 in
-    let s : RunOf Label = record_at 0x3000 0x1000 2 in
+    let r : RunOf LabelView = record_at 0x1000 0x1000 1 in
+    let s : RunOf LabelView = record_at 0x3000 0x1000 2 in
     let left : IsLeft f 0 (r ∷ s ∷ []) = left-all shared shared_runs in
     let next : IsLeft f 1 (s ∷ []) = left-next f 0 r (s ∷ []) left in
     let last : IsLeft f 1 [] = left-next f 1 s [] next in

@@ -4,24 +4,24 @@ use Rattle.std.specs.List.{All}
 use Rattle.std.proofs.lemmas.Bool.{cases_lt}
 use Rattle.std.proofs.lemmas.List.{get_or_append_left, get_or_push}
 use Rattle.std.proofs.lemmas.List.Elements.{All-append, All-cons, All-nil}
-use Rattle.memblock_model.specs.Labels.{Label, Labels}
+use Rattle.memblock_model.specs.Labels.{LabelView, Labels}
 use Rattle.memblock_grow.specs.declared.section.Section.{Section}
 use Rattle.stage_model.specs.Noded.{AreOfFrames, IsNoded}
 use Rattle.sparse_sections.specs.Present.{first_label, section_label, section_of, section_for, sections_below, present, IsLowest, IsSectionAt}
 
 -- the frame whose label is found: the first of them that is memory
-record IsFirst (f : Labels) (a n : ℕ) (label : Label) : Type 0 where
+record IsFirst (f : Labels) (a n : ℕ) (label : LabelView) : Type 0 where
   behind : ℕ
   within : behind < n
   told : f (4096 * (a + behind)) ≡ Some label
   none : (j : ℕ) → j < behind → f (4096 * (a + j)) ≡ None
 
 -- a frame is memory or isn't
-cases_label : (o : Option Label) → (o ≡ None) ⊎ ((v : Label) × (o ≡ Some v))
+cases_label : (o : Option LabelView) → (o ≡ None) ⊎ ((v : LabelView) × (o ≡ Some v))
 cases_label None = inl refl
 cases_label (Some v) = inr (v, refl)
 
-label-first : (f : Labels) (a n : ℕ) (label : Label) → first_label f a n ≡ Some label → IsFirst f a n label
+label-first : (f : Labels) (a n : ℕ) (label : LabelView) → first_label f a n ≡ Some label → IsFirst f a n label
 unfolding first_label
 label-first f a zero label found = cc
 label-first f a (suc n) label found = elim (cases_label (f (4096 * a))) [
@@ -46,8 +46,8 @@ label-first f a (suc n) label found = elim (cases_label (f (4096 * a))) [
 ]
 
 -- some label is found where a frame is memory
-label-some : (f : Labels) (a n k : ℕ) (label : Label) → k < n → f (4096 * (a + k)) ≡ Some label
-    → (v : Label) × (first_label f a n ≡ Some v)
+label-some : (f : Labels) (a n k : ℕ) (label : LabelView) → k < n → f (4096 * (a + k)) ≡ Some label
+    → (v : LabelView) × (first_label f a n ≡ Some v)
 unfolding first_label
 label-some f a zero k label few told = absurd (omega arith)
 label-some f a (suc n) k label few told = elim (cases_label (f (4096 * a))) [
@@ -61,7 +61,7 @@ label-some f a (suc n) k label few told = elim (cases_label (f (4096 * a))) [
 ]
 
 -- a section that is told is one
-first-lowest : (f : Labels) (n node : ℕ) (label : Label) → AreOfFrames f → IsFirst f (32768 * n) 32768 label → label.node ≡ Some node
+first-lowest : (f : Labels) (n node : ℕ) (label : LabelView) → AreOfFrames f → IsFirst f (32768 * n) 32768 label → label.node ≡ Some node
     → IsLowest f (record { number = n; node = node })
 first-lowest f n node label frames first has =
     record {
@@ -75,13 +75,13 @@ first-lowest f n node label frames first has =
           frames x ∙ ap f e ∙ first.none (x / 4096 - 32768 * n) (omega (arith, first.within));
     }
 
-of-lowest : (f : Labels) (n : ℕ) (label : Label) (o : Option ℕ) → AreOfFrames f → IsFirst f (32768 * n) 32768 label → label.node ≡ o
+of-lowest : (f : Labels) (n : ℕ) (label : LabelView) (o : Option ℕ) → AreOfFrames f → IsFirst f (32768 * n) 32768 label → label.node ≡ o
     → All (IsLowest f) (section_of n o)
 of-lowest f n label None frames first has = All-nil (IsLowest f)
 of-lowest f n label (Some node) frames first has =
     All-cons (IsLowest f) (record { number = n; node = node }) [] (first-lowest f n node label frames first has) (All-nil (IsLowest f))
 
-for-lowest : (f : Labels) (n : ℕ) (o : Option Label) → AreOfFrames f → section_label f n ≡ o → All (IsLowest f) (section_for n o)
+for-lowest : (f : Labels) (n : ℕ) (o : Option LabelView) → AreOfFrames f → section_label f n ≡ o → All (IsLowest f) (section_for n o)
 for-lowest f n None frames is = All-nil (IsLowest f)
 for-lowest f n (Some label) frames is =
     of-lowest f n label label.node frames (label-first f (32768 * n) 32768 label is) refl
@@ -110,14 +110,14 @@ at-end xs s = record {
   is = λ d. rw (get_or_push xs s d (length xs) refl) refl;
 }
 
-told-own : (limit : ℕ) (f : Labels) (n : ℕ) (v : Label) (xs : List Section) → IsNoded limit f → section_label f n ≡ Some v
+told-own : (limit : ℕ) (f : Labels) (n : ℕ) (v : LabelView) (xs : List Section) → IsNoded limit f → section_label f n ≡ Some v
     → (i : ℕ) × IsSectionAt (xs ++ section_for n (section_label f n)) i n
 told-own limit f n v xs noded is =
     let first : IsFirst f (32768 * n) 32768 v = label-first f (32768 * n) 32768 v is in
     let has = noded.nodes (4096 * (32768 * n + first.behind)) v first.told in
     (length xs, rw (is, has.1) (at-end xs (record { number = n; node = has.0 })))
 
-told-below : (limit : ℕ) (f : Labels) (n s k : ℕ) (label : Label) → IsNoded limit f → s < n → k < 32768
+told-below : (limit : ℕ) (f : Labels) (n s k : ℕ) (label : LabelView) → IsNoded limit f → s < n → k < 32768
     → f (4096 * (32768 * s + k)) ≡ Some label → (i : ℕ) × IsSectionAt (sections_below f n) i s
 unfolding sections_below
 told-below limit f zero s k label noded less few told = absurd (omega arith)
@@ -132,7 +132,7 @@ told-below limit f (suc n) s k label noded less few told =
           rw e (told-own limit f n found.0 (sections_below f n) noded found.1)
     ]
 
-pub present-all : (limit x : ℕ) (f : Labels) (label : Label) → IsNoded limit f → x < 2 ^ 52 → f x ≡ Some label
+pub present-all : (limit x : ℕ) (f : Labels) (label : LabelView) → IsNoded limit f → x < 2 ^ 52 → f x ≡ Some label
     → (i : ℕ) × IsSectionAt (present f) i (x / 0x8000000)
 unfolding present
 present-all limit x f label noded low told =

@@ -4,9 +4,9 @@ use Rattle.std.specs.List.{All}
 use Rattle.address_runs.specs.Runs.{RunOf, run_end, value_at, IsRunsOf, AreRuns}
 use Rattle.address_runs.specs.Edits.{NothingFrom}
 use Rattle.address_runs.proofs.RunsLaws.{inside, behind, rest_from}
-use Rattle.memblock_model.specs.declared.which.Which.TheVariants as which
+use Rattle.memblock_model.specs.declared.owner.Which.TheVariants as which
 use Rattle.memblock_model.specs.declared.item.Item.{Item}
-use Rattle.memblock_model.specs.Labels.{Label, Labels}
+use Rattle.memblock_model.specs.Labels.{LabelView, Labels}
 use Rattle.memblock_model.specs.Items.{memory_of}
 use Rattle.memblock_model.specs.Tables.{records_of}
 use Rattle.memblock_model.proofs.TableLaws.{records_for-runs, value_at-records}
@@ -18,7 +18,7 @@ use Rattle.std.proofs.lemmas.Bool.{cases_lt}
 use Rattle.address_runs.specs.Sweep.{StartAtOrPast}
 
 -- a canonical list gives at the addresses of each record, which isn't empty, what it says; and none begins below the first
-told-at : (rs : List (RunOf Label)) (k : ℕ) (d : RunOf Label) → AreRuns rs → k < length rs → (0 < (get_or rs k d).size)
+told-at : (rs : List (RunOf LabelView)) (k : ℕ) (d : RunOf LabelView) → AreRuns rs → k < length rs → (0 < (get_or rs k d).size)
     × ((at : ℕ) → StartAtOrPast at rs → at ≤ (get_or rs k d).base)
     × ((x : ℕ) → (get_or rs k d).base ≤ x → x < run_end (get_or rs k d) → value_at rs x ≡ Some (get_or rs k d).value)
 told-at [] k d runs few = absurd (omega arith)
@@ -28,13 +28,13 @@ told-at (r ∷ rs) (suc k) d runs few =
     let next : run_end r ≤ (get_or rs k d).base = rest.1 (run_end r) (rest_from r rs runs) in
     (rest.0, λ at start. omega arith, λ x above under. rw (behind r x (omega arith)) (rest.2 x above under))
 
-pub noded-frames : (limit : ℕ) (f : Labels) (rs : List (RunOf Label)) → IsRunsOf f rs → IsNoded limit f → AreWholeFrames rs
+pub noded-frames : (limit : ℕ) (f : Labels) (rs : List (RunOf LabelView)) → IsRunsOf f rs → IsNoded limit f → AreWholeFrames rs
 noded-frames limit f rs is noded =
     whole_by_value rs is.runs (λ x. is.each x ∙ noded.frames x ∙ sym (is.each (4096 * (x / 4096))))
 
-pub noded-records : (f : Labels) (rs : List (RunOf Label)) → IsRunsOf f rs → IsNoded (2 ^ 52) f → All IsWholeNoded rs
+pub noded-records : (f : Labels) (rs : List (RunOf LabelView)) → IsRunsOf f rs → IsNoded (2 ^ 52) f → All IsWholeNoded rs
 noded-records f rs is noded k d few =
-    let r : RunOf Label = get_or rs k d in
+    let r : RunOf LabelView = get_or rs k d in
     let at = told-at rs k d is.runs few in
     let some = at.0 in
     let whole = whole_at rs k d (noded-frames (2 ^ 52) f rs is noded) few in

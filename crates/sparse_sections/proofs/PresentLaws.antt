@@ -5,7 +5,7 @@ use Rattle.std.proofs.lemmas.List.{append-nil}
 use Rattle.address_runs.specs.Runs.{RunOf, run_end, value_at, AreRuns}
 use Rattle.address_runs.specs.Sweep.{StartAtOrPast}
 use Rattle.address_runs.proofs.RunsLaws.{inside, behind, none_below, rest_from}
-use Rattle.memblock_model.specs.Labels.{Label, Labels, plain_label}
+use Rattle.memblock_model.specs.Labels.{LabelView, Labels, plain_label}
 use Rattle.memblock_ranges.specs.declared.region.Region.{Region}
 use Rattle.memblock_ranges.specs.Spelling.{region_of}
 use Rattle.memblock_grow.specs.declared.section.Section.{Section}
@@ -21,7 +21,7 @@ sections-none f n (suc k) none =
     rw (add-suc, none (n + k) (omega arith) (omega arith), append-nil) (sections-none f n k (λ s above below. none s above (omega arith)))
 
 -- each of the next sections has memory, of one node
-pub sections-run : (f : Labels) (n k node : ℕ) (v : Label) → v.node ≡ Some node
+pub sections-run : (f : Labels) (n k node : ℕ) (v : LabelView) → v.node ≡ Some node
     → ((s : ℕ) → n ≤ s → s < n + k → section_label f s ≡ Some v)
     → sections_below f (n + k) ≡ sections_below f n ++ sections_from n k node
 unfolding sections_below sections_from
@@ -45,25 +45,25 @@ from-next before now first number node above so_far =
     let more : number + 1 - first ≡ suc (number - first) = omega arith in
     rw (so_far, more, here, append_assoc) refl
 
-pub nobody : RunOf Label
+pub nobody : RunOf LabelView
 nobody = record { base = 0; size = 0; value = plain_label }
 
 -- what is left to be looked at from a section on
-pub record IsLeft (f : Labels) (next : ℕ) (rs : List (RunOf Label)) : Type 0 where
+pub record IsLeft (f : Labels) (next : ℕ) (rs : List (RunOf LabelView)) : Type 0 where
   pub runs : AreRuns rs
   pub starts : StartAtOrPast (0x8000000 * (next - 1)) rs
   pub each : (x : ℕ) → 0x8000000 * next ≤ x → f x ≡ value_at rs x
 
-pub left-all : (rs : List (RunOf Label)) → AreRuns rs → IsLeft (value_at rs) 0 rs
+pub left-all : (rs : List (RunOf LabelView)) → AreRuns rs → IsLeft (value_at rs) 0 rs
 left-all [] runs = record { runs = runs; starts = tt; each = λ x above. refl }
 left-all (r ∷ rs) runs = record { runs = runs; starts = omega arith; each = λ x above. refl }
 
-starts-next : (r : RunOf Label) (rs : List (RunOf Label)) (at : ℕ) → at ≤ run_end r → StartAtOrPast (run_end r) rs → StartAtOrPast at rs
+starts-next : (r : RunOf LabelView) (rs : List (RunOf LabelView)) (at : ℕ) → at ≤ run_end r → StartAtOrPast (run_end r) rs → StartAtOrPast at rs
 starts-next r [] at less starts = tt
 starts-next r (s ∷ ss) at less starts = omega arith
 
 -- behind a record
-pub left-next : (f : Labels) (next : ℕ) (r : RunOf Label) (rs : List (RunOf Label)) → IsLeft f next (r ∷ rs)
+pub left-next : (f : Labels) (next : ℕ) (r : RunOf LabelView) (rs : List (RunOf LabelView)) → IsLeft f next (r ∷ rs)
     → IsLeft f ((run_end r - 1) / 0x8000000 + 1) rs
 left-next f next r rs left =
     let some : 0 < r.size = left.runs.0 in
@@ -75,7 +75,7 @@ left-next f next r rs left =
     }
 
 -- the sections of a record
-pub sections-record : (f : Labels) (next : ℕ) (r : RunOf Label) (rs : List (RunOf Label)) (first until node : ℕ) → IsLeft f next (r ∷ rs)
+pub sections-record : (f : Labels) (next : ℕ) (r : RunOf LabelView) (rs : List (RunOf LabelView)) (first until node : ℕ) → IsLeft f next (r ∷ rs)
     → r.base % 4096 ≡ 0 → r.value.node ≡ Some node → first ≡ max next (r.base / 0x8000000) → until ≡ (run_end r - 1) / 0x8000000 + 1
     → sections_below f until ≡ sections_below f next ++ sections_from first (until - first) node
 sections-record f next r rs first until node left whole has first_is until_is =
@@ -95,7 +95,7 @@ sections-record f next r rs first until node left whole has first_is until_is =
     rw (rw high at run, rw low at gap) refl
 
 -- the next record, which the table has at that index
-pub record IsNext (f : Labels) (next : ℕ) (rs : List (RunOf Label)) (i : ℕ) (g : Region) : Type 0 where
+pub record IsNext (f : Labels) (next : ℕ) (rs : List (RunOf LabelView)) (i : ℕ) (g : Region) : Type 0 where
   pub left : IsLeft f next (get_or rs i nobody ∷ drop (i + 1) rs)
   pub whole : IsWholeNoded (get_or rs i nobody)
   pub base : g.base ≡ (get_or rs i nobody).base
@@ -105,10 +105,10 @@ pub record IsNext (f : Labels) (next : ℕ) (rs : List (RunOf Label)) (i : ℕ) 
   pub reach : g.base + g.size ≤ 2 ^ 52
   pub from : 0x8000000 * (next - 1) ≤ g.base
 
-pub next-record : (f : Labels) (next : ℕ) (rs : List (RunOf Label)) (i : ℕ) (g : Region) → i < length rs → All IsWholeNoded rs
+pub next-record : (f : Labels) (next : ℕ) (rs : List (RunOf LabelView)) (i : ℕ) (g : Region) → i < length rs → All IsWholeNoded rs
     → IsLeft f next (drop i rs) → g ≡ region_of (get_or rs i nobody) → IsNext f next rs i g
 next-record f next rs i g few whole left is =
-    let r : RunOf Label = get_or rs i nobody in
+    let r : RunOf LabelView = get_or rs i nobody in
     let told : IsWholeNoded r = whole i nobody few in
     let here : IsLeft f next (r ∷ drop (i + 1) rs) = rw add-one (rw (drop-cons rs i nobody few) at left) in
     let base : g.base ≡ r.base = ap (λ (t : Region). t.base) is in

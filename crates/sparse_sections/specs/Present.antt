@@ -4,16 +4,16 @@ use Rattle.std.specs.List.{All}
 use Rattle.std.specs.Option.{option_or}
 use Rattle.bm_base.specs.declared.range.TheConstants.{FRAME_SIZE}
 use Rattle.address_runs.specs.Runs.{RunOf, run_end}
-use Rattle.memblock_model.specs.Labels.{Label, Labels}
+use Rattle.memblock_model.specs.Labels.{LabelView, Labels}
 use Rattle.memblock_grow.specs.declared.section.Section.{Section}
 
 -- what the first of the n frames from the one on carries that is memory
-unfoldable pub first_label : Labels → ℕ → ℕ → Option Label
+unfoldable pub first_label : Labels → ℕ → ℕ → Option LabelView
 first_label f frame zero = None
 first_label f frame (suc n) = option_or (f (FRAME_SIZE * frame)) (first_label f (frame + 1) n)
 
 -- and of the 32,768 frames of a section
-abbrev pub section_label : Labels → ℕ → Option Label
+abbrev pub section_label : Labels → ℕ → Option LabelView
 section_label f s = first_label f (32768 * s) 32768
 
 -- the section is there where it has memory, with the node of its lowest frame
@@ -21,7 +21,7 @@ abbrev pub section_of : ℕ → Option ℕ → List Section
 section_of s None = []
 section_of s (Some node) = record { number = s; node = node } ∷ []
 
-abbrev pub section_for : ℕ → Option Label → List Section
+abbrev pub section_for : ℕ → Option LabelView → List Section
 section_for s None = []
 section_for s (Some label) = section_of s label.node
 
@@ -40,7 +40,7 @@ sections_from first zero node = []
 sections_from first (suc n) node = sections_from first n node ++ record { number = first + n; node = node } ∷ []
 
 -- a record of memory in whole frames, with a node, within reach
-pub record IsWholeNoded (r : RunOf Label) : Type 0 where
+pub record IsWholeNoded (r : RunOf LabelView) : Type 0 where
   pub node : ℕ
   pub has : r.value.node ≡ Some node
   pub base : r.base % FRAME_SIZE ≡ 0
@@ -50,7 +50,7 @@ pub record IsWholeNoded (r : RunOf Label) : Type 0 where
 -- the section has memory, and its node is that of the lowest byte
 pub record IsLowest (f : Labels) (s : Section) : Type 0 where
   pub byte : ℕ
-  pub label : Label
+  pub label : LabelView
   pub inside : byte / 0x8000000 ≡ s.number
   pub told : f byte ≡ Some label
   pub node : label.node ≡ Some s.node

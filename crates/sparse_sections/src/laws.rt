@@ -7,8 +7,8 @@ ghost use Rattle.std.specs.List.{All};
 ghost use Rattle.bm_base.specs.declared.width.Width.{Width as AnyWidth};
 ghost use Rattle.address_runs.specs.Runs.{RunOf, IsRunsOf, value_at};
 ghost use Rattle.memblock_model.specs.declared.item.Item.{Item as AnyItem};
-ghost use Rattle.memblock_model.specs.declared.which.Which.TheVariants as which;
-ghost use Rattle.memblock_model.specs.Labels.{Label, Labels};
+ghost use Rattle.memblock_model.specs.declared.owner.Which.TheVariants as which;
+ghost use Rattle.memblock_model.specs.Labels.{LabelView, Labels};
 ghost use Rattle.memblock_model.specs.Items.{memory_of, limit_of};
 ghost use Rattle.memblock_model.specs.Tables.{records_of};
 ghost use Rattle.table_frames.specs.Tables.{AreWholeFrames};
@@ -25,14 +25,14 @@ pub fn noded_memory_is_whole()
         IsRunsOf (memory_of items) (records_of which.Memory items) }
     ensures told { (limit : ℕ) (items : List AnyItem) → limit ≤ 2 ^ 64 → IsNoded limit (memory_of items) →
         value_at (records_of which.Memory items) ≡ memory_of items }
-    ensures frames { (limit : ℕ) (f : Labels) (rs : List (RunOf Label)) → IsRunsOf f rs → IsNoded limit f → AreWholeFrames rs }
-    ensures records { (f : Labels) (rs : List (RunOf Label)) → IsRunsOf f rs → IsNoded (2 ^ 52) f → All IsWholeNoded rs }
+    ensures frames { (limit : ℕ) (f : Labels) (rs : List (RunOf LabelView)) → IsRunsOf f rs → IsNoded limit f → AreWholeFrames rs }
+    ensures records { (f : Labels) (rs : List (RunOf LabelView)) → IsRunsOf f rs → IsNoded (2 ^ 52) f → All IsWholeNoded rs }
 {}
 
 /// A law: where memory is whole frames with nodes, each byte of it within 4 PiB is of a section that is told, and each
 /// section that is told has memory and the node of the lowest byte.
 pub fn present_sections_are_memory()
-    ensures all { (limit x : ℕ) (f : Labels) (label : Label) → IsNoded limit f → x < 2 ^ 52 → f x ≡ Some label →
+    ensures all { (limit x : ℕ) (f : Labels) (label : LabelView) → IsNoded limit f → x < 2 ^ 52 → f x ≡ Some label →
         (i : ℕ) × IsSectionAt (present f) i (x / 0x8000000) }
     ensures each { (limit : ℕ) (f : Labels) → IsNoded limit f → All (IsLowest f) (present f) }
 {}

@@ -1,8 +1,8 @@
 -- Worked examples: steps that answer, stop and go on; an allocation without a place; calls that were cut short.
 use Rattle.std.proofs.Common.{◌≡◌, ℕ, ◌+◌, nat_lt, if◌then◌else◌, None, Some, [], ◌∷◌, Ok, Err, refl, inl, inr, arith, length}
 use Rattle.std.proofs.lemmas.Option.{same_Some}
-use Rattle.memblock_model.specs.Labels.{Label, plain_label, with_node}
-use Rattle.memblock_model.specs.declared.which.Which.TheVariants as which
+use Rattle.memblock_model.specs.Labels.{LabelView, plain_label, with_node}
+use Rattle.memblock_model.specs.declared.owner.Which.TheVariants as which
 use Rattle.memblock_model.specs.declared.owner.Owner.TheVariants as owner
 use Rattle.memblock_model.specs.declared.item.Item.TheVariants as item
 use Rattle.growth_model.specs.Outcome.{write, refuse}
@@ -71,7 +71,7 @@ other_error_told (inl told) = let wrong = told.1 in cc wrong
 other_error_told (inr cut) = let wrong = cut.0 in cc wrong
 
 -- no memory is of node 1,024
-abbrev of_node_1024 : Label
+abbrev of_node_1024 : LabelView
 of_node_1024 = with_node (Some 1024) plain_label
 
 too_great_a_node : (limit : ℕ) → IsNoded limit (λ x. Some of_node_1024) → ⊥
@@ -86,7 +86,7 @@ half_a_frame : AreOfFrames (λ x. nat_lt x 2048) → ⊥
 half_a_frame same = let wrong = same 2048 in cc wrong
 
 -- no memory lies behind the limit
-abbrev of_node_3 : Label
+abbrev of_node_3 : LabelView
 of_node_3 = with_node (Some 3) plain_label
 
 frame_behind_the_limit : IsNoded 4096 (λ x. if nat_lt x 8192 then Some of_node_3 else None) → ⊥

@@ -5,7 +5,7 @@ use Rattle.memblock_model.specs.declared.owner.Owner.{Owner}
 use Rattle.memblock_model.specs.declared.item.Item.{Item}
 use Rattle.growth_model.specs.declared.refusal.Refusal.{Refusal}
 use Rattle.growth_model.specs.declared.refusal.Refusal.TheVariants as refusal
-use Rattle.memblock_model.specs.declared.request.Request.{Request}
+use Rattle.memblock_model.specs.declared.query.Request.{Request}
 use Rattle.growth_model.specs.Outcome.{Change}
 use Rattle.growth_model.specs.Growth.{claimed}
 use Rattle.growth_model.specs.Request.{place_for}

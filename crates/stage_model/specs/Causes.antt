@@ -1,7 +1,7 @@
 -- Why a stage stops a boot, and the error of a call that carries it out. A definition allocates none of the program's own memory, so running
 -- out of that is no cause: it is the error for `None`.
 use Rattle.std.specs.Prelude.{ℕ, Option, Some, None}
-use Rattle.memblock_model.specs.declared.which.Which.{Which}
+use Rattle.memblock_model.specs.declared.owner.Which.{Which}
 use Rattle.growth_model.specs.declared.refusal.Refusal.{Refusal}
 use Rattle.growth_model.specs.declared.refusal.Refusal.TheVariants as refusal
 use Rattle.growth_model.specs.Outcome.{Refused}

@@ -8,7 +8,7 @@ ghost use Rattle.memblock_model.specs.declared.owner.Owner.{Owner};
 ghost use Rattle.memblock_model.specs.declared.item.Item.{Item};
 ghost use Rattle.memblock_model.specs.Items.{memory_of, limit_of};
 ghost use Rattle.growth_model.specs.declared.refusal.Refusal.{Refusal as AnyRefusal};
-ghost use Rattle.memblock_model.specs.declared.request.Request.{Request as AnyRequest};
+ghost use Rattle.memblock_model.specs.declared.query.Request.{Request as AnyRequest};
 ghost use Rattle.growth_model.specs.Outcome.{Change};
 ghost use Rattle.growth_model.specs.Request.{place_for};
 ghost use Rattle.growth_model.specs.Ends.{Ends, Allocates};

@@ -1,7 +1,7 @@
 -- The totals at the end of a boot, as lines of this project's own.
 use Rattle.std.specs.Prelude.{ℕ, List, ◌++◌, codes, decimal}
-use Rattle.memblock_model.specs.declared.which.Which.{Which}
-use Rattle.memblock_model.specs.declared.which.Which.TheVariants as which
+use Rattle.memblock_model.specs.declared.owner.Which.{Which}
+use Rattle.memblock_model.specs.declared.owner.Which.TheVariants as which
 use Rattle.report_texts.specs.OwnersText.{which_name}
 use Rattle.stage_texts.specs.declared.summary.Fullness.{Fullness}
 use Rattle.stage_texts.specs.declared.summary.Summary.{Summary}

@@ -1,20 +1,20 @@
 -- Worked examples of small tables.
 use Rattle.std.proofs.Common.{◌≡◌, ℕ, true, false, Some, None, [], ◌∷◌, refl, arith}
 use Rattle.address_runs.specs.Runs.{RunOf, value_at}
-use Rattle.memblock_model.specs.Labels.{Label, Labels, plain_label, with_node}
+use Rattle.memblock_model.specs.Labels.{LabelView, Labels, plain_label, with_node}
 use Rattle.table_frames.specs.Frames.{node_below, node_told, frames_of, node_of_frame, is_unclaimed, free_node_in, IsPassed}
 use Rattle.table_frames.specs.Tables.{AscendBelow, AreWholeFrames}
 use Rattle.table_frames.proofs.ClaimLaws.{claimed_byte, unclaimed_bare, passed_none}
 use Rattle.table_frames.proofs.WholeLaws.{free_by_first}
 
-abbrev of_node : ℕ → Label
+abbrev of_node : ℕ → LabelView
 of_node n = with_node (Some n) plain_label
 
 -- 40 bytes in frame 4, and frames 1 and 2 of node 3
-abbrev forty : RunOf Label
+abbrev forty : RunOf LabelView
 forty = record { base = 0x4FC0; size = 0x28; value = plain_label }
 
-abbrev two : RunOf Label
+abbrev two : RunOf LabelView
 two = record { base = 0x1000; size = 0x2000; value = of_node 3 }
 
 told_examples : (node_below (Some 1023) ≡ Some 1023) × (node_below (Some 1024) ≡ None) × (node_below None ≡ None)

@@ -6,7 +6,7 @@ use Rattle.phys_store.specs.Bytes.{Stored, byte_of, bytes_at}
 use Rattle.address_runs.specs.Runs.{RunOf, run_end, value_at}
 use Rattle.address_runs.specs.Sweep.{StartAtOrPast}
 use Rattle.address_runs.proofs.RunsLaws.{below, behind}
-use Rattle.memblock_model.specs.Labels.{Label}
+use Rattle.memblock_model.specs.Labels.{LabelView}
 use Rattle.memblock_ranges.specs.declared.region.Head.{Head}
 use Rattle.memblock_ranges.specs.declared.region.Region.{Region}
 use Rattle.memblock_ranges.specs.Spelling.{node_in, node_of_field, region_in, run_in}
@@ -18,7 +18,7 @@ use Rattle.table_frames.specs.Frames.{node_below, frames_of}
 use Rattle.table_frames.specs.Tables.{AscendBelow, HasRecords}
 
 -- a record of a head, by its bytes
-pub record_by_bytes : (s : List Stored) (h : Head) (i : ℕ) (d : RunOf Label) → i < h.count
+pub record_by_bytes : (s : List Stored) (h : Head) (i : ℕ) (d : RunOf LabelView) → i < h.count
     → get_or (list_in s h) i d ≡ run_in (bytes_at (byte_of s) (h.place + 24 * i) 24)
 record_by_bytes s h i d few = get-records_at (byte_of s) h.place h.count i d few
 
@@ -30,38 +30,38 @@ field_below n = elim (cases_Bool (n == 1024)) as (λ _. node_below (node_of_fiel
 ]
 
 -- a record isn't empty, and ends at or below the bound
-pub ascend_at : (b : ℕ) (rs : List (RunOf Label)) (i : ℕ) (d : RunOf Label) → AscendBelow b rs → i < length rs
+pub ascend_at : (b : ℕ) (rs : List (RunOf LabelView)) (i : ℕ) (d : RunOf LabelView) → AscendBelow b rs → i < length rs
     → (0 < (get_or rs i d).size) × (run_end (get_or rs i d) ≤ b)
 ascend_at b [] i d ascend few = absurd (omega arith)
 ascend_at b (r ∷ rs) zero d ascend few = (ascend.0, ascend.1)
 ascend_at b (r ∷ rs) (suc i) d ascend few = ascend_at b rs i d ascend.3 (omega arith)
 
-pub ascend_drop : (b : ℕ) (rs : List (RunOf Label)) (i : ℕ) → AscendBelow b rs → AscendBelow b (drop i rs)
+pub ascend_drop : (b : ℕ) (rs : List (RunOf LabelView)) (i : ℕ) → AscendBelow b rs → AscendBelow b (drop i rs)
 ascend_drop b rs zero ascend = ascend
 ascend_drop b [] (suc i) ascend = tt
 ascend_drop b (r ∷ rs) (suc i) ascend = ascend_drop b rs i ascend.3
 
 -- below the first record the list has no value
-pub ascend_none : (b at x : ℕ) (rs : List (RunOf Label)) → AscendBelow b rs → StartAtOrPast at rs → x < at → value_at rs x ≡ None
+pub ascend_none : (b at x : ℕ) (rs : List (RunOf LabelView)) → AscendBelow b rs → StartAtOrPast at rs → x < at → value_at rs x ≡ None
 ascend_none b at x [] ascend start lt = refl
 ascend_none b at x (r ∷ rs) ascend start lt =
     rw (below r x (omega arith)) (ascend_none b (run_end r) x rs ascend.3 ascend.2 (omega arith))
 
 -- a later record begins at or above the end of an earlier one
-pub start_at : (b at : ℕ) (rs : List (RunOf Label)) (i : ℕ) (d : RunOf Label) → AscendBelow b rs → StartAtOrPast at rs → i < length rs
+pub start_at : (b at : ℕ) (rs : List (RunOf LabelView)) (i : ℕ) (d : RunOf LabelView) → AscendBelow b rs → StartAtOrPast at rs → i < length rs
     → at ≤ (get_or rs i d).base
 start_at b at [] i d ascend start few = absurd (omega arith)
 start_at b at (r ∷ rs) zero d ascend start few = start
 start_at b at (r ∷ rs) (suc i) d ascend start few = omega (arith, start_at b (run_end r) rs i d ascend.3 ascend.2 (omega arith))
 
-pub in_order : (b : ℕ) (rs : List (RunOf Label)) (i k : ℕ) (d : RunOf Label) → AscendBelow b rs → i < k → k < length rs
+pub in_order : (b : ℕ) (rs : List (RunOf LabelView)) (i k : ℕ) (d : RunOf LabelView) → AscendBelow b rs → i < k → k < length rs
     → run_end (get_or rs i d) ≤ (get_or rs k d).base
 in_order b (r ∷ rs) zero (suc k) d ascend order few = start_at b (run_end r) rs k d ascend.3 ascend.2 (omega arith)
 in_order b (r ∷ rs) (suc i) (suc k) d ascend order few = in_order b rs i k d ascend.3 (omega arith) (omega arith)
 in_order b rs i k d ascend order few = absurd (omega arith)
 
 -- from the first byte of a record on, the records before it have no value
-pub taken_none : (b : ℕ) (rs : List (RunOf Label)) (i x : ℕ) (d : RunOf Label) → AscendBelow b rs → i < length rs → (get_or rs i d).base ≤ x
+pub taken_none : (b : ℕ) (rs : List (RunOf LabelView)) (i x : ℕ) (d : RunOf LabelView) → AscendBelow b rs → i < length rs → (get_or rs i d).base ≤ x
     → value_at (take i rs) x ≡ None
 taken_none b [] i x d ascend few above = absurd (omega arith)
 taken_none b (r ∷ rs) zero x d ascend few above = refl
@@ -76,13 +76,13 @@ region_fits s h i g known few is =
     let r = run_in (bytes_at (byte_of s) (h.place + 24 * i) 24) in
     rw is (rw (record_by_bytes s h i r few) at (ascend_at (2 ^ 64) (list_in s h) i r known.ascend (omega (arith, count_is s h))))
 
-pub region_frames : (s : List Stored) (h : Head) (i : ℕ) (g : Region) (node : Option ℕ) (d : RunOf Label) → i < h.count
+pub region_frames : (s : List Stored) (h : Head) (i : ℕ) (g : Region) (node : Option ℕ) (d : RunOf LabelView) → i < h.count
     → g ≡ region_in (bytes_at (byte_of s) (h.place + 24 * i) 24) → node ≡ (if nat_lt g.node 1024 then Some g.node else None)
     → record { first = g.base / 4096; end = (g.base + (g.size - 1)) / 4096 + 1; node = node } ≡ frames_of (get_or (list_in s h) i d)
 region_frames s h i g node d few is told =
     rw (told, is, record_by_bytes s h i d few, field_below (node_in (bytes_at (byte_of s) (h.place + 24 * i) 24))) refl
 
-pub ascend_higher : (b c : ℕ) (rs : List (RunOf Label)) → b ≤ c → AscendBelow b rs → AscendBelow c rs
+pub ascend_higher : (b c : ℕ) (rs : List (RunOf LabelView)) → b ≤ c → AscendBelow b rs → AscendBelow c rs
 ascend_higher b c [] order ascend = tt
 ascend_higher b c (r ∷ rs) order ascend = (ascend.0, omega arith, ascend.2, ascend_higher b c rs order ascend.3)
 
@@ -91,7 +91,7 @@ records_higher s h b c order known =
     record { few = known.few; fits = known.fits; ascend = ascend_higher b c (list_in s h) order known.ascend }
 
 -- a record has at least one frame
-pub frames_order : (r : RunOf Label) (fs : RecordFrames) → fs ≡ frames_of r → fs.first < fs.end
+pub frames_order : (r : RunOf LabelView) (fs : RecordFrames) → fs ≡ frames_of r → fs.first < fs.end
 frames_order r fs is =
     let first : fs.first ≡ r.base / 4096 = ap (λ (g : RecordFrames). g.first) is in
     let end : fs.end ≡ (r.base + (r.size - 1)) / 4096 + 1 = ap (λ (g : RecordFrames). g.end) is in

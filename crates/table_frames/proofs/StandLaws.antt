@@ -9,7 +9,7 @@ use Rattle.address_runs.specs.Runs.{RunOf, run_end, lies_in, value_at, AreRuns}
 use Rattle.address_runs.specs.Edits.{NothingFrom}
 use Rattle.address_runs.specs.Sweep.{StartAtOrPast}
 use Rattle.address_runs.proofs.RunsLaws.{inside, behind, rest_from}
-use Rattle.memblock_model.specs.Labels.{Label}
+use Rattle.memblock_model.specs.Labels.{LabelView}
 use Rattle.memblock_ranges.specs.declared.region.Region.{Region}
 use Rattle.memblock_ranges.specs.Spelling.{node_in, node_of_field, node_field, region_in, region_of, records_at}
 use Rattle.memblock_ranges.specs.Tables.{Table, StandsIn, head_of, list_in}
@@ -19,7 +19,7 @@ use Rattle.table_frames.proofs.RecordLaws.{field_below}
 use Rattle.table_frames.proofs.WholeLaws.{whole_by_value}
 
 -- two lists whose records have the same addresses and the same nodes
-abbrev Alike : List (RunOf Label) → List (RunOf Label) → Type 0
+abbrev Alike : List (RunOf LabelView) → List (RunOf LabelView) → Type 0
 Alike [] [] = Unit {0}
 Alike [] (s ∷ ss) = ⊥
 Alike (r ∷ rs) [] = ⊥
@@ -29,8 +29,8 @@ field_for : (o : Option ℕ) → node_below (node_of_field (unwrap_or o 1024)) �
 field_for None = refl
 field_for (Some n) = field_below n
 
-alike_from : (f : ℕ → ℕ) (a : ℕ) (rs : List (RunOf Label))
-    → ((i : ℕ) (r : RunOf Label) → i < length rs → region_in (bytes_at f (a + 24 * i) 24) ≡ region_of (get_or rs i r))
+alike_from : (f : ℕ → ℕ) (a : ℕ) (rs : List (RunOf LabelView))
+    → ((i : ℕ) (r : RunOf LabelView) → i < length rs → region_in (bytes_at f (a + 24 * i) 24) ≡ region_of (get_or rs i r))
     → Alike (records_at f a (length rs)) rs
 unfolding records_at
 alike_from f a [] regions = tt
@@ -45,12 +45,12 @@ alike_from f a (r ∷ rs) regions =
     )
 
 -- such lists begin, end and have values alike
-alike_starts : (at : ℕ) (rs ss : List (RunOf Label)) → Alike rs ss → StartAtOrPast at ss → StartAtOrPast at rs
+alike_starts : (at : ℕ) (rs ss : List (RunOf LabelView)) → Alike rs ss → StartAtOrPast at ss → StartAtOrPast at rs
 alike_starts at [] [] alike start = tt
 alike_starts at (r ∷ rs) (s ∷ ss) alike start = omega arith
 alike_starts at rs ss alike start = absurd alike
 
-alike_ascends : (b : ℕ) (rs ss : List (RunOf Label)) → Alike rs ss → AscendBelow b ss → AscendBelow b rs
+alike_ascends : (b : ℕ) (rs ss : List (RunOf LabelView)) → Alike rs ss → AscendBelow b ss → AscendBelow b rs
 alike_ascends b [] [] alike ascend = tt
 alike_ascends b (r ∷ rs) (s ∷ ss) alike ascend = (
   omega arith,
@@ -61,12 +61,12 @@ alike_ascends b (r ∷ rs) (s ∷ ss) alike ascend = (
 alike_ascends b rs ss alike ascend = absurd alike
 
 -- two values of a byte are alike: both are present or both aren't, and they give the same node
-pub record TellsAlike (u v : Option Label) : Type 0 where
+pub record TellsAlike (u v : Option LabelView) : Type 0 where
   pub there : is_some u ≡ is_some v
   pub bare : is_none u ≡ is_none v
   pub node : node_told u ≡ node_told v
 
-alike_tells : (x : ℕ) (rs ss : List (RunOf Label)) → Alike rs ss → TellsAlike (value_at rs x) (value_at ss x)
+alike_tells : (x : ℕ) (rs ss : List (RunOf LabelView)) → Alike rs ss → TellsAlike (value_at rs x) (value_at ss x)
 alike_tells x [] [] alike = record { there = refl; bare = refl; node = refl }
 alike_tells x (r ∷ rs) (s ∷ ss) alike =
     let same : lies_in r x ≡ lies_in s x = rw (alike.0, alike.1) refl in
@@ -80,7 +80,7 @@ alike_stands : (t : Table) (s : List Stored) → StandsIn t s → Alike (list_in
 alike_stands t s stands = alike_from (byte_of s) t.place t.records stands.regions
 
 -- a canonical list ascends
-runs_ascend : (b : ℕ) (rs : List (RunOf Label)) → AreRuns rs → NothingFrom b (value_at rs) → AscendBelow b rs
+runs_ascend : (b : ℕ) (rs : List (RunOf LabelView)) → AreRuns rs → NothingFrom b (value_at rs) → AscendBelow b rs
 runs_ascend b [] runs none = tt
 runs_ascend b (r ∷ rs) runs none =
     let low : run_end r ≤ b = elim (cases_lt b (run_end r)) [
@@ -103,7 +103,7 @@ stands_below t s b stands none = record {
 pub stands_ascending : (t : Table) (s : List Stored) → StandsIn t s → HasRecords s (head_of t) (2 ^ 64)
 stands_ascending t s stands = stands_below t s (2 ^ 64) stands stands.records.within
 
-alike_whole : (rs ss : List (RunOf Label)) → Alike rs ss → AreWholeFrames ss → AreWholeFrames rs
+alike_whole : (rs ss : List (RunOf LabelView)) → Alike rs ss → AreWholeFrames ss → AreWholeFrames rs
 alike_whole [] [] alike whole = tt
 alike_whole (r ∷ rs) (s ∷ ss) alike whole = (omega arith, omega arith, alike_whole rs ss alike.3 whole.2)
 alike_whole rs ss alike whole = absurd alike

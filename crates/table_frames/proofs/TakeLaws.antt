@@ -6,14 +6,14 @@ use Rattle.std.proofs.Math.Seq.{take-suc}
 use Rattle.address_runs.specs.Runs.{RunOf, run_end, lies_in, value_at}
 use Rattle.address_runs.proofs.RunsLaws.{inside}
 use Rattle.address_runs.proofs.SweepLaws.{value_append_none, value_append_left}
-use Rattle.memblock_model.specs.Labels.{Label}
+use Rattle.memblock_model.specs.Labels.{LabelView}
 use Rattle.table_frames.specs.declared.frames.RecordFrames.{RecordFrames}
 use Rattle.table_frames.specs.Frames.{node_of_frame, frames_of}
 use Rattle.table_frames.specs.Tables.{AscendBelow, AreWholeFrames}
 use Rattle.table_frames.proofs.RecordLaws.{ascend_at, taken_none, in_order, frames_order}
 use Rattle.table_frames.proofs.WholeLaws.{whole_at, first_byte, other_byte}
 
-lies_parts : (r : RunOf Label) (y : ℕ) → lies_in r y ≡ true → (r.base ≤ y) × (y < run_end r)
+lies_parts : (r : RunOf LabelView) (y : ℕ) → lies_in r y ≡ true → (r.base ≤ y) × (y < run_end r)
 lies_parts r y lies = grind (arith, nat_tests)
 
 pub both_tests : (first x end : ℕ) → first ≤ x → x < end → (nat_le first x && nat_lt x end) ≡ true
@@ -23,12 +23,12 @@ pub tests_both : (first x end : ℕ) → (nat_le first x && nat_lt x end) ≡ tr
 tests_both first x end holds = grind (arith, nat_tests)
 
 -- the values of the records up to one, with the frames of that one
-pub node_more : (b : ℕ) (ms : List (RunOf Label)) (i x : ℕ) (d : RunOf Label) → AscendBelow b ms → AreWholeFrames ms → i < length ms
+pub node_more : (b : ℕ) (ms : List (RunOf LabelView)) (i x : ℕ) (d : RunOf LabelView) → AscendBelow b ms → AreWholeFrames ms → i < length ms
     → node_of_frame (value_at (take (i + 1) ms)) x
     ≡ (if nat_le (frames_of (get_or ms i d)).first x && nat_lt x (frames_of (get_or ms i d)).end then (frames_of (get_or ms i d)).node
     else node_of_frame (value_at (take i ms)) x)
 node_more b ms i x d ascend whole few =
-    let r : RunOf Label = get_or ms i d in
+    let r : RunOf LabelView = get_or ms i d in
     let some = (ascend_at b ms i d ascend few).0 in
     let sizes = whole_at ms i d whole few in
     rw (add-one, take-suc ms i d few) (elim (cases_Bool (lies_in r (4096 * x))) [
@@ -49,25 +49,25 @@ node_more b ms i x d ascend whole few =
     ])
 
 -- the frames of a record: at least one, below the bound, in the order of the records
-pub frames_below : (b m : ℕ) (ms : List (RunOf Label)) (i : ℕ) (d : RunOf Label) (fs : RecordFrames) → AscendBelow b ms → i < length ms
+pub frames_below : (b m : ℕ) (ms : List (RunOf LabelView)) (i : ℕ) (d : RunOf LabelView) (fs : RecordFrames) → AscendBelow b ms → i < length ms
     → fs ≡ frames_of (get_or ms i d) → b ≤ 4096 * m → fs.end ≤ m
 frames_below b m ms i d fs ascend few is bound =
-    let r : RunOf Label = get_or ms i d in
+    let r : RunOf LabelView = get_or ms i d in
     let fits = ascend_at b ms i d ascend few in
     let end : fs.end ≡ (r.base + (r.size - 1)) / 4096 + 1 = ap (λ (g : RecordFrames). g.end) is in
     omega arith
 
-pub frames_in_order : (b : ℕ) (ms : List (RunOf Label)) (i k : ℕ) (d : RunOf Label) (fs : RecordFrames) → AscendBelow b ms
+pub frames_in_order : (b : ℕ) (ms : List (RunOf LabelView)) (i k : ℕ) (d : RunOf LabelView) (fs : RecordFrames) → AscendBelow b ms
     → AreWholeFrames ms
     → i < k → k < length ms → fs ≡ frames_of (get_or ms i d) → fs.end ≤ (frames_of (get_or ms k d)).first
 frames_in_order b ms i k d fs ascend whole order few is =
-    let r : RunOf Label = get_or ms i d in
-    let s : RunOf Label = get_or ms k d in
+    let r : RunOf LabelView = get_or ms i d in
+    let s : RunOf LabelView = get_or ms k d in
     let some = (ascend_at b ms i d ascend (omega arith)).0 in
     let sizes = whole_at ms i d whole (omega arith) in
     let apart = in_order b ms i k d ascend order few in
     let end : fs.end ≡ (r.base + (r.size - 1)) / 4096 + 1 = ap (λ (g : RecordFrames). g.end) is in
     omega arith
 
-pub frames_some : (r : RunOf Label) (fs : RecordFrames) → fs ≡ frames_of r → fs.first ≤ fs.end
+pub frames_some : (r : RunOf LabelView) (fs : RecordFrames) → fs ≡ frames_of r → fs.first ≤ fs.end
 frames_some r fs is = omega (arith, frames_order r fs is)

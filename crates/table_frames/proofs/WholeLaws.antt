@@ -9,59 +9,59 @@ use Rattle.bm_base.proofs.EachLaws.{each_in-same}
 use Rattle.address_runs.specs.Runs.{RunOf, run_end, lies_in, value_at, AreRuns}
 use Rattle.address_runs.specs.Sweep.{StartAtOrPast}
 use Rattle.address_runs.proofs.RunsLaws.{inside, behind, none_below, rest_from, other_behind}
-use Rattle.memblock_model.specs.Labels.{Label, Labels}
+use Rattle.memblock_model.specs.Labels.{LabelView, Labels}
 use Rattle.table_frames.specs.Frames.{node_told, node_of_frame, is_unclaimed, free_node_in, frames_of}
 use Rattle.table_frames.specs.Tables.{AreWholeFrames}
 
-lies_whole : (r : RunOf Label) (y : ℕ) → r.base % 4096 ≡ 0 → r.size % 4096 ≡ 0 → lies_in r y ≡ lies_in r (4096 * (y / 4096))
+lies_whole : (r : RunOf LabelView) (y : ℕ) → r.base % 4096 ≡ 0 → r.size % 4096 ≡ 0 → lies_in r y ≡ lies_in r (4096 * (y / 4096))
 lies_whole r y base size = grind (arith, nat_tests)
 
 -- all bytes of a frame have the same value
-pub whole_value : (rs : List (RunOf Label)) (y : ℕ) → AreWholeFrames rs → value_at rs y ≡ value_at rs (4096 * (y / 4096))
+pub whole_value : (rs : List (RunOf LabelView)) (y : ℕ) → AreWholeFrames rs → value_at rs y ≡ value_at rs (4096 * (y / 4096))
 whole_value [] y whole = refl
 whole_value (r ∷ rs) y whole =
     rw (lies_whole r y whole.0 whole.1, whole_value rs y whole.2) refl
 
-pub whole_at : (rs : List (RunOf Label)) (i : ℕ) (d : RunOf Label) → AreWholeFrames rs → i < length rs
+pub whole_at : (rs : List (RunOf LabelView)) (i : ℕ) (d : RunOf LabelView) → AreWholeFrames rs → i < length rs
     → ((get_or rs i d).base % 4096 ≡ 0) × ((get_or rs i d).size % 4096 ≡ 0)
 whole_at [] i d whole few = absurd (omega arith)
 whole_at (r ∷ rs) zero d whole few = (whole.0, whole.1)
 whole_at (r ∷ rs) (suc i) d whole few = whole_at rs i d whole.2 (omega arith)
 
 -- the first byte of each frame of such a record is in the record
-pub first_byte : (r : RunOf Label) (x : ℕ) → 0 < r.size → r.base % 4096 ≡ 0 → r.size % 4096 ≡ 0
+pub first_byte : (r : RunOf LabelView) (x : ℕ) → 0 < r.size → r.base % 4096 ≡ 0 → r.size % 4096 ≡ 0
     → (frames_of r).first ≤ x → x < (frames_of r).end → (r.base ≤ 4096 * x) × (4096 * x < run_end r)
 first_byte r x some base size from until = (omega arith, omega arith)
 
-pub other_byte : (r : RunOf Label) (x : ℕ) → 0 < r.size → r.base % 4096 ≡ 0 → r.size % 4096 ≡ 0
+pub other_byte : (r : RunOf LabelView) (x : ℕ) → 0 < r.size → r.base % 4096 ≡ 0 → r.size % 4096 ≡ 0
     → r.base ≤ 4096 * x → 4096 * x < run_end r → ((frames_of r).first ≤ x) × (x < (frames_of r).end)
 other_byte r x some base size from until = (omega arith, omega arith)
 
 -- in memory of whole frames, a frame is free if its first byte is memory and none of its bytes is
 -- reserved
-pub free_by_first : (ms : List (RunOf Label)) (reserved : Labels) (x : ℕ) → AreWholeFrames ms
+pub free_by_first : (ms : List (RunOf LabelView)) (reserved : Labels) (x : ℕ) → AreWholeFrames ms
     → (if is_unclaimed reserved x then node_of_frame (value_at ms) x else None) ≡ free_node_in (value_at ms) reserved x
 unfolding free_node_in is_unclaimed
 free_by_first ms reserved x whole =
     let both : ℕ → Bool = λ y. is_some (value_at ms y) && is_none (reserved y) in
     let bare : ℕ → Bool = λ y. is_none (reserved y) in
-    let first : Option Label = value_at ms (4096 * x) in
+    let first : Option LabelView = value_at ms (4096 * x) in
     let same : (y : ℕ) → 4096 * x ≤ y → y < 4096 * x + 4096 → value_at ms y ≡ first = λ y above below.
     whole_value ms y whole ∙ ap (value_at ms) (omega arith) in
-    let Free : Option Label → Type 0 = λ v. value_at ms (4096 * x) ≡ v →
+    let Free : Option LabelView → Type 0 = λ v. value_at ms (4096 * x) ≡ v →
     (if each_in (bytes_of_frame x) bare then node_told v else None) ≡ (if each_in (bytes_of_frame x) both then node_told v else None) in
-    let at : (v : Option Label) → Free v = λ v. elim v as Free [
+    let at : (v : Option LabelView) → Free v = λ v. elim v as Free [
       | None ↦ λ is. grind arith
       | Some label ↦ λ is.
           rw (each_in-same (bytes_of_frame x) bare both (λ y above below. rw (same y above below, is) refl)) refl
     ] in at first refl
 
 -- a canonical list with the same value for all addresses of a frame has records of whole frames
-pub whole_by_value : (rs : List (RunOf Label)) → AreRuns rs → ((x : ℕ) → value_at rs x ≡ value_at rs (4096 * (x / 4096)))
+pub whole_by_value : (rs : List (RunOf LabelView)) → AreRuns rs → ((x : ℕ) → value_at rs x ≡ value_at rs (4096 * (x / 4096)))
     → AreWholeFrames rs
 whole_by_value [] runs same = tt
 whole_by_value (r ∷ rs) runs same =
-    let all : List (RunOf Label) = r ∷ rs in
+    let all : List (RunOf LabelView) = r ∷ rs in
     let start : StartAtOrPast r.base all = omega arith in
     let base : r.base % 4096 ≡ 0 = elim (cases_lt (4096 * (r.base / 4096)) r.base) [
       | inl lt ↦

@@ -4,7 +4,7 @@ use Rattle.bm_base.specs.Each.{each_in}
 use Rattle.bm_base.specs.Frames.{bytes_of_frame}
 use Rattle.bm_base.specs.declared.range.TheConstants.{FRAME_SIZE}
 use Rattle.address_runs.specs.Runs.{RunOf, value_at}
-use Rattle.memblock_model.specs.Labels.{Label, Labels}
+use Rattle.memblock_model.specs.Labels.{LabelView, Labels}
 use Rattle.table_frames.specs.declared.frames.RecordFrames.{RecordFrames}
 use Rattle.table_frames.specs.declared.frames.TheConstants.{MAX_NODES}
 
@@ -14,12 +14,12 @@ node_below None = None
 node_below (Some n) = if nat_lt n MAX_NODES then Some n else None
 
 -- the node of a byte with this value in the memory table
-abbrev pub node_told : Option Label → Option ℕ
+abbrev pub node_told : Option LabelView → Option ℕ
 node_told None = None
 node_told (Some label) = node_below label.node
 
 -- the frames that overlap a record, and their node
-abbrev pub frames_of : RunOf Label → RecordFrames
+abbrev pub frames_of : RunOf LabelView → RecordFrames
 frames_of r = record { first = r.base / FRAME_SIZE; end = (r.base + (r.size - 1)) / FRAME_SIZE + 1; node = node_below r.value.node }
 
 -- the node of a frame is that of its first byte
@@ -37,5 +37,5 @@ free_node_in memory reserved frame =
     if each_in (bytes_of_frame frame) (λ x. is_some (memory x) && is_none (reserved x)) then node_of_frame memory frame else None
 
 -- the records before the index don't overlap the frame or any above it
-abbrev pub IsPassed : List (RunOf Label) → ℕ → ℕ → Type 0
+abbrev pub IsPassed : List (RunOf LabelView) → ℕ → ℕ → Type 0
 IsPassed rs i frame = (x : ℕ) → FRAME_SIZE * frame ≤ x → value_at (drop i rs) x ≡ value_at rs x

@@ -4,13 +4,13 @@ use Rattle.bm_base.specs.declared.range.TheConstants.{FRAME_SIZE}
 use Rattle.address_runs.specs.Runs.{RunOf, run_end}
 use Rattle.address_runs.specs.Sweep.{StartAtOrPast}
 use Rattle.phys_store.specs.Bytes.{Stored}
-use Rattle.memblock_model.specs.Labels.{Label}
+use Rattle.memblock_model.specs.Labels.{LabelView}
 use Rattle.memblock_ranges.specs.declared.region.Head.{Head}
 use Rattle.memblock_ranges.specs.Tables.{list_in}
 
 -- no record is empty, each ends at or below the bound, and each begins at or above the end of the
 -- one before it
-abbrev pub AscendBelow : ℕ → List (RunOf Label) → Type 0
+abbrev pub AscendBelow : ℕ → List (RunOf LabelView) → Type 0
 AscendBelow bound [] = Unit {0}
 AscendBelow bound (r ∷ rs) = (0 < r.size) × (run_end r ≤ bound) × StartAtOrPast (run_end r) rs × AscendBelow bound rs
 
@@ -21,6 +21,6 @@ pub record HasRecords (store : List Stored) (head : Head) (bound : ℕ) : Type 0
   pub ascend : AscendBelow bound (list_in store head)
 
 -- the records begin and end at borders of frames
-abbrev pub AreWholeFrames : List (RunOf Label) → Type 0
+abbrev pub AreWholeFrames : List (RunOf LabelView) → Type 0
 AreWholeFrames [] = Unit {0}
 AreWholeFrames (r ∷ rs) = (r.base % FRAME_SIZE ≡ 0) × (r.size % FRAME_SIZE ≡ 0) × AreWholeFrames rs

@@ -4,7 +4,7 @@
 
 ghost use Rattle.std.specs.Prelude.{◌≡◌, ◌^◌, ◌<◌, get_or};
 ghost use Rattle.address_runs.specs.Runs.{RunOf};
-ghost use Rattle.memblock_model.specs.Labels.{Label};
+ghost use Rattle.memblock_model.specs.Labels.{LabelView};
 ghost use Rattle.memblock_ranges.specs.Tables.{list_in};
 ghost use Rattle.table_frames.specs.Frames.{frames_of};
 ghost use Rattle.table_frames.specs.Tables.{HasRecords};
@@ -31,7 +31,7 @@ pub struct RecordFrames {
 pub fn frames_at(store: &Store, head: &Head, i: u64) -> RecordFrames
     requires table { HasRecords store.now head.now (2 ^ 64) }
     requires within { i < head.now.count }
-    ensures { (r : RunOf Label) → result ≡ frames_of (get_or (list_in store.now head.now) i r) }
+    ensures { (r : RunOf LabelView) → result ≡ frames_of (get_or (list_in store.now head.now) i r) }
 {
     let region = region_at(store, head, i);
     let last = region.base + (region.size - 1);

@@ -4,7 +4,7 @@ use Rattle.std.proofs.lemmas.Bool.Decides.{nat_tests}
 use Rattle.std.proofs.Math.Seq.{take-length}
 use Rattle.address_runs.specs.Runs.{RunOf, value_at}
 use Rattle.address_runs.specs.Edits.{NothingFrom}
-use Rattle.memblock_model.specs.Labels.{Label}
+use Rattle.memblock_model.specs.Labels.{LabelView}
 use Rattle.table_frames.specs.Frames.{node_below, node_told, node_of_frame, frames_of}
 use Rattle.table_frames.specs.Tables.{AscendBelow, AreWholeFrames}
 use Rattle.table_frames.proofs.RecordLaws.{taken_none}
@@ -17,14 +17,14 @@ pub low_node : (o : Option ℕ) (n : ℕ) → node_below o ≡ Some n → n < 10
 low_node o n is = grind (arith, nat_tests)
 
 -- the records before one have no frame at or above its first
-pub nothing_taken : (b : ℕ) (ms : List (RunOf Label)) (i : ℕ) (d : RunOf Label) → AscendBelow b ms → AreWholeFrames ms → i < length ms
+pub nothing_taken : (b : ℕ) (ms : List (RunOf LabelView)) (i : ℕ) (d : RunOf LabelView) → AscendBelow b ms → AreWholeFrames ms → i < length ms
     → NothingFrom (frames_of (get_or ms i d)).first (node_of_frame (value_at (take i ms)))
 nothing_taken b ms i d ascend whole few x above =
     let base = (whole_at ms i d whole few).0 in
     ap node_told (taken_none b ms i (4096 * x) d ascend few (omega (arith, above, base)))
 
 -- a record with a node adds a run; one without changes nothing
-pub taken_run : (b : ℕ) (ms : List (RunOf Label)) (i n : ℕ) (d : RunOf Label) → AscendBelow b ms → AreWholeFrames ms → i < length ms
+pub taken_run : (b : ℕ) (ms : List (RunOf LabelView)) (i n : ℕ) (d : RunOf LabelView) → AscendBelow b ms → AreWholeFrames ms → i < length ms
     → (frames_of (get_or ms i d)).node ≡ Some n
     → with_run (frames_of (get_or ms i d)).first (frames_of (get_or ms i d)).end n (node_of_frame (value_at (take i ms)))
     ≡ node_of_frame (value_at (take (i + 1) ms))
@@ -35,7 +35,7 @@ taken_run b ms i n d ascend whole few is =
     grind (arith, node_more b ms i x d ascend whole few, is) in
     λ j x. same x j
 
-pub taken_left : (b : ℕ) (ms : List (RunOf Label)) (i : ℕ) (d : RunOf Label) → AscendBelow b ms → AreWholeFrames ms → i < length ms
+pub taken_left : (b : ℕ) (ms : List (RunOf LabelView)) (i : ℕ) (d : RunOf LabelView) → AscendBelow b ms → AreWholeFrames ms → i < length ms
     → (frames_of (get_or ms i d)).node ≡ None
     → node_of_frame (value_at (take i ms)) ≡ node_of_frame (value_at (take (i + 1) ms))
 taken_left b ms i d ascend whole few is =
@@ -43,6 +43,6 @@ taken_left b ms i d ascend whole few is =
     grind (arith, nat_tests, node_more b ms i x d ascend whole few, is, nothing_taken b ms i d ascend whole few x) in
     λ j x. same x j
 
-pub taken_all : (ms : List (RunOf Label)) (i : ℕ) → i ≡ length ms
+pub taken_all : (ms : List (RunOf LabelView)) (i : ℕ) → i ≡ length ms
     → node_of_frame (value_at (take i ms)) ≡ node_of_frame (value_at ms)
 taken_all ms i all = rw (all, take-length ms) refl

@@ -3,9 +3,9 @@ use Rattle.std.proofs.Common.{◌≡◌, ◌∙◌, ◌^◌, List, ap, sym, subs
 use Rattle.std.specs.List.{All}
 use Rattle.address_runs.specs.Runs.{RunOf, value_at}
 use Rattle.memblock_model.specs.declared.item.Item.{Item}
-use Rattle.memblock_model.specs.declared.which.Which.TheVariants as which
+use Rattle.memblock_model.specs.declared.owner.Which.TheVariants as which
 use Rattle.memblock_model.specs.Items.{memory_of}
-use Rattle.memblock_model.specs.Labels.{Label}
+use Rattle.memblock_model.specs.Labels.{LabelView}
 use Rattle.memblock_model.specs.Tables.{records_of}
 use Rattle.memblock_ranges.specs.Tables.{Table}
 use Rattle.memblock_grow.proofs.GoingLaws.{goes-then}
@@ -29,7 +29,7 @@ present-requires c =
     let told : All IsWholeNoded (records_of which.Memory items) =
     noded-records (memory_of items) (records_of which.Memory items) (noded-runs (2 ^ 52) items (omega arith) c.requires.noded)
     c.requires.noded in
-    subst (λ (rs : List (RunOf Label)). All IsWholeNoded rs) (sym (ap (λ (t : Table). t.records) c.tables.ensures.memory)) told
+    subst (λ (rs : List (RunOf LabelView)). All IsWholeNoded rs) (sym (ap (λ (t : Table). t.records) c.tables.ensures.memory)) told
 
 pub returns-in_err-sections-clause-ends : goal.returns-in_err-sections-clause-ends
 returns-in_err-sections-clause-ends c =

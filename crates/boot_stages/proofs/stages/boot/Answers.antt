@@ -5,7 +5,7 @@ use Rattle.address_runs.specs.Runs.{RunOf}
 use Rattle.boot_journal.specs.Contents.{Contents}
 use Rattle.bm_base.specs.Range.{RangeView}
 use Rattle.address_runs.specs.Edits.{NothingFrom}
-use Rattle.memblock_model.specs.declared.which.Which.TheVariants as which
+use Rattle.memblock_model.specs.declared.owner.Which.TheVariants as which
 use Rattle.memblock_model.specs.Items.{memory_of, owner_of}
 use Rattle.memblock_model.specs.Tables.{reserved_of}
 use Rattle.memblock_ranges.specs.Tables.{table_in}

@@ -1,6 +1,6 @@
 use Rattle.std.proofs.Common.{◌≡◌, ◌<◌, length, get_or, arith}
 use Rattle.address_runs.specs.Runs.{RunOf, value_at}
-use Rattle.memblock_model.specs.Labels.{Label, plain_label}
+use Rattle.memblock_model.specs.Labels.{LabelView, plain_label}
 use Rattle.memblock_ranges.specs.Tables.{list_in}
 use Rattle.memblock_ranges.proofs.LentLaws.{count_is}
 use Rattle.table_frames.proofs.RecordLaws.{records_higher}
@@ -11,7 +11,7 @@ use Rattle.buddy_handover.proofs.HandoverLaws.{record_freed, record_left, all_ha
 use Rattle.buddy_handover.proofs.handover.hand_over.Goals as goal
 use Rattle.buddy_handover.proofs.handover.hand_over.Goals.{in-Some+in_ok-next, in_default}
 
-nobody : RunOf Label
+nobody : RunOf LabelView
 nobody = record { base = 0; size = 0; value = plain_label }
 
 pub frames_at-frames-requires-clause-table : goal.frames_at-frames-requires-clause-table

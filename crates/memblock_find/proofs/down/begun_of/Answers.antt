@@ -1,6 +1,6 @@
 use Rattle.std.proofs.Common.{◌≡◌, ℕ, ◌+◌, ◌-◌, ◌/◌, List, ap, arith}
 use Rattle.address_runs.specs.Runs.{RunOf}
-use Rattle.memblock_model.specs.Labels.{Label}
+use Rattle.memblock_model.specs.Labels.{LabelView}
 use Rattle.memblock_ranges.specs.declared.region.Region.{Region}
 use Rattle.memblock_find.specs.Walk.{run_at}
 use Rattle.memblock_find.proofs.DownLaws.{all_begun, begun_so_far, not_begun_from}
@@ -9,7 +9,7 @@ use Rattle.memblock_find.proofs.down.begun_of.Goals.{then-count-eq0-via-then-cou
 
 pub returns-then-count-eq0 : goal.returns-then-count-eq0
 returns-then-count-eq0 c =
-    let rs : List (RunOf Label) = c.args.records.now in
+    let rs : List (RunOf LabelView) = c.args.records.now in
     all_begun rs c.args.at c.args.count c.requires
     (λ some. elim c.then-count-eq0.branch [
       | then-count-eq0-via-then-count-eq0 w ↦ absurd (omega (arith, w.if-count-eq0.true))
@@ -22,7 +22,7 @@ returns-then-count-eq0 c =
 
 pub loop-low-preserved-then-get-at-2 : goal.loop-low-preserved-then-get-at-2
 loop-low-preserved-then-get-at-2 c =
-    let rs : List (RunOf Label) = c.args.records.now in
+    let rs : List (RunOf LabelView) = c.args.records.now in
     let middle : ℕ = c.loop-low.low + (c.loop-low.high - c.loop-low.low) / 2 in
     let base : c.get-in-loop-low.result.base ≡ (run_at rs middle).base = ap (λ (g : Region). g.base) (c.get-in-loop-low.ensures.region _) in
     let within = c.loop-low.invariant.within in
@@ -37,7 +37,7 @@ loop-low-preserved-then-get-at-2 c =
 
 pub loop-low-preserved : goal.loop-low-preserved
 loop-low-preserved c =
-    let rs : List (RunOf Label) = c.args.records.now in
+    let rs : List (RunOf LabelView) = c.args.records.now in
     let middle : ℕ = c.loop-low.low + (c.loop-low.high - c.loop-low.low) / 2 in
     let base : c.get-in-loop-low.result.base ≡ (run_at rs middle).base = ap (λ (g : Region). g.base) (c.get-in-loop-low.ensures.region _) in
     let within = c.loop-low.invariant.within in

@@ -1,6 +1,6 @@
 use Rattle.std.proofs.Common.{ℕ, ◌+◌, ◌-◌, ◌/◌, ◌<◌, ◌^◌, List, arith}
 use Rattle.address_runs.specs.Runs.{RunOf, run_end}
-use Rattle.memblock_model.specs.Labels.{Label}
+use Rattle.memblock_model.specs.Labels.{LabelView}
 use Rattle.memblock_find.specs.Walk.{run_at}
 use Rattle.memblock_find.proofs.SlotLaws.{read_of}
 use Rattle.memblock_find.proofs.UpLaws.{ended_so_far, not_ended_from}
@@ -8,15 +8,15 @@ use Rattle.memblock_find.proofs.up.ended_by.Goals as goal
 
 pub overflow_add-region : goal.overflow_add-region
 overflow_add-region c =
-    let rs : List (RunOf Label) = c.args.records.now in
-    let r : RunOf Label = run_at rs (c.loop-low.low + (c.loop-low.high - c.loop-low.low) / 2) in
+    let rs : List (RunOf LabelView) = c.args.records.now in
+    let r : RunOf LabelView = run_at rs (c.loop-low.low + (c.loop-low.high - c.loop-low.low) / 2) in
     let read = read_of c.get-region.result r (c.get-region.ensures.region _) in
     let small : run_end r < 2 ^ 64 = (c.get-region.ensures.fits _).small in
     omega (arith, read.0, read.1)
 
 pub loop-low-preserved-then-region-at : goal.loop-low-preserved-then-region-at
 loop-low-preserved-then-region-at c =
-    let rs : List (RunOf Label) = c.args.records.now in
+    let rs : List (RunOf LabelView) = c.args.records.now in
     let middle : ℕ = c.loop-low.low + (c.loop-low.high - c.loop-low.low) / 2 in
     let read = read_of c.get-region.result (run_at rs middle) (c.get-region.ensures.region _) in
     let i = c.loop-low.invariant in
@@ -33,7 +33,7 @@ loop-low-preserved-then-region-at c =
 
 pub loop-low-preserved : goal.loop-low-preserved
 loop-low-preserved c =
-    let rs : List (RunOf Label) = c.args.records.now in
+    let rs : List (RunOf LabelView) = c.args.records.now in
     let middle : ℕ = c.loop-low.low + (c.loop-low.high - c.loop-low.low) / 2 in
     let read = read_of c.get-region.result (run_at rs middle) (c.get-region.ensures.region _) in
     let i = c.loop-low.invariant in

@@ -1,4 +1,4 @@
-use Rattle.memblock_model.specs.declared.which.Which.TheVariants as which
+use Rattle.memblock_model.specs.declared.owner.Which.TheVariants as which
 use Rattle.growth_model.proofs.ToldLaws.{edit-told}
 use Rattle.memblock_grow.proofs.edits.mirror.Goals as goal
 

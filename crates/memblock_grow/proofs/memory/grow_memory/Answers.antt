@@ -1,6 +1,6 @@
 use Rattle.std.proofs.Common.{◌≡◌, ◌*◌, ◌^◌, ◌<◌, refl, ap, subst}
 use Rattle.bm_base.specs.Range.{RangeView, end_of}
-use Rattle.memblock_model.specs.declared.which.Which.TheVariants as which
+use Rattle.memblock_model.specs.declared.owner.Which.TheVariants as which
 use Rattle.memblock_model.specs.Tables.{room_of, moved_to}
 use Rattle.growth_model.specs.Growth.{old_frames}
 use Rattle.growth_model.proofs.PlacedMemoryLaws.{IsTaken}
@@ -10,20 +10,20 @@ use Rattle.memblock_grow.proofs.WholeLaws.{keeps-then, bytes-then}
 use Rattle.memblock_grow.proofs.PreparedLaws.{with-growth, prepares-then, by-exact}
 use Rattle.memblock_grow.proofs.PlaceLaws.{knows-mirrors, left-far}
 use Rattle.memblock_grow.proofs.ReservedLaws.{room-some, frames-some, left-found, twice-is, still-bytes}
-use Rattle.memblock_grow.proofs.MemoryLaws.{IsBest, best-found, best-free, memory-none, memory-fails, memory-wants, memory-done, best-taken, MovedMemory, memory-apart, memory-keeps, memory-tells, memory-free, left-some}
+use Rattle.memblock_grow.proofs.MemoryLaws.{IsBest, best_place-found, best_place-free, memory-none, memory-fails, memory-wants, memory-done, best_place-taken, MovedMemory, memory-apart, memory-keeps, memory-tells, memory-free, left-some}
 use Rattle.memblock_grow.proofs.memory.grow_memory.Goals as goal
 use Rattle.memblock_grow.proofs.memory.grow_memory.Goals.{In-Some, In_ok-take_place, After-relocate}
 
 -- the place was found below the limit
 found : (c : In-Some) → IsBest c.args.journal.now.items c.in-Some.place
-found c = best-found c.requires.kept.1.kept c.head-head.ensures.head c.place_between.ensures c.in-Some.is
+found c = best_place-found c.requires.kept.1.kept c.head-head.ensures.head c.place_between.ensures c.in-Some.is
 
 -- behind its claim nobody else has it
 taken : (c : In_ok-take_place) → IsBest c.args.journal.now.items c.in-Some.place
     → IsTaken c.requires.kept.0 c.take_place.new.journal.items (room_of which.Memory c.args.journal.now.items)
     (moved_to which.Memory c.args.journal.now.items) c.in-Some.place.base
 taken c known =
-    best-taken known c.requires.kept.0 c.take_place.new.journal.items (c.requires.kept.1.placed c.requires.begun)
+    best_place-taken known c.requires.kept.0 c.take_place.new.journal.items (c.requires.kept.1.placed c.requires.begun)
     c.in_ok-take_place.ensures.ends
 
 -- what stands once the table has moved there
@@ -83,7 +83,7 @@ take_place-requires-clause-some c =
     frames-some which.Memory c.args.journal.now.items (found (goal.at.take_place-requires-clause-some c).In-Some).is
 
 pub take_place-requires-clause-free : goal.take_place-requires-clause-free
-take_place-requires-clause-free c = best-free (found (goal.at.take_place-requires-clause-free c).In-Some)
+take_place-requires-clause-free c = best_place-free (found (goal.at.take_place-requires-clause-free c).In-Some)
 
 pub returns-in_err-take_place-clause-ends : goal.returns-in_err-take_place-clause-ends
 returns-in_err-take_place-clause-ends c =

@@ -1,5 +1,5 @@
 use Rattle.std.proofs.Common.{refl}
-use Rattle.memblock_model.specs.declared.which.Which.TheVariants as which
+use Rattle.memblock_model.specs.declared.owner.Which.TheVariants as which
 use Rattle.memblock_model.specs.declared.owner.Owner.{Owner}
 use Rattle.memblock_model.specs.declared.owner.Owner.TheVariants as owner
 use Rattle.growth_model.specs.declared.refusal.Refusal.TheVariants as refusal

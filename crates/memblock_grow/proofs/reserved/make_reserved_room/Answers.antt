@@ -1,5 +1,5 @@
 use Rattle.std.proofs.Common.{arith}
-use Rattle.memblock_model.specs.declared.which.Which.TheVariants as which
+use Rattle.memblock_model.specs.declared.owner.Which.TheVariants as which
 use Rattle.growth_model.specs.Outcome.{if_due}
 use Rattle.growth_model.specs.Growth.{is_full, reserved_growth}
 use Rattle.growth_model.proofs.EndLaws.{Ends-second}

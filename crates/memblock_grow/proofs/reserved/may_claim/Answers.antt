@@ -1,6 +1,6 @@
 use Rattle.std.proofs.Common.{◌≡◌, ◌⊎◌, false, None, IsSome, sym, ◌∙◌, ap, inl, inr, arith}
 use Rattle.std.specs.Option.{is_some}
-use Rattle.memblock_model.specs.declared.which.Which.TheVariants as which
+use Rattle.memblock_model.specs.declared.owner.Which.TheVariants as which
 use Rattle.memblock_model.specs.declared.owner.Owner.{Owner}
 use Rattle.memblock_model.specs.Tables.{room_of}
 use Rattle.growth_model.specs.declared.refusal.Refusal.TheVariants as refusal

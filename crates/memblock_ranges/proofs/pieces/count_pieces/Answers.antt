@@ -6,14 +6,14 @@ use Rattle.address_runs.specs.Edits.{gaps_in_range}
 use Rattle.address_runs.specs.Sweep.{IsRestFrom}
 use Rattle.address_runs.proofs.SweepLaws.{ends_sooner}
 use Rattle.run_edits.specs.Ends.{edges, total}
-use Rattle.memblock_model.specs.Labels.{Label, plain_label}
+use Rattle.memblock_model.specs.Labels.{LabelView, plain_label}
 use Rattle.memblock_model.specs.Same.{same_label}
 use Rattle.memblock_ranges.proofs.PieceLaws.{no_pieces, more_pieces, all_pieces, one_at_most, none_told}
 use Rattle.memblock_ranges.proofs.pieces.count_pieces.Goals as goal
 
 pub loop-from-init : goal.loop-from-init
 loop-from-init g c =
-    let f : ℕ → Option Label = value_at (g.T.Rows.list c.args.table.now) in
+    let f : ℕ → Option LabelView = value_at (g.T.Rows.list c.args.table.now) in
     let r : RangeView = c.args.range.now in
     let base : c.range.inside.base ≡ r.base = ap (λ (e : RangeView). e.base) c.range.view_is in
     let rest = c.seek-read.ensures.rest in
@@ -31,7 +31,7 @@ loop-from-init g c =
 
 pub loop-from-preserved : goal.loop-from-preserved
 loop-from-preserved g c =
-    let f : ℕ → Option Label = value_at (g.T.Rows.list c.args.table.now) in
+    let f : ℕ → Option LabelView = value_at (g.T.Rows.list c.args.table.now) in
     let r : RangeView = c.args.range.now in
     let i = c.loop-from.invariant in
     let from : ℕ = c.loop-from.from in
@@ -68,7 +68,7 @@ loop-from-preserved g c =
 
 pub returns : goal.returns
 returns g c =
-    let f : ℕ → Option Label = value_at (g.T.Rows.list c.args.table.now) in
+    let f : ℕ → Option LabelView = value_at (g.T.Rows.list c.args.table.now) in
     let r : RangeView = c.args.range.now in
     let i = c.loop-from.invariant in
     let at : c.loop-from.from ≡ r.base + r.size = omega (arith, i.last, c.loop-from-test.false, c.end-until.ensures.value) in

@@ -5,14 +5,14 @@ use Rattle.address_runs.specs.Runs.{value_at}
 use Rattle.address_runs.specs.Edits.{gaps_in_range}
 use Rattle.address_runs.specs.Sweep.{Stays, IsRestFrom, FirstEndsAtOrPast}
 use Rattle.run_edits.specs.Ends.{edges, total}
-use Rattle.memblock_model.specs.Labels.{Label, plain_label}
+use Rattle.memblock_model.specs.Labels.{LabelView, plain_label}
 use Rattle.memblock_model.specs.Same.{same_label}
 use Rattle.memblock_ranges.proofs.pieces.count_pieces.Given as goal
 
 -- the pieces that end below the address are counted
 abbrev pub invariant-loop-from : goal.invariant-loop-from
 invariant-loop-from g l =
-    let f : ℕ → Option Label = value_at (g.T.Rows.list l.table) in record {
+    let f : ℕ → Option LabelView = value_at (g.T.Rows.list l.table) in record {
       first : l.range.base ≤ l.from;
       last : l.from ≤ end_of l.range;
       rest : IsRestFrom f l.from (drop l.read (g.T.Rows.list l.table));

@@ -4,8 +4,8 @@ use Rattle.address_runs.specs.Runs.{RunOf, run_end, value_at, IsRunsOf}
 use Rattle.address_runs.specs.Edits.{NothingFrom}
 use Rattle.address_runs.specs.Sweep.{IsSweptTo}
 use Rattle.run_edits.specs.Records.{stretch}
-use Rattle.memblock_model.specs.Labels.{Label}
-use Rattle.memblock_model.specs.Items.{trimmed}
+use Rattle.memblock_model.specs.Labels.{LabelView}
+use Rattle.memblock_model.specs.Items.{trim_frames}
 use Rattle.memblock_model.specs.Tables.{records_for}
 use Rattle.memblock_model.proofs.TableLaws.{records_for-is, nothing-trimmed}
 use Rattle.memblock_ranges.specs.Tables.{AreRecords}
@@ -14,15 +14,15 @@ use Rattle.memblock_ranges.proofs.trim.trim.Goals as goal
 
 pub loop-read-preserved : goal.loop-read-preserved
 loop-read-preserved g c =
-    let f : ℕ → Option Label = value_at (g.T.Rows.list c.args.table.now) in
+    let f : ℕ → Option LabelView = value_at (g.T.Rows.list c.args.table.now) in
     let i = c.loop-read.invariant in
     let t = g.T.Rows.list c.loop-read.table in
     let read : ℕ = c.loop-read.read in
-    let r : RunOf Label = c.get-record.result in
+    let r : RunOf LabelView = c.get-record.result in
     let rest = drop (read + 1) t in
     let count : read < length t = omega (arith, c.loop-read-test.true, c.count.ensures) in
     let left : drop read t ≡ r ∷ rest =
-    drop_more t read r count ∙ ap (λ (q : RunOf Label). q ∷ rest) (sym c.get-record.ensures) in
+    drop_more t read r count ∙ ap (λ (q : RunOf LabelView). q ∷ rest) (sym c.get-record.ensures) in
     let at : ℕ = i.swept.0 in
     let turns : Turns f at (r ∷ rest) = subst (λ rs. Turns f at rs) left i.swept.2 in
     let base = c.range.ensures.base in
@@ -35,7 +35,7 @@ loop-read-preserved g c =
     let step = trim_step f at r rest turns up down (ap (λ n. n + (4096 - n % 4096) % 4096) base) (ap (λ n. n - n % 4096) ends)
     c.frames-start.result.0 c.frames-start.result.1 (take c.loop-read.write t) i.swept.1
     c.frames-start.ensures.start c.frames-start.ensures.until c.frames-start.ensures.none in
-    let with_value : Label → List (RunOf Label) = λ v. take c.loop-read.write t ++ stretch c.frames-start.result.0 c.frames-start.result.1
+    let with_value : LabelView → List (RunOf LabelView) = λ v. take c.loop-read.write t ++ stretch c.frames-start.result.0 c.frames-start.result.1
     (Some v) in
     let written : take c.emit.result.0 (g.T.Rows.list c.emit.new.table) ≡ with_value r.value =
     c.emit.ensures.written ∙ ap with_value c.value.ensures in
@@ -45,26 +45,26 @@ loop-read-preserved g c =
       keeps = g.met.T.Slots.keeps_on c.args.table.now c.loop-read.table c.emit.new.table i.keeps c.emit.ensures.keeps;
       swept = (
         run_end r,
-        subst (λ xs. IsSweptTo (trimmed f) (run_end r) xs) (sym written) step,
+        subst (λ xs. IsSweptTo (trim_frames f) (run_end r) xs) (sym written) step,
         subst (λ rs. Turns f (run_end r) rs) (sym c.emit.ensures.rest) (turns_next f at r rest turns),
       );
     }
 
 -- what is left when all are read
-all_cut : (f : ℕ → Option Label) (at write read : ℕ) (t new : List (RunOf Label)) → NothingFrom (2 ^ 64) f →
-    IsSweptTo (trimmed f) at (take write t) →
+all_cut : (f : ℕ → Option LabelView) (at write read : ℕ) (t new : List (RunOf LabelView)) → NothingFrom (2 ^ 64) f →
+    IsSweptTo (trim_frames f) at (take write t) →
     Turns f at (drop read t) →
     length t ≤ read → new ≡ take write t ++ drop (write + (read - write)) t → write ≤ read →
-    (new ≡ records_for (trimmed f)) × AreRecords new
+    (new ≡ records_for (trim_frames f)) × AreRecords new
 all_cut f at write read t new within swept turns done is order =
     let none : drop read t ≡ [] = drop_all read t done in
     let same : write + (read - write) ≡ read = omega arith in
     let whole : new ≡ take write t = is ∙ ap (λ n. take write t ++ drop n t) same
-    ∙ ap (λ (l : List (RunOf Label)). take write t ++ l) none ∙ append-nil (take write t) in
-    let runs : IsRunsOf (trimmed f) new = subst (λ xs. IsRunsOf (trimmed f) xs) (sym whole)
+    ∙ ap (λ (l : List (RunOf LabelView)). take write t ++ l) none ∙ append-nil (take write t) in
+    let runs : IsRunsOf (trim_frames f) new = subst (λ xs. IsRunsOf (trim_frames f) xs) (sym whole)
     (trim_all f at (take write t) swept (subst (λ rs. Turns f at rs) none turns)) in
     let blank = nothing-trimmed (2 ^ 64) f within in
-    (records_for-is (trimmed f) new blank runs, record { runs = runs.runs; within = λ x le. runs.each x ∙ blank x le })
+    (records_for-is (trim_frames f) new blank runs, record { runs = runs.runs; within = λ x le. runs.each x ∙ blank x le })
 
 pub returns-clause-list : goal.returns-clause-list
 returns-clause-list g c =

@@ -1,7 +1,7 @@
 -- Each node's data is one allocation.
 use Rattle.std.proofs.Common.{Ok, Err, get_or, refl, ap}
 use Rattle.std.proofs.lemmas.Result.{err_from_is_err_and}
-use Rattle.memblock_model.specs.declared.request.Request.{Request}
+use Rattle.memblock_model.specs.declared.query.Request.{Request}
 use Rattle.stage_model.specs.Causes.{stage_stop}
 use Rattle.stage_model.proofs.DoingLaws.{ends-begun}
 use Rattle.memblock_grow.proofs.GoingLaws.{goes-then}

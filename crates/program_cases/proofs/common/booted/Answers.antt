@@ -1,7 +1,7 @@
 -- The boot's tables stand at their heads.
 use Rattle.std.proofs.Common.{Result, Ok, Err}
 use Rattle.std.specs.Prelude.{IfOk}
-use Rattle.memblock_model.specs.declared.which.Which.TheVariants as which
+use Rattle.memblock_model.specs.declared.owner.Which.TheVariants as which
 use Rattle.boot_model.specs.declared.booted.Booted.{Booted}
 use Rattle.boot_model.specs.declared.stop.Stop.{Stop}
 use Rattle.boot_stages.specs.Boots.{TableStands}

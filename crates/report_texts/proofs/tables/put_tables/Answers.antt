@@ -1,5 +1,5 @@
 -- The parts of the line, one after another.
-use Rattle.memblock_model.specs.declared.which.Which.TheVariants as which
+use Rattle.memblock_model.specs.declared.owner.Which.TheVariants as which
 use Rattle.report_texts.specs.TablesText.{table_line}
 use Rattle.report_texts.proofs.PutLaws.{goes_on}
 use Rattle.report_texts.proofs.tables.put_tables.Goals as goal

@@ -1,6 +1,6 @@
 -- A map begins at a multiple of 2 MiB.
 use Rattle.std.proofs.Common.{ap}
-use Rattle.memblock_model.specs.declared.request.Request.{Request}
+use Rattle.memblock_model.specs.declared.query.Request.{Request}
 use Rattle.section_maps.proofs.each.place_map.Goals as goal
 
 pub place-requires-clause-aligned : goal.place-requires-clause-aligned

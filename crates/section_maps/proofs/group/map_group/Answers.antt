@@ -1,6 +1,6 @@
 -- The maps in one buffer, or one by one.
 use Rattle.std.proofs.Common.{ap}
-use Rattle.memblock_model.specs.declared.request.Request.{Request}
+use Rattle.memblock_model.specs.declared.query.Request.{Request}
 use Rattle.stage_model.specs.Doing.{ok_as}
 use Rattle.memblock_grow.proofs.GoingLaws.{goes-then}
 use Rattle.section_maps.proofs.MapLaws.{buffer-placed, buffer-stops, buffer-each}

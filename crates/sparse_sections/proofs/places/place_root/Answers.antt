@@ -1,6 +1,6 @@
 -- A root lies at a cache line.
 use Rattle.std.proofs.Common.{ap}
-use Rattle.memblock_model.specs.declared.request.Request.{Request}
+use Rattle.memblock_model.specs.declared.query.Request.{Request}
 use Rattle.sparse_sections.proofs.places.place_root.Goals as goal
 
 pub place-requires-clause-aligned : goal.place-requires-clause-aligned

@@ -1,7 +1,7 @@
 -- The table, and then the roots.
 use Rattle.std.proofs.Common.{ap}
 use Rattle.std.proofs.lemmas.Result.{err_from_is_err_and}
-use Rattle.memblock_model.specs.declared.request.Request.{Request}
+use Rattle.memblock_model.specs.declared.query.Request.{Request}
 use Rattle.memblock_grow.proofs.GoingLaws.{goes-then}
 use Rattle.sparse_sections.proofs.RootLaws.{roots-fail, roots-stop, roots-all}
 use Rattle.sparse_sections.proofs.places.place_roots.Goals as goal

@@ -2,7 +2,7 @@
 use Rattle.std.proofs.Common.{◌≡◌, ◌+◌, ◌-◌, ◌/◌, drop, get_or, sym, ◌∙◌, arith}
 use Rattle.std.proofs.lemmas.List.{drop_all}
 use Rattle.address_runs.specs.Runs.{RunOf, run_end, value_at}
-use Rattle.memblock_model.specs.Labels.{Label}
+use Rattle.memblock_model.specs.Labels.{LabelView}
 use Rattle.sparse_sections.proofs.PresentLaws.{IsNext, nobody, left-all, left-next, next-record, sections-record, present-none, present-end}
 use Rattle.sparse_sections.proofs.sections.present.Goals as goal
 use Rattle.sparse_sections.proofs.sections.present.Goals.{After-get-region}
@@ -37,7 +37,7 @@ pub loop-i-preserved : goal.loop-i-preserved
 loop-i-preserved c =
     let rs = c.args.tables.now.memory.records in
     let n = next (goal.at.loop-i-preserved c).After-get-region in
-    let r : RunOf Label = get_or rs c.loop-i.i nobody in
+    let r : RunOf LabelView = get_or rs c.loop-i.i nobody in
     let until : c.numbers_of-first.result.1 ≡ (run_end r - 1) / 0x8000000 + 1 = rw (n.base, n.size) at c.numbers_of-first.ensures.until in
     record {
       put = rw (c.in_ok-put_sections.ensures, c.loop-i.invariant.put) (sym (sections-record (value_at rs) c.loop-i.next r

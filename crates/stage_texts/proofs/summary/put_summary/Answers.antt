@@ -1,7 +1,7 @@
 -- The lines, one after another.
 use Rattle.std.proofs.Common.{◌++◌, codes, arith}
 use Rattle.std.proofs.lemmas.Grind.{common_steps}
-use Rattle.memblock_model.specs.declared.which.Which.TheVariants as which
+use Rattle.memblock_model.specs.declared.owner.Which.TheVariants as which
 use Rattle.report_texts.proofs.PutLaws.{goes_on}
 use Rattle.stage_texts.specs.SummaryText.{fullness_line, number_line}
 use Rattle.stage_texts.proofs.summary.put_summary.Goals as goal

@@ -1,13 +1,13 @@
 use Rattle.std.proofs.Common.{get_or, arith}
 use Rattle.address_runs.specs.Runs.{RunOf}
-use Rattle.memblock_model.specs.Labels.{Label, plain_label}
+use Rattle.memblock_model.specs.Labels.{LabelView, plain_label}
 use Rattle.memblock_ranges.specs.Tables.{list_in}
 use Rattle.memblock_ranges.proofs.LentLaws.{count_is}
 use Rattle.table_frames.proofs.RecordLaws.{frames_order}
 use Rattle.table_frames.proofs.ClaimLaws.{passed_more, unclaimed_end, unclaimed_gap, claimed_by}
 use Rattle.table_frames.proofs.claim.next_claim.Goals as goal
 
-nobody : RunOf Label
+nobody : RunOf LabelView
 nobody = record { base = 0; size = 0; value = plain_label }
 
 pub returns-then-at-frames-clause-unclaimed : goal.returns-then-at-frames-clause-unclaimed

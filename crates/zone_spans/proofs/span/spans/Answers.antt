@@ -1,7 +1,7 @@
 use Rattle.std.proofs.Common.{◌≡◌, ◌<◌, ◌≤◌, [], length, get_or, None, refl, sym, ◌∙◌, arith}
 use Rattle.std.proofs.lemmas.List.{get_or_past}
 use Rattle.address_runs.specs.Runs.{RunOf, value_at}
-use Rattle.memblock_model.specs.Labels.{Label, plain_label}
+use Rattle.memblock_model.specs.Labels.{LabelView, plain_label}
 use Rattle.memblock_ranges.specs.Tables.{list_in}
 use Rattle.memblock_ranges.proofs.LentLaws.{count_is}
 use Rattle.table_frames.specs.Frames.{node_of_frame}
@@ -12,7 +12,7 @@ use Rattle.zone_spans.proofs.TableLaws.{low_node, nothing_taken, taken_run, take
 use Rattle.zone_spans.proofs.span.spans.Goals as goal
 use Rattle.zone_spans.proofs.span.spans.Goals.{in-Some+in_ok-note, in_default}
 
-nobody : RunOf Label
+nobody : RunOf LabelView
 nobody = record { base = 0; size = 0; value = plain_label }
 
 pub loop-i-init : goal.loop-i-init

@@ -1,6 +1,6 @@
 use Rattle.std.proofs.Common.{◌^◌, subst, sym}
 use Rattle.address_runs.specs.Edits.{NothingFrom}
-use Rattle.memblock_model.specs.declared.which.Which.TheVariants as which
+use Rattle.memblock_model.specs.declared.owner.Which.TheVariants as which
 use Rattle.memblock_model.specs.Items.{memory_of}
 use Rattle.memblock_grow.specs.Contents.{Contents}
 use Rattle.memblock_grow.proofs.GoingLaws.{goes-none}

@@ -1,4 +1,4 @@
-use Rattle.memblock_model.specs.declared.which.Which.TheVariants as which
+use Rattle.memblock_model.specs.declared.owner.Which.TheVariants as which
 use Rattle.memblock_ranges.proofs.PairLaws.{move_memory, move_reserved}
 use Rattle.memblock_ranges.proofs.tables.Tables.relocate.Goals as goal
 
