@@ -7,7 +7,7 @@ use Rattle.std.specs.Str.{bytes_eq}
 use Rattle.bm_base.specs.OptionSteps.{◌>>=◌}
 use Rattle.text_words.specs.declared.separators.Separators.{Separators}
 use Rattle.text_words.specs.declared.separators.Separators.TheVariants.{Byte}
-use Rattle.text_words.specs.Parts.{cut, parts_from, parts_in, quoted_behind, separates, with_front}
+use Rattle.text_words.specs.Parts.{split_once, parts_from, parts_in, quoted_after, separates, with_front}
 use Rattle.boot_options.specs.declared.crash.CrashRange.{CrashRange}
 use Rattle.boot_options.specs.MapOptions.{whole_size}
 use Rattle.boot_options.specs.Crash.{AreInOrder, Form, High, IsPlain, Low, Plain, comma, crash_range_of, crash_ranges_of, end_of_range, form_of, in_order, is_above, place_of, ranges_form, simple_form, suffix_form, without_colon}
@@ -34,8 +34,8 @@ sound-in_order r = by_test (is_above r.end r.start) refl
 
 sound-range : (text : List ℕ) → IfSome (crash_range_of text) IsInOrder
 sound-range text =
-    ifsome-then IsInOrder (cut 58 text) _ (λ halves.
-    ifsome-then IsInOrder (cut 45 halves.0) _ (λ bounds.
+    ifsome-then IsInOrder (split_once 58 text) _ (λ halves.
+    ifsome-then IsInOrder (split_once 45 halves.0) _ (λ bounds.
     ifsome-then IsInOrder (whole_size bounds.0) _ (λ start.
     ifsome-then IsInOrder (end_of_range bounds.1) _ (λ end.
     ifsome-then IsInOrder (whole_size halves.1) _ (λ size.
@@ -64,9 +64,9 @@ parts-some : (s : Separators) (quoted : Bool) (text : List ℕ) → 0 < length (
 parts-some s quoted [] = omega arith
 parts-some s quoted (b ∷ bs) = by_test (separates s b && not quoted)
   where
-    by_test : (t : Bool) → 0 < length (if t then [] ∷ parts_from s quoted bs else with_front b (parts_from s (quoted_behind s quoted b) bs))
+    by_test : (t : Bool) → 0 < length (if t then [] ∷ parts_from s quoted bs else with_front b (parts_from s (quoted_after s quoted b) bs))
     by_test true = omega arith
-    by_test false = front-some b (parts_from s (quoted_behind s quoted b) bs)
+    by_test false = front-some b (parts_from s (quoted_after s quoted b) bs)
 
 sound-ranges_form : (value : List ℕ) → IfSome (ranges_form value) IsSoundForm
 sound-ranges_form value =
@@ -97,4 +97,4 @@ sound-without_colon value (Some halves) = sound-suffix_form halves
 pub sound-form : (value : List ℕ) → IfSome (form_of value) IsSoundForm
 unfolding form_of
 sound-form value =
-    ifsome-if IsSoundForm (is_some (cut 58 value)) _ _ (sound-ranges_form value) (sound-without_colon value (cut 44 value))
+    ifsome-if IsSoundForm (is_some (split_once 58 value)) _ _ (sound-ranges_form value) (sound-without_colon value (split_once 44 value))

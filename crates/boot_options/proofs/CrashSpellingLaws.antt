@@ -11,7 +11,7 @@ use Rattle.bm_base.specs.declared.size.NumFault.TheVariants.{NoDigits, TooLarge}
 use Rattle.bm_base.specs.Size.{begins_with_digit, number_value, number_end, suffix_at, suffix_of, with_suffix, size_of, IsSize}
 use Rattle.bm_base.proofs.SizeLaws.{number_end-le, size_of-mark}
 use Rattle.text_words.specs.declared.separators.Separators.TheVariants.{Byte}
-use Rattle.text_words.specs.Parts.{cut, parts_in}
+use Rattle.text_words.specs.Parts.{split_once, parts_in}
 use Rattle.text_words.specs.Words.{IsClosed}
 use Rattle.text_words.proofs.PartsLaws.{parts-one, parts-spelled}
 use Rattle.boot_options.specs.declared.crash.CrashRange.{CrashRange}
@@ -29,13 +29,13 @@ pub lacks-append : (mark : ℕ) (xs ys : List ℕ) → Lacks mark xs → Lacks m
 lacks-append mark [] ys front back = back
 lacks-append mark (x ∷ xs) ys front back = (front.0, lacks-append mark xs ys front.1 back)
 
-pub cut-none : (mark : ℕ) (text : List ℕ) → Lacks mark text → cut mark text ≡ None
-cut-none mark [] lacks = refl
-cut-none mark (b ∷ bs) lacks = rw (lacks.0, cut-none mark bs lacks.1) refl
+pub split_once-none : (mark : ℕ) (text : List ℕ) → Lacks mark text → split_once mark text ≡ None
+split_once-none mark [] lacks = refl
+split_once-none mark (b ∷ bs) lacks = rw (lacks.0, split_once-none mark bs lacks.1) refl
 
-pub cut-mark : (mark : ℕ) (text rest : List ℕ) → Lacks mark text → cut mark (text ++ (mark ∷ rest)) ≡ Some (text, rest)
-cut-mark mark [] rest lacks = rw (eq-eqb mark mark refl) refl
-cut-mark mark (b ∷ bs) rest lacks = rw (lacks.0, cut-mark mark bs rest lacks.1) refl
+pub split_once-mark : (mark : ℕ) (text rest : List ℕ) → Lacks mark text → split_once mark (text ++ (mark ∷ rest)) ≡ Some (text, rest)
+split_once-mark mark [] rest lacks = rw (eq-eqb mark mark refl) refl
+split_once-mark mark (b ∷ bs) rest lacks = rw (lacks.0, split_once-mark mark bs rest lacks.1) refl
 
 -- a size doesn't take more bytes than the text has
 either-le : (t : Bool) (x y : ℕ × ℕ) → x.1 ≤ 1 → y.1 ≤ 1 → (if t then x else y).1 ≤ 1
@@ -93,11 +93,11 @@ lacks-size s mark n is size = lacks-from [] s mark n is size
 
 -- the size and the base of a plain form
 place-none : (s : List ℕ) → Lacks 64 s → place_of s ≡ Some (s, 0)
-place-none s lacks = rw (cut-none 64 s lacks) refl
+place-none s lacks = rw (split_once-none 64 s lacks) refl
 
 place-base : (s b : List ℕ) (base : ℕ) → Lacks 64 s → IsSize b base → place_of (s ++ (64 ∷ b)) ≡ Some (s, base)
 place-base s b base lacks size =
-    rw (cut-mark 64 s b lacks) (ap (λ (o : Option ℕ). option_map (λ x. (s, x)) o) (whole_size-end b base size))
+    rw (split_once-mark 64 s b lacks) (ap (λ (o : Option ℕ). option_map (λ x. (s, x)) o) (whole_size-end b base size))
 
 -- one size, with a base and without
 abbrev one : ℕ → ℕ → Form
@@ -110,7 +110,7 @@ simple-placed value s base n is size =
 
 form-simple_form : (value : List ℕ) → Lacks 58 value → Lacks 44 value → form_of value ≡ simple_form value
 unfolding form_of
-form-simple_form value colons commas = rw (cut-none 58 value colons, cut-none 44 value commas) refl
+form-simple_form value colons commas = rw (split_once-none 58 value colons, split_once-none 44 value commas) refl
 
 form-simple : (s : List ℕ) (n : ℕ) → IsSize s n → form_of s ≡ Some (one n 0)
 form-simple s n size =
@@ -129,9 +129,9 @@ form-suffixed : (s name : List ℕ) (n : ℕ) (form : Form) → IsSize s n → L
     → form_of (s ++ (44 ∷ name)) ≡ Some form
 unfolding form_of
 form-suffixed s name n form size colons is =
-    let none : cut 58 (s ++ (44 ∷ name)) ≡ None
-    = cut-none 58 (s ++ (44 ∷ name)) (lacks-append 58 s (44 ∷ name) (lacks-size s 58 n refl size) (refl, colons)) in
-    rw (none, cut-mark 44 s name (lacks-size s 44 n refl size))
+    let none : split_once 58 (s ++ (44 ∷ name)) ≡ None
+    = split_once-none 58 (s ++ (44 ∷ name)) (lacks-append 58 s (44 ∷ name) (lacks-size s 58 n refl size) (refl, colons)) in
+    rw (none, split_once-mark 44 s name (lacks-size s 44 n refl size))
     (then-some (whole_size s) (λ size. suffixed name size) n (whole_size-end s n size) ∙ is)
 
 form-high : (s : List ℕ) (n : ℕ) → IsSize s n → form_of (s ++ codes ",high") ≡ Some (High n)
@@ -166,28 +166,28 @@ lacks-range text r mark is dash colon spells =
     ))
 
 -- the first colon after the start of a range is its own, whatever text follows the range
-cut-range : (text rest : List ℕ) (r : CrashRange) → (spells : SpellsRange text r)
-    → cut 58 (text ++ rest) ≡ Some (spells.start_text ++ (45 ∷ spells.end_text), spells.size_text ++ rest)
-cut-range text rest r spells =
+split_once-range : (text rest : List ℕ) (r : CrashRange) → (spells : SpellsRange text r)
+    → split_once 58 (text ++ rest) ≡ Some (spells.start_text ++ (45 ∷ spells.end_text), spells.size_text ++ rest)
+split_once-range text rest r spells =
     let bounds : List ℕ = spells.start_text ++ (45 ∷ spells.end_text) in
     let halves : text ++ rest ≡ bounds ++ (58 ∷ (spells.size_text ++ rest)) =
     ap (λ (t : List ℕ). t ++ rest)
     (spells.text ∙ sym (append_assoc spells.start_text (45 ∷ spells.end_text) (58 ∷ spells.size_text)))
     ∙ append_assoc bounds (58 ∷ spells.size_text) rest in
-    rw halves (cut-mark 58 bounds (spells.size_text ++ rest)
+    rw halves (split_once-mark 58 bounds (spells.size_text ++ rest)
     (lacks-append 58 spells.start_text (45 ∷ spells.end_text) (lacks-size spells.start_text 58 r.start refl spells.start)
     (refl, lacks-end spells.end_text r.end r.start 58 refl spells.end)))
 
 range-spelled : (text : List ℕ) (r : CrashRange) → SpellsRange text r → crash_range_of text ≡ Some r
 range-spelled text r spells =
     let bounds : List ℕ = spells.start_text ++ (45 ∷ spells.end_text) in
-    let at_colon : cut 58 text ≡ Some (bounds, spells.size_text) =
-    rw (append-nil text, append-nil spells.size_text) at (cut-range text [] r spells) in
-    let at_dash : cut 45 bounds ≡ Some (spells.start_text, spells.end_text) =
-    cut-mark 45 spells.start_text spells.end_text (lacks-size spells.start_text 45 r.start refl spells.start) in
+    let at_colon : split_once 58 text ≡ Some (bounds, spells.size_text) =
+    rw (append-nil text, append-nil spells.size_text) at (split_once-range text [] r spells) in
+    let at_dash : split_once 45 bounds ≡ Some (spells.start_text, spells.end_text) =
+    split_once-mark 45 spells.start_text spells.end_text (lacks-size spells.start_text 45 r.start refl spells.start) in
     let end = end-spelled spells.end_text r.end r.start spells.end in
-    then-some (cut 58 text) _ (bounds, spells.size_text) at_colon
-    ∙ then-some (cut 45 bounds) _ (spells.start_text, spells.end_text) at_dash
+    then-some (split_once 58 text) _ (bounds, spells.size_text) at_colon
+    ∙ then-some (split_once 45 bounds) _ (spells.start_text, spells.end_text) at_dash
     ∙ then-some (whole_size spells.start_text) _ r.start (whole_size-end spells.start_text r.start spells.start)
     ∙ then-some (end_of_range spells.end_text) _ r.end end.0
     ∙ then-some (whole_size spells.size_text) (λ size. in_order (record { start = r.start; end = r.end; size = size })) r.size
@@ -232,12 +232,12 @@ front-joined text [] behind = (behind, refl)
 front-joined text (u ∷ texts) behind = ((44 ∷ joined (u ∷ texts)) ++ behind, append_assoc text (44 ∷ joined (u ∷ texts)) behind)
 
 has-colon : (text : List ℕ) (texts : List (List ℕ)) (rs : List CrashRange) (behind : List ℕ) → SpellRanges (text ∷ texts) rs
-    → is_some (cut 58 (joined (text ∷ texts) ++ behind)) ≡ true
+    → is_some (split_once 58 (joined (text ∷ texts) ++ behind)) ≡ true
 has-colon text texts [] behind spell = absurd spell
 has-colon text texts (r ∷ rs) behind spell =
-    let front = front-joined text texts behind in rw (front.1, cut-range text front.0 r spell.0) refl
+    let front = front-joined text texts behind in rw (front.1, split_once-range text front.0 r spell.0) refl
 
-form-ranges_form : (value front : List ℕ) (base : ℕ) (rs : List CrashRange) → is_some (cut 58 value) ≡ true
+form-ranges_form : (value front : List ℕ) (base : ℕ) (rs : List CrashRange) → is_some (split_once 58 value) ≡ true
     → place_of value ≡ Some (front, base) → crash_ranges_of (parts_in (Byte 44) front) ≡ Some rs
     → form_of value ≡ Some (Plain (record { ranges = rs; base = base }))
 unfolding form_of

@@ -10,9 +10,9 @@ use Rattle.std.specs.Option.{option_map, option_and_then}
 use Rattle.std.specs.Str.{bytes_eq}
 use Rattle.bm_base.specs.ResultSteps.{◌>>=◌}
 use Rattle.text_words.specs.declared.separators.Separators.TheVariants.{Byte, CommandLine}
-use Rattle.text_words.specs.Parts.{cut, parts_in}
+use Rattle.text_words.specs.Parts.{split_once, parts_in}
 use Rattle.text_words.specs.Spelling.{QuotesClose}
-use Rattle.text_words.specs.Words.{unquoted, words_in}
+use Rattle.text_words.specs.Words.{unquote, words_in}
 use Rattle.text_words.proofs.SpellingLaws.{unquoted_exactly, words_exactly}
 use Rattle.boot_options.specs.declared.fault.OptionFault.{OptionFault}
 use Rattle.boot_options.specs.declared.fault.OptionFault.TheVariants as faults
@@ -21,8 +21,8 @@ use Rattle.boot_options.specs.Crash.{form_of}
 use Rattle.boot_options.specs.MapOptions.{mem_of}
 use Rattle.boot_options.specs.Options.{Said, OfMap, OfCrash, NumaOff, AddEfi, at_cut, chosen_by, crash_of, is_closed, last_exact, all_map_options, line_of, map_options_of, memmap_of, name_value_of, numa_of, of_one, option_words, options_of, or_fault, raw_line, said_by, said_from, unless_incomplete, until_end, with_user_map}
 use Rattle.boot_options.specs.Spelling.{IsBadCrash, IsBadMem, IsBadMemmap, IsBadNuma, IsCrashValue, IsFirstFault, IsMalformed, IsMemValue, IsMemmapValue, IsNumaValue, IsSoundWord, OptionWords, a_word, line_end, no_value, other_value, two_dashes}
-use Rattle.boot_options.proofs.CrashSpellingLaws.{Lacks, cut-mark, cut-none}
-use Rattle.boot_options.proofs.SpelledCrashLaws.{cut-spelled, form-exactly}
+use Rattle.boot_options.proofs.CrashSpellingLaws.{Lacks, split_once-mark, split_once-none}
+use Rattle.boot_options.proofs.SpelledCrashLaws.{split_once-spelled, form-exactly}
 use Rattle.boot_options.proofs.SpelledLaws.{map_options-exactly, mem-exactly}
 
 -- the names whose words may be malformed
@@ -141,19 +141,19 @@ abbrev HasNone : Name → List ℕ × Option (List ℕ) → Type 0
 HasNone n word = (word.0 ≡ text_of n) × NoValue n word.1
 
 malformed-none : (n : Name) (word : List ℕ) → IsMalformed (text_of n) (IsValue n) word → HasNone n (name_value_of word)
-malformed-none n word no_value = rw (cut-none 61 (text_of n) (lacks_equals n)) (refl, tt)
+malformed-none n word no_value = rw (split_once-none 61 (text_of n) (lacks_equals n)) (refl, tt)
 malformed-none n word (other_value raw value unquotes none) =
-    rw (cut-mark 61 (text_of n) raw (lacks_equals n)) (refl, rw ((unquoted_exactly raw value).1 unquotes) none)
+    rw (split_once-mark 61 (text_of n) raw (lacks_equals n)) (refl, rw ((unquoted_exactly raw value).1 unquotes) none)
 
 none-malformed : (n : Name) (word : List ℕ) → HasNone n (name_value_of word) → IsMalformed (text_of n) (IsValue n) word
-none-malformed n word = by_cut (cut 61 word) (cut-spelled 61 word)
+none-malformed n word = by_cut (split_once 61 word) (split_once-spelled 61 word)
   where
     by_cut : (o : Option (List ℕ × List ℕ)) → ((halves : List ℕ × List ℕ) → o ≡ Some halves → word ≡ halves.0 ++ (61 ∷ halves.1))
         → HasNone n (at_cut word o) → IsMalformed (text_of n) (IsValue n) word
     by_cut None spelled has = rw has.0 no_value
     by_cut (Some halves) spelled has =
         let whole : word ≡ text_of n ++ (61 ∷ halves.1) = spelled halves refl ∙ ap (λ (name : List ℕ). name ++ (61 ∷ halves.1)) has.0 in
-        rw whole (other_value halves.1 (unquoted halves.1) ((unquoted_exactly halves.1 (unquoted halves.1)).0 refl) has.1)
+        rw whole (other_value halves.1 (unquote halves.1) ((unquoted_exactly halves.1 (unquote halves.1)).0 refl) has.1)
 
 -- a word has no fault exactly if it isn't malformed
 pub sound-ok : (number : ℕ) (word : List ℕ) (said : Said) → said_by number (name_value_of word) ≡ Ok said → IsSoundWord word
@@ -249,7 +249,7 @@ said_from-first number (first ∷ front) word behind n sound has =
     rw (said.1, rest, place) refl
 
 -- the words of a line up to `--`
-pub until_end-words : (raws words : List (List ℕ)) → OptionWords raws words → until_end (map unquoted raws) ≡ words
+pub until_end-words : (raws words : List (List ℕ)) → OptionWords raws words → until_end (map unquote raws) ≡ words
 until_end-words raws words line_end = refl
 until_end-words raws words (two_dashes raw others unquotes) = rw ((unquoted_exactly raw (codes "--")).1 unquotes) refl
 until_end-words raws words (a_word raw word others more unquotes differ rest) =
@@ -260,17 +260,17 @@ until_end-words raws words (a_word raw word others more unquotes differ rest) =
     isnt true is = absurd (differ (is refl))
     isnt false is = refl
 
-pub OptionWords-until_end : (raws : List (List ℕ)) → OptionWords raws (until_end (map unquoted raws))
+pub OptionWords-until_end : (raws : List (List ℕ)) → OptionWords raws (until_end (map unquote raws))
 OptionWords-until_end [] = line_end
 OptionWords-until_end (raw ∷ raws) =
-    by_test (bytes_eq (unquoted raw) (codes "--")) (bytes_eq-Decides (unquoted raw) (codes "--")) (OptionWords-until_end raws)
+    by_test (bytes_eq (unquote raw) (codes "--")) (bytes_eq-Decides (unquote raw) (codes "--")) (OptionWords-until_end raws)
   where
-    by_test : (t : Bool) → (t ≡ true → unquoted raw ≡ codes "--") × (unquoted raw ≡ codes "--" → t ≡ true)
-        → OptionWords raws (until_end (map unquoted raws))
-        → OptionWords (raw ∷ raws) (if t then [] else unquoted raw ∷ until_end (map unquoted raws))
+    by_test : (t : Bool) → (t ≡ true → unquote raw ≡ codes "--") × (unquote raw ≡ codes "--" → t ≡ true)
+        → OptionWords raws (until_end (map unquote raws))
+        → OptionWords (raw ∷ raws) (if t then [] else unquote raw ∷ until_end (map unquote raws))
     by_test true decides rest = two_dashes raw raws ((unquoted_exactly raw (codes "--")).0 (decides.0 refl))
     by_test false decides rest =
-        a_word raw (unquoted raw) raws (until_end (map unquoted raws)) ((unquoted_exactly raw (unquoted raw)).0 refl)
+        a_word raw (unquote raw) raws (until_end (map unquote raws)) ((unquoted_exactly raw (unquote raw)).0 refl)
         (λ same. let told : false ≡ true = decides.1 same in cc told) rest
 
 -- in a line with an even number of quotation marks each quotation is closed
@@ -384,7 +384,7 @@ first-exactly n bytes w = (by_line (line_of bytes) refl, told)
         let raws : words_in CommandLine first.line ≡ first.raws
         = (words_exactly CommandLine first.line first.raws (line-read bytes first.line first.read)).1 first.lie in
         let words : option_words first.line ≡ first.front ++ (first.word ∷ first.rest)
-        = ap (λ (ws : List (List ℕ)). until_end (map unquoted ws)) raws
+        = ap (λ (ws : List (List ℕ)). until_end (map unquote ws)) raws
         ∙ until_end-words first.raws (first.front ++ (first.word ∷ first.rest)) first.words in
         let place : w ≡ 1 + length first.front = omega (arith, first.place) in
         rw (first.read, words, place, said_from-first 1 first.front first.word first.rest n first.sound (malformed-none n first.word first.bad))

@@ -2,7 +2,7 @@
 use Rattle.std.proofs.Common.{◌≡◌, ℕ, ◌+◌, false, List, ◌∷◌, refl, sym, codes, Result, Ok, Err}
 use Rattle.std.specs.Str.{bytes_eq}
 use Rattle.text_words.specs.declared.separators.Separators.TheVariants.{CommandLine}
-use Rattle.text_words.specs.Words.{words_in, unquoted}
+use Rattle.text_words.specs.Words.{words_in, unquote}
 use Rattle.bm_base.specs.ResultSteps.{◌>>=◌}
 use Rattle.boot_options.specs.declared.fault.OptionFault.{OptionFault}
 use Rattle.boot_options.specs.Options.{Said, name_value_of, said_by, said_from, option_words}
@@ -12,9 +12,9 @@ use Rattle.boot_options.specs.Reading.{State, IsReadTo, IsAtSome, after, read_on
 -- the first word, if it isn't `--`, followed by the words after it; stated for the values that the
 -- reader compares
 pub option_words-read : (line word behind bare dashes : List ℕ) → words_in CommandLine line ≡ word ∷ words_in CommandLine behind
-    → bare ≡ unquoted word → dashes ≡ codes "--" → false ≡ bytes_eq bare dashes → option_words line ≡ bare ∷ option_words behind
+    → bare ≡ unquote word → dashes ≡ codes "--" → false ≡ bytes_eq bare dashes → option_words line ≡ bare ∷ option_words behind
 option_words-read line word behind bare dashes is unquotes marks test =
-    let other : bytes_eq (unquoted word) (codes "--") ≡ false = sym (rw (unquotes, marks) at test) in
+    let other : bytes_eq (unquote word) (codes "--") ≡ false = sym (rw (unquotes, marks) at test) in
     rw unquotes (rw is (rw other refl))
 
 -- the state in which the reader is

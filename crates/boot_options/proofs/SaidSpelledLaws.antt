@@ -5,8 +5,8 @@ use Rattle.std.specs.Option.{option_map}
 use Rattle.std.specs.Str.{bytes_eq}
 use Rattle.bm_base.specs.ResultSteps.{◌>>=◌}
 use Rattle.text_words.specs.declared.separators.Separators.TheVariants.{Byte, CommandLine}
-use Rattle.text_words.specs.Parts.{cut, parts_in}
-use Rattle.text_words.specs.Words.{unquoted, words_in}
+use Rattle.text_words.specs.Parts.{split_once, parts_in}
+use Rattle.text_words.specs.Words.{unquote, words_in}
 use Rattle.text_words.specs.Spelling.{Unquotes}
 use Rattle.text_words.proofs.SpellingLaws.{unquoted_exactly, words_exactly}
 use Rattle.boot_options.specs.declared.fault.OptionFault.{OptionFault}
@@ -15,38 +15,38 @@ use Rattle.boot_options.specs.Crash.{form_of}
 use Rattle.boot_options.specs.MapOptions.{mem_of}
 use Rattle.boot_options.specs.Options.{Said, OfMap, OfCrash, NumaOff, AddEfi, at_cut, line_of, map_options_of, name_value_of, of_one, option_words, or_fault, said_by, said_from, until_end}
 use Rattle.boot_options.specs.Spelling.{HasName, SpellEach, SpellsLine, SpellsSaid, alone, crash_word, efi_word, mem_word, memmap_word, numa_word, other_word, with_value}
-use Rattle.boot_options.proofs.CrashSpellingLaws.{Lacks, cut-mark, cut-none}
+use Rattle.boot_options.proofs.CrashSpellingLaws.{Lacks, split_once-mark, split_once-none}
 use Rattle.boot_options.proofs.FaultLaws.{Name, crash, line-read, mem, memmap, numa, said_value, lacks_equals, text_of, OptionWords-until_end, until_end-words}
-use Rattle.boot_options.proofs.SpelledCrashLaws.{cut-spelled, form-exactly}
+use Rattle.boot_options.proofs.SpelledCrashLaws.{split_once-spelled, form-exactly}
 use Rattle.boot_options.proofs.SpelledLaws.{map-some, map_options-exactly, mem-exactly}
 
 -- the meaning of a value is spelled after the name of its word
-said-spelled : (n : Name) (raw : List ℕ) (said : Said) → said_value n (Some (unquoted raw)) ≡ Some said
+said-spelled : (n : Name) (raw : List ℕ) (said : Said) → said_value n (Some (unquote raw)) ≡ Some said
     → SpellsSaid (text_of n ++ (61 ∷ raw)) said
 said-spelled mem raw said is =
-    let found = map-some (mem_of (unquoted raw)) of_one said is in
-    rw (← found.2) (mem_word raw (unquoted raw) found.0 ((unquoted_exactly raw (unquoted raw)).0 refl)
-    ((mem-exactly (unquoted raw) found.0).0 found.1))
+    let found = map-some (mem_of (unquote raw)) of_one said is in
+    rw (← found.2) (mem_word raw (unquote raw) found.0 ((unquoted_exactly raw (unquote raw)).0 refl)
+    ((mem-exactly (unquote raw) found.0).0 found.1))
 said-spelled memmap raw said is =
-    let found = map-some (map_options_of (parts_in (Byte 44) (unquoted raw))) (λ ps. OfMap ps) said is in
-    rw (← found.2) (memmap_word raw (unquoted raw) found.0 ((unquoted_exactly raw (unquoted raw)).0 refl)
-    ((map_options-exactly (unquoted raw) found.0).0 found.1))
+    let found = map-some (map_options_of (parts_in (Byte 44) (unquote raw))) (λ ps. OfMap ps) said is in
+    rw (← found.2) (memmap_word raw (unquote raw) found.0 ((unquoted_exactly raw (unquote raw)).0 refl)
+    ((map_options-exactly (unquote raw) found.0).0 found.1))
 said-spelled crash raw said is =
-    let found = map-some (form_of (unquoted raw)) (λ form. OfCrash form) said is in
-    rw (← found.2) (crash_word raw (unquoted raw) found.0 ((unquoted_exactly raw (unquoted raw)).0 refl)
-    ((form-exactly (unquoted raw) found.0).0 found.1))
-said-spelled numa raw said is = by_test (bytes_eq (unquoted raw) (codes "off")) refl is
+    let found = map-some (form_of (unquote raw)) (λ form. OfCrash form) said is in
+    rw (← found.2) (crash_word raw (unquote raw) found.0 ((unquoted_exactly raw (unquote raw)).0 refl)
+    ((form-exactly (unquote raw) found.0).0 found.1))
+said-spelled numa raw said is = by_test (bytes_eq (unquote raw) (codes "off")) refl is
   where
-    by_test : (t : Bool) → bytes_eq (unquoted raw) (codes "off") ≡ t → (if t then Some NumaOff else None) ≡ Some said
+    by_test : (t : Bool) → bytes_eq (unquote raw) (codes "off") ≡ t → (if t then Some NumaOff else None) ≡ Some said
         → SpellsSaid (text_of numa ++ (61 ∷ raw)) said
     by_test true test is =
         let said_is : NumaOff ≡ said = cc in
-        rw (← said_is) (numa_word raw ((unquoted_exactly raw (codes "off")).0 ((bytes_eq-Decides (unquoted raw) (codes "off")).0 test)))
+        rw (← said_is) (numa_word raw ((unquoted_exactly raw (codes "off")).0 ((bytes_eq-Decides (unquote raw) (codes "off")).0 test)))
     by_test false test is = cc
 
 -- the name of a word and its value
 named : (name word : List ℕ) → (name_value_of word).0 ≡ name → HasName name word
-named name word = by_cut (cut 61 word) (cut-spelled 61 word)
+named name word = by_cut (split_once 61 word) (split_once-spelled 61 word)
   where
     by_cut : (o : Option (List ℕ × List ℕ)) → ((halves : List ℕ × List ℕ) → o ≡ Some halves → word ≡ halves.0 ++ (61 ∷ halves.1))
         → (at_cut word o).0 ≡ name → HasName name word
@@ -56,12 +56,12 @@ named name word = by_cut (cut 61 word) (cut-spelled 61 word)
         rw whole (with_value halves.1)
 
 name_is : (name word : List ℕ) → Lacks 61 name → HasName name word → (name_value_of word).0 ≡ name
-name_is name word lacks alone = rw (cut-none 61 name lacks) refl
-name_is name word lacks (with_value raw) = rw (cut-mark 61 name raw lacks) refl
+name_is name word lacks alone = rw (split_once-none 61 name lacks) refl
+name_is name word lacks (with_value raw) = rw (split_once-mark 61 name raw lacks) refl
 
 valued : (n : Name) (word : List ℕ) (said : Said) → (name_value_of word).0 ≡ text_of n → said_value n (name_value_of word).1 ≡ Some said
     → SpellsSaid word said
-valued n word said = by_cut (cut 61 word) (cut-spelled 61 word)
+valued n word said = by_cut (split_once 61 word) (split_once-spelled 61 word)
   where
     none_said : (n : Name) → said_value n None ≡ None
     none_said mem = refl
@@ -127,7 +127,7 @@ word-spelled number word said =
 valued-read : (n : Name) (number : ℕ) (raw value : List ℕ) (said : Said) → Unquotes raw value → said_value n (Some value) ≡ Some said
     → said_by number (name_value_of (text_of n ++ (61 ∷ raw))) ≡ Ok said
 valued-read n number raw value said unquotes says =
-    rw (cut-mark 61 (text_of n) raw (lacks_equals n), (unquoted_exactly raw value).1 unquotes) (by_name n says)
+    rw (split_once-mark 61 (text_of n) raw (lacks_equals n), (unquoted_exactly raw value).1 unquotes) (by_name n says)
   where
     by_name : (n : Name) → said_value n (Some value) ≡ Some said → said_by number (text_of n, Some value) ≡ Ok said
     by_name mem says = ap (or_fault (faults.BadMem number)) says
@@ -215,5 +215,5 @@ line-exactly bytes line said read = (spelled, told)
         let raws : words_in CommandLine line ≡ spells.raws
         = (words_exactly CommandLine line spells.raws (line-read bytes line read)).1 spells.lie in
         let words : option_words line ≡ spells.words
-        = ap (λ (ws : List (List ℕ)). until_end (map unquoted ws)) raws ∙ until_end-words spells.raws spells.words spells.options in
+        = ap (λ (ws : List (List ℕ)). until_end (map unquote ws)) raws ∙ until_end-words spells.raws spells.words spells.options in
         rw words (each-read 1 spells.words said spells.spell)

@@ -8,7 +8,7 @@ use Rattle.std.specs.Str.{bytes_eq}
 use Rattle.bm_base.specs.OptionSteps.{◌>>=◌}
 use Rattle.bm_base.specs.Size.{IsSize}
 use Rattle.text_words.specs.declared.separators.Separators.TheVariants.{Byte}
-use Rattle.text_words.specs.Parts.{cut, onto, parts_in}
+use Rattle.text_words.specs.Parts.{split_once, prepend_text, parts_in}
 use Rattle.boot_options.specs.declared.crash.CrashRange.{CrashRange}
 use Rattle.boot_options.specs.MapOptions.{whole_size}
 use Rattle.boot_options.specs.Crash.{Form, High, Low, Plain, crash_range_of, crash_ranges_of, end_of_range, form_of, in_order, is_above, one_range, place_of, ranges_form, simple_form, suffix_form, suffixed, with_base, without_colon}
@@ -17,20 +17,20 @@ use Rattle.boot_options.proofs.CrashSpellingLaws.{form-read}
 use Rattle.boot_options.proofs.SpelledLaws.{joined-parts, map-some, then-both, whole_size-spelled}
 
 -- a text that is cut at a mark is the part before the mark, the mark, and the part after it
-pub cut-spelled : (mark : ℕ) (text : List ℕ) (halves : List ℕ × List ℕ) → cut mark text ≡ Some halves
+pub split_once-spelled : (mark : ℕ) (text : List ℕ) (halves : List ℕ × List ℕ) → split_once mark text ≡ Some halves
     → text ≡ halves.0 ++ (mark ∷ halves.1)
-cut-spelled mark [] halves is = cc
-cut-spelled mark (b ∷ bs) halves is = by_test (b == mark) refl (cut-spelled mark bs) is
+split_once-spelled mark [] halves is = cc
+split_once-spelled mark (b ∷ bs) halves is = by_test (b == mark) refl (split_once-spelled mark bs) is
   where
     by_test : (t : Bool) → b == mark ≡ t
-        → ((halves : List ℕ × List ℕ) → cut mark bs ≡ Some halves → bs ≡ halves.0 ++ (mark ∷ halves.1))
-        → (if t then Some ([], bs) else option_map (onto (b ∷ [])) (cut mark bs)) ≡ Some halves
+        → ((halves : List ℕ × List ℕ) → split_once mark bs ≡ Some halves → bs ≡ halves.0 ++ (mark ∷ halves.1))
+        → (if t then Some ([], bs) else option_map (prepend_text (b ∷ [])) (split_once mark bs)) ≡ Some halves
         → b ∷ bs ≡ halves.0 ++ (mark ∷ halves.1)
     by_test true test spelled is =
         let same : ([], bs) ≡ halves = cc in
         subst (λ (halves : List ℕ × List ℕ). b ∷ bs ≡ halves.0 ++ (mark ∷ halves.1)) same (ap (λ (n : ℕ). n ∷ bs) (eqb-true b mark test))
     by_test false test spelled is =
-        let rest = map-some (cut mark bs) (onto (b ∷ [])) halves is in
+        let rest = map-some (split_once mark bs) (prepend_text (b ∷ [])) halves is in
         subst (λ (halves : List ℕ × List ℕ). b ∷ bs ≡ halves.0 ++ (mark ∷ halves.1)) rest.2
         (ap (λ (bs : List ℕ). b ∷ bs) (spelled rest.0 rest.1))
 
@@ -56,14 +56,14 @@ in_order-is r found = by_test (is_above r.end r.start) refl
 
 range-spelled : (text : List ℕ) (r : CrashRange) → crash_range_of text ≡ Some r → SpellsRange text r
 range-spelled text r is =
-    let halves = then-both (cut 58 text) _ r is in
-    let bounds = then-both (cut 45 halves.0.0) _ r halves.2 in
+    let halves = then-both (split_once 58 text) _ r is in
+    let bounds = then-both (split_once 45 halves.0.0) _ r halves.2 in
     let start = then-both (whole_size bounds.0.0) _ r bounds.2 in
     let end = then-both (end_of_range bounds.0.1) _ r start.2 in
     let size = then-both (whole_size halves.0.1) (λ size. in_order (record { start = start.0; end = end.0; size = size })) r end.2 in
     let order = in_order-is (record { start = start.0; end = end.0; size = size.0 }) r size.2 in
-    let at_colon : text ≡ halves.0.0 ++ (58 ∷ halves.0.1) = cut-spelled 58 text halves.0 halves.1 in
-    let at_dash : halves.0.0 ≡ bounds.0.0 ++ (45 ∷ bounds.0.1) = cut-spelled 45 halves.0.0 bounds.0 bounds.1 in
+    let at_colon : text ≡ halves.0.0 ++ (58 ∷ halves.0.1) = split_once-spelled 58 text halves.0 halves.1 in
+    let at_dash : halves.0.0 ≡ bounds.0.0 ++ (45 ∷ bounds.0.1) = split_once-spelled 45 halves.0.0 bounds.0 bounds.1 in
     subst (SpellsRange text) order.0 (record {
       start_text = bounds.0.0;
       end_text = bounds.0.1;
@@ -87,7 +87,7 @@ ranges-spelled (text ∷ texts) rs is =
 -- the base
 place-spelled : (text : List ℕ) (place : List ℕ × ℕ) → place_of text ≡ Some place
     → (b : List ℕ) × SpellsBase b place.1 × (text ≡ place.0 ++ b)
-place-spelled text place = by_cut (cut 64 text) (cut-spelled 64 text)
+place-spelled text place = by_cut (split_once 64 text) (split_once-spelled 64 text)
   where
     by_cut : (o : Option (List ℕ × List ℕ)) → ((halves : List ℕ × List ℕ) → o ≡ Some halves → text ≡ halves.0 ++ (64 ∷ halves.1))
         → with_base text o ≡ Some place → (b : List ℕ) × SpellsBase b place.1 × (text ≡ place.0 ++ b)
@@ -147,16 +147,16 @@ suffix_form-spelled value halves form whole is =
 
 form-spelled : (value : List ℕ) (form : Form) → form_of value ≡ Some form → SpellsForm value form
 unfolding form_of
-form-spelled value form = by_colon (is_some (cut 58 value))
+form-spelled value form = by_colon (is_some (split_once 58 value))
   where
     by_comma : (o : Option (List ℕ × List ℕ)) → ((halves : List ℕ × List ℕ) → o ≡ Some halves → value ≡ halves.0 ++ (44 ∷ halves.1))
         → without_colon value o ≡ Some form → SpellsForm value form
     by_comma None spelled is = simple_form-spelled value form is
     by_comma (Some halves) spelled is = suffix_form-spelled value halves form (spelled halves refl) is
 
-    by_colon : (t : Bool) → (if t then ranges_form value else without_colon value (cut 44 value)) ≡ Some form → SpellsForm value form
+    by_colon : (t : Bool) → (if t then ranges_form value else without_colon value (split_once 44 value)) ≡ Some form → SpellsForm value form
     by_colon true is = ranges_form-spelled value form is
-    by_colon false is = by_comma (cut 44 value) (cut-spelled 44 value) is
+    by_colon false is = by_comma (split_once 44 value) (split_once-spelled 44 value) is
 
 pub form-exactly : (value : List ℕ) (form : Form) → form_of value ≡ Some form ↔ SpellsForm value form
 form-exactly value form = (form-spelled value form, form-read value form)

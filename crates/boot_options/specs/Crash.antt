@@ -6,7 +6,7 @@ use Rattle.std.specs.Option.{option_map}
 use Rattle.std.specs.Str.{bytes_eq}
 use Rattle.bm_base.specs.OptionSteps.{◌>>=◌}
 use Rattle.text_words.specs.declared.separators.Separators.TheVariants.{Byte}
-use Rattle.text_words.specs.Parts.{cut, parts_in}
+use Rattle.text_words.specs.Parts.{split_once, parts_in}
 use Rattle.boot_options.specs.declared.crash.CrashRange.{CrashRange}
 use Rattle.boot_options.specs.declared.crash.CrashPlain.{CrashPlain}
 use Rattle.boot_options.specs.declared.crash.CrashOption.{CrashOption}
@@ -53,8 +53,8 @@ in_order r = if is_above r.end r.start then Some r else None
 -- one range: `start-end:S` or `start-:S`
 abbrev pub crash_range_of : List ℕ → Option CrashRange
 crash_range_of text = do
-  halves ← cut colon text
-  bounds ← cut dash halves.0
+  halves ← split_once colon text
+  bounds ← split_once dash halves.0
   start ← whole_size bounds.0
   end ← end_of_range bounds.1
   size ← whole_size halves.1
@@ -74,7 +74,7 @@ with_base text None = Some (text, 0)
 with_base text (Some halves) = option_map (λ base. (halves.0, base)) (whole_size halves.1)
 
 abbrev pub place_of : List ℕ → Option (List ℕ × ℕ)
-place_of text = with_base text (cut at_sign text)
+place_of text = with_base text (split_once at_sign text)
 
 -- one range or more, with commas between them, and an optional base
 abbrev pub ranges_form : List ℕ → Option Form
@@ -112,7 +112,7 @@ without_colon value (Some halves) = suffix_form halves
 
 -- the form of a value of `crashkernel=`; only ranges have a colon
 unfoldable pub form_of : List ℕ → Option Form
-form_of value = if is_some (cut colon value) then ranges_form value else without_colon value (cut comma value)
+form_of value = if is_some (split_once colon value) then ranges_form value else without_colon value (split_once comma value)
 
 -- the `crashkernel=` options of all words: the last value of each form, if there is one
 pub record CrashWords : Type 0 where

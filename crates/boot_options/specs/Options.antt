@@ -9,8 +9,8 @@ use Rattle.bm_base.specs.ResultSteps.{◌>>=◌}
 use Rattle.e820_model.specs.declared.entry.Edit.{Edit}
 use Rattle.e820_model.specs.declared.entry.Edit.TheVariants.{Add, Remove, RemoveAll, Change, Clear}
 use Rattle.text_words.specs.declared.separators.Separators.TheVariants.{CommandLine, Byte}
-use Rattle.text_words.specs.Parts.{before, cut, parts_in}
-use Rattle.text_words.specs.Words.{words_in, unquoted, without_last}
+use Rattle.text_words.specs.Parts.{text_before, split_once, parts_in}
+use Rattle.text_words.specs.Words.{words_in, unquote, without_last}
 use Rattle.boot_options.specs.declared.fault.OptionFault.{OptionFault}
 use Rattle.boot_options.specs.declared.fault.OptionFault.TheVariants as faults
 use Rattle.boot_options.specs.declared.options.Options.{Options}
@@ -23,7 +23,7 @@ use Rattle.boot_options.specs.MapOptions.{map_option_of, mem_of}
 -- the line: the bytes before the first zero byte, without a newline at the end. It must have at
 -- most 2,047 bytes (`COMMAND_LINE_SIZE` less the zero byte) and an even number of `"`.
 abbrev pub raw_line : List ℕ → List ℕ
-raw_line bytes = without_last 10 (before 0 bytes)
+raw_line bytes = without_last 10 (text_before 0 bytes)
 
 abbrev pub is_closed : List ℕ → Bool
 is_closed line = count_by (λ b. b == 34) line % 2 == 0
@@ -83,10 +83,10 @@ said_by number word =
 -- quotation marks
 abbrev pub at_cut : List ℕ → Option (List ℕ × List ℕ) → List ℕ × Option (List ℕ)
 at_cut word None = (word, None)
-at_cut word (Some halves) = (halves.0, Some (unquoted halves.1))
+at_cut word (Some halves) = (halves.0, Some (unquote halves.1))
 
 abbrev pub name_value_of : List ℕ → List ℕ × Option (List ℕ)
-name_value_of word = at_cut word (cut 61 word)
+name_value_of word = at_cut word (split_once 61 word)
 
 -- the words before `--`
 abbrev pub until_end : List (List ℕ) → List (List ℕ)
@@ -94,7 +94,7 @@ until_end [] = []
 until_end (word ∷ words) = if bytes_eq word (codes "--") then [] else word ∷ until_end words
 
 abbrev pub option_words : List ℕ → List (List ℕ)
-option_words line = until_end (map unquoted (words_in CommandLine line))
+option_words line = until_end (map unquote (words_in CommandLine line))
 
 -- the meaning of each word with its number, or the fault of the first malformed word
 abbrev pub said_from : ℕ → List (List ℕ) → Result (List (ℕ × Said)) OptionFault

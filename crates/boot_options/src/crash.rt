@@ -18,7 +18,7 @@ use crate::kept::keep;
 use crate::map_option::read_whole_size;
 use bm_base::Memory;
 use std::alloc::Global;
-use text_words::{Separators, cut, next_part};
+use text_words::{Separators, split_once, next_part};
 
 /// A range of total memory, and how much is set aside if total memory lies in it. All numbers are
 /// in bytes.
@@ -75,10 +75,10 @@ pub enum CrashForm {
 pub fn read_form(alloc: Global, value: &[u8]) -> Option<CrashForm>
     ensures { KeepsForm result (form_of value.now) }
 {
-    if cut(value, b':').is_some() {
+    if split_once(value, b':').is_some() {
         return read_ranges_form(alloc, value);
     }
-    match cut(value, b',') {
+    match split_once(value, b',') {
         Some((size, name)) => read_suffix_form(size, name),
         None => read_simple_form(alloc, value),
     }
@@ -143,7 +143,7 @@ fn read_suffix_form(size: &[u8], name: &[u8]) -> Option<CrashForm>
 fn read_place(text: &[u8]) -> Option<(&[u8], u64)>
     ensures { option_map (λ place. (place.0.now, place.1)) result ≡ place_at text.now }
 {
-    match cut(text, b'@') {
+    match split_once(text, b'@') {
         Some((front, base)) => Some((front, read_whole_size(base)?)),
         None => Some((text, 0)),
     }
@@ -171,8 +171,8 @@ fn read_ranges(alloc: Global, text: &[u8]) -> Option<Result<Vec<CrashRange>, Mem
 fn read_range(text: &[u8]) -> Option<CrashRange>
     ensures { result ≡ crash_range_of text.now }
 {
-    let (bounds, size) = cut(text, b':')?;
-    let (start, end) = cut(bounds, b'-')?;
+    let (bounds, size) = split_once(text, b':')?;
+    let (start, end) = split_once(bounds, b'-')?;
     let start = read_whole_size(start)?;
     let end = read_end(end)?;
     let size = read_whole_size(size)?;

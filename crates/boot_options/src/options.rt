@@ -19,7 +19,7 @@ use crate::reading::{CrashRead, Reading, read_words};
 use bm_base::Memory;
 use e820_model::Edit;
 use std::alloc::Global;
-use text_words::{before, without_last};
+use text_words::{text_before, without_last};
 
 /// The options that a command line sets for the memory set-up.
 #[derive(Debug, Drop)]
@@ -98,7 +98,7 @@ fn read_line(bytes: &[u8]) -> Result<&[u8], OptionFault>
         (λ fault. line_of bytes.now ≡ Err fault) }
     ensures short { IfOk result (λ line. length line.now ≤ LONGEST_LINE) }
 {
-    let line = without_last(before(bytes, 0), b'\n');
+    let line = without_last(text_before(bytes, 0), b'\n');
     if line.len() > LONGEST_LINE {
         return Err(OptionFault::TooLong);
     }

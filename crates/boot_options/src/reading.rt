@@ -22,7 +22,7 @@ use crate::map_option::{MapOption, read_map_option, read_mem};
 use bm_base::Memory;
 use e820_model::Edit;
 use std::alloc::Global;
-use text_words::{Separators, cut, next_part, next_word, unquoted};
+use text_words::{Separators, split_once, next_part, next_word, unquote};
 
 /// The result of the words that have been read so far.
 #[derive(Drop)]
@@ -76,7 +76,7 @@ pub fn read_words(alloc: Global, line: &[u8]) -> Result<Reading, OptionFault>
     let mut rest = line;
     let mut number: u32 = 1;
     while let Some((word, behind)) = next_word(rest, Separators::CommandLine) {
-        let word = unquoted(word);
+        let word = unquote(word);
         if word == b"--".as_slice() {
             return Ok(reading);
         }
@@ -135,8 +135,8 @@ fn read_word(
 fn name_and_value(word: &[u8]) -> (&[u8], Option<&[u8]>)
     ensures { (result.0.now, option_map (λ value. value.now) result.1) ≡ name_value_of word.now }
 {
-    match cut(word, b'=') {
-        Some((name, value)) => (name, Some(unquoted(value))),
+    match split_once(word, b'=') {
+        Some((name, value)) => (name, Some(unquote(value))),
         None => (word, None),
     }
 }

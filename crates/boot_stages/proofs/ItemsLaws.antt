@@ -84,15 +84,15 @@ carries-change (Err e) i old new ends =
     ends-first e refusal_for old new (changes (change i)) (λ u. items_carried []) (ends-change (Err e) old new (change i) ends)
 
 -- nothing stands of steps that are to come
-pub cut-none : (old new : List Item) (steps : List (List Item)) → new ≡ old → 0 < length steps → IsCutShort old new steps
-cut-none old new steps stays some = record { count = 0; short = some; stands = stays ∙ sym (append-nil old) }
+pub split_once-none : (old new : List Item) (steps : List (List Item)) → new ≡ old → 0 < length steps → IsCutShort old new steps
+split_once-none old new steps stays some = record { count = 0; short = some; stands = stays ∙ sym (append-nil old) }
 
 -- memory was wanting before the first item
 pub carries-wanting : (r : Result (Unit {0}) Refusal) (i : Item) (js old new : List Item) → r ≡ Err refusal.Memory
     → 0 < length (change i old).steps → new ≡ old → StageEnds (items_carried (i ∷ js)) refusal_for r old new
 carries-wanting r i js old new exits some stays =
     carries-exit refusal.Memory r (i ∷ []) js old new exits
-    (carries-change (Err refusal.Memory) i old new (cut-none old new (change i old).steps stays some))
+    (carries-change (Err refusal.Memory) i old new (split_once-none old new (change i old).steps stays some))
 
 -- the first item was carried out, or not
 pub change-second : (r : Result (Unit {0}) Refusal) (i : Item) (js old mid new : List Item)

@@ -1,6 +1,6 @@
 //! Words and parts, one behind the other, the halves, the front and the inside of a text, beside the proved examples of `text_words`.
 
-use text_words::{Separators, before, cut, next_part, next_word, unquoted};
+use text_words::{Separators, text_before, split_once, next_part, next_word, unquote};
 
 #[test]
 fn words_of_a_line(rt: HostRuntime) {
@@ -38,12 +38,12 @@ fn parts_between_commas(rt: HostRuntime) {
 
 #[test]
 fn only_the_outer_marks_go(rt: HostRuntime) {
-    assert!(rt; unquoted(b"\"\"a\"\"".as_slice()) == b"\"a\"".as_slice());
+    assert!(rt; unquote(b"\"\"a\"\"".as_slice()) == b"\"a\"".as_slice());
 }
 
 #[test]
 fn halves_and_a_front(rt: HostRuntime) {
-    let halves = cut(b"a==".as_slice(), b'=');
+    let halves = split_once(b"a==".as_slice(), b'=');
     assert!(rt; halves == Some((b"a".as_slice(), b"=".as_slice())));
-    assert!(rt; before(b"ab c ".as_slice(), b' ') == b"ab".as_slice());
+    assert!(rt; text_before(b"ab c ".as_slice(), b' ') == b"ab".as_slice());
 }

@@ -1,10 +1,10 @@
 -- Small texts, split and cut: what the definitions say of them, by computing.
 use Rattle.std.proofs.Common.{◌≡◌, true, false, Some, None, [], ◌∷◌, codes, refl, arith}
 use Rattle.text_words.specs.declared.separators.Separators.TheVariants.{CommandLine, Script, Byte}
-use Rattle.text_words.specs.Parts.{separates, quotes, quoted_behind, with_front, parts_from, parts_in, parts_behind, before, onto, cut}
+use Rattle.text_words.specs.Parts.{separates, quotes, quoted_after, with_front, parts_from, parts_in, parts_of_rest, text_before, prepend_text, split_once}
 use Rattle.text_words.specs.Spelling.{HasWords, blank_first, word_alone, word_first, QuotesClose, Unquotes, no_mark, both_marks}
 use Rattle.text_words.proofs.SpellingLaws.{unquoted_exactly}
-use Rattle.text_words.specs.Words.{is_word, words_in, without_last, unquoted, IsClosed, IsWord}
+use Rattle.text_words.specs.Words.{is_word, words_in, without_last, unquote, IsClosed, IsWord}
 
 -- blanks separate, and of a command line the bytes 0x09 to 0x0D; 0x08, 0x0E and 0xA0 don't
 line_separators : (separates CommandLine 0x20 ≡ true) × (separates CommandLine 0x09 ≡ true) × (separates CommandLine 0x0D ≡ true)
@@ -25,9 +25,9 @@ quoting : (quotes CommandLine 34 ≡ true) × (quotes CommandLine 39 ≡ false) 
 quoting = (refl, refl, refl, refl)
 
 -- a mark opens a quotation and closes it, another byte does neither
-quoted_after : (quoted_behind CommandLine false 34 ≡ true) × (quoted_behind CommandLine true 34 ≡ false)
-    × (quoted_behind CommandLine true 97 ≡ true) × (quoted_behind Script false 34 ≡ false)
-quoted_after = (refl, refl, refl, refl)
+quoted_after_examples : (quoted_after CommandLine false 34 ≡ true) × (quoted_after CommandLine true 34 ≡ false)
+    × (quoted_after CommandLine true 97 ≡ true) × (quoted_after Script false 34 ≡ false)
+quoted_after_examples = (refl, refl, refl, refl)
 
 fronts : (with_front 97 [] ≡ codes "a" ∷ []) × (with_front 97 (codes "b" ∷ codes "c" ∷ []) ≡ codes "ab" ∷ codes "c" ∷ [])
 fronts = (refl, refl)
@@ -59,25 +59,25 @@ begun_in_a_quotation = refl
 begun_outside : parts_from CommandLine false (codes "a b\" c") ≡ codes "a" ∷ codes "b\" c" ∷ []
 begun_outside = refl
 
-behind_a_separator : (parts_behind (Byte 44) (Some (codes "b,c")) ≡ codes "b" ∷ codes "c" ∷ [])
-    × (parts_behind (Byte 44) (Some []) ≡ [] ∷ []) × (parts_behind (Byte 44) None ≡ [])
+behind_a_separator : (parts_of_rest (Byte 44) (Some (codes "b,c")) ≡ codes "b" ∷ codes "c" ∷ [])
+    × (parts_of_rest (Byte 44) (Some []) ≡ [] ∷ []) × (parts_of_rest (Byte 44) None ≡ [])
 behind_a_separator = (refl, refl, refl)
 
 -- a line ends at the first zero byte, if it has one
-before_zero : (before 0 (97 ∷ 98 ∷ 0 ∷ 99 ∷ 0 ∷ []) ≡ codes "ab") × (before 0 (codes "ab") ≡ codes "ab") × (before 0 (0 ∷ 97 ∷ []) ≡ [])
+before_zero : (text_before 0 (97 ∷ 98 ∷ 0 ∷ 99 ∷ 0 ∷ []) ≡ codes "ab") × (text_before 0 (codes "ab") ≡ codes "ab") × (text_before 0 (0 ∷ 97 ∷ []) ≡ [])
 before_zero = (refl, refl, refl)
 
-onto_halves : (onto (codes "m") (codes "em", codes "4G") ≡ (codes "mem", codes "4G")) × (onto [] ([], codes "4G") ≡ ([], codes "4G"))
+onto_halves : (prepend_text (codes "m") (codes "em", codes "4G") ≡ (codes "mem", codes "4G")) × (prepend_text [] ([], codes "4G") ≡ ([], codes "4G"))
 onto_halves = (refl, refl)
 
 -- name and value, at the first mark; a mark at the very front is one
-cut_at_the_first : cut 61 (codes "mem=1=2") ≡ Some (codes "mem", codes "1=2")
+cut_at_the_first : split_once 61 (codes "mem=1=2") ≡ Some (codes "mem", codes "1=2")
 cut_at_the_first = refl
 
-cut_at_the_front : cut 61 (codes "=1") ≡ Some ([], codes "1")
+cut_at_the_front : split_once 61 (codes "=1") ≡ Some ([], codes "1")
 cut_at_the_front = refl
 
-nothing_to_cut : cut 61 (codes "quiet") ≡ None
+nothing_to_cut : split_once 61 (codes "quiet") ≡ None
 nothing_to_cut = refl
 
 some_and_none : (is_word (codes "a") ≡ true) × (is_word [] ≡ false)
@@ -99,9 +99,9 @@ last_marks : (without_last 10 (codes "ab\n\n") ≡ codes "ab\n") × (without_las
 last_marks = (refl, refl, refl, refl)
 
 -- a mark at the end alone stays, one in front goes alone
-unquoted_texts : (unquoted (codes "\"a b\"") ≡ codes "a b")
-    × (unquoted (codes "\"a") ≡ codes "a") × (unquoted (codes "a\"") ≡ codes "a\"") × (unquoted (codes "\"") ≡ [])
-    × (unquoted (codes "\"\"") ≡ [])
+unquoted_texts : (unquote (codes "\"a b\"") ≡ codes "a b")
+    × (unquote (codes "\"a") ≡ codes "a") × (unquote (codes "a\"") ≡ codes "a\"") × (unquote (codes "\"") ≡ [])
+    × (unquote (codes "\"\"") ≡ [])
 unquoted_texts = (refl, refl, refl, refl, refl)
 
 -- a text with a quotation that closes is closed; with an open one, or a blank, it isn't

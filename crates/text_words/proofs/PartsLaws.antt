@@ -4,7 +4,7 @@ use Rattle.std.specs.Option.{option_map}
 use Rattle.std.proofs.Math.Bool.{and-false}
 use Rattle.std.proofs.lemmas.List.{append-nil}
 use Rattle.text_words.specs.declared.separators.Separators.{Separators}
-use Rattle.text_words.specs.Parts.{separates, quoted_behind, with_front, parts_from, parts_in, onto, cut}
+use Rattle.text_words.specs.Parts.{separates, quoted_after, with_front, parts_from, parts_in, prepend_text, split_once}
 use Rattle.text_words.specs.Words.{IsClosed}
 
 -- the text before the first part, which becomes longer by it
@@ -35,8 +35,8 @@ parts-end s false (a ∷ front) b rest is closed = rw is (ap (λ (part : List �
 -- any other byte lengthens it
 pub parts-more : (s : Separators) (quoted : Bool) (front : List ℕ) (b : ℕ) (rest : List ℕ)
     → separates s b && not quoted ≡ false
-    → glued front (parts_from s quoted (b ∷ rest)) ≡ glued (front ++ (b ∷ [])) (parts_from s (quoted_behind s quoted b) rest)
-parts-more s quoted front b rest stays = rw stays (glued-with_front front b (parts_from s (quoted_behind s quoted b) rest))
+    → glued front (parts_from s quoted (b ∷ rest)) ≡ glued (front ++ (b ∷ [])) (parts_from s (quoted_after s quoted b) rest)
+parts-more s quoted front b rest stays = rw stays (glued-with_front front b (parts_from s (quoted_after s quoted b) rest))
 
 -- the text ends the last part
 pub parts-last : (s : Separators) (quoted : Bool) (front : List ℕ) → glued front (parts_from s quoted []) ≡ front ∷ []
@@ -49,22 +49,22 @@ pub parts-spelled : (s : Separators) (quoted : Bool) (part : List ℕ) (b : ℕ)
 parts-spelled s true [] b rest closed is = cc
 parts-spelled s false [] b rest closed is = rw is refl
 parts-spelled s true (a ∷ part) b rest closed is =
-    rw (and-false (separates s a)) (ap (with_front a) (parts-spelled s (quoted_behind s true a) part b rest closed is))
+    rw (and-false (separates s a)) (ap (with_front a) (parts-spelled s (quoted_after s true a) part b rest closed is))
 parts-spelled s false (a ∷ part) b rest closed is =
-    rw (closed.0) (ap (with_front a) (parts-spelled s (quoted_behind s false a) part b rest closed.1 is))
+    rw (closed.0) (ap (with_front a) (parts-spelled s (quoted_after s false a) part b rest closed.1 is))
 
 -- a text whose quotations close, with no separator outside them, is one part
 pub parts-one : (s : Separators) (quoted : Bool) (part : List ℕ) → IsClosed s quoted part → parts_from s quoted part ≡ part ∷ []
 parts-one s quoted [] closed = refl
 parts-one s true (a ∷ part) closed =
-    rw (and-false (separates s a)) (ap (with_front a) (parts-one s (quoted_behind s true a) part closed))
+    rw (and-false (separates s a)) (ap (with_front a) (parts-one s (quoted_after s true a) part closed))
 parts-one s false (a ∷ part) closed =
-    rw (closed.0) (ap (with_front a) (parts-one s (quoted_behind s false a) part closed.1))
+    rw (closed.0) (ap (with_front a) (parts-one s (quoted_after s false a) part closed.1))
 
 -- the first byte that is the mark cuts the text there
-pub cut-found : (mark : ℕ) (text : List ℕ) (i : ℕ) → i < length text → get_or text i 0 ≡ mark
-    → option_map (onto (take i text)) (cut mark (drop i text)) ≡ Some (take i text, drop (i + 1) text)
-cut-found mark text i inside is =
+pub split_once-found : (mark : ℕ) (text : List ℕ) (i : ℕ) → i < length text → get_or text i 0 ≡ mark
+    → option_map (prepend_text (take i text)) (split_once mark (drop i text)) ≡ Some (take i text, drop (i + 1) text)
+split_once-found mark text i inside is =
     rw (add-one, drop-cons text i 0, eq-eqb (get_or text i 0) mark is) (rw append-nil refl)
 
 -- a separator outside quotations ends the first part

@@ -3,8 +3,8 @@ use Rattle.std.proofs.Common.{◌≡◌, ◌≢◌, ◌↔◌, ◌⊎◌, inl, i
 use Rattle.std.proofs.lemmas.Bool.{eqb-true, ne_eqb}
 use Rattle.text_words.specs.declared.separators.Separators.{Separators}
 use Rattle.text_words.specs.declared.separators.Separators.TheVariants.{CommandLine, Script, Byte}
-use Rattle.text_words.specs.Parts.{separates, quotes, quoted_behind}
-use Rattle.text_words.specs.Words.{words_in, unquoted, without_last, IsClosed, IsWord}
+use Rattle.text_words.specs.Parts.{separates, quotes, quoted_after}
+use Rattle.text_words.specs.Words.{words_in, unquote, without_last, IsClosed, IsWord}
 use Rattle.text_words.specs.Spelling.{QuotesClose, HasWords, no_byte, blank_first, word_alone, word_first, Unquotes, no_mark, both_marks, first_mark}
 use Rattle.text_words.proofs.WordsLaws.{words-spelled, words-one, without_last-mark}
 
@@ -23,15 +23,15 @@ FirstPart s quoted text =
 
 pub first_part : (s : Separators) (quoted : Bool) (text : List ℕ) → QuotesClose s quoted text → FirstPart s quoted text
 first_part s quoted [] close = inl close
-first_part s true (a ∷ text) close = longer (first_part s (quoted_behind s true a) text close)
+first_part s true (a ∷ text) close = longer (first_part s (quoted_after s true a) text close)
   where
-    longer : FirstPart s (quoted_behind s true a) text → FirstPart s true (a ∷ text)
+    longer : FirstPart s (quoted_after s true a) text → FirstPart s true (a ∷ text)
     longer (inl closed) = inl closed
     longer (inr found) =
         inr (a ∷ found.0, found.1, found.2, ap (λ (bs : List ℕ). a ∷ bs) found.3, found.4, found.5, found.6)
-first_part s false (a ∷ text) close = by_test (separates s a) refl (first_part s (quoted_behind s false a) text close)
+first_part s false (a ∷ text) close = by_test (separates s a) refl (first_part s (quoted_after s false a) text close)
   where
-    by_test : (t : Bool) → separates s a ≡ t → FirstPart s (quoted_behind s false a) text → FirstPart s false (a ∷ text)
+    by_test : (t : Bool) → separates s a ≡ t → FirstPart s (quoted_after s false a) text → FirstPart s false (a ∷ text)
     by_test true is found =
         let behind : QuotesClose s false text = rw (separator-quotes s a is) at close in
         inr ([], a, text, refl, refl, is, behind)
@@ -117,7 +117,7 @@ no_quote : (b : ℕ) (bs : List ℕ) → b == 34 ≡ false → (rest : List ℕ)
 no_quote b bs isnt rest same = let is : b ≡ 34 = cc in let test : b == 34 ≡ true = eq-eqb b 34 is in cc
 
 -- the quotation marks that a text loses
-quotes_lost : (text : List ℕ) → Unquotes text (unquoted text)
+quotes_lost : (text : List ℕ) → Unquotes text (unquote text)
 quotes_lost [] = no_mark [] (λ rest same. cc)
 quotes_lost (b ∷ bs) = by_test (b == 34) refl (ends_or_not bs)
   where
@@ -126,10 +126,10 @@ quotes_lost (b ∷ bs) = by_test (b == 34) refl (ends_or_not bs)
     by_test true is (inl ends) = rw (eqb-true b 34 is, ends.2, ends.1) (both_marks ends.0)
     by_test true is (inr not) = rw (eqb-true b 34 is, not.1) (first_mark bs not.0)
 
-unquoted_is : (text inner : List ℕ) → Unquotes text inner → unquoted text ≡ inner
+unquoted_is : (text inner : List ℕ) → Unquotes text inner → unquote text ≡ inner
 unquoted_is text inner (no_mark _ not) = bare text not
   where
-    bare : (text : List ℕ) → ((rest : List ℕ) → text ≢ codes "\"" ++ rest) → unquoted text ≡ text
+    bare : (text : List ℕ) → ((rest : List ℕ) → text ≢ codes "\"" ++ rest) → unquote text ≡ text
     bare [] not = refl
     bare (b ∷ bs) not =
         let isnt : b == 34 ≡ false = ne_eqb b 34 (λ same. not bs (ap (λ (n : ℕ). n ∷ bs) same)) in rw isnt refl
@@ -140,5 +140,5 @@ unquoted_is text inner (first_mark _ not) = by_end (ends_or_not inner)
     by_end (inl ends) = absurd (not ends.0 ends.1)
     by_end (inr has) = has.1
 
-pub unquoted_exactly : (text inner : List ℕ) → unquoted text ≡ inner ↔ Unquotes text inner
+pub unquoted_exactly : (text inner : List ℕ) → unquote text ≡ inner ↔ Unquotes text inner
 unquoted_exactly text inner = (λ is. subst (Unquotes text) is (quotes_lost text), unquoted_is text inner)

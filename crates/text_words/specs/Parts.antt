@@ -19,8 +19,8 @@ quotes Script b = false
 quotes (Byte mark) b = false
 
 -- whether a quotation is open behind the byte
-abbrev pub quoted_behind : Separators → Bool → ℕ → Bool
-quoted_behind s quoted b = if quotes s b then not quoted else quoted
+abbrev pub quoted_after : Separators → Bool → ℕ → Bool
+quoted_after s quoted b = if quotes s b then not quoted else quoted
 
 -- the byte before the first part
 abbrev pub with_front : ℕ → List (List ℕ) → List (List ℕ)
@@ -34,26 +34,26 @@ parts_from s quoted [] = [] ∷ []
 parts_from s quoted (b ∷ bs) =
     if separates s b && not quoted
     then [] ∷ parts_from s quoted bs
-    else with_front b (parts_from s (quoted_behind s quoted b) bs)
+    else with_front b (parts_from s (quoted_after s quoted b) bs)
 
 abbrev pub parts_in : Separators → List ℕ → List (List ℕ)
 parts_in s text = parts_from s false text
 
 -- the parts of what stands behind a separator, none where there was no separator
-abbrev pub parts_behind : Separators → Option (List ℕ) → List (List ℕ)
-parts_behind s None = []
-parts_behind s (Some text) = parts_in s text
+abbrev pub parts_of_rest : Separators → Option (List ℕ) → List (List ℕ)
+parts_of_rest s None = []
+parts_of_rest s (Some text) = parts_in s text
 
 -- what stands before the first such byte, the whole text where there is none
-abbrev pub before : ℕ → List ℕ → List ℕ
-before mark [] = []
-before mark (b ∷ bs) = if b == mark then [] else b ∷ before mark bs
+abbrev pub text_before : ℕ → List ℕ → List ℕ
+text_before mark [] = []
+text_before mark (b ∷ bs) = if b == mark then [] else b ∷ text_before mark bs
 
 -- a text before the first half of a cut
-abbrev pub onto : List ℕ → List ℕ × List ℕ → List ℕ × List ℕ
-onto front halves = (front ++ halves.0, halves.1)
+abbrev pub prepend_text : List ℕ → List ℕ × List ℕ → List ℕ × List ℕ
+prepend_text front halves = (front ++ halves.0, halves.1)
 
 -- what stands before and behind the first such byte, where there is one
-abbrev pub cut : ℕ → List ℕ → Option (List ℕ × List ℕ)
-cut mark [] = None
-cut mark (b ∷ bs) = if b == mark then Some ([], bs) else option_map (onto (b ∷ [])) (cut mark bs)
+abbrev pub split_once : ℕ → List ℕ → Option (List ℕ × List ℕ)
+split_once mark [] = None
+split_once mark (b ∷ bs) = if b == mark then Some ([], bs) else option_map (prepend_text (b ∷ [])) (split_once mark bs)

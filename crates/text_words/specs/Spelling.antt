@@ -1,13 +1,13 @@
 -- How the words of a text lie in it, and what its quotation marks are, in the words of the grammar (`next_arg` of lib/cmdline.c).
 use Rattle.std.specs.Prelude.{◌≡◌, ◌≢◌, ℕ, Bool, true, false, List, [], ◌∷◌, ◌++◌, codes}
 use Rattle.text_words.specs.declared.separators.Separators.{Separators}
-use Rattle.text_words.specs.Parts.{separates, quoted_behind}
+use Rattle.text_words.specs.Parts.{separates, quoted_after}
 use Rattle.text_words.specs.Words.{IsWord}
 
 -- each quotation of the text closes. The flag says whether one is open where the text begins
 abbrev pub QuotesClose : Separators → Bool → List ℕ → Type 0
 QuotesClose s quoted [] = quoted ≡ false
-QuotesClose s quoted (b ∷ bs) = QuotesClose s (quoted_behind s quoted b) bs
+QuotesClose s quoted (b ∷ bs) = QuotesClose s (quoted_after s quoted b) bs
 
 -- the text has those words, one separator or more between two, and any before the first and after the last
 pub data HasWords (s : Separators) : List ℕ → List (List ℕ) → Type 0 where

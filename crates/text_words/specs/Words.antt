@@ -1,7 +1,7 @@
 -- The words of a text, and quotation marks around them (`next_arg` of lib/cmdline.c).
 use Rattle.std.specs.Prelude.{◌≡◌, ℕ, ◌<◌, ◌==◌, Bool, true, false, if◌then◌else◌, List, [], ◌∷◌, filter, length}
 use Rattle.text_words.specs.declared.separators.Separators.{Separators}
-use Rattle.text_words.specs.Parts.{separates, quoted_behind, parts_in}
+use Rattle.text_words.specs.Parts.{separates, quoted_after, parts_in}
 
 -- a word is a part that isn't empty: a maximal stretch with no separator outside quotations
 abbrev pub is_word : List ℕ → Bool
@@ -18,16 +18,16 @@ without_last mark (b ∷ []) = if b == mark then [] else b ∷ []
 without_last mark (b ∷ c ∷ bs) = b ∷ without_last mark (c ∷ bs)
 
 -- a text that begins with `"` loses that byte, and its last byte where that is `"`
-abbrev pub unquoted : List ℕ → List ℕ
-unquoted [] = []
-unquoted (b ∷ bs) = if b == 34 then without_last 34 bs else b ∷ bs
+abbrev pub unquote : List ℕ → List ℕ
+unquote [] = []
+unquote (b ∷ bs) = if b == 34 then without_last 34 bs else b ∷ bs
 
 -- the text has no separator outside quotations, and each quotation in it closes. The flag says whether
 -- one is open where the text begins
 abbrev pub IsClosed : Separators → Bool → List ℕ → Type 0
 IsClosed s quoted [] = quoted ≡ false
-IsClosed s true (b ∷ bs) = IsClosed s (quoted_behind s true b) bs
-IsClosed s false (b ∷ bs) = (separates s b ≡ false) × IsClosed s (quoted_behind s false b) bs
+IsClosed s true (b ∷ bs) = IsClosed s (quoted_after s true b) bs
+IsClosed s false (b ∷ bs) = (separates s b ≡ false) × IsClosed s (quoted_after s false b) bs
 
 -- how a word is spelled
 pub record IsWord (s : Separators) (word : List ℕ) : Type 0 where

@@ -6,12 +6,12 @@
 //! rest, [`next_word`] the first part that isn't empty (`next_arg` of lib/cmdline.c for the
 //! command line). Both return slices of the text, so a caller goes once over it from the front.
 //!
-//! [`cut`] and [`before`] look for the first of one byte, as the `=` of an option or the zero byte
-//! at the end of a line; [`unquoted`] takes the quotation marks from around a word or a value.
+//! [`split_once`] and [`text_before`] look for the first of one byte, as the `=` of an option or the zero byte
+//! at the end of a line; [`unquote`] takes the quotation marks from around a word or a value.
 //!
 //! The definitions are functions on lists of bytes (`specs/Parts.antt`, `specs/Words.antt`). Beside
 //! them stands the grammar as laws: what is spelled as words with separators between them is read
-//! as those words ([`words_of_spelling`], [`parts_of_spelling`]), and whatever is read as words
+//! as those words ([`spelled_words_are_read`], [`spelled_parts_are_read`]), and whatever is read as words
 //! lies in the text so ([`words_are_spelled`]).
 #![tactic(auto)]
 
@@ -19,6 +19,6 @@ mod parts;
 mod separators;
 mod words;
 
-pub use parts::{before, cut, next_part, parts_of_spelling};
+pub use parts::{text_before, split_once, next_part, spelled_parts_are_read};
 pub use separators::Separators;
-pub use words::{next_word, unquoted, without_last, words_are_spelled, words_of_spelling};
+pub use words::{next_word, unquote, without_last, words_are_spelled, spelled_words_are_read};

@@ -7,7 +7,7 @@
 ghost use Rattle.std.specs.Prelude.{◌≡◌, ℕ, ◌<◌, ◌≤◌, Bool, true, false, List, [], ◌∷◌, ◌++◌, length, IfSome};
 ghost use Rattle.std.specs.Option.{option_map};
 ghost use Rattle.text_words.specs.declared.separators.Separators.{Separators as SomeSeparators};
-ghost use Rattle.text_words.specs.Parts.{separates, parts_in, parts_behind, before as text_before, cut as halves_of};
+ghost use Rattle.text_words.specs.Parts.{separates, parts_in, parts_of_rest, text_before, split_once};
 ghost use Rattle.text_words.specs.Words.{IsClosed};
 
 use crate::Separators;
@@ -16,7 +16,7 @@ use crate::Separators;
 /// separator, so that the part is the last one. A part may be empty.
 pub fn next_part(text: &[u8], separators: Separators) -> (&[u8], Option<&[u8]>)
     ensures parts { parts_in separators text.now
-        ≡ result.0.now ∷ parts_behind separators (option_map (λ rest. rest.now) result.1) }
+        ≡ result.0.now ∷ parts_of_rest separators (option_map (λ rest. rest.now) result.1) }
     ensures shorter { IfSome result.1 (λ rest. length rest.now < length text.now) }
     ensures no_longer { length result.0.now ≤ length text.now }
 {
@@ -33,7 +33,7 @@ pub fn next_part(text: &[u8], separators: Separators) -> (&[u8], Option<&[u8]>)
 }
 
 /// What stands before the first byte `mark`, the whole text where there is none.
-pub fn before(text: &[u8], mark: u8) -> &[u8]
+pub fn text_before(text: &[u8], mark: u8) -> &[u8]
     ensures { result.now ≡ text_before mark text.now }
 {
     for (index, byte) in text.iter().enumerate() {
@@ -45,8 +45,8 @@ pub fn before(text: &[u8], mark: u8) -> &[u8]
 }
 
 /// What stands before and behind the first byte `mark`; `None` where there is none.
-pub fn cut(text: &[u8], mark: u8) -> Option<(&[u8], &[u8])>
-    ensures { option_map (λ found. (found.0.now, found.1.now)) result ≡ halves_of mark text.now }
+pub fn split_once(text: &[u8], mark: u8) -> Option<(&[u8], &[u8])>
+    ensures { option_map (λ found. (found.0.now, found.1.now)) result ≡ split_once mark text.now }
 {
     for (index, byte) in text.iter().enumerate() {
         if *byte == mark {
@@ -57,7 +57,7 @@ pub fn cut(text: &[u8], mark: u8) -> Option<(&[u8], &[u8])>
 }
 
 /// A law: what is spelled as parts with separators between them is read as those parts.
-pub fn parts_of_spelling()
+pub fn spelled_parts_are_read()
     ensures first { (s : SomeSeparators) (part : List ℕ) (b : ℕ) (rest : List ℕ)
         → IsClosed s false part → separates s b ≡ true
         → parts_in s (part ++ (b ∷ rest)) ≡ part ∷ parts_in s rest }

@@ -7,7 +7,7 @@
 ghost use Rattle.std.specs.Prelude.{◌≡◌, ◌↔◌, ℕ, ◌<◌, ◌≤◌, true, false, List, [], ◌∷◌, ◌++◌, length, IfSome, IfNone};
 ghost use Rattle.text_words.specs.declared.separators.Separators.{Separators as SomeSeparators};
 ghost use Rattle.text_words.specs.Parts.{separates};
-ghost use Rattle.text_words.specs.Words.{words_in, unquoted as text_unquoted, without_last as text_without_last, IsWord};
+ghost use Rattle.text_words.specs.Words.{words_in, unquote, without_last, IsWord};
 ghost use Rattle.text_words.specs.Spelling.{HasWords, QuotesClose, Unquotes};
 
 use crate::{Separators, next_part};
@@ -33,8 +33,8 @@ pub fn next_word(text: &[u8], separators: Separators) -> Option<(&[u8], &[u8])>
 
 /// The text without the `"` that it begins with, and then without the `"` at its end; a text that
 /// doesn't begin with one stays as it is.
-pub fn unquoted(text: &[u8]) -> &[u8]
-    ensures { result.now ≡ text_unquoted text.now }
+pub fn unquote(text: &[u8]) -> &[u8]
+    ensures { result.now ≡ unquote text.now }
 {
     match text.split_first() {
         Some((b'"', inner)) => without_last(inner, b'"'),
@@ -44,7 +44,7 @@ pub fn unquoted(text: &[u8]) -> &[u8]
 
 /// The text without its last byte, where that is `mark`.
 pub fn without_last(text: &[u8], mark: u8) -> &[u8]
-    ensures { result.now ≡ text_without_last mark text.now }
+    ensures { result.now ≡ without_last mark text.now }
 {
     match text.split_last() {
         Some((last, front)) if *last == mark => front,
@@ -55,7 +55,7 @@ pub fn without_last(text: &[u8], mark: u8) -> &[u8]
 /// A law: what is spelled as words with separators between them is read as those words: a
 /// separator in front is passed over, and a word goes as far as the next separator outside
 /// quotations.
-pub fn words_of_spelling()
+pub fn spelled_words_are_read()
     ensures gap { (s : SomeSeparators) (b : ℕ) (rest : List ℕ)
         → separates s b ≡ true → words_in s (b ∷ rest) ≡ words_in s rest }
     ensures word { (s : SomeSeparators) (word : List ℕ) (b : ℕ) (rest : List ℕ)
@@ -70,5 +70,5 @@ pub fn words_of_spelling()
 pub fn words_are_spelled()
     ensures words { (s : SomeSeparators) (text : List ℕ) (words : List (List ℕ)) →
         QuotesClose s false text → words_in s text ≡ words ↔ HasWords s text words }
-    ensures unquoted { (text inner : List ℕ) → text_unquoted text ≡ inner ↔ Unquotes text inner }
+    ensures unquoted { (text inner : List ℕ) → unquote text ≡ inner ↔ Unquotes text inner }
 {}

@@ -1,6 +1,6 @@
 use Rattle.std.proofs.Common.{◌≡◌, ◌∷◌, ◌++◌, [], List, ℕ, Some, sym, ap, ◌∙◌}
 use Rattle.text_words.specs.declared.separators.Separators.TheVariants.{Byte}
-use Rattle.text_words.specs.Parts.{parts_behind}
+use Rattle.text_words.specs.Parts.{parts_of_rest}
 use Rattle.text_words.proofs.WordsLaws.{text_of}
 use Rattle.boot_options.specs.Crash.{crash_range_of, crash_ranges_of}
 use Rattle.boot_options.proofs.CrashLaws.{in_front, in_front-one}
@@ -12,9 +12,9 @@ loop-rest-preserved c =
     let so_far = c.loop-rest.invariant.2 in
     let text = c.next_part.result.0.now in
     let range = c.in-Some-read_range.range in
-    let texts : List (List ℕ) = parts_behind (Byte 44) (text_of c.next_part.result.1) in
+    let texts : List (List ℕ) = parts_of_rest (Byte 44) (text_of c.next_part.result.1) in
     let is : crash_range_of text ≡ Some range = sym c.in-Some-read_range.ensures in
-    let parts : parts_behind (Byte 44) (text_of c.loop-rest.rest) ≡ text ∷ texts = rw c.in-Some.is c.next_part.ensures.parts in (
+    let parts : parts_of_rest (Byte 44) (text_of c.loop-rest.rest) ≡ text ∷ texts = rw c.in-Some.is c.next_part.ensures.parts in (
       kept ++ range ∷ [],
       c.keep.ensures kept c.loop-rest.invariant.1,
       in_front-one kept text texts range is ∙ ap (λ (ts : List (List ℕ)). in_front kept (crash_ranges_of ts)) (sym parts) ∙ so_far,

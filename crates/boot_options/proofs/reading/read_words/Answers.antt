@@ -22,20 +22,20 @@ loop-word-init c = record {
 
 pub returns-in-Err : goal.returns-in-Err
 returns-in-Err c =
-    let word = c.unquoted-word.result.now in
+    let word = c.unquote-word.result.now in
     let behind = c.in-Some.behind.now in
     let words = option_words-read c.loop-word.rest.now c.in-Some.word.now behind word c.as_slice.result.now
-    c.in-Some.ensures.some c.unquoted-word.ensures c.as_slice.ensures c.if-eq.ensures in
+    c.in-Some.ensures.some c.unquote-word.ensures c.as_slice.ensures c.if-eq.ensures in
     let so_far = c.loop-word.invariant.reading in
     sym so_far.2
     ∙ rw words (read_all-fault c.loop-word.number so_far.0 c.in-Err.fault word (option_words behind) (c.in-Err.ensures so_far.0 so_far.1))
 
 pub loop-word-preserved : goal.loop-word-preserved
 loop-word-preserved c =
-    let word = c.unquoted-word.result.now in
+    let word = c.unquote-word.result.now in
     let behind = c.in-Some.behind.now in
     let words = option_words-read c.loop-word.rest.now c.in-Some.word.now behind word c.as_slice.result.now
-    c.in-Some.ensures.some c.unquoted-word.ensures c.as_slice.ensures c.if-eq.ensures in
+    c.in-Some.ensures.some c.unquote-word.ensures c.as_slice.ensures c.if-eq.ensures in
     let so_far = c.loop-word.invariant.reading in
     let next = state_at c.read_word.new.reading (read_on c.loop-word.number so_far.0 (said_by c.loop-word.number (name_value_of word)))
     (c.in_default-read_word.ensures so_far.0 so_far.1) in

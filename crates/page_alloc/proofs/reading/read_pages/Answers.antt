@@ -1,7 +1,7 @@
 -- one more line
 use Rattle.std.proofs.Common.{◌++◌, option_to_list, sym, ◌∙◌, arith}
 use Rattle.std.specs.Option.{option_map}
-use Rattle.text_words.specs.Parts.{parts_behind}
+use Rattle.text_words.specs.Parts.{parts_of_rest}
 use Rattle.text_words.specs.declared.separators.Separators.TheVariants as separators
 use Rattle.script_reader.proofs.ScriptLaws.{left_behind, kept_are, kept_hold, wanting_for_some}
 use Rattle.page_alloc.specs.Pages.{HaveOrders}
@@ -15,7 +15,7 @@ loop-rest-preserved c =
     let front = l.invariant.lines.0 in
     let act = c.in-Ok.act in
     let shorter = left_behind c.next_part.result.1 _ c.next_part.ensures.shorter in
-    let others = parts_behind (separators.Byte 10) (option_map (λ rest. rest.now) c.next_part.result.1) in
+    let others = parts_of_rest (separators.Byte 10) (option_map (λ rest. rest.now) c.next_part.result.1) in
     let kept = rw c.line_at.ensures at c.keep-lines.ensures.line in
     let wanting = rw c.line_at.ensures at c.keep-lines.ensures.memory in
     let few = rw c.in-Some.is at l.invariant.few in

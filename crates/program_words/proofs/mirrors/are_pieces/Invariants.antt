@@ -2,7 +2,7 @@
 use Rattle.std.proofs.Common.{◌≡◌, ◌≤◌}
 use Rattle.std.specs.Option.{option_map}
 use Rattle.text_words.specs.declared.separators.Separators.TheVariants.{Byte}
-use Rattle.text_words.specs.Parts.{parts_behind}
+use Rattle.text_words.specs.Parts.{parts_of_rest}
 use Rattle.program_words.specs.Mirrors.{are_pieces}
 use Rattle.program_words.proofs.MirrorLaws.{judged, left}
 use Rattle.program_words.proofs.mirrors.are_pieces.Given as goal
@@ -10,7 +10,7 @@ use Rattle.program_words.proofs.mirrors.are_pieces.Given as goal
 abbrev pub invariant-loop-rest : goal.invariant-loop-rest
 invariant-loop-rest l = record {
   few : l.pieces ≤ 64;
-  same : judged l.pieces (parts_behind (Byte 58) (option_map (λ text. text.now) l.rest)) ≡ are_pieces l.list;
+  same : judged l.pieces (parts_of_rest (Byte 58) (option_map (λ text. text.now) l.rest)) ≡ are_pieces l.list;
 }
 
 abbrev pub decreases-loop-rest : goal.decreases-loop-rest

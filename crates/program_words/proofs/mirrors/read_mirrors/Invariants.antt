@@ -3,7 +3,7 @@ use Rattle.std.proofs.Common.{◌≡◌, ◌++◌}
 use Rattle.std.specs.List.{All, filter_map}
 use Rattle.std.specs.Option.{option_map}
 use Rattle.text_words.specs.declared.separators.Separators.TheVariants.{Byte}
-use Rattle.text_words.specs.Parts.{parts_behind}
+use Rattle.text_words.specs.Parts.{parts_of_rest}
 use Rattle.boot_model.specs.Mirrors.{IsMirror}
 use Rattle.program_words.specs.Mirrors.{frames_by, mirrors_in}
 use Rattle.program_words.proofs.MirrorLaws.{left}
@@ -12,7 +12,7 @@ use Rattle.program_words.proofs.mirrors.read_mirrors.Given as goal
 abbrev pub invariant-loop-rest : goal.invariant-loop-rest
 invariant-loop-rest l = record {
   facts : All IsMirror l.mirrors.items;
-  same : l.mirrors.items ++ filter_map frames_by (parts_behind (Byte 58) (option_map (λ text. text.now) l.rest)) ≡ mirrors_in l.list;
+  same : l.mirrors.items ++ filter_map frames_by (parts_of_rest (Byte 58) (option_map (λ text. text.now) l.rest)) ≡ mirrors_in l.list;
 }
 
 abbrev pub decreases-loop-rest : goal.decreases-loop-rest

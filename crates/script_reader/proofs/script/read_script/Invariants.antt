@@ -1,7 +1,7 @@
 -- The lines so far come before those of the rest, and there are fewer lines than bytes.
 use Rattle.std.proofs.Common.{◌≡◌, ◌+◌, ◌<◌, ◌≤◌, List, length, IfOk, IfErr, All}
 use Rattle.std.specs.Option.{option_map}
-use Rattle.text_words.specs.Parts.{parts_behind}
+use Rattle.text_words.specs.Parts.{parts_of_rest}
 use Rattle.text_words.specs.declared.separators.Separators.TheVariants as separators
 use Rattle.text_words.proofs.WordsLaws.{left}
 use Rattle.script_reader.specs.declared.act.Line.{Line}
@@ -15,7 +15,7 @@ invariant-loop-rest l = record {
   few : l.number + left l.rest ≤ length l.fn.bytes + 2;
   bounds : IfOk l.lines (λ kept. All (λ (line : Line). HasBounds line.act) kept.items);
   lines : (front : List Line)
-      × (behind front (lines_from l.seen l.number (parts_behind (separators.Byte 10) (option_map (λ text. text.now) l.rest)))
+      × (behind front (lines_from l.seen l.number (parts_of_rest (separators.Byte 10) (option_map (λ text. text.now) l.rest)))
       ≡ script_of l.fn.bytes)
       × IfOk l.lines (λ kept. kept.items ≡ front) × IfErr l.lines (λ _. 0 < length front);
 }

@@ -1,6 +1,0 @@
-use Rattle.std.proofs.Common.{◌≡◌, ◌++◌, take, drop}
-use Rattle.text_words.specs.Parts.{before}
-use Rattle.text_words.proofs.parts.before.Given as goal
-
-abbrev pub invariant-loop-index : goal.invariant-loop-index
-invariant-loop-index l = take l.index l.text ++ before l.mark (drop l.index l.text) ≡ before l.mark l.text
