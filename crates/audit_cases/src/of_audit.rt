@@ -2,7 +2,7 @@
 //! what each object of the outside does to it.
 
 ghost use Rattle.std.specs.Prelude.{◌≡◌, IfOk, string_bytes};
-ghost use Rattle.bm_io.specs.HeldFiles.{held_files, HaveOwnNames};
+ghost use Rattle.bm_io.specs.MemFiles.{file_views, HaveOwnNames};
 
 use bm_io::{MemFile, MemFiles, MemSink};
 use boot_audit::audit;
@@ -111,7 +111,7 @@ fn file(alloc: Global, name: &str, lines: &[&str], change: Change<'_>) -> Result
 
 /// The three reports, `map`, `owners` and `blocks`.
 fn files_of(alloc: Global, change: Change<'_>) -> Result<Vec<MemFile>, Fail>
-    ensures { IfOk result (λ files. HaveOwnNames (held_files files.items)) }
+    ensures { IfOk result (λ files. HaveOwnNames (file_views files.items)) }
 {
     let map = file(alloc, "map", &MAP, change)?;
     let owners = file(alloc, "owners", &OWNERS, change)?;

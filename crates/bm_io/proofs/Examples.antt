@@ -5,17 +5,16 @@ use Rattle.bm_io.specs.declared.reading.Fetch.TheVariants as fetch
 use Rattle.bm_io.specs.declared.writing.Put.TheVariants as put
 use Rattle.bm_io.specs.declared.writing.Sink.{Ghosts as SinkOf}
 use Rattle.bm_io.specs.declared.mem_files.MemFile.{MemFile}
-use Rattle.bm_io.specs.Counts.{counted, Rose, RoseByMoreThan}
-use Rattle.bm_io.specs.Told.{IsToldAs, IsToldLonger, AppendsFront}
-use Rattle.bm_io.specs.HeldFiles.{HeldFile, HeldFiles, held_file, held_files, is_named, bytes_of, HaveOwnNames, IsRefused, IsLonger, failures, bytes_taken}
+use Rattle.bm_io.specs.Counts.{count_after, Rose, RoseByMoreThan}
+use Rattle.bm_io.specs.Known.{IsKnownAs, IsKnownLonger, AppendsFront, TakesKnown, GivesKnown}
+use Rattle.bm_io.specs.MemFiles.{MemFileView, MemFilesView, file_view, file_views, has_name, file_bytes, HaveOwnNames, IsRefused, IsOverLimit, fetch_failures, bytes_taken}
 use Rattle.bm_io.specs.Puts.{Puts}
-use Rattle.bm_io.specs.Known.{TakesKnown, GivesKnown}
 use Rattle.bm_io.specs.Calls.{HasTaken, nothing_taken, took, HasGiven, nothing_given, gave, IsPutBy, IsReadBy, IsFetchedBy}
-use Rattle.bm_io.specs.HeldOutput.{HeldOutput, failures as put_failures, wants_of_memory}
+use Rattle.bm_io.specs.MemSink.{MemSinkView, put_failures, wants_of_memory}
 use Rattle.bm_io.proofs.PutsLaws.{unwanted}
 
 -- a count goes up, and stands still at 2^64 - 1
-counts : (counted 5 3 ≡ 8) × (counted (2 ^ 64 - 2) 3 ≡ 2 ^ 64 - 1)
+counts : (count_after 5 3 ≡ 8) × (count_after (2 ^ 64 - 2) 3 ≡ 2 ^ 64 - 1)
 counts = (refl, refl)
 
 -- that it rose shows, but at its last value, where it can't
@@ -32,13 +31,13 @@ rose_by_the_limit : RoseByMoreThan 16 4 20 → ⊥
 rose_by_the_limit more = omega arith
 
 -- files that tell: `zp` holds three bytes; files that don't: anything may be said
-told_bytes : IsToldAs (Some (λ name. Some (codes "abc"))) (codes "zp") (codes "abc") × IsToldAs None (codes "zp") []
+told_bytes : IsKnownAs (Some (λ name. Some (codes "abc"))) (codes "zp") (codes "abc") × IsKnownAs None (codes "zp") []
 told_bytes = (refl, tt)
 
-not_so_told : IsToldAs (Some (λ name. Some (codes "abc"))) (codes "zp") [] → ⊥
+not_so_told : IsKnownAs (Some (λ name. Some (codes "abc"))) (codes "zp") [] → ⊥
 not_so_told told = cc told
 
-told_longer : IsToldLonger (Some (λ name. Some (codes "abc"))) (codes "zp") 2 × IsToldLonger None (codes "zp") 9
+told_longer : IsKnownLonger (Some (λ name. Some (codes "abc"))) (codes "zp") 2 × IsKnownLonger None (codes "zp") 9
 told_longer = ((codes "abc", refl, omega arith), tt)
 
 -- two of three bytes went out
@@ -49,7 +48,7 @@ nothing_went_out : AppendsFront (Some (codes "a")) (Some (codes "a")) (codes "bc
 nothing_went_out = (0, omega arith, refl)
 
 -- two files, of which the second call fails
-abbrev two_files : HeldFiles
+abbrev two_files : MemFilesView
 two_files = record {
   files = record { name = codes "zp"; bytes = codes "abc" } ∷ record { name = codes "line"; bytes = [] } ∷ [];
   failing = 2 ∷ [];
@@ -58,9 +57,9 @@ two_files = record {
   taken = 0;
 }
 
-bytes_by_name : (bytes_of two_files.files (codes "zp") ≡ Some (codes "abc"))
-    × (bytes_of two_files.files (codes "line") ≡ Some [])
-    × (bytes_of two_files.files (codes "z") ≡ None)
+bytes_by_name : (file_bytes two_files.files (codes "zp") ≡ Some (codes "abc"))
+    × (file_bytes two_files.files (codes "line") ≡ Some [])
+    × (file_bytes two_files.files (codes "z") ≡ None)
 bytes_by_name = (refl, refl, refl)
 
 own_names : HaveOwnNames two_files.files
@@ -76,35 +75,35 @@ refused_by_number = inl (0, omega arith, refl)
 refused_by_name : IsRefused two_files 1 (codes "z")
 refused_by_name = inr refl
 
-longer_than_two : IsLonger two_files (codes "zp") 2
+longer_than_two : IsOverLimit two_files (codes "zp") 2
 longer_than_two = (codes "abc", refl, omega arith)
 
-not_longer_than_none : IsLonger two_files (codes "line") 0 → ⊥
+not_longer_than_none : IsOverLimit two_files (codes "line") 0 → ⊥
 not_longer_than_none longer = let same : Some [] ≡ Some longer.0 = longer.1 in let more = longer.2 in grind (arith, same, more)
 
 -- a file in memory by its fields
-held_by_fields : (f : MemFile) → (held_files (f ∷ []) ≡ held_file f ∷ []) × (held_files [] ≡ [])
+held_by_fields : (f : MemFile) → (file_views (f ∷ []) ≡ file_view f ∷ []) × (file_views [] ≡ [])
 held_by_fields f = (refl, refl)
 
-named_zp : (f : MemFile) → (held_file f).name ≡ codes "zp" → (is_named (codes "zp") f ≡ true) × (is_named (codes "z") f ≡ false)
+named_zp : (f : MemFile) → (file_view f).name ≡ codes "zp" → (has_name (codes "zp") f ≡ true) × (has_name (codes "z") f ≡ false)
 named_zp f is = (rw is refl, rw is refl)
 
 -- failures and bytes of an answer of `fetch`: a file that is too long was read, one whose call failed wasn't
-failed_fetches : (failures (Err fetch.Failed) ≡ 1) × (failures (Err fetch.TooLong) ≡ 0) × (failures (Err fetch.Memory) ≡ 0)
+failed_fetches : (fetch_failures (Err fetch.Failed) ≡ 1) × (fetch_failures (Err fetch.TooLong) ≡ 0) × (fetch_failures (Err fetch.Memory) ≡ 0)
 failed_fetches = (refl, refl, refl)
 
 -- a failed fetch is counted as one that failed, and one that lacked memory isn't
-failed_fetch_rose : Rose two_files.faults (counted two_files.faults (failures (Err fetch.Failed)))
+failed_fetch_rose : Rose two_files.faults (count_after two_files.faults (fetch_failures (Err fetch.Failed)))
 failed_fetch_rose = omega arith
 
-wanting_isnt_failed : Rose two_files.faults (counted two_files.faults (failures (Err fetch.Memory))) → ⊥
+wanting_isnt_failed : Rose two_files.faults (count_after two_files.faults (fetch_failures (Err fetch.Memory))) → ⊥
 wanting_isnt_failed rose = omega (arith, rose)
 
 taken_bytes : (bytes_taken (Err fetch.TooLong) (Some (codes "abc")) ≡ 3)
     × (bytes_taken (Err fetch.Failed) (Some (codes "abc")) ≡ 0) × (bytes_taken (Err fetch.Failed) None ≡ 0)
 taken_bytes = (refl, refl, refl)
 
-given_bytes : (bytes : Vec ℕ Global) → (failures (Ok bytes) ≡ 0) × (bytes_taken (Ok bytes) (Some (codes "abc")) ≡ 3)
+given_bytes : (bytes : Vec ℕ Global) → (fetch_failures (Ok bytes) ≡ 0) × (bytes_taken (Ok bytes) (Some (codes "abc")) ≡ 3)
 given_bytes bytes = (refl, refl)
 
 -- failures and wants of an answer of `put`
@@ -115,21 +114,21 @@ wanted_memory : (wants_of_memory (Ok tt) ≡ 0) × (wants_of_memory (Err put.Fai
 wanted_memory = (refl, refl, refl)
 
 -- an output whose second call failed, before that call and behind it: half of the chunk went out
-abbrev before_failure : HeldOutput
+abbrev before_failure : MemSinkView
 before_failure = record { written = codes "ab"; failing = 2 ∷ []; calls = 1; faults = 0; wants = 0 }
 
-abbrev behind_failure : HeldOutput
+abbrev behind_failure : MemSinkView
 behind_failure = record { written = codes "abc"; failing = 2 ∷ []; calls = 2; faults = 1; wants = 0 }
 
 half_of_a_chunk : AppendsFront (Some before_failure.written) (Some behind_failure.written) (codes "cd")
 half_of_a_chunk = (1, omega arith, refl)
 
-counted_failure : (behind_failure.faults ≡ counted before_failure.faults (put_failures (Err put.Failed)))
+counted_failure : (behind_failure.faults ≡ count_after before_failure.faults (put_failures (Err put.Failed)))
     × Rose before_failure.faults behind_failure.faults
 counted_failure = (refl, omega arith)
 
 -- an output in memory tells its bytes and its counts
-abbrev held_sink : SinkOf HeldOutput
+abbrev held_sink : SinkOf MemSinkView
 held_sink = record { written = λ s. Some s.written; faults = λ s. s.faults; wants = λ s. s.wants }
 
 -- that call refused two bytes with a cause; with no fault counted it couldn't
@@ -228,8 +227,8 @@ failed_behind_two = (
 )
 
 -- a fetch of a name that opens nothing, and of one that opens an empty file whose first read fails
-abbrev known_opens : List HeldFile → List ℕ → Option (List ℕ) → List HeldFile → Type 0
-known_opens before name opened after = (opened ≡ bytes_of before name) × (after ≡ before)
+abbrev known_opens : List MemFileView → List ℕ → Option (List ℕ) → List MemFileView → Type 0
+known_opens before name opened after = (opened ≡ file_bytes before name) × (after ≡ before)
 
 unopened : IsFetchedBy known_opens known_reads two_files.files (codes "z") 9 (Err fetch.Failed) 0 two_files.files
 unopened = inl ((refl, refl), refl, refl)

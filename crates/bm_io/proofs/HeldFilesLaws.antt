@@ -2,18 +2,18 @@
 use Rattle.std.proofs.Common.{◌≡◌, ℕ, Bool, true, false, cond, List, [], ◌∷◌, Some, find, refl}
 use Rattle.std.specs.Option.{option_map}
 use Rattle.bm_io.specs.declared.mem_files.MemFile.{MemFile}
-use Rattle.bm_io.specs.HeldFiles.{held_files, bytes_of, is_named}
+use Rattle.bm_io.specs.MemFiles.{file_views, file_bytes, has_name}
 
 -- one more file in front of those of which it is known
 file_in_front : (f : MemFile) (fs : List MemFile) (name : List ℕ) (named : Bool)
-    → option_map (λ f. f.bytes.items) (find (is_named name) fs) ≡ bytes_of (held_files fs) name
-    → option_map (λ f. f.bytes.items) (cond named (Some f) (find (is_named name) fs))
-    ≡ cond named (Some f.bytes.items) (bytes_of (held_files fs) name)
+    → option_map (λ f. f.bytes.items) (find (has_name name) fs) ≡ file_bytes (file_views fs) name
+    → option_map (λ f. f.bytes.items) (cond named (Some f) (find (has_name name) fs))
+    ≡ cond named (Some f.bytes.items) (file_bytes (file_views fs) name)
 file_in_front f fs name true rest = refl
 file_in_front f fs name false rest = rest
 
 -- the bytes of the first file of the name are those of the file that a search finds
 pub bytes_of_found : (files : List MemFile) (name : List ℕ)
-    → option_map (λ f. f.bytes.items) (find (is_named name) files) ≡ bytes_of (held_files files) name
+    → option_map (λ f. f.bytes.items) (find (has_name name) files) ≡ file_bytes (file_views files) name
 bytes_of_found [] name = refl
-bytes_of_found (f ∷ fs) name = file_in_front f fs name (is_named name f) (bytes_of_found fs name)
+bytes_of_found (f ∷ fs) name = file_in_front f fs name (has_name name f) (bytes_of_found fs name)

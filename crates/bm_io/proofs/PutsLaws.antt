@@ -6,7 +6,7 @@ use Rattle.std.proofs.Math.Seq.{take-append-add}
 use Rattle.std.specs.List.{flat_map}
 use Rattle.std.specs.Io.KnownBytes.{Appends}
 use Rattle.std.proofs.KnownBytes.{Appends-trans}
-use Rattle.bm_io.specs.Told.{AppendsFront}
+use Rattle.bm_io.specs.Known.{AppendsFront}
 use Rattle.bm_io.specs.Puts.{Puts}
 use Rattle.bm_io.specs.declared.writing.Put.{Put}
 use Rattle.bm_io.specs.declared.writing.Sink.{Ghosts as SinkOf}

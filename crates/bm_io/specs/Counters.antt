@@ -2,12 +2,12 @@
 use Rattle.std.specs.Prelude.{ℕ}
 
 -- the files, how many fetches failed, whatever the name, and how many bytes were read
-pub record ReadState (D : Type 0) : Type 0 where
+pub record RealFilesView (D : Type 0) : Type 0 where
   pub files : D
   pub faults : ℕ
   pub taken : ℕ
 
 -- the stream, and how many puts failed
-pub record StreamState (W : Type 0) : Type 0 where
+pub record StdSinkView (W : Type 0) : Type 0 where
   pub stream : W
   pub faults : ℕ

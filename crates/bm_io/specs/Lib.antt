@@ -1,8 +1,7 @@
 pub mod Counts
-pub mod Told
-pub mod HeldFiles
-pub mod HeldOutput
+pub mod Known
+pub mod MemFiles
+pub mod MemSink
 pub mod Counters
 pub mod Puts
-pub mod Known
 pub mod Calls

@@ -4,9 +4,9 @@
 //! list; no name stands twice.
 ghost use Rattle.std.specs.Prelude.{◌≡◌, ℕ, ◌+◌, ◌-◌, ◌^◌, ◌<◌, ◌≤◌, ◌↔◌, List, length, min, Option, Some, OnOk, IfOk, IsErrOf, find};
 ghost use Rattle.std.specs.Option.{option_copied};
-ghost use Rattle.bm_io.specs.Counts.{counted, Rose, RoseByMoreThan};
-ghost use Rattle.bm_io.specs.Told.{IsToldAs, IsToldLonger};
-ghost use Rattle.bm_io.specs.HeldFiles.{held_files, bytes_of, HaveOwnNames, IsRefused, IsLonger, is_named, failures, bytes_taken};
+ghost use Rattle.bm_io.specs.Counts.{count_after, Rose, RoseByMoreThan};
+ghost use Rattle.bm_io.specs.Known.{IsKnownAs, IsKnownLonger};
+ghost use Rattle.bm_io.specs.MemFiles.{file_views, file_bytes, HaveOwnNames, IsRefused, IsOverLimit, has_name, fetch_failures, bytes_taken};
 
 use crate::reading::{Fetch, Files};
 use std::alloc::Global;
@@ -31,12 +31,12 @@ pub struct MemFiles {
 
 impl Model for MemFiles {
     ghost use Rattle.std.specs.Prelude.{◌^◌, ◌<◌};
-    ghost use Rattle.bm_io.specs.HeldFiles.{HeldFiles, held_files};
+    ghost use Rattle.bm_io.specs.MemFiles.{MemFilesView, file_views};
 
-    ghost Value = { HeldFiles };
+    ghost Value = { MemFilesView };
 
     ghost view = { λ s. record {
-      files = held_files s.files.items;
+      files = file_views s.files.items;
       failing = s.failing.items;
       calls = s.calls;
       faults = s.faults;
@@ -49,8 +49,8 @@ impl Model for MemFiles {
 impl MemFiles {
     /// The files, and the numbers of the calls that are to fail. Takes no memory.
     pub fn new(files: Vec<MemFile>, failing: Vec<u64>) -> MemFiles
-        requires { HaveOwnNames (held_files files.items) }
-        ensures files { result.files ≡ held_files files.items }
+        requires { HaveOwnNames (file_views files.items) }
+        ensures files { result.files ≡ file_views files.items }
         ensures failing { result.failing ≡ failing.items }
         ensures calls { result.calls ≡ 0 }
         ensures faults { result.faults ≡ 0 }
@@ -67,7 +67,7 @@ impl MemFiles {
 }
 
 impl Files for MemFiles {
-    ghost holds = { λ s. Some (bytes_of s.files) };
+    ghost holds = { λ s. Some (file_bytes s.files) };
 
     ghost faults = { λ s name. s.faults };
 
@@ -77,18 +77,18 @@ impl Files for MemFiles {
     /// held, and `TooLong` exactly where it isn't that and the file has more than `limit` bytes.
     fn fetch(&mut self, alloc: Global, name: &str, limit: u64) -> Result<Vec<u8>, Fetch>
         ensures bounded { IfOk result (λ bytes. length bytes.items ≤ limit) }
-        ensures told { IfOk result (λ bytes. bytes_of self.old.files name.now ≡ Some bytes.items) }
+        ensures told { IfOk result (λ bytes. file_bytes self.old.files name.now ≡ Some bytes.items) }
         ensures failed { IsErrOf result Fetch.Failed
             ↔ IsRefused self.old self.new.calls name.now }
         ensures too_long { IsErrOf result Fetch.TooLong
-            ↔ (¬ IsRefused self.old self.new.calls name.now × IsLonger self.old name.now limit) }
+            ↔ (¬ IsRefused self.old self.new.calls name.now × IsOverLimit self.old name.now limit) }
 
         ensures files { self.new.files ≡ self.old.files }
         ensures failing { self.new.failing ≡ self.old.failing }
-        ensures calls { self.new.calls ≡ counted self.old.calls 1 }
-        ensures faults { self.new.faults ≡ counted self.old.faults (failures result) }
+        ensures calls { self.new.calls ≡ count_after self.old.calls 1 }
+        ensures faults { self.new.faults ≡ count_after self.old.faults (fetch_failures result) }
         ensures taken { self.new.taken
-            ≡ counted self.old.taken (bytes_taken result (bytes_of self.old.files name.now)) }
+            ≡ count_after self.old.taken (bytes_taken result (file_bytes self.old.files name.now)) }
         ensures faults_stay { self.old.faults ≤ self.new.faults }
         ensures taken_stays { self.old.taken ≤ self.new.taken }
     {
@@ -118,13 +118,13 @@ impl Files for MemFiles {
 
 /// The bytes of the file of the name.
 fn bytes_named<'a>(files: &'a [MemFile], name: &str) -> Option<&'a [u8]>
-    ensures { option_copied result ≡ bytes_of (held_files files.now) name.now }
+    ensures { option_copied result ≡ file_bytes (file_views files.now) name.now }
 {
     Some(file_named(files, name)?.bytes.as_slice())
 }
 
 fn file_named<'a>(files: &'a [MemFile], name: &str) -> Option<&'a MemFile>
-    ensures { option_copied result ≡ find (is_named name.now) files.now }
+    ensures { option_copied result ≡ find (has_name name.now) files.now }
 {
     files.iter().find(|file| file.name.as_str() == name)
 }

@@ -4,9 +4,9 @@
 //! see what the layers above make of it.
 ghost use Rattle.std.specs.Prelude.{◌≡◌, ℕ, ◌+◌, ◌-◌, ◌/◌, ◌^◌, ◌<◌, ◌≤◌, List, [], ◌++◌, length, take, min, Option, Some, Contains, OnOk, OnErr, IsErrOf};
 ghost use Rattle.std.specs.Io.KnownBytes.{Appends};
-ghost use Rattle.bm_io.specs.Counts.{counted, Rose};
-ghost use Rattle.bm_io.specs.Told.{AppendsFront};
-ghost use Rattle.bm_io.specs.HeldOutput.{failures, wants_of_memory};
+ghost use Rattle.bm_io.specs.Counts.{count_after, Rose};
+ghost use Rattle.bm_io.specs.Known.{AppendsFront};
+ghost use Rattle.bm_io.specs.MemSink.{put_failures, wants_of_memory};
 
 use crate::writing::{Put, Sink};
 use std::marker::Model;
@@ -23,9 +23,9 @@ pub struct MemSink {
 
 impl Model for MemSink {
     ghost use Rattle.std.specs.Prelude.{◌^◌, ◌<◌};
-    ghost use Rattle.bm_io.specs.HeldOutput.{HeldOutput};
+    ghost use Rattle.bm_io.specs.MemSink.{MemSinkView};
 
-    ghost Value = { HeldOutput };
+    ghost Value = { MemSinkView };
 
     ghost view = { λ s. record {
       written = s.written.items;
@@ -83,9 +83,9 @@ impl Sink for MemSink {
         ensures failed { IsErrOf result Put.Failed → Contains self.old.failing self.new.calls }
 
         ensures failing { self.new.failing ≡ self.old.failing }
-        ensures calls { self.new.calls ≡ counted self.old.calls 1 }
-        ensures faults { self.new.faults ≡ counted self.old.faults (failures result) }
-        ensures wants { self.new.wants ≡ counted self.old.wants (wants_of_memory result) }
+        ensures calls { self.new.calls ≡ count_after self.old.calls 1 }
+        ensures faults { self.new.faults ≡ count_after self.old.faults (put_failures result) }
+        ensures wants { self.new.wants ≡ count_after self.old.wants (wants_of_memory result) }
         ensures uncounted { OnOk result
             ((self.new.faults ≡ self.old.faults) × (self.new.wants ≡ self.old.wants)) }
         ensures faults_stay { self.old.faults ≤ self.new.faults }

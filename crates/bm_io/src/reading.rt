@@ -5,7 +5,7 @@
 //! generic over `Files` knows this contract and nothing else.
 ghost use Rattle.std.specs.Prelude.{◌≡◌, ℕ, ◌^◌, ◌<◌, ◌≤◌, List, length, Option, IfOk, IsErrOf};
 ghost use Rattle.bm_io.specs.Counts.{Rose, RoseByMoreThan};
-ghost use Rattle.bm_io.specs.Told.{IsToldAs, IsToldLonger};
+ghost use Rattle.bm_io.specs.Known.{IsKnownAs, IsKnownLonger};
 
 use std::alloc::Global;
 
@@ -35,14 +35,14 @@ pub trait Files {
     /// The bytes of the file, at most `limit` of them.
     fn fetch(&mut self, alloc: Global, name: &str, limit: u64) -> Result<Vec<u8>, Fetch>
         ensures bounded { IfOk result (λ bytes. length bytes.items ≤ limit) }
-        ensures told { IfOk result (λ bytes. IsToldAs (holds self.old) name.now bytes.items) }
+        ensures told { IfOk result (λ bytes. IsKnownAs (holds self.old) name.now bytes.items) }
 
         // When each refusal comes. `Memory` may come at any time.
         ensures failed { IsErrOf result Fetch.Failed
             → Rose (faults self.old name.now) (faults self.new name.now) }
         ensures too_long { IsErrOf result Fetch.TooLong
             → RoseByMoreThan limit (taken self.old) (taken self.new) }
-        ensures longer { IsErrOf result Fetch.TooLong → IsToldLonger (holds self.old) name.now limit }
+        ensures longer { IsErrOf result Fetch.TooLong → IsKnownLonger (holds self.old) name.now limit }
 
         // What a call leaves as it was.
         ensures kept { holds self.new ≡ holds self.old }

@@ -4,9 +4,9 @@
 //! over the files and is proved to be exactly those calls: it fails where one of them did, and
 //! nowhere else.
 ghost use Rattle.std.specs.Prelude.{◌≡◌, ℕ, ◌^◌, ◌<◌, ◌≤◌, length, None, IfSome, OnOk, IfOk, IsErrOf};
-ghost use Rattle.bm_io.specs.Counts.{counted, Rose, RoseByMoreThan};
-ghost use Rattle.bm_io.specs.Told.{IsToldAs};
-ghost use Rattle.bm_io.specs.HeldFiles.{failures};
+ghost use Rattle.bm_io.specs.Counts.{count_after, Rose, RoseByMoreThan};
+ghost use Rattle.bm_io.specs.Known.{IsKnownAs};
+ghost use Rattle.bm_io.specs.MemFiles.{fetch_failures};
 ghost use Rattle.bm_io.specs.Calls.{IsReadBy, IsFetchedBy};
 
 use crate::raw::{RawFiles, RawReader};
@@ -27,9 +27,9 @@ pub struct RealFiles<D: RawFiles + Drop> {
 
 impl<D: RawFiles + Drop> Model for RealFiles<D> {
     ghost use Rattle.std.specs.Prelude.{◌^◌, ◌<◌};
-    ghost use Rattle.bm_io.specs.Counters.{ReadState};
+    ghost use Rattle.bm_io.specs.Counters.{RealFilesView};
 
-    ghost Value = { ReadState D };
+    ghost Value = { RealFilesView D };
 
     ghost view = { λ s. record { files = s.files; faults = s.faults; taken = s.taken } };
 
@@ -60,10 +60,10 @@ impl<D: RawFiles + Drop> RealFiles<D> {
         limit: u64,
     ) -> Result<Vec<u8>, Fetch>
         ensures calls { (taken : ℕ) × IsReadBy F.reads file.old limit result taken file.new
-            × (self.new.taken ≡ counted self.old.taken taken) }
+            × (self.new.taken ≡ count_after self.old.taken taken) }
         ensures bounded { IfOk result (λ bytes. length bytes.items ≤ limit) }
         ensures whole { IfOk result (λ bytes. IfSome (F.remaining file.old) (λ all. bytes.items ≡ all)) }
-        ensures faults { self.new.faults ≡ counted self.old.faults (failures result) }
+        ensures faults { self.new.faults ≡ count_after self.old.faults (fetch_failures result) }
         ensures too_long { IsErrOf result Fetch.TooLong
             → RoseByMoreThan limit self.old.taken self.new.taken }
         ensures longer { IsErrOf result Fetch.TooLong
@@ -104,10 +104,10 @@ impl<D: RawFiles + Drop> Files for RealFiles<D> {
     fn fetch(&mut self, alloc: Global, name: &str, limit: u64) -> Result<Vec<u8>, Fetch>
         ensures calls { (taken : ℕ)
             × IsFetchedBy D.opens D.File.reads self.old.files name.now limit result taken self.new.files
-            × (self.new.taken ≡ counted self.old.taken taken) }
+            × (self.new.taken ≡ count_after self.old.taken taken) }
         ensures bounded { IfOk result (λ bytes. length bytes.items ≤ limit) }
-        ensures told { IfOk result (λ bytes. IsToldAs None name.now bytes.items) }
-        ensures faults { self.new.faults ≡ counted self.old.faults (failures result) }
+        ensures told { IfOk result (λ bytes. IsKnownAs None name.now bytes.items) }
+        ensures faults { self.new.faults ≡ count_after self.old.faults (fetch_failures result) }
         ensures failed { IsErrOf result Fetch.Failed → Rose self.old.faults self.new.faults }
         ensures too_long { IsErrOf result Fetch.TooLong
             → RoseByMoreThan limit self.old.taken self.new.taken }

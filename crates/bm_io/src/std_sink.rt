@@ -5,9 +5,9 @@
 //! nowhere else.
 ghost use Rattle.std.specs.Prelude.{◌≡◌, ℕ, ◌^◌, ◌<◌, ◌≤◌, OnOk, OnErr, IsErrOf};
 ghost use Rattle.std.specs.Io.KnownBytes.{Appends};
-ghost use Rattle.bm_io.specs.Counts.{counted, Rose};
-ghost use Rattle.bm_io.specs.HeldOutput.{failures};
-ghost use Rattle.bm_io.specs.Told.{AppendsFront};
+ghost use Rattle.bm_io.specs.Counts.{count_after, Rose};
+ghost use Rattle.bm_io.specs.MemSink.{put_failures};
+ghost use Rattle.bm_io.specs.Known.{AppendsFront};
 ghost use Rattle.bm_io.specs.Calls.{IsPutBy};
 
 use crate::raw::RawWriter;
@@ -26,9 +26,9 @@ pub struct StdSink<W: RawWriter + Drop> {
 
 impl<W: RawWriter + Drop> Model for StdSink<W> {
     ghost use Rattle.std.specs.Prelude.{◌^◌, ◌<◌};
-    ghost use Rattle.bm_io.specs.Counters.{StreamState};
+    ghost use Rattle.bm_io.specs.Counters.{StdSinkView};
 
-    ghost Value = { StreamState W };
+    ghost Value = { StdSinkView W };
 
     ghost view = { λ s. record { stream = s.stream; faults = s.faults } };
 
@@ -63,7 +63,7 @@ impl<W: RawWriter + Drop> Sink for StdSink<W> {
             (Appends (W.contents self.old.stream) (W.contents self.new.stream) chunk.now) }
         ensures front { OnErr result
             (AppendsFront (W.contents self.old.stream) (W.contents self.new.stream) chunk.now) }
-        ensures faults { self.new.faults ≡ counted self.old.faults (failures result) }
+        ensures faults { self.new.faults ≡ count_after self.old.faults (put_failures result) }
         ensures failed { IsErrOf result Put.Failed → Rose self.old.faults self.new.faults }
         ensures never { ¬ IsErrOf result Put.Memory }
         ensures uncounted { OnOk result (self.new.faults ≡ self.old.faults) }

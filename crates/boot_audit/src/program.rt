@@ -4,7 +4,7 @@ ghost use Rattle.std.specs.Prelude.{◌≡◌, ◌≢◌, ◌↔◌, Ok, Err, If
 ghost use Rattle.std.specs.Option.{option_map};
 ghost use Rattle.std.specs.Io.KnownBytes.{Appends};
 ghost use Rattle.bm_io.specs.Counts.{Rose};
-ghost use Rattle.bm_io.specs.Told.{AppendsFront};
+ghost use Rattle.bm_io.specs.Known.{AppendsFront};
 ghost use Rattle.program_end.specs.declared.failure.Failure.{Failure as AnyFailure};
 ghost use Rattle.program_end.specs.declared.failure.Failure.TheVariants as failures;
 ghost use Rattle.program_end.specs.declared.failure.NoResult.TheVariants as errors;

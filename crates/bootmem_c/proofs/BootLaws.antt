@@ -2,7 +2,7 @@
 use Rattle.std.proofs.Common.{◌≡◌, ◌≢◌, ℕ, List, Option, Some, None, Result, Ok, Err, refl, subst, sym, arith}
 use Rattle.std.specs.Prelude.{IfErr}
 use Rattle.bm_base.specs.ResultSteps.{with_error}
-use Rattle.bm_io.specs.HeldFiles.{HeldFile, bytes_of}
+use Rattle.bm_io.specs.MemFiles.{MemFileView, file_bytes}
 use Rattle.boot_inputs.specs.Input.{place}
 use Rattle.boot_inputs.specs.Reason.{NoInputs, Reason}
 use Rattle.program_end.specs.Causes.{ErrorHasCause, IsOfFile}
@@ -24,16 +24,16 @@ use Rattle.bootmem_c.specs.Fetches.{LentState, faults_at}
 use Rattle.bootmem_c.proofs.ExactLaws.{fails_as}
 
 -- what was given, and what it boots to, is of the call
-pub is_boot : (files lent : List HeldFile) (wanted : Wanted) (given : Given) (told : Told) → files ≡ lent
-    → given_by (bytes_of files) wanted ≡ Ok given → with_error stop_of (told_boot given) ≡ Ok told
-    → IsBoot (Some wanted) (bytes_of lent) told
+pub is_boot : (files lent : List MemFileView) (wanted : Wanted) (given : Given) (told : Told) → files ≡ lent
+    → given_by (file_bytes files) wanted ≡ Ok given → with_error stop_of (told_boot given) ≡ Ok told
+    → IsBoot (Some wanted) (file_bytes lent) told
 is_boot files lent wanted given told same inputs boots =
     let is : told_boot given ≡ Ok told = told_is (told_boot given) told boots in
     record {
       wanted = wanted;
       given = given;
       words = refl;
-      inputs = subst (λ (f : List HeldFile). given_by (bytes_of f) wanted ≡ Ok given) same inputs;
+      inputs = subst (λ (f : List MemFileView). given_by (file_bytes f) wanted ≡ Ok given) same inputs;
       boots = is;
       each = all_touched_or_in_one given told is;
       others = no_other_in_a_block given told is;
@@ -42,13 +42,13 @@ is_boot files lent wanted given told same inputs boots =
     }
 
 -- a file that is refused
-pub inputs_failed : {X : Type 0} (r : Result X NoInputs) (error : NoInputs) (old new : LentState) (lent : List HeldFile) (wanted : Wanted)
-    → r ≡ Err error → old.files ≡ lent → FitsError place error (given_by (bytes_of old.files) wanted)
+pub inputs_failed : {X : Type 0} (r : Result X NoInputs) (error : NoInputs) (old new : LentState) (lent : List MemFileView) (wanted : Wanted)
+    → r ≡ Err error → old.files ≡ lent → FitsError place error (given_by (file_bytes old.files) wanted)
     → IsOfFile (faults_at old) (faults_at new) wanted.named error
-    → IfErr r (λ e. FailsAs e (outcome (Some wanted) (bytes_of lent)))
+    → IfErr r (λ e. FailsAs e (outcome (Some wanted) (file_bytes lent)))
 inputs_failed r error old new lent wanted is same fits cause =
     rw (is, ← same)
-    (fails_as old new (Some wanted) error (of_words error cause) (inputs_fit (bytes_of old.files) wanted error fits))
+    (fails_as old new (Some wanted) error (of_words error cause) (inputs_fit (file_bytes old.files) wanted error fits))
   where
     of_words : (error : NoInputs) → IsOfFile (faults_at old) (faults_at new) wanted.named error
         → ErrorHasCause bootmem (faults_at old) (faults_at new) (Some wanted) error
@@ -60,13 +60,13 @@ stop_by : (cause : Option Cause) (said : Result (List ℕ) Reason) → FitsError
 stop_by None said fits = tt
 stop_by (Some cause) said fits = fits
 
-pub boot_failed : (stop : Stop) (files lent : List HeldFile) (wanted : Wanted) (given : Given)
-    → files ≡ lent → given_by (bytes_of files) wanted ≡ Ok given
+pub boot_failed : (stop : Stop) (files lent : List MemFileView) (wanted : Wanted) (given : Given)
+    → files ≡ lent → given_by (file_bytes files) wanted ≡ Ok given
     → (stop ≢ stops.Memory → with_error stop_of (told_boot given) ≡ Err stop)
-    → FailsAs (no_report stop) (outcome (Some wanted) (bytes_of lent))
+    → FailsAs (no_report stop) (outcome (Some wanted) (file_bytes lent))
 boot_failed stop files lent wanted given same inputs stops_so =
     let fails : FailsAs (no_report stop) (reported wanted.reports given) =
     stop_by (cause_of stop) (reported wanted.reports given) (boot_stopped stop given wanted.reports stops_so) in
-    let after : given_by (bytes_of lent) wanted ≡ Ok given =
-    subst (λ (f : List HeldFile). given_by (bytes_of f) wanted ≡ Ok given) same inputs in
+    let after : given_by (file_bytes lent) wanted ≡ Ok given =
+    subst (λ (f : List MemFileView). given_by (file_bytes f) wanted ≡ Ok given) same inputs in
     rw after fails

@@ -2,7 +2,7 @@
 use Rattle.std.proofs.Common.{◌≡◌, ◌≢◌, ℕ, ◌<◌, List, [], ◌∷◌, Option, Some, None, Result, Ok, Err, refl, inl, inr, ap, arith, ◌∙◌}
 use Rattle.std.specs.Prelude.{◌⊎◌}
 use Rattle.bm_base.specs.ResultSteps.{◌>>=◌}
-use Rattle.bm_io.specs.HeldFiles.{bytes_of}
+use Rattle.bm_io.specs.MemFiles.{file_bytes}
 use Rattle.boot_inputs.specs.declared.fault.Fault.{Fault}
 use Rattle.boot_inputs.specs.declared.input.Input.{Input}
 use Rattle.boot_inputs.specs.Reason.{NoInputs, Reason}
@@ -96,23 +96,23 @@ unread_outcome held wanted input name is none reaches =
 
 -- a file whose count of misses rose isn't lent
 unheld : (old new : LentState) (named : Option (List ℕ)) → RoseAt (faults_at old) (faults_at new) named
-    → (name : List ℕ) × (named ≡ Some name) × (bytes_of old.files name ≡ None)
+    → (name : List ℕ) × (named ≡ Some name) × (file_bytes old.files name ≡ None)
 unheld old new None rose = absurd rose
 unheld old new (Some name) rose = (name, refl, rose_unheld old new name rose)
 
 pub unread_is_said : (old new : LentState) (accepted : Option Wanted) (input : Input)
     → RoseFor bootmem (faults_at old) (faults_at new) accepted input
-    → ReachesFile place input (outcome accepted (bytes_of old.files))
-    → outcome accepted (bytes_of old.files) ≡ Err (reasons.Unread input)
+    → ReachesFile place input (outcome accepted (file_bytes old.files))
+    → outcome accepted (file_bytes old.files) ≡ Err (reasons.Unread input)
 unread_is_said old new None input rose reaches = absurd rose
 unread_is_said old new (Some wanted) input rose reaches =
     let found = unheld old new (wanted.named input) rose in
-    unread_outcome (bytes_of old.files) wanted input found.0 found.1 found.2 reaches
+    unread_outcome (file_bytes old.files) wanted input found.0 found.1 found.2 reaches
 
 -- over lent files the error is that of the outcome
 pub fails_as : (old new : LentState) (accepted : Option Wanted) (error : NoInputs)
-    → ErrorHasCause bootmem (faults_at old) (faults_at new) accepted error → FitsError place error (outcome accepted (bytes_of old.files))
-    → FailsAs error (outcome accepted (bytes_of old.files))
+    → ErrorHasCause bootmem (faults_at old) (faults_at new) accepted error → FitsError place error (outcome accepted (file_bytes old.files))
+    → FailsAs error (outcome accepted (file_bytes old.files))
 fails_as old new accepted (errors.Reason reasons.Usage) cause fits = fits
 fails_as old new accepted (errors.Reason (reasons.Unread input)) cause fits = unread_is_said old new accepted input cause fits
 fails_as old new accepted (errors.Reason (reasons.Faulty input fault)) cause fits = fits

@@ -2,7 +2,7 @@
 use Rattle.std.proofs.Common.{◌≡◌, ℕ, ◌+◌, ◌-◌, ◌^◌, ◌<◌, ◌≤◌, List, Option, Some, None, Result, Err, Vec, Global, refl, arith, ap, min}
 use Rattle.std.specs.Prelude.{IsNone, is_some, if◌then◌else◌}
 use Rattle.bm_io.specs.Counts.{Rose, RoseByMoreThan}
-use Rattle.bm_io.specs.HeldFiles.{HeldFile, bytes_of}
+use Rattle.bm_io.specs.MemFiles.{MemFileView, file_bytes}
 use Rattle.bm_io.specs.declared.reading.Fetch.{Fetch}
 use Rattle.bm_io.specs.declared.reading.Fetch.TheVariants as fetch
 use Rattle.bootmem_c.specs.Fetches.{LentState, faults_at, misses_of}
@@ -29,24 +29,24 @@ at_rose None old new none grew few = omega (arith, grew, few)
 at_rose (Some bytes) old new none grew few = absurd (cc)
 
 same_held : (old new : LentState) → new.files ≡ old.files → (name : List ℕ)
-    → faults_at new name ≡ at (bytes_of old.files name) new.misses
-same_held old new kept name = ap (λ (files : List HeldFile). at (bytes_of files name) new.misses) kept
+    → faults_at new name ≡ at (file_bytes old.files name) new.misses
+same_held old new kept name = ap (λ (files : List MemFileView). at (file_bytes files name) new.misses) kept
 
 pub faults_rose : (answer : Result (Vec ℕ Global) Fetch) (old new : LentState) (name : List ℕ) → answer ≡ Err fetch.Failed
-    → new.files ≡ old.files → IsNone (bytes_of old.files name) → new.misses ≡ old.misses + misses_of answer → new.misses < 2 ^ 32
+    → new.files ≡ old.files → IsNone (file_bytes old.files name) → new.misses ≡ old.misses + misses_of answer → new.misses < 2 ^ 32
     → Rose (faults_at old name) (faults_at new name)
 faults_rose answer old new name is kept none grew few =
     let one : misses_of answer ≡ 1 = rw is refl in
     let grew : new.misses ≡ old.misses + 1 = rw one at grew in
-    omega (arith, at_rose (bytes_of old.files name) old.misses new.misses none grew few, same_held old new kept name)
+    omega (arith, at_rose (file_bytes old.files name) old.misses new.misses none grew few, same_held old new kept name)
 
 pub faults_stay : (answer : Result (Vec ℕ Global) Fetch) (old new : LentState) → new.files ≡ old.files
     → new.misses ≡ old.misses + misses_of answer → (any : List ℕ) → faults_at old any ≤ faults_at new any
 faults_stay answer old new kept grew any =
-    omega (arith, at_stays (bytes_of old.files any) old.misses new.misses (omega (arith, grew)), same_held old new kept any)
+    omega (arith, at_stays (file_bytes old.files any) old.misses new.misses (omega (arith, grew)), same_held old new kept any)
 
 pub faults_fit : (state : LentState) (any : List ℕ) → faults_at state any < 2 ^ 64
-faults_fit state any = at_fits (bytes_of state.files any) state.misses
+faults_fit state any = at_fits (file_bytes state.files any) state.misses
 
 -- a count that rose is that of a name that isn't held
 held_not_rose : (held : Option (List ℕ)) (misses now : ℕ) → now < 2 ^ 64 - 1 → Rose (at held misses) now → held ≡ None
@@ -58,6 +58,6 @@ below None misses = omega arith
 below (Some bytes) misses = omega arith
 
 pub rose_unheld : (old new : LentState) (name : List ℕ) → Rose (faults_at old name) (faults_at new name)
-    → bytes_of old.files name ≡ None
+    → file_bytes old.files name ≡ None
 rose_unheld old new name rose =
-    held_not_rose (bytes_of old.files name) old.misses (faults_at new name) (below (bytes_of new.files name) new.misses) rose
+    held_not_rose (file_bytes old.files name) old.misses (faults_at new name) (below (file_bytes new.files name) new.misses) rose

@@ -6,7 +6,7 @@ use Rattle.std.specs.Str.{IsUtf8}
 use Rattle.std.proofs.Math.Seq.{take-suc}
 use Rattle.std.proofs.lemmas.List.{get_or-map, length-map, map-append}
 use Rattle.std.proofs.lemmas.List.Elements.{All-get_or, All-push}
-use Rattle.bm_io.specs.HeldFiles.{bytes_of}
+use Rattle.bm_io.specs.MemFiles.{file_bytes}
 use Rattle.bootmem_c.specs.declared.crossing.Bytes.{Bytes}
 use Rattle.bootmem_c.specs.declared.crossing.File.{File}
 use Rattle.bootmem_c.specs.Fetches.{is_lent_as}
@@ -14,15 +14,15 @@ use Rattle.bootmem_c.specs.Lent.{lent_files, lent_word, lent_words}
 
 -- one more file in front of those of which it is known
 file_in_front : (f : File) (fs : List File) (name : List ℕ) (named : Bool)
-    → option_map (λ f. f.bytes.now) (find (is_lent_as name) fs) ≡ bytes_of (lent_files fs) name
+    → option_map (λ f. f.bytes.now) (find (is_lent_as name) fs) ≡ file_bytes (lent_files fs) name
     → option_map (λ f. f.bytes.now) (cond named (Some f) (find (is_lent_as name) fs))
-    ≡ cond named (Some f.bytes.now) (bytes_of (lent_files fs) name)
+    ≡ cond named (Some f.bytes.now) (file_bytes (lent_files fs) name)
 file_in_front f fs name true rest = refl
 file_in_front f fs name false rest = rest
 
 -- the bytes of the first file of the name are those of the file that a search finds
 pub bytes_of_found : (files : List File) (name : List ℕ)
-    → option_map (λ f. f.bytes.now) (find (is_lent_as name) files) ≡ bytes_of (lent_files files) name
+    → option_map (λ f. f.bytes.now) (find (is_lent_as name) files) ≡ file_bytes (lent_files files) name
 bytes_of_found [] name = refl
 bytes_of_found (f ∷ fs) name = file_in_front f fs name (is_lent_as name f) (bytes_of_found fs name)
 

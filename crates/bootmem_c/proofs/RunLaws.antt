@@ -7,7 +7,7 @@ use Rattle.std.proofs.lemmas.Str.{IsUtf8-from_is_utf8, is_utf8-from_IsUtf8}
 use Rattle.std.proofs.lemmas.List.Elements.{All-cons}
 use Rattle.std.proofs.lemmas.Bool.{and_parts}
 use Rattle.bm_io.specs.Counts.{Rose}
-use Rattle.bm_io.specs.HeldFiles.{HeldFile, bytes_of}
+use Rattle.bm_io.specs.MemFiles.{MemFileView, file_bytes}
 use Rattle.bm_base.specs.ResultSteps.{◌>>=◌}
 use Rattle.boot_inputs.specs.Reason.{Reason}
 use Rattle.program_end.specs.Program.{Held}
@@ -60,12 +60,12 @@ abbrev IsFailure : (old new : LentState) → Option Wanted → ℕ → (Failure 
 IsFailure old new accepted status Told =
     (failure : Failure Reason) × (status ≡ status_of failure) × Told failure
     × FailureHasCause bootmem (faults_at old) (faults_at new) accepted failure
-    × EndFits bootmem failure (outcome accepted (bytes_of old.files))
+    × EndFits bootmem failure (outcome accepted (file_bytes old.files))
 
 status_by : (old new : LentState) (accepted : Option Wanted) (failure : Failure Reason) → status_of failure ≢ 4
     → FailureHasCause bootmem (faults_at old) (faults_at new) accepted failure
-    → EndFits bootmem failure (outcome accepted (bytes_of old.files))
-    → (status_of failure ≡ status_said (outcome accepted (bytes_of old.files))) ⊎ (status_of failure ≡ 7)
+    → EndFits bootmem failure (outcome accepted (file_bytes old.files))
+    → (status_of failure ≡ status_said (outcome accepted (file_bytes old.files))) ⊎ (status_of failure ≡ 7)
 status_by old new accepted (failures.NoResult (errors.Reason reason)) other cause fits =
     inl (sym (ap status_said (fails_as old new accepted (errors.Reason reason) cause fits)))
 status_by old new accepted (failures.NoResult errors.Memory) other cause fits = inr refl
@@ -73,11 +73,11 @@ status_by old new accepted (failures.Output put.Failed) other cause fits = absur
 status_by old new accepted (failures.Output put.Memory) other cause fits = inr refl
 
 pub ran_status : (old new : LentState) (accepted : Option Wanted) (P : List ℕ → Type 0) (Told : Failure Reason → Type 0) (status : ℕ)
-    → (status ≡ 4 → Rose 0 0) → (status ≡ 0 → IsOkAnd (outcome accepted (bytes_of old.files)) P)
+    → (status ≡ 4 → Rose 0 0) → (status ≡ 0 → IsOkAnd (outcome accepted (file_bytes old.files)) P)
     → (status ≢ 0 → IsFailure old new accepted status Told)
-    → (status ≡ status_said (outcome accepted (bytes_of old.files))) ⊎ (status ≡ 7)
+    → (status ≡ status_said (outcome accepted (file_bytes old.files))) ⊎ (status ≡ 7)
 ran_status old new accepted P Told zero unwritten written line =
-    inl (sym (text_is_zero (outcome accepted (bytes_of old.files)) P (written refl)))
+    inl (sym (text_is_zero (outcome accepted (file_bytes old.files)) P (written refl)))
 ran_status old new accepted P Told (suc n) unwritten written line =
     let told = line (λ is. omega (arith, is)) in
     rw told.1 (status_by old new accepted told.0 (λ four. no_rise (unwritten (told.1 ∙ four))) told.3 told.4)
@@ -124,11 +124,11 @@ line_of accepted said reason are = sym (ap (line_by accepted) are)
 line_ends : (old new : LentState) (accepted : Option Wanted) (failure : Failure Reason) (l0 l1 : Written) → status_of failure ≢ 4
     → status_of failure ≢ 7 → l0.text ≡ [] → l0.is_short ≡ false → PutsLine text_sink l0 l1 (failure_line accepted failure)
     → FailureHasCause bootmem (faults_at old) (faults_at new) accepted failure
-    → EndFits bootmem failure (outcome accepted (bytes_of old.files))
-    → (whole_text l1 ≡ line_by accepted (outcome accepted (bytes_of old.files))) ⊎ (whole_text l1 ≡ [])
+    → EndFits bootmem failure (outcome accepted (file_bytes old.files))
+    → (whole_text l1 ≡ line_by accepted (outcome accepted (file_bytes old.files))) ⊎ (whole_text l1 ≡ [])
 line_ends old new accepted (failures.NoResult (errors.Reason reason)) l0 l1 written other empty not_short told cause fits =
     subst (λ (line : List ℕ). (whole_text l1 ≡ line) ⊎ (whole_text l1 ≡ []))
-    (line_of accepted (outcome accepted (bytes_of old.files)) reason
+    (line_of accepted (outcome accepted (file_bytes old.files)) reason
     (fails_as old new accepted (errors.Reason reason) cause fits))
     (whole_by l1.is_short l0 l1 (failure_line accepted (failures.NoResult (errors.Reason reason))) refl empty not_short told)
 line_ends old new accepted (failures.NoResult errors.Memory) l0 l1 written other empty not_short told cause fits = absurd (other refl)
@@ -139,7 +139,7 @@ pub ran_line : (old new : LentState) (accepted : Option Wanted) (l0 l1 : Written
     → l0.text ≡ [] → l0.is_short ≡ false
     → (status ≢ 0 → IsFailure old new accepted status (λ failure. PutsLine text_sink l0 l1 (failure_line accepted failure)))
     → status ≢ 0 → status ≢ 7
-    → (whole_text l1 ≡ line_by accepted (outcome accepted (bytes_of old.files))) ⊎ (whole_text l1 ≡ [])
+    → (whole_text l1 ≡ line_by accepted (outcome accepted (file_bytes old.files))) ⊎ (whole_text l1 ≡ [])
 ran_line old new accepted l0 l1 status unwritten empty not_short line some other =
     let told = line some in
     line_ends old new accepted told.0 l0 l1 (λ four. no_rise (unwritten (told.1 ∙ four))) (λ seven. other (told.1 ∙ seven)) empty not_short
@@ -150,10 +150,10 @@ pub same_asked : (taken : List (String Global)) (words : List (List ℕ)) → ma
     → accepted (texts taken) ≡ asked words
 same_asked taken words are all = ap accepted are ∙ rw (are-utf8 words all) refl
 
-pub same_outcome : (one other : Option Wanted) (files lent : List HeldFile) → one ≡ other → files ≡ lent
-    → outcome one (bytes_of files) ≡ outcome other (bytes_of lent)
+pub same_outcome : (one other : Option Wanted) (files lent : List MemFileView) → one ≡ other → files ≡ lent
+    → outcome one (file_bytes files) ≡ outcome other (file_bytes lent)
 same_outcome one other files lent same kept =
-    ap (λ (a : Option Wanted). outcome a (bytes_of files)) same ∙ ap (λ (f : List HeldFile). outcome other (bytes_of f)) kept
+    ap (λ (a : Option Wanted). outcome a (file_bytes files)) same ∙ ap (λ (f : List MemFileView). outcome other (file_bytes f)) kept
 
 -- words that aren't all UTF-8 ask for nothing
 not_utf8 : (words : List (List ℕ)) (b : Bool) → are_utf8 words ≡ b → ¬ All IsUtf8 words → are_utf8 words ≡ false

@@ -1,7 +1,7 @@
 -- What a call of the program comes to, by the words and the files that are lent to it.
 use Rattle.std.specs.Prelude.{ℕ, Bool, true, if◌then◌else◌, ◌&&◌, List, [], ◌∷◌, Option, None, Result, Ok, Err}
 use Rattle.std.specs.Str.{is_utf8}
-use Rattle.bm_io.specs.HeldFiles.{bytes_of}
+use Rattle.bm_io.specs.MemFiles.{file_bytes}
 use Rattle.boot_inputs.specs.Reason.{Reason}
 use Rattle.program_end.specs.declared.failure.Failure.TheVariants as failures
 use Rattle.program_end.specs.declared.failure.NoResult.TheVariants as errors
@@ -23,7 +23,7 @@ asked words = if are_utf8 words then accepted words else None
 
 -- the text that is written, or why there is none
 abbrev pub outcome_of : List Bytes → List File → Result (List ℕ) Reason
-outcome_of words files = outcome (asked (lent_words words)) (bytes_of (lent_files files))
+outcome_of words files = outcome (asked (lent_words words)) (file_bytes (lent_files files))
 
 abbrev pub status_said : Result (List ℕ) Reason → ℕ
 status_said (Ok text) = 0

@@ -4,12 +4,12 @@ use Rattle.std.specs.Str.{bytes_eq}
 use Rattle.std.specs.declared.alloc.Global.{Global}
 use Rattle.bm_io.specs.declared.reading.Fetch.{Fetch}
 use Rattle.bm_io.specs.declared.reading.Fetch.TheVariants as fetch
-use Rattle.bm_io.specs.HeldFiles.{HeldFile, bytes_of}
+use Rattle.bm_io.specs.MemFiles.{MemFileView, file_bytes}
 use Rattle.bootmem_c.specs.declared.crossing.File.{File}
 
 -- the files, and how many fetches missed
 pub record LentState : Type 0 where
-  pub files : List HeldFile
+  pub files : List MemFileView
   pub misses : ℕ
 
 -- whether the file has the name
@@ -26,8 +26,8 @@ misses_of (Err fetch.Memory) = 0
 -- how many fetches of the name failed: the misses, which are below 2^32; a name that is held never fails, and has a count that
 -- these can't reach
 abbrev pub faults_at : LentState → List ℕ → ℕ
-faults_at state name = if is_some (bytes_of state.files name) then 2 ^ 64 - 2 else min state.misses (2 ^ 32)
+faults_at state name = if is_some (file_bytes state.files name) then 2 ^ 64 - 2 else min state.misses (2 ^ 32)
 
 -- the name is held and has more bytes than the limit
-abbrev pub IsLonger : List HeldFile → List ℕ → ℕ → Type 0
-IsLonger files name limit = (bytes : List ℕ) × (bytes_of files name ≡ Some bytes) × (limit < length bytes)
+abbrev pub IsLonger : List MemFileView → List ℕ → ℕ → Type 0
+IsLonger files name limit = (bytes : List ℕ) × (file_bytes files name ≡ Some bytes) × (limit < length bytes)

@@ -1,6 +1,6 @@
 -- Words and files that the caller lends, as bytes.
 use Rattle.std.specs.Prelude.{ℕ, List, map}
-use Rattle.bm_io.specs.HeldFiles.{HeldFile}
+use Rattle.bm_io.specs.MemFiles.{MemFileView}
 use Rattle.bootmem_c.specs.declared.crossing.Bytes.{Bytes}
 use Rattle.bootmem_c.specs.declared.crossing.File.{File}
 
@@ -10,8 +10,8 @@ lent_word word = word.bytes.now
 abbrev pub lent_words : List Bytes → List (List ℕ)
 lent_words words = map lent_word words
 
-abbrev pub lent_file : File → HeldFile
+abbrev pub lent_file : File → MemFileView
 lent_file file = record { name = file.name.now; bytes = file.bytes.now }
 
-abbrev pub lent_files : List File → List HeldFile
+abbrev pub lent_files : List File → List MemFileView
 lent_files files = map lent_file files

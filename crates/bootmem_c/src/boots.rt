@@ -1,7 +1,7 @@
 //! The boot of words and files that the caller lends, with no report: for whoever wants what it made as values.
 
 ghost use Rattle.std.specs.Prelude.{Some, IfOk, IfErr};
-ghost use Rattle.bm_io.specs.HeldFiles.{bytes_of};
+ghost use Rattle.bm_io.specs.MemFiles.{file_bytes};
 ghost use Rattle.boot_model.specs.View.{booted_view};
 ghost use Rattle.program_run.specs.Outcome.{outcome};
 ghost use Rattle.program_words.specs.View.{wanted_view};
@@ -22,7 +22,7 @@ use std::alloc::Global;
 /// What the boot makes of the words and files. It fails as the whole program does, or for want of memory.
 pub fn boot_lent(alloc: Global, words: &[Bytes<'_>], files: &[File<'_>]) -> Result<Booted, NoReport>
     ensures boots { IfOk result (λ booted.
-        IsBoot (asked (lent_words words.now)) (bytes_of (lent_files files.now)) (booted_view booted)) }
+        IsBoot (asked (lent_words words.now)) (file_bytes (lent_files files.now)) (booted_view booted)) }
     ensures fails { IfErr result (λ failure. FailsAs failure (outcome_of words.now files.now)) }
 {
     match words_in(alloc, words) {
@@ -35,9 +35,9 @@ pub fn boot_lent(alloc: Global, words: &[Bytes<'_>], files: &[File<'_>]) -> Resu
 /// The same over words that are texts.
 fn boot_texts(alloc: Global, words: &[String], files: &[File<'_>]) -> Result<Booted, NoReport>
     ensures boots { IfOk result (λ booted.
-        IsBoot (accepted (texts words.now)) (bytes_of (lent_files files.now)) (booted_view booted)) }
+        IsBoot (accepted (texts words.now)) (file_bytes (lent_files files.now)) (booted_view booted)) }
     ensures fails { IfErr result (λ failure.
-        FailsAs failure (outcome (accepted (texts words.now)) (bytes_of (lent_files files.now)))) }
+        FailsAs failure (outcome (accepted (texts words.now)) (file_bytes (lent_files files.now)))) }
 {
     match read_words(alloc, words) {
         Ok(wanted) => boot_wanted(alloc, &wanted, files),
@@ -49,9 +49,9 @@ fn boot_texts(alloc: Global, words: &[String], files: &[File<'_>]) -> Result<Boo
 /// The same behind accepted words.
 fn boot_wanted(alloc: Global, wanted: &Wanted<'_>, files: &[File<'_>]) -> Result<Booted, NoReport>
     ensures boots { IfOk result (λ booted.
-        IsBoot (Some (wanted_view wanted.now)) (bytes_of (lent_files files.now)) (booted_view booted)) }
+        IsBoot (Some (wanted_view wanted.now)) (file_bytes (lent_files files.now)) (booted_view booted)) }
     ensures fails { IfErr result (λ failure.
-        FailsAs failure (outcome (Some (wanted_view wanted.now)) (bytes_of (lent_files files.now)))) }
+        FailsAs failure (outcome (Some (wanted_view wanted.now)) (file_bytes (lent_files files.now)))) }
 {
     let inputs = read_given(alloc, wanted, &mut LentFiles::new(files))?;
     match boot(alloc, inputs) {

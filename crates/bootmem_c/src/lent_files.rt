@@ -2,7 +2,7 @@
 
 ghost use Rattle.std.specs.Prelude.{◌≡◌, ℕ, ◌+◌, ◌-◌, ◌^◌, ◌<◌, ◌≤◌, ◌↔◌, List, length, Option, Some, OnOk, IfOk, IsErrOf, IsNone, find};
 ghost use Rattle.std.specs.Option.{option_copied};
-ghost use Rattle.bm_io.specs.HeldFiles.{bytes_of};
+ghost use Rattle.bm_io.specs.MemFiles.{file_bytes};
 ghost use Rattle.bootmem_c.specs.Lent.{lent_files};
 ghost use Rattle.bootmem_c.specs.Fetches.{faults_at, is_lent_as, misses_of, IsLonger};
 
@@ -40,7 +40,7 @@ impl<'a> LentFiles<'a> {
 }
 
 impl<'a> Files for LentFiles<'a> {
-    ghost holds = { λ s. Some (bytes_of s.files) };
+    ghost holds = { λ s. Some (file_bytes s.files) };
 
     // Of a name that isn't held the misses are counted. A name that is held has a count that no file's can rise
     // above, so whoever sees a count that rose knows that the name isn't held.
@@ -53,8 +53,8 @@ impl<'a> Files for LentFiles<'a> {
     /// Where 2^32 - 1 fetches missed, the next one that misses is told as want of memory: its count has no room.
     fn fetch(&mut self, alloc: Global, name: &str, limit: u64) -> Result<Vec<u8>, Fetch>
         ensures bounded { IfOk result (λ bytes. length bytes.items ≤ limit) }
-        ensures told { IfOk result (λ bytes. bytes_of self.old.files name.now ≡ Some bytes.items) }
-        ensures failed { IsErrOf result Fetch.Failed → IsNone (bytes_of self.old.files name.now) }
+        ensures told { IfOk result (λ bytes. file_bytes self.old.files name.now ≡ Some bytes.items) }
+        ensures failed { IsErrOf result Fetch.Failed → IsNone (file_bytes self.old.files name.now) }
         ensures too_long { IsErrOf result Fetch.TooLong ↔ IsLonger self.old.files name.now limit }
         ensures files { self.new.files ≡ self.old.files }
         ensures misses { self.new.misses ≡ self.old.misses + misses_of result }
@@ -80,7 +80,7 @@ impl<'a> Files for LentFiles<'a> {
 
 /// The bytes of the first file of the name.
 fn bytes_named<'a>(files: &'a [File<'a>], name: &str) -> Option<&'a [u8]>
-    ensures { option_copied result ≡ bytes_of (lent_files files.now) name.now }
+    ensures { option_copied result ≡ file_bytes (lent_files files.now) name.now }
 {
     Some(file_named(files, name)?.bytes)
 }

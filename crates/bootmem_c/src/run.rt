@@ -1,7 +1,7 @@
 //! The program as one call, over words and files that the caller lends.
 
 ghost use Rattle.std.specs.Prelude.{◌≡◌, ◌≢◌, ◌⊎◌, ℕ, IsOkAnd, List, [], false, Some};
-ghost use Rattle.bm_io.specs.HeldFiles.{bytes_of};
+ghost use Rattle.bm_io.specs.MemFiles.{file_bytes};
 ghost use Rattle.program_run.specs.Headline.{IsReported};
 ghost use Rattle.bootmem_c.specs.Lent.{lent_files, lent_words};
 ghost use Rattle.bootmem_c.specs.Call.{asked, line_said, outcome_of, status_said};
@@ -31,7 +31,7 @@ pub extern "C" fn bootmem_run(
     // one it has none.
     ensures written { result ≡ 0 → IsOkAnd (outcome_of words.now files.now) (λ text. IsTaken text out.old out.new) }
     ensures headline { result ≡ 0 → (text : List ℕ) × IsTaken text out.old out.new
-        × IsReported (asked (lent_words words.now)) (bytes_of (lent_files files.now)) (Some []) (Some text) }
+        × IsReported (asked (lent_words words.now)) (file_bytes (lent_files files.now)) (Some []) (Some text) }
     ensures unwritten { result ≢ 0 → IsTaken [] out.old out.new }
 
     // After status 0 `err` has no line; after another one but 7 it has that of the outcome, or none where memory was wanting.
@@ -61,7 +61,7 @@ fn run_lent(
     ensures status { (result ≡ status_said (outcome_of words.now files.now)) ⊎ (result ≡ 7) }
     ensures written { result ≡ 0 → IsOkAnd (outcome_of words.now files.now) (λ text. report.new.text ≡ text) }
     ensures headline { result ≡ 0 → IsReported
-        (asked (lent_words words.now)) (bytes_of (lent_files files.now)) (Some []) (Some report.new.text) }
+        (asked (lent_words words.now)) (file_bytes (lent_files files.now)) (Some []) (Some report.new.text) }
     ensures silent { result ≡ 0 → whole_text line.new ≡ [] }
     ensures line { result ≢ 0 → result ≢ 7
         → (whole_text line.new ≡ line_said words.now files.now) ⊎ (whole_text line.new ≡ []) }

@@ -3,7 +3,7 @@
 //! Each export takes the words and files of `bootmem_run`, and answers the status that this would, whatever reports the words ask for.
 
 ghost use Rattle.std.specs.Prelude.{◌≡◌, ◌≢◌, ◌⊎◌, [], None, IfOk, IfErr};
-ghost use Rattle.bm_io.specs.HeldFiles.{bytes_of};
+ghost use Rattle.bm_io.specs.MemFiles.{file_bytes};
 ghost use Rattle.boot_model.specs.Boot.{Told};
 ghost use Rattle.bootmem_c.specs.Boots.{FailsAs, IsBoot};
 ghost use Rattle.bootmem_c.specs.Call.{asked, outcome_of, status_said};
@@ -28,7 +28,7 @@ pub extern "C" fn bootmem_map(
 ) -> u8
     ensures status { (result ≡ status_said (outcome_of words.now files.now)) ⊎ (result ≡ 7) }
     ensures runs { result ≡ 0 → (told : Told)
-        × IsBoot (asked (lent_words words.now)) (bytes_of (lent_files files.now)) told
+        × IsBoot (asked (lent_words words.now)) (file_bytes (lent_files files.now)) told
         × AreTaken (map_values told) out.old.room.now out.new.room.now out.new.count }
     ensures none { result ≢ 0 → AreTaken [] out.old.room.now out.new.room.now out.new.count }
 {
@@ -54,7 +54,7 @@ pub extern "C" fn bootmem_crash(
 ) -> u8
     ensures status { (result ≡ status_said (outcome_of words.now files.now)) ⊎ (result ≡ 7) }
     ensures area { result ≡ 0 → (told : Told)
-        × IsBoot (asked (lent_words words.now)) (bytes_of (lent_files files.now)) told
+        × IsBoot (asked (lent_words words.now)) (file_bytes (lent_files files.now)) told
         × (out.new ≡ area_value told.crash) }
     ensures none { result ≢ 0 → out.new ≡ parts_value None None }
 {
@@ -80,7 +80,7 @@ pub extern "C" fn bootmem_blocks(
 ) -> u8
     ensures status { (result ≡ status_said (outcome_of words.now files.now)) ⊎ (result ≡ 7) }
     ensures blocks { result ≡ 0 → (told : Told)
-        × IsBoot (asked (lent_words words.now)) (bytes_of (lent_files files.now)) told
+        × IsBoot (asked (lent_words words.now)) (file_bytes (lent_files files.now)) told
         × AreTaken (block_values told) out.old.room.now out.new.room.now out.new.count }
     ensures none { result ≢ 0 → AreTaken [] out.old.room.now out.new.room.now out.new.count }
 {
@@ -99,7 +99,7 @@ pub extern "C" fn bootmem_blocks(
 /// The runs of the map of the boot that words and files determine.
 fn map_lent(alloc: Global, words: &[Bytes<'_>], files: &[File<'_>]) -> Result<Vec<MapRun>, NoReport>
     ensures runs { IfOk result (λ runs. (told : Told)
-        × IsBoot (asked (lent_words words.now)) (bytes_of (lent_files files.now)) told
+        × IsBoot (asked (lent_words words.now)) (file_bytes (lent_files files.now)) told
         × (runs.items ≡ map_values told)) }
     ensures fails { IfErr result (λ failure. FailsAs failure (outcome_of words.now files.now)) }
 {
@@ -114,7 +114,7 @@ fn blocks_lent(
     files: &[File<'_>],
 ) -> Result<Vec<FreeBlock>, NoReport>
     ensures blocks { IfOk result (λ blocks. (told : Told)
-        × IsBoot (asked (lent_words words.now)) (bytes_of (lent_files files.now)) told
+        × IsBoot (asked (lent_words words.now)) (file_bytes (lent_files files.now)) told
         × (blocks.items ≡ block_values told)) }
     ensures fails { IfErr result (λ failure. FailsAs failure (outcome_of words.now files.now)) }
 {

@@ -2,7 +2,7 @@
 //! it here.
 
 ghost use Rattle.std.specs.Prelude.{IfOk};
-ghost use Rattle.bm_io.specs.HeldFiles.{held_files, HaveOwnNames};
+ghost use Rattle.bm_io.specs.MemFiles.{file_views, HaveOwnNames};
 
 use crate::common::{KERNEL, SMALLEST_SRAT, file};
 use bm_base::Width;
@@ -76,7 +76,7 @@ struct Held<'a> {
 }
 
 fn files_of(alloc: Global, held: &Held<'_>) -> Result<Vec<MemFile>, Fail>
-    ensures { IfOk result (λ files. HaveOwnNames (held_files files.items)) }
+    ensures { IfOk result (λ files. HaveOwnNames (file_views files.items)) }
 {
     let zp = file(alloc, "zp", held.zp)?;
     let ext = file(alloc, "ext", held.ext)?;

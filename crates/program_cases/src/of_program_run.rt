@@ -2,7 +2,7 @@
 //! does to it. What each input comes to is proved, on examples too (`proofs/`), and not repeated here.
 
 ghost use Rattle.std.specs.Prelude.{IfOk};
-ghost use Rattle.bm_io.specs.HeldFiles.{held_files, HaveOwnNames};
+ghost use Rattle.bm_io.specs.MemFiles.{file_views, HaveOwnNames};
 
 use crate::common::{RAM, SMALLEST_SRAT, entry, file, page, put_entry};
 use bm_io::{Fetch, Files, MemFile, MemFiles, MemSink};
@@ -50,7 +50,7 @@ impl Ended {
 
 /// The zero page `zp`, the extension `ext`, and a command line `cmd` of these bytes.
 fn files_of(alloc: Global, line: &[u8]) -> Result<Vec<MemFile>, Fail>
-    ensures { IfOk result (λ files. HaveOwnNames (held_files files.items)) }
+    ensures { IfOk result (λ files. HaveOwnNames (file_views files.items)) }
 {
     let zp = file(alloc, "zp", &page(2, RAM, RESERVED))?;
     let ext = file(alloc, "ext", &EXTENSION)?;
@@ -289,7 +289,7 @@ const HELD: Held<'static> = Held {
 
 /// These files, an SRAT `sr` without entries, and an empty script `sc`.
 fn five_files(alloc: Global, held: &Held<'_>) -> Result<Vec<MemFile>, Fail>
-    ensures { IfOk result (λ files. HaveOwnNames (held_files files.items)) }
+    ensures { IfOk result (λ files. HaveOwnNames (file_views files.items)) }
 {
     let zp = file(alloc, "zp", held.zp)?;
     let ext = file(alloc, "ext", held.ext)?;

@@ -3,7 +3,7 @@ use Rattle.std.proofs.Common.{◌≡◌, ◌≢◌, ℕ, List, Option, Some, Non
 use Rattle.std.specs.Prelude.{IfSome, IsNone, IsOkAnd, ◌⊎◌}
 use Rattle.std.specs.Io.KnownBytes.{Appends}
 use Rattle.bm_io.specs.Counts.{Rose}
-use Rattle.bm_io.specs.Told.{AppendsFront}
+use Rattle.bm_io.specs.Known.{AppendsFront}
 use Rattle.bm_io.specs.declared.writing.Put.TheVariants as put
 use Rattle.bm_io.specs.declared.writing.Sink.{Ghosts as SinkOf}
 use Rattle.program_end.specs.declared.failure.Failure.{Failure}

@@ -4,7 +4,7 @@
 ghost use Rattle.std.specs.Prelude.{◌≡◌, ◌≢◌, ℕ, List, Some, Ok, IfErr, IfSome, IsNone, IsOkAnd, ◌⊎◌, flat_map};
 ghost use Rattle.std.specs.Io.KnownBytes.{Appends};
 ghost use Rattle.bm_io.specs.Counts.{Rose};
-ghost use Rattle.bm_io.specs.Told.{AppendsFront};
+ghost use Rattle.bm_io.specs.Known.{AppendsFront};
 ghost use Rattle.boot_inputs.specs.declared.input.Input.{Input as AnyInput};
 ghost use Rattle.boot_inputs.specs.Input.{place};
 ghost use Rattle.boot_inputs.specs.Reason.{Reason as AnyReason};

@@ -1,7 +1,7 @@
 -- What is said of the words that were taken is said of the call.
 use Rattle.std.proofs.Common.{◌≡◌, ◌∙◌, Option, Err, ap, map, string_bytes, subst}
 use Rattle.std.specs.Prelude.{IfErr, IfOk}
-use Rattle.bm_io.specs.HeldFiles.{bytes_of}
+use Rattle.bm_io.specs.MemFiles.{file_bytes}
 use Rattle.boot_model.specs.View.{booted_view}
 use Rattle.program_run.specs.Outcome.{outcome}
 use Rattle.program_words.specs.Words.{Wanted, accepted, texts}
@@ -21,16 +21,16 @@ asks c =
 pub returns-in-Ok-clause-boots : goal.returns-in-Ok-clause-boots
 returns-in-Ok-clause-boots c =
     subst (λ (a : Option Wanted). IfOk c.boot_texts.result
-    (λ booted. IsBoot a (bytes_of (lent_files c.args.files.now)) (booted_view booted)))
+    (λ booted. IsBoot a (file_bytes (lent_files c.args.files.now)) (booted_view booted)))
     (asks c) c.boot_texts.ensures.boots
 
 pub returns-in-Ok-clause-fails : goal.returns-in-Ok-clause-fails
 returns-in-Ok-clause-fails c =
     subst (λ (a : Option Wanted). IfErr c.boot_texts.result
-    (λ failure. FailsAs failure (outcome a (bytes_of (lent_files c.args.files.now)))))
+    (λ failure. FailsAs failure (outcome a (file_bytes (lent_files c.args.files.now)))))
     (asks c) c.boot_texts.ensures.fails
 
 pub returns-in-Err-NotUtf8-clause-fails : goal.returns-in-Err-NotUtf8-clause-fails
 returns-in-Err-NotUtf8-clause-fails c =
-    nothing_said (lent_words c.args.words.now) (bytes_of (lent_files c.args.files.now))
+    nothing_said (lent_words c.args.words.now) (file_bytes (lent_files c.args.files.now))
     (c.in-Err-NotUtf8.ensures.other (ap (λ (e : NoTexts). Err e) c.in-Err-NotUtf8.field-0-is))

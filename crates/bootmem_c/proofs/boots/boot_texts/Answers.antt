@@ -1,6 +1,6 @@
 -- Accepted words boot as what they ask for; others are refused.
 use Rattle.std.specs.Prelude.{Some}
-use Rattle.bm_io.specs.HeldFiles.{bytes_of}
+use Rattle.bm_io.specs.MemFiles.{file_bytes}
 use Rattle.program_words.specs.declared.error.WordError.TheVariants as words
 use Rattle.program_run.proofs.RunLaws.{are_accepted, words_fit}
 use Rattle.bootmem_c.specs.Lent.{lent_files}
@@ -14,4 +14,4 @@ returns-in-Ok-clause-fails c = rw (are_accepted _ _ c.in-Ok.ensures) c.boot_want
 
 pub returns-in-Err-Usage-clause-fails : goal.returns-in-Err-Usage-clause-fails
 returns-in-Err-Usage-clause-fails c =
-    words_fit (Some (bytes_of (lent_files c.args.files.now))) _ words.Usage (rw c.in-Err-Usage.field-0-is at c.in-Err-Usage.ensures)
+    words_fit (Some (file_bytes (lent_files c.args.files.now))) _ words.Usage (rw c.in-Err-Usage.field-0-is at c.in-Err-Usage.ensures)

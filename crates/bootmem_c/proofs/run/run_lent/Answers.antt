@@ -1,7 +1,7 @@
 -- What the run says of the words that were taken and of the lent files is said of the call.
 use Rattle.std.proofs.Common.{◌≡◌, ◌∙◌, ℕ, List, [], Some, Option, Result, Err, ap, inl, map, string_bytes, subst, sym}
 use Rattle.std.specs.Prelude.{◌⊎◌}
-use Rattle.bm_io.specs.HeldFiles.{HeldFile, bytes_of}
+use Rattle.bm_io.specs.MemFiles.{MemFileView, file_bytes}
 use Rattle.boot_inputs.specs.Reason.{Reason}
 use Rattle.program_run.specs.Headline.{IsReported}
 use Rattle.program_run.specs.Outcome.{outcome}
@@ -20,7 +20,7 @@ asks c =
     c.in-Ok.ensures.utf8
 
 is_outcome : (c : goal.After-drop-texts)
-    → outcome (accepted (texts c.deref.result.now)) (bytes_of c.new.result.files) ≡ outcome_of c.args.words.now c.args.files.now
+    → outcome (accepted (texts c.deref.result.now)) (file_bytes c.new.result.files) ≡ outcome_of c.args.words.now c.args.files.now
 is_outcome c = same_outcome _ _ _ _ (asks c) c.new.ensures.files
 
 pub returns-in-Ok-clause-status : goal.returns-in-Ok-clause-status
@@ -32,21 +32,21 @@ returns-in-Ok-clause-status c =
 pub returns-in-Ok-clause-headline : goal.returns-in-Ok-clause-headline
 returns-in-Ok-clause-headline c = λ zero.
     let text = c.run.new.out.text in
-    let reported = ran_reported (accepted (texts c.deref.result.now)) (bytes_of c.new.result.files) c.args.report.now.text text
+    let reported = ran_reported (accepted (texts c.deref.result.now)) (file_bytes c.new.result.files) c.args.report.now.text text
     c.requires.empty (c.run.ensures.headline zero) in
-    subst (λ (a : Option Wanted). IsReported a (bytes_of (lent_files c.args.files.now)) (Some []) (Some text)) (asks c)
-    (subst (λ (f : List HeldFile). IsReported (accepted (texts c.deref.result.now)) (bytes_of f) (Some []) (Some text)) c.new.ensures.files
+    subst (λ (a : Option Wanted). IsReported a (file_bytes (lent_files c.args.files.now)) (Some []) (Some text)) (asks c)
+    (subst (λ (f : List MemFileView). IsReported (accepted (texts c.deref.result.now)) (file_bytes f) (Some []) (Some text)) c.new.ensures.files
     reported)
 
 pub returns-in-Ok-clause-written : goal.returns-in-Ok-clause-written
 returns-in-Ok-clause-written c = λ zero.
-    reported_text (asked (lent_words c.args.words.now)) (bytes_of (lent_files c.args.files.now)) c.run.new.out.text
+    reported_text (asked (lent_words c.args.words.now)) (file_bytes (lent_files c.args.files.now)) c.run.new.out.text
     (returns-in-Ok-clause-headline c zero)
 
 pub returns-in-Ok-clause-line : goal.returns-in-Ok-clause-line
 returns-in-Ok-clause-line c = λ some other.
     let was = accepted (texts c.deref.result.now) in
-    let said = outcome was (bytes_of c.new.result.files) in
+    let said = outcome was (file_bytes c.new.result.files) in
     let told = ran_line c.new.result c.run.new.files was c.args.line.now c.run.new.err c.run.result c.run.ensures.unwritten
     c.requires.no_line c.requires.not_short c.run.ensures.line some other in
     let same : line_by was said ≡ line_said c.args.words.now c.args.files.now =
@@ -56,5 +56,5 @@ returns-in-Ok-clause-line c = λ some other.
 
 pub returns-in-Err-NotUtf8-clause-status : goal.returns-in-Err-NotUtf8-clause-status
 returns-in-Err-NotUtf8-clause-status c =
-    inl (sym (nothing_asked (lent_words c.args.words.now) (bytes_of (lent_files c.args.files.now))
+    inl (sym (nothing_asked (lent_words c.args.words.now) (file_bytes (lent_files c.args.files.now))
     (c.in-Err-NotUtf8.ensures.other (ap (λ (e : NoTexts). Err e) c.in-Err-NotUtf8.field-0-is))))

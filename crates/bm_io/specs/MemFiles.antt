@@ -7,52 +7,52 @@ use Rattle.bm_io.specs.declared.reading.Fetch.TheVariants as fetch
 use Rattle.bm_io.specs.declared.mem_files.MemFile.{MemFile}
 
 -- a file: its name and its bytes
-pub record HeldFile : Type 0 where
+pub record MemFileView : Type 0 where
   pub name : List ℕ
   pub bytes : List ℕ
 
 -- the files, the numbers of the calls that are to fail, and how many calls, failed calls and bytes taken there were
-pub record HeldFiles : Type 0 where
-  pub files : List HeldFile
+pub record MemFilesView : Type 0 where
+  pub files : List MemFileView
   pub failing : List ℕ
   pub calls : ℕ
   pub faults : ℕ
   pub taken : ℕ
 
-abbrev pub held_file : MemFile → HeldFile
-held_file f = record { name = string_bytes f.name; bytes = f.bytes.items }
+abbrev pub file_view : MemFile → MemFileView
+file_view f = record { name = string_bytes f.name; bytes = f.bytes.items }
 
-abbrev pub held_files : List MemFile → List HeldFile
-held_files files = map held_file files
+abbrev pub file_views : List MemFile → List MemFileView
+file_views files = map file_view files
 
 -- whether the file has the name
-abbrev pub is_named : List ℕ → MemFile → Bool
-is_named name f = bytes_eq (string_bytes f.name) name
+abbrev pub has_name : List ℕ → MemFile → Bool
+has_name name f = bytes_eq (string_bytes f.name) name
 
 -- the bytes of the first file of the name
-abbrev pub bytes_of : List HeldFile → List ℕ → Option (List ℕ)
-bytes_of [] name = None
-bytes_of (f ∷ fs) name = if bytes_eq f.name name then Some f.bytes else bytes_of fs name
+abbrev pub file_bytes : List MemFileView → List ℕ → Option (List ℕ)
+file_bytes [] name = None
+file_bytes (f ∷ fs) name = if bytes_eq f.name name then Some f.bytes else file_bytes fs name
 
 -- no two files have one name
-abbrev pub HaveOwnNames : List HeldFile → Type 0
+abbrev pub HaveOwnNames : List MemFileView → Type 0
 HaveOwnNames [] = Unit {0}
-HaveOwnNames (f ∷ fs) = IsNone (bytes_of fs f.name) × HaveOwnNames fs
+HaveOwnNames (f ∷ fs) = IsNone (file_bytes fs f.name) × HaveOwnNames fs
 
 -- the call of that number fails: it was told to, or the name isn't held
-abbrev pub IsRefused : HeldFiles → ℕ → List ℕ → Type 0
-IsRefused held number name = Contains held.failing number ⊎ IsNone (bytes_of held.files name)
+abbrev pub IsRefused : MemFilesView → ℕ → List ℕ → Type 0
+IsRefused held number name = Contains held.failing number ⊎ IsNone (file_bytes held.files name)
 
 -- the name is held and has more bytes than the limit
-abbrev pub IsLonger : HeldFiles → List ℕ → ℕ → Type 0
-IsLonger held name limit = (bytes : List ℕ) × (bytes_of held.files name ≡ Some bytes) × (limit < length bytes)
+abbrev pub IsOverLimit : MemFilesView → List ℕ → ℕ → Type 0
+IsOverLimit held name limit = (bytes : List ℕ) × (file_bytes held.files name ≡ Some bytes) × (limit < length bytes)
 
 -- how many failures an answer is
-abbrev pub failures : Result (Vec ℕ Global) Fetch → ℕ
-failures (Ok bytes) = 0
-failures (Err fetch.Failed) = 1
-failures (Err fetch.TooLong) = 0
-failures (Err fetch.Memory) = 0
+abbrev pub fetch_failures : Result (Vec ℕ Global) Fetch → ℕ
+fetch_failures (Ok bytes) = 0
+fetch_failures (Err fetch.Failed) = 1
+fetch_failures (Err fetch.TooLong) = 0
+fetch_failures (Err fetch.Memory) = 0
 
 -- how many bytes of the file an answer took: all of them where it gave them or found them too long
 abbrev pub bytes_taken : Result (Vec ℕ Global) Fetch → Option (List ℕ) → ℕ

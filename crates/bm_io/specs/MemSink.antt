@@ -4,7 +4,7 @@ use Rattle.bm_io.specs.declared.writing.Put.{Put}
 use Rattle.bm_io.specs.declared.writing.Put.TheVariants as put
 
 -- the bytes so far, the numbers of the calls that are to fail, and how many calls, failed calls and calls with no memory there were
-pub record HeldOutput : Type 0 where
+pub record MemSinkView : Type 0 where
   pub written : List ℕ
   pub failing : List ℕ
   pub calls : ℕ
@@ -12,10 +12,10 @@ pub record HeldOutput : Type 0 where
   pub wants : ℕ
 
 -- how many failures an answer is
-abbrev pub failures : Result (Unit {0}) Put → ℕ
-failures (Ok done) = 0
-failures (Err put.Failed) = 1
-failures (Err put.Memory) = 0
+abbrev pub put_failures : Result (Unit {0}) Put → ℕ
+put_failures (Ok done) = 0
+put_failures (Err put.Failed) = 1
+put_failures (Err put.Memory) = 0
 
 -- how many wants of memory an answer is
 abbrev pub wants_of_memory : Result (Unit {0}) Put → ℕ
