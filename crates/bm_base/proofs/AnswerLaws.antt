@@ -1,20 +1,20 @@
--- What the first call answers and what the rest answers make the whole's answer.
+-- If two calls answer what their definitions say, so does their sequence.
 use Rattle.std.proofs.Common.{◌≡◌, Result, Ok, Err, refl, ap}
 use Rattle.bm_base.specs.Answers.{Answers}
 use Rattle.bm_base.specs.ResultSteps.{◌>>=◌, with_error}
 
 module _ {A B C D E : Type 0} (memory : E) (view : A → B) (shown : C → D) where
-  -- `?` goes on: the definition's first step has the value that was answered, so what the rest answers is the whole's
+  -- `?` continues: the definition's first step has the value that the first call returned, so the rest decides the whole result
   pub goes_on : (a : A) (said : Result B E) (step : B → Result D E) (rest : Result C E)
       → Answers memory view (Ok a) said → Answers memory shown rest (step (view a)) → Answers memory shown rest (said >>= step)
   goes_on a said step rest first answers = rw first answers
 
-  -- `?` stops: the error is the definition's, or want of memory
+  -- `?` stops: the error is the definition's, or out of memory
   pub stops : (error : E) (said : Result B E) (step : B → Result D E)
       → Answers memory view (Err error) said → Answers memory shown (Err error) (said >>= step)
   stops error said step first other = rw (first other) refl
 
-  -- both at once
+  -- a call and its continuation, for either result of the call
   pub one_step : (first : Result A E) (rest : A → Result C E) (said : Result B E) (step : B → Result D E)
       → Answers memory view first said → ((a : A) → first ≡ Ok a → Answers memory shown (rest a) (step (view a)))
       → Answers memory shown (first >>= rest) (said >>= step)
@@ -22,13 +22,13 @@ module _ {A B C D E : Type 0} (memory : E) (view : A → B) (shown : C → D) wh
   one_step (Err error) rest said step answers behind = stops error said step answers
 
 module _ {A B E F : Type 0} (convert : E → F) (memory : E) (view : A → B) where
-  -- an error that becomes one of another type on its way (`map_err`, or `?` by `From`)
+  -- an error that is converted on its way (`map_err`, or `?` by `From`)
   pub converted : (answer : Result A E) (said : Result B E)
       → Answers memory view answer said → Answers (convert memory) view (with_error convert answer) (with_error convert said)
   converted (Ok a) said answers = ap (with_error convert) answers
   converted (Err error) said answers = λ other. ap (with_error convert) (answers (λ is. other (ap convert is)))
 
-  -- and stops the whole
+  -- a converted error that stops the whole
   pub stops_converted : {C D : Type 0} (shown : C → D) (error : E) (said : Result B E) (step : B → Result D F)
       → Answers memory view (Err error) said → Answers (convert memory) shown (Err (convert error)) (with_error convert said >>= step)
   stops_converted shown error said step answers =

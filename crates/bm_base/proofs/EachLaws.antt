@@ -1,10 +1,10 @@
--- Tests over several numbers that follow one another, and over the addresses of a range.
+-- Whether each of several consecutive numbers, or each address of a range, passes a test.
 use Rattle.std.proofs.Common.{◌≡◌, ℕ, zero, suc, ◌+◌, ◌<◌, ◌≤◌, Bool, true, false, refl, sym, ◌∙◌, subst, inl, inr, arith}
 use Rattle.std.proofs.lemmas.Bool.{cases_Bool, cases_lt, false_from_ne_true, true≢false, and_from, and_parts}
 use Rattle.bm_base.specs.Range.{RangeView}
 use Rattle.bm_base.specs.Each.{each_from, each_in}
 
--- what passes at each address passes
+-- if each number passes, the test over all of them is true
 pub each_from-all : (p : ℕ → Bool) (x n : ℕ) → ((y : ℕ) → x ≤ y → y < x + n → p y ≡ true) → each_from p x n ≡ true
 unfolding each_from
 each_from-all p x zero all = refl
@@ -12,7 +12,7 @@ each_from-all p x (suc n) all =
     and_from (p x) (each_from p (x + 1) n) (all x (omega arith) (omega arith))
     (each_from-all p (x + 1) n (λ y above below. all y (omega arith) (omega arith)))
 
--- and the other way round
+-- if the test over all of them is true, each number passes
 pub each_from-each : (p : ℕ → Bool) (x n : ℕ) → each_from p x n ≡ true → (y : ℕ) → x ≤ y → y < x + n → p y ≡ true
 unfolding each_from
 each_from-each p x zero h y above below = absurd (omega arith)
@@ -22,7 +22,7 @@ each_from-each p x (suc n) h y above below =
       | inr ge ↦ let here : x ≡ y = omega arith in subst (λ (z : ℕ). p z ≡ true) here (and_parts (p x) (each_from p (x + 1) n) h).0
     ]
 
--- a number that fails, where not all pass
+-- if the test over all of them is false, some number fails
 pub record IsFailing (p : ℕ → Bool) (x n : ℕ) : Type 0 where
   pub at : ℕ
   pub above : x ≤ at
@@ -54,12 +54,12 @@ pub each_in-each : (r : RangeView) (p : ℕ → Bool) → each_in r p ≡ true �
 unfolding each_in
 each_in-each r p h = each_from-each p r.base r.size h
 
--- one address that fails
+-- one address that fails makes the test over the range false
 pub each_in-fails : (r : RangeView) (p : ℕ → Bool) (y : ℕ) → r.base ≤ y → y < r.base + r.size → p y ≡ false → each_in r p ≡ false
 each_in-fails r p y above below fails =
     false_from_ne_true (each_in r p) (λ holds. true≢false (sym (each_in-each r p holds y above below) ∙ fails))
 
--- tests that agree at each of the numbers agree on them all
+-- tests that agree at each number agree over all of them
 pub each_from-same : (p q : ℕ → Bool) (x n : ℕ) → ((y : ℕ) → x ≤ y → y < x + n → p y ≡ q y) → each_from p x n ≡ each_from q x n
 unfolding each_from
 each_from-same p q x zero same = refl

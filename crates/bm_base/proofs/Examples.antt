@@ -1,16 +1,13 @@
--- Small ranges, numbers and texts, computed.
-use Rattle.std.proofs.Common.{◌≡◌, ℕ, ◌^◌, ◌*◌, ◌/◌, ◌+◌, ◌-◌, true, false, ◌&&◌, nat_lt, ◌==◌, not, [], codes, Some, None, Ok, Err, refl, arith, inl}
+-- Worked examples: small ranges, numbers and texts.
+use Rattle.std.proofs.Common.{◌≡◌, ℕ, ◌^◌, ◌*◌, ◌/◌, ◌+◌, ◌-◌, true, false, ◌&&◌, ◌==◌, not, [], codes, Some, None, Ok, Err, refl, arith, inl}
 use Rattle.std.proofs.lemmas.Bool.Decides.{nat_tests}
 use Rattle.std.specs.Fmt.{digits}
 use Rattle.bm_base.specs.Answers.{Answers}
 use Rattle.bm_base.specs.Each.{each_from, each_in}
 use Rattle.bm_base.specs.Range.{RangeView, end_of, covers, Meet}
 use Rattle.bm_base.specs.Frames.{bytes_of_frame, frame_around, range_between, frames_within}
-use Rattle.std.specs.Prelude.{Result}
-use Rattle.bm_base.specs.OptionSteps as option
-use Rattle.bm_base.specs.ResultSteps.{◌>>=◌, with_error}
 use Rattle.bm_base.specs.Text.{hex_digits, hex_text, padded_decimal}
-use Rattle.bm_base.specs.Size.{front_digits, front_digits_value, is_hexadecimal, begins_with_zero, begins_with_digit, prefix_of, radix_of, number_value, number_end, suffix_at, suffix_of, fit_in_u64, with_suffix, number_of, size_of, IsSize, IsNumber}
+use Rattle.bm_base.specs.Size.{radix_of, number_of, size_of}
 use Rattle.bm_base.specs.declared.size.NumFault.TheVariants.{NoDigits, TooLarge}
 use Rattle.bm_base.specs.Spelling.{SpellsIn, hexadecimal as in_hexadecimal, octal, decimal, SpellsNumber, SpellsSize, number_alone, number_with_suffix}
 use Rattle.bm_base.proofs.SpellingLaws.{size-read}
@@ -21,95 +18,58 @@ use Rattle.bm_base.specs.declared.range.TheConstants.{FRAME_SIZE}
 use Rattle.bm_base.specs.declared.zone.TheConstants.{MAX_DMA_FRAME, MAX_DMA32_FRAME}
 use Rattle.bm_base.specs.declared.zone.Zone.TheVariants.{Dma, Dma32, Normal}
 
--- the second page of memory, and the page behind it
+-- the second and the third page of memory
 abbrev second_page : RangeView
 second_page = record { base = 0x1000; size = 0x1000 }
 
 abbrev third_page : RangeView
 third_page = record { base = 0x2000; size = 0x1000 }
 
--- its end is the address behind its last byte
+-- the end is the address right after the last byte
 end_examples : (end_of second_page ≡ 0x2000) × (end_of (record { base = 0x2000; size = 0 }) ≡ 0x2000)
 end_examples = (refl, refl)
 
--- it covers its first and its last byte, and neither the one below nor the one behind; an empty range covers nothing
+-- a range covers its first and last byte, but not the byte below or the byte after; an empty range covers nothing
 covers_examples : (covers second_page 0xFFF ≡ false) × (covers second_page 0x1000 ≡ true) × (covers second_page 0x1FFF ≡ true)
     × (covers second_page 0x2000 ≡ false)
     × (covers (record { base = 0x1000; size = 0 }) 0x1000 ≡ false)
 covers_examples = (refl, refl, refl, refl, refl)
 
--- ranges that share one byte meet, ranges that touch don't
+-- ranges that share one byte meet; ranges that only touch don't
 one_byte_shared : Meet (record { base = 0; size = 0x1001 }) second_page
 one_byte_shared = (0x1000, refl)
 
 touching_pages : ¬ Meet second_page third_page
 touching_pages both = let shared : (covers second_page both.0 && covers third_page both.0) ≡ true = both.1 in grind (arith, nat_tests)
 
--- frame 0 and frame 2; the frame of an address within it, and of its first byte
+-- the bytes of frames 0 and 2; the frame around the last and around the first byte of a frame
 frame_examples : (bytes_of_frame 0 ≡ record { base = 0; size = 0x1000 }) × (bytes_of_frame 2 ≡ third_page)
     × (frame_around 0x2FFF ≡ third_page) × (frame_around 0x1000 ≡ second_page)
 frame_examples = (refl, refl, refl, refl)
 
--- each of 3, 4 and 5 is below 6, but not each of the next one too; no number at all passes every test
-each_examples : (each_from (λ x. nat_lt x 6) 3 3 ≡ true) × (each_from (λ x. nat_lt x 6) 3 4 ≡ false) × (each_from (λ x. false) 3 0 ≡ true)
-unfolding each_from
-each_examples = (refl, refl, refl)
-
--- one byte in the middle of the range fails
+-- one byte in the middle of the range fails, or none does
 each_in_examples : (each_in (record { base = 3; size = 3 }) (λ x. not (x == 4)) ≡ false)
     × (each_in (record { base = 5; size = 3 }) (λ x. not (x == 4)) ≡ true)
 unfolding each_in each_from
 each_in_examples = (refl, refl)
 
--- digits as far as there are some, in that base; the rest is left
-digits_examples : (front_digits 10 (codes "640K") ≡ codes "640") × (front_digits 8 (codes "0178") ≡ codes "017")
-    × (front_digits_value 16 (codes "fFg") ≡ 255) × (front_digits_value 8 (codes "0178") ≡ 15)
-digits_examples = (refl, refl, refl, refl)
-
--- `0x` begins a hexadecimal number where a digit follows; otherwise a first `0` is an octal one
+-- `0x` needs a hexadecimal digit after it; otherwise a leading `0` means octal
 radix_examples : (radix_of (codes "0x1f") ≡ 16) × (radix_of (codes "0XF") ≡ 16) × (radix_of (codes "0x") ≡ 8) × (radix_of (codes "010") ≡ 8)
     × (radix_of (codes "10") ≡ 10)
 radix_examples = (refl, refl, refl, refl, refl)
 
-prefix_examples : (is_hexadecimal (codes "0xg") ≡ false) × (is_hexadecimal (codes "0X0") ≡ true)
-prefix_examples = (refl, refl)
-
-first_byte_examples : (begins_with_zero (codes "010") ≡ true) × (begins_with_zero (codes "10") ≡ false)
-    × (begins_with_digit (codes "9K") ≡ true) × (begins_with_digit (codes "K9") ≡ false) × (begins_with_digit [] ≡ false)
-first_byte_examples = (refl, refl, refl, refl, refl)
-
--- `0x` isn't part of the digits but of the bytes that the number takes; a first `0` that is octal is a digit
-taken_examples : (prefix_of (codes "0x1fz") ≡ 2) × (prefix_of (codes "017") ≡ 0) × (number_value (codes "0x1fz") ≡ 31)
-    × (number_end (codes "0x1fz") ≡ 4) × (number_value (codes "017") ≡ 15) × (number_end (codes "017") ≡ 3)
-taken_examples = (refl, refl, refl, refl, refl, refl)
-
-suffix_at_examples : (suffix_at 77 ≡ (2 ^ 20, 1)) × (suffix_at 109 ≡ (2 ^ 20, 1)) × (suffix_at 66 ≡ (1, 0))
-suffix_at_examples = (refl, refl, refl)
-
--- 2^64 - 1 is a u64, 2^64 isn't
-fitting_examples : (fit_in_u64 (2 ^ 64 - 1) 20 ≡ Ok (2 ^ 64 - 1, 20)) × (fit_in_u64 (2 ^ 64) 20 ≡ Err TooLarge)
-    × (with_suffix 3 1 (2 ^ 10, 1) ≡ Ok (3072, 2)) × (with_suffix 16 2 (2 ^ 60, 1) ≡ Err TooLarge)
-fitting_examples = (refl, refl, refl, refl)
-
-suffix_examples : (suffix_of (codes "K") ≡ (2 ^ 10, 1)) × (suffix_of (codes "e@") ≡ (2 ^ 60, 1)) × (suffix_of (codes "@K") ≡ (1, 0))
-    × (suffix_of [] ≡ (1, 0))
-suffix_examples = (refl, refl, refl, refl)
-
--- a number takes no suffix, and of `0x` the `0` alone
+-- a number has no suffix; of `0x` only the `0` is read
 number_examples : (number_of (codes "0x1fz") ≡ Ok (31, 4)) × (number_of (codes "64M") ≡ Ok (64, 2)) × (number_of (codes "0x") ≡ Ok (0, 1))
     × (number_of (codes "x1") ≡ Err NoDigits)
 number_examples = (refl, refl, refl, refl)
 
--- a size takes one suffix; 16E is 2^64
+-- a size has at most one suffix; 16E is 2^64
 size_examples : (size_of (codes "64M") ≡ Ok (0x4000000, 3)) × (size_of (codes "010k@") ≡ Ok (8192, 4))
     × (size_of (codes "15EE") ≡ Ok (15 * 2 ^ 60, 3))
     × (size_of (codes "16E") ≡ Err TooLarge) × (size_of (codes "M") ≡ Err NoDigits) × (size_of [] ≡ Err NoDigits)
 size_examples = (refl, refl, refl, refl, refl, refl)
 
-whole_examples : IsSize (codes "1G") 0x40000000 × IsSize (codes "0x10k") 16384 × IsNumber (codes "017") 15 × IsNumber (codes "0xff") 255
-whole_examples = (refl, refl, refl, refl)
-
--- an address has 16 digits in lower case, a decimal stands at the right end of its places, or beyond them
+-- an address has 16 lower-case digits; a decimal is padded on the left, and never cut
 hex_examples : (hex_digits 0x9FC00 ≡ codes "9fc00") × (hex_text 0 ≡ codes "0x0000000000000000")
     × (hex_text 0xFEC00000 ≡ codes "0x00000000fec00000")
 unfolding digits
@@ -119,19 +79,7 @@ decimal_examples : (padded_decimal 6 640 ≡ codes "   640") × (padded_decimal 
 unfolding digits
 decimal_examples = (refl, refl)
 
--- one step after another, up to the first that fails or has no value
-option_steps_examples : (option.◌>>=◌ (Some 5) (λ n. Some (n + 1)) ≡ Some 6) × (option.◌>>=◌ None (λ n. Some (n + 1)) ≡ None)
-option_steps_examples = (refl, refl)
-
-result_steps_examples : ((r : Result ℕ ℕ) → (◌>>=◌ {A = ℕ} (Ok 5) (λ n. r)) ≡ r)
-    × ((step : ℕ → Result ℕ ℕ) → (◌>>=◌ {A = ℕ} (Err 7) step) ≡ Err 7)
-result_steps_examples = ((λ r. refl), (λ step. refl))
-
-error_examples : (with_error {A = ℕ} {E = ℕ} {F = ℕ} (λ n. n + 1) (Err 7) ≡ Err 8)
-    × (with_error {A = ℕ} {E = ℕ} {F = ℕ} (λ n. n + 1) (Ok 7) ≡ Ok 7)
-error_examples = (refl, refl)
-
--- the definition's value and its error are answers, and no other value is; error 9 may come whatever it says
+-- the definition's value and error are allowed and no others, except error 9, which is always allowed
 answer_examples : Answers {A = ℕ} {B = ℕ} {E = ℕ} 9 (λ n. n + 1) (Ok 4) (Ok 5)
     × (¬ Answers {A = ℕ} {B = ℕ} {E = ℕ} 9 (λ n. n + 1) (Ok 5) (Ok 5))
     × Answers {A = ℕ} {B = ℕ} {E = ℕ} 9 (λ n. n) (Err 9) (Ok 5)
@@ -149,17 +97,17 @@ width_examples : (reach_of Bits46 ≡ 70368744177664) × (reach_of Bits52 ≡ 45
     × (root_table_of Bits46 ≡ 2 ^ 19 / 256 * 8) × (root_table_of Bits52 ≡ 2 ^ 25 / 256 * 8)
 width_examples = (refl, refl, refl, refl)
 
--- a frame is 4,096 bytes (`PAGE_SHIFT` 12); the zones end at 16 MiB and at 4 GiB (`MAX_DMA_PFN`, `MAX_DMA32_PFN`)
+-- a frame is 4,096 bytes (`PAGE_SHIFT` 12); the zones end at 16 MiB (`MAX_DMA_PFN`) and at 4 GiB (`MAX_DMA32_PFN`)
 frame_numbers : (FRAME_SIZE ≡ 2 ^ 12) × (MAX_DMA_FRAME * FRAME_SIZE ≡ 16 * 1048576) × (MAX_DMA32_FRAME * FRAME_SIZE ≡ 2 ^ 32)
 frame_numbers = (refl, refl, refl)
 
--- of a range from the middle of a frame to the middle of another the frames between; of one frame all, and less than a frame has none
+-- the whole frames of a range that begins and ends inside a frame; of one frame; of less than a frame
 whole_frames_examples : (frames_within (record { base = 0x0FFF; size = 0x2002 }) ≡ Some (record { base = 0x1000; size = 0x2000 }))
     × (frames_within second_page ≡ Some second_page) × (frames_within (record { base = 0x1001; size = 0x1FFE }) ≡ None)
     × (range_between 5 5 ≡ None)
 whole_frames_examples = (refl, refl, refl, refl)
 
--- a number in each base; sizes with a suffix and without, where `E` is a digit in base 16; and too large a number
+-- a number in each base; sizes with and without a suffix; `E` is a digit in base 16; 16E is too large
 spelled_numbers : SpellsIn 16 (codes "0x1E") 30 × SpellsIn 8 (codes "010") 8 × SpellsIn 10 (codes "640") 640 × SpellsNumber (codes "0") 0
 spelled_numbers = (
   in_hexadecimal 120 49 (codes "E") (inl refl) (omega arith, (omega arith, tt)),

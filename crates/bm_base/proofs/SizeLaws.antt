@@ -1,4 +1,4 @@
--- Laws of the numbers in texts.
+-- How numbers and sizes are read from texts.
 use Rattle.std.proofs.Common.{◌≡◌, ℕ, ◌+◌, ◌*◌, ◌^◌, ◌<◌, ◌≤◌, ◌==◌, ◌&&◌, ◌||◌, Bool, true, false, nat_lt, if◌then◌else◌, List, [], ◌∷◌, ◌++◌, length, drop, length-drop, get_or, zero, suc, refl, ap, sym, ◌∙◌, Ok, Err, arith}
 use Rattle.bm_base.specs.declared.size.NumFault.TheVariants.{NoDigits}
 use Rattle.std.proofs.Math.Bool.{and-false}
@@ -13,7 +13,7 @@ use Rattle.std.specs.Fmt.{decimal}
 use Rattle.std.specs.Str.Parse.{digits_value, digits_value_after, AllDigits}
 use Rattle.bm_base.specs.Size.{front_digits, front_digits_value, is_hexadecimal, begins_with_zero, begins_with_digit, prefix_of, radix_of, number_value, number_end, suffix_of, with_suffix, number_of, size_of}
 
--- further digits make a number no smaller, in any base above 0
+-- appending digits never makes a number smaller, in any base above 0
 pub digits_value-grows : (radix n : ℕ) (ds : List ℕ) → 1 ≤ radix → n ≤ digits_value_after radix n ds
 digits_value-grows radix n [] base = omega arith
 digits_value-grows radix n (d ∷ ds) base =
@@ -22,25 +22,25 @@ digits_value-grows radix n (d ∷ ds) base =
     let here : n * 1 ≤ n * radix = mul-le-mul_left n base in
     omega arith
 
--- a byte that is no digit in base 36, so no digit and no letter, is none in a smaller base
+-- a byte that isn't a digit in base 36 (neither a digit nor a letter) isn't one in a smaller base
 pub is_digit-mark : (mark radix : ℕ) → radix ≤ 36 → is_digit mark 36 ≡ false → is_digit mark radix ≡ false
 is_digit-mark mark radix small is = general (digit_value mark) is
   where
     general : (d : ℕ) → nat_lt d 36 ≡ false → nat_lt d radix ≡ false
     general d is = grind (arith, nat_tests)
 
--- and it isn't a byte that is one
+-- such a byte differs from every byte that is a digit
 pub mark-other : (mark b : ℕ) → is_digit mark 36 ≡ false → is_digit b 36 ≡ true → mark == b ≡ false
 mark-other mark b is digit = ne_eqb mark b (λ same. true≢false (sym digit ∙ (rw same at is)))
 
--- the digits at the front end before such a byte
+-- the digits at the start end before such a byte
 pub front_digits-mark : (radix : ℕ) (text : List ℕ) (mark : ℕ) (rest : List ℕ)
     → is_digit mark radix ≡ false → front_digits radix (text ++ (mark ∷ rest)) ≡ front_digits radix text
 front_digits-mark radix [] mark rest is = rw is refl
 front_digits-mark radix (b ∷ bs) mark rest is =
     ap (λ (ds : List ℕ). if is_digit b radix then b ∷ ds else []) (front_digits-mark radix bs mark rest is)
 
--- the front of the text says what kind of number it is
+-- the first three bytes decide the base
 pub begins_with_digit-mark : (text : List ℕ) (mark : ℕ) (rest : List ℕ)
     → is_digit mark 36 ≡ false → begins_with_digit (text ++ (mark ∷ rest)) ≡ begins_with_digit text
 begins_with_digit-mark [] mark rest is = is_digit-mark mark 10 (omega arith) is
@@ -79,7 +79,7 @@ radix_of-le text =
     cond_both (is_hexadecimal text) 16 (if begins_with_zero text then 8 else 10) (λ r. r ≤ 36) (λ _. omega arith)
     (λ _. cond_both (begins_with_zero text) 8 10 (λ r. r ≤ 36) (λ _. omega arith) (λ _. omega arith))
 
--- the prefix and the digits lie in the text
+-- the prefix and the digits lie within the text
 pub prefix_of-le : (text : List ℕ) → prefix_of text ≤ length text
 prefix_of-le [] = omega arith
 prefix_of-le (z ∷ []) = omega arith
@@ -144,7 +144,7 @@ suffix_of-mark [] mark rest is =
     refl
 suffix_of-mark (b ∷ bs) mark rest is = refl
 
--- a number, or a size, is read as far as the next byte that is no digit and no letter
+-- a number or size ends before the next byte that is neither a digit nor a letter
 pub number_of-mark : (text rest : List ℕ) (mark : ℕ)
     → is_digit mark 36 ≡ false → number_of (text ++ (mark ∷ rest)) ≡ number_of text
 number_of-mark text rest mark is =
@@ -162,7 +162,7 @@ size_of-mark text rest mark is =
     )
     refl
 
--- a text of decimal digits is its own front
+-- all of a text of decimal digits is its digits at the start
 pub front_digits-all : (ds : List ℕ) → AllDigits 10 ds → front_digits 10 ds ≡ ds
 front_digits-all [] all = refl
 front_digits-all (d ∷ ds) all =
@@ -174,7 +174,7 @@ is_hexadecimal-other d [] is = refl
 is_hexadecimal-other d (x ∷ []) is = refl
 is_hexadecimal-other d (x ∷ e ∷ ds) is = rw is refl
 
--- decimal digits of which the first isn't `0` are read as the number that they write
+-- decimal digits that don't begin with `0` are read as the number that they write
 pub size_of-digits : (d : ℕ) (ds : List ℕ) → AllDigits 10 (d ∷ ds) → 48 < d → digits_value 10 (d ∷ ds) < 2 ^ 64
     → size_of (d ∷ ds) ≡ Ok (digits_value 10 (d ∷ ds), length (d ∷ ds))
 size_of-digits d ds all above small =
@@ -201,7 +201,7 @@ size_of-digits d ds all above small =
     spelled begins radix prefix text is base none whole small =
         rw (is, base, none, whole, zero-add (length text), drop-length text) (sized (digits_value 10 text) (length text) small)
 
--- a number is read from what `{}` writes of it
+-- a number is read back from what `{}` prints
 pub size_of-decimal : (n : ℕ) → n < 2 ^ 64 → size_of (decimal n) ≡ Ok (n, length (decimal n))
 size_of-decimal zero small = rw (decimal_digit 0 (omega arith)) refl
 size_of-decimal (suc n) small =

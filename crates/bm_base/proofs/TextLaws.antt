@@ -1,4 +1,4 @@
--- Laws of the text of numbers: what the bodies write digit by digit is what `digits` says.
+-- The digits that the code writes one by one are those of `digits`.
 use Rattle.std.proofs.Common.{◌≡◌, ℕ, zero, suc, ◌+◌, ◌-◌, ◌/◌, ◌%◌, ◌^◌, ◌<◌, ◌≤◌, false, nat_eq, List, [], ◌∷◌, ◌++◌, length, take, drop, set, min, replicate, codes, refl, ap, sym, ◌∙◌, append-nil, arith, ⊎_elim}
 use Rattle.std.proofs.lemmas.Bool.{cases_lt}
 use Rattle.std.proofs.lemmas.Bool.Decides.{nat_tests}
@@ -6,11 +6,11 @@ use Rattle.std.proofs.lemmas.List.{drop-set, take-append-drop, drop-append-le, t
 use Rattle.std.specs.Fmt.{digits, digits_onto, digit_glyph, decimal}
 use Rattle.bm_base.specs.Text.{hex_text, padded_decimal}
 
--- digits, with zeros in front up to the width
+-- digits, padded with zeros on the left to the width
 abbrev pub padded : ℕ → List ℕ → List ℕ
 padded w ds = replicate (w - length ds) 48 ++ ds
 
--- the last k digits of n, followed by rest
+-- the last k hexadecimal digits of n, then the rest
 unfoldable pub hex_onto : ℕ → ℕ → List ℕ → List ℕ
 hex_onto zero n rest = rest
 hex_onto (suc k) n rest = hex_onto k (n / 16) (digit_glyph false (n % 16) ∷ rest)
@@ -19,18 +19,18 @@ hex_none : (n : ℕ) (rest : List ℕ) → hex_onto 0 n rest ≡ rest
 unfolding hex_onto
 hex_none n rest = refl
 
--- one zero more
+-- moving a zero from the rest to the padding changes nothing
 zeros_more : (k : ℕ) (rest : List ℕ) → replicate k 48 ++ (48 ∷ rest) ≡ replicate (suc k) 48 ++ rest
 zeros_more zero rest = refl
 zeros_more (suc k) rest = ap (λ xs. 48 ∷ xs) (zeros_more k rest)
 
--- the digits of 0 are zeros
+-- k digits of 0 are k zeros
 hex_zeros : (k : ℕ) (rest : List ℕ) → hex_onto k 0 rest ≡ replicate k 48 ++ rest
 unfolding hex_onto
 hex_zeros zero rest = refl
 hex_zeros (suc k) rest = hex_zeros k (48 ∷ rest) ∙ zeros_more k rest
 
--- a number below 16 has one digit, and zeros before it
+-- a number below 16 is zeros and one digit
 one_digit : (k j n : ℕ) (rest : List ℕ) → n < 16
     → hex_onto (suc k) n rest ≡ padded (suc k + length rest) (digits_onto (suc j) 16 false n rest)
 unfolding hex_onto
@@ -39,7 +39,7 @@ one_digit k j n rest small =
     let width : suc k + length rest - length (digit_glyph false (n % 16) ∷ rest) ≡ k = omega arith in
     rw (none, width) (hex_zeros k (digit_glyph false (n % 16) ∷ rest))
 
--- the last k + 1 digits of a number that has no more are its digits with zeros before them
+-- the last k + 1 digits of a number below 16^(k+1) are its digits, padded with zeros
 padded_onto : (k j n : ℕ) (rest : List ℕ) → n < 16 ^ (suc k) → k ≤ j
     → hex_onto (suc k) n rest ≡ padded (suc k + length rest) (digits_onto (suc j) 16 false n rest)
 unfolding hex_onto
@@ -53,12 +53,12 @@ padded_onto (suc k) (suc j) n rest small fuel =
     rw (some, width) (padded_onto k j (n / 16) (digit_glyph false (n % 16) ∷ rest) (omega arith) (omega arith)))
     (cases_lt n 16)
 
--- the text of an address is `0x` and its last 16 digits
+-- the text of an address is `0x` and the last 16 digits of the address
 pub hex_sixteen : (n : ℕ) → n < 2 ^ 64 → codes "0x" ++ hex_onto 16 n [] ≡ hex_text n
 unfolding digits
 hex_sixteen n small = ap (λ ds. codes "0x" ++ ds) (padded_onto 15 63 n [] (omega arith) (omega arith))
 
--- one digit more, from the back
+-- writing the next digit to the left keeps what is to be written in all
 pub hex_step : (text : List ℕ) (i left : ℕ) → i < 16 → length text ≡ 18
     → hex_onto (16 - (i + 1)) (left / 16) (drop (18 - (i + 1)) (set text (17 - i) (digit_glyph false (left % 16))))
     ≡ hex_onto (16 - i) left (drop (18 - i) text)
@@ -70,14 +70,14 @@ hex_step text i left below long =
     let inside : 17 - i < length text = omega arith in
     rw (place, count, drop-set text (17 - i) (digit_glyph false (left % 16)) inside, behind) refl
 
--- after all digits the text is the digits and what was in front of them
+-- after 16 steps the text is `0x` and all digits
 pub hex_end : (text : List ℕ) (i left n : ℕ) → i ≡ 16 → n < 2 ^ 64 → take 2 text ≡ codes "0x"
     → hex_onto (16 - i) left (drop (18 - i) text) ≡ hex_onto 16 n [] → text ≡ hex_text n
 hex_end text i left n end small head digits =
     let ready : drop 2 text ≡ hex_onto 16 n [] = sym (hex_none left (drop 2 text)) ∙ rw end at digits in
     sym (take-append-drop 2 text) ∙ rw (head, ready) (hex_sixteen n small)
 
--- a number at the right end of 20 spaces, cut to the width or to its first digit
+-- a number at the right end of 20 spaces, cut to the width or to its first digit, is the padded number
 pub right_aligned : (width start n : ℕ) (text : List ℕ) → width ≤ 20 → start + length (decimal n) ≡ 20
     → drop start text ≡ decimal n ++ [] → take start text ≡ take start (replicate 20 32)
     → drop (min start (20 - width)) text ≡ padded_decimal width n

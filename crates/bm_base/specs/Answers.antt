@@ -1,8 +1,8 @@
--- What a call may answer that takes memory: what its definition says, or that the program's own memory ran out.
+-- The result of a call that allocates: that of its definition, or out of memory.
 use Rattle.std.specs.Prelude.{◌≡◌, ◌≢◌, Result, Ok, Err}
 
--- the answer is the definition's, seen by `view`, and so is each error but `memory`, which may come at any time.
--- `said` is what the definition says
+-- a call that returns the third argument returns what the definition says, `expected`: a value is compared as `view` shows it, and the
+-- error `memory` is allowed whatever the definition says
 abbrev pub Answers : {A B E : Type 0} → E → (A → B) → Result A E → Result B E → Type 0
-Answers memory view (Ok x) said = said ≡ Ok (view x)
-Answers memory view (Err error) said = error ≢ memory → said ≡ Err error
+Answers memory view (Ok x) expected = expected ≡ Ok (view x)
+Answers memory view (Err error) expected = error ≢ memory → expected ≡ Err error

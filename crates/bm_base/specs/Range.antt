@@ -1,12 +1,12 @@
--- Ranges of addresses, as contracts see them.
+-- Address ranges, as contracts see them.
 use Rattle.std.specs.Prelude.{ℕ, ◌+◌, Bool, ◌&&◌, nat_le, nat_lt, IsTrue}
 
--- a range of addresses: its first address and its number of bytes
+-- what contracts see of a `Range`: its first address and its size in bytes
 pub record RangeView : Type 0 where
   pub base : ℕ
   pub size : ℕ
 
--- the address behind the last byte
+-- the address right after the last byte
 abbrev pub end_of : RangeView → ℕ
 end_of r = r.base + r.size
 

@@ -1,54 +1,52 @@
--- Numbers and sizes in texts, as the kernel reads them: the digits of `_parse_integer_fixup_radix` and
--- `simple_strtoull` (lib/kstrtox.c, lib/vsprintf.c), the suffixes of `memparse` (lib/cmdline.c).
--- The values are whole numbers, which don't wrap; what passes 2^64 - 1 is a fault.
+-- Numbers and sizes in texts, as the kernel reads them: digits as `_parse_integer_fixup_radix` (lib/kstrtox.c) and `simple_strtoull`
+-- (lib/vsprintf.c) do, suffixes as `memparse` (lib/cmdline.c) does. Values don't wrap: those above 2^64 - 1 are faults.
 use Rattle.std.specs.Prelude.{◌≡◌, ℕ, ◌+◌, ◌*◌, ◌^◌, ◌==◌, Bool, false, ◌&&◌, ◌||◌, nat_lt, if◌then◌else◌, List, [], ◌∷◌, length, drop, Result, Ok, Err}
 use Rattle.std.specs.Char.{is_digit}
 use Rattle.std.specs.Str.Parse.{digits_value}
 use Rattle.bm_base.specs.declared.size.NumFault.{NumFault}
 use Rattle.bm_base.specs.declared.size.NumFault.TheVariants.{NoDigits, TooLarge}
 
--- the digits at the front, as many as there are
+-- all digits at the start of the text
 abbrev pub front_digits : ℕ → List ℕ → List ℕ
 front_digits radix [] = []
 front_digits radix (b ∷ bs) = if is_digit b radix then b ∷ front_digits radix bs else []
 
--- what they write in that base
+-- the value of these digits in the base
 abbrev pub front_digits_value : ℕ → List ℕ → ℕ
 front_digits_value radix text = digits_value radix (front_digits radix text)
 
--- `0x` or `0X` before a hexadecimal digit begins a hexadecimal number
+-- whether the text begins a hexadecimal number: `0x` or `0X` and a hexadecimal digit
 abbrev pub is_hexadecimal : List ℕ → Bool
 is_hexadecimal [] = false
 is_hexadecimal (z ∷ []) = false
 is_hexadecimal (z ∷ x ∷ []) = false
 is_hexadecimal (z ∷ x ∷ d ∷ rest) = (z == 48) && ((x == 120) || (x == 88)) && is_digit d 16
 
--- the text begins with `0`
+-- whether the text begins with `0`
 abbrev pub begins_with_zero : List ℕ → Bool
 begins_with_zero [] = false
 begins_with_zero (b ∷ bs) = b == 48
 
--- the text begins with a decimal digit
+-- whether the text begins with a decimal digit
 abbrev pub begins_with_digit : List ℕ → Bool
 begins_with_digit [] = false
 begins_with_digit (b ∷ bs) = is_digit b 10
 
--- the bytes before the digits, and the base: a first `0` that begins no hexadecimal number is an
--- octal digit
+-- the number of bytes before the digits, and the base. The `0` of an octal number counts as a digit
 abbrev pub prefix_of : List ℕ → ℕ
 prefix_of text = if is_hexadecimal text then 2 else 0
 
 abbrev pub radix_of : List ℕ → ℕ
 radix_of text = if is_hexadecimal text then 16 else (if begins_with_zero text then 8 else 10)
 
--- the number at the front, and the number of bytes that it takes
+-- the number at the start, and its length in bytes
 abbrev pub number_value : List ℕ → ℕ
 number_value text = front_digits_value (radix_of text) (drop (prefix_of text) text)
 
 abbrev pub number_end : List ℕ → ℕ
 number_end text = prefix_of text + length (front_digits (radix_of text) (drop (prefix_of text) text))
 
--- the factor that a suffix stands for, in either case, and the one byte that it takes
+-- the factor of a suffix, in upper or lower case, and its length, 1; for any other byte 1 and 0
 abbrev pub suffix_at : ℕ → ℕ × ℕ
 suffix_at b =
     if (b == 75) || (b == 107) then (2 ^ 10, 1) else
@@ -58,23 +56,23 @@ suffix_at b =
     (if (b == 80) || (b == 112) then (2 ^ 50, 1) else
     (if (b == 69) || (b == 101) then (2 ^ 60, 1) else (1, 0))))))
 
--- the suffix at the front of what follows the number: K, M, G, T, P or E, or none
+-- the same for the text that follows the number: K, M, G, T, P or E at its start, or no suffix
 abbrev pub suffix_of : List ℕ → ℕ × ℕ
 suffix_of [] = (1, 0)
 suffix_of (b ∷ bs) = suffix_at b
 
--- the value and the bytes that it took, where the value is a u64
+-- the value and its length in bytes, or TooLarge if the value is no u64
 abbrev pub fit_in_u64 : ℕ → ℕ → Result (ℕ × ℕ) NumFault
 fit_in_u64 value taken = if nat_lt value (2 ^ 64) then Ok (value, taken) else Err TooLarge
 
 abbrev pub with_suffix : ℕ → ℕ → ℕ × ℕ → Result (ℕ × ℕ) NumFault
 with_suffix value end suffix = fit_in_u64 (value * suffix.0) (end + suffix.1)
 
--- the number at the front of the text, without a suffix
+-- the number at the start of the text, without a suffix
 abbrev pub number_of : List ℕ → Result (ℕ × ℕ) NumFault
 number_of text = if begins_with_digit text then fit_in_u64 (number_value text) (number_end text) else Err NoDigits
 
--- the size at the front of the text: the number with the one suffix that may follow
+-- the size at the start of the text: a number and at most one suffix
 abbrev pub size_of : List ℕ → Result (ℕ × ℕ) NumFault
 size_of text =
     if begins_with_digit text

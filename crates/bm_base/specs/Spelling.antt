@@ -1,24 +1,24 @@
--- How a number and a size are spelled, base by base, in the words of the grammar (`memparse` of lib/cmdline.c).
+-- The grammar of numbers and sizes (`memparse` of lib/cmdline.c).
 use Rattle.std.specs.Prelude.{◌≡◌, ◌≢◌, ◌⊎◌, ℕ, ◌*◌, ◌^◌, ◌<◌, false, List, [], ◌∷◌, ◌++◌, codes}
 use Rattle.std.specs.Char.{is_digit}
 use Rattle.std.specs.Str.Parse.{AllDigits, digits_value}
 use Rattle.bm_base.specs.Size.{suffix_at}
 
--- a number in that base: `0x` or `0X` and hexadecimal digits, one at least; `0` and octal digits, any number of them; or decimal digits,
--- of which the first isn't `0`
+-- the text spells the number in the base: `0x` or `0X` and at least one hexadecimal digit; `0` and any number of octal digits; or
+-- decimal digits that don't begin with `0`
 pub data SpellsIn : ℕ → List ℕ → ℕ → Type 0 where
   hexadecimal : (x d : ℕ) (ds : List ℕ) → (x ∷ [] ≡ codes "x") ⊎ (x ∷ [] ≡ codes "X") → AllDigits 16 (d ∷ ds)
       → SpellsIn 16 (codes "0" ++ (x ∷ d ∷ ds)) (digits_value 16 (d ∷ ds))
   octal : (ds : List ℕ) → AllDigits 8 ds → SpellsIn 8 (codes "0" ++ ds) (digits_value 8 ds)
   decimal : (d : ℕ) (ds : List ℕ) → AllDigits 10 (d ∷ ds) → d ∷ [] ≢ codes "0" → SpellsIn 10 (d ∷ ds) (digits_value 10 (d ∷ ds))
 
--- a number in one of the bases, at most 2^64 - 1
+-- the text spells the number in one of the bases, and the number is at most 2^64 - 1
 pub record SpellsNumber (text : List ℕ) (n : ℕ) : Type 0 where
   pub radix : ℕ
   pub number : SpellsIn radix text n
   pub fits : n < 2 ^ 64
 
--- a size: a number, or a number with a suffix, which is no digit of the number's base (`E` is one in base 16)
+-- the text spells the size: a number, or a number and a suffix that isn't a digit of its base (`E` is a digit in base 16)
 pub data SpellsSize : List ℕ → ℕ → Type 0 where
   number_alone : (text : List ℕ) (n : ℕ) → SpellsNumber text n → SpellsSize text n
   number_with_suffix : (radix n factor b : ℕ) (text : List ℕ) → SpellsIn radix text n → suffix_at b ≡ (factor, 1) → is_digit b radix ≡ false

@@ -1,27 +1,25 @@
-//! Ranges of addresses, frames, want of memory, numbers in texts, and numbers in reports.
+//! Address ranges, frames, zones, numbers in text, and the out-of-memory error.
 //!
-//! Everything in the boot speaks of ranges of physical addresses. A [`Range`] is a base and a size
-//! in bytes whose sum is at most 2^64 - 1, as `struct range` and the firmware's entries have them;
-//! contracts see it as a `RangeView`, a base and a size, wherever it stands.
+//! A [`Range`] is a base and a size in bytes. Their sum is at most 2^64 - 1, so its end never
+//! wraps. Contracts see a `Range` as a `RangeView` (`specs/Range.antt`).
 //!
-//! Memory is handed out by frames of [`FRAME_SIZE`] bytes (`specs/Frames.antt`); that something holds of
-//! each address of a range, or of each of several frames, is said by `each_in` and `each_from`
-//! (`specs/Each.antt`).
+//! Memory is handed out in frames of [`FRAME_SIZE`] bytes (`specs/Frames.antt`). [`round_up`] and
+//! [`round_down`] round to multiples of a frame or of any alignment. Each frame lies in one
+//! [`Zone`]. A [`Width`] gives the limit of physical addresses: 46 or 52 bits.
 //!
-//! [`Memory`] is the one error that may come without any cause in the input: the program's own
-//! memory ran out. Each error type of the layers above has it as a variant, and `Answers`
-//! (`specs/Answers.antt`) says of a call that its answer is the definition's, or that one.
+//! [`Memory`] means that the program itself ran out of memory. It is the only error that can
+//! occur for every input. Each error type of the crates above has it as a variant. A contract
+//! with `Answers` (`specs/Answers.antt`) promises the result of a definition, or that error.
 //!
-//! The `put_` calls append numbers and text to a report, in the forms of the kernel's log:
-//! `0x` with 16 digits for an address, right-aligned decimals in tables. They take no memory but
-//! what `out` itself grows by, want it only where its room is too small (`specs/PutsText.antt`), and
-//! leave it as it was when that fails.
+//! The `put_` functions append text and numbers to a report in the forms of the kernel's log.
+//! They fail only if `out` has too little room and can't grow; `out` is then unchanged
+//! (`specs/PutsText.antt`).
 //!
-//! [`read_size`] reads the numbers of every text input, as the kernel's `memparse` does; its values
-//! don't wrap, and what passes 2^64 - 1 is a [`NumFault`].
+//! [`read_size`] and [`read_number`] read the numbers of every text input, as the kernel's
+//! `memparse` does. Values above 2^64 - 1 don't wrap: they are a [`NumFault`].
 //!
-//! A frame is [`FRAME_SIZE`] bytes and lies in one [`Zone`]; [`round_up`] and [`round_down`] go to multiples, as
-//! those of frames and of an alignment. How far physical addresses go is a [`Width`].
+//! A law is an empty function whose contract is a proven fact. In contracts, a name means the
+//! definition in `specs/`, also if a function has the same name.
 #![tactic(auto)]
 
 mod memory;

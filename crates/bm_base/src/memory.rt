@@ -1,11 +1,10 @@
-//! Want of memory: the one answer that needs no cause in the input. It stands at the bottom, since each error type
-//! above has it as a variant.
+//! The out-of-memory error, and a push that can't fail.
 
 ghost use Rattle.std.specs.Prelude.{◌≡◌, ◌+◌, ◌<◌, ◌≤◌, [], ◌∷◌, ◌++◌, vec_len, vec_capacity};
 
 use std::alloc::{AllocError, AllocFailed};
 
-/// The program's own memory ran out. No contract says when this comes.
+/// The program itself ran out of memory. No contract says when this happens.
 #[derive(Clone, Copy, Debug, PartialEq, Eq)]
 pub struct Memory;
 
@@ -21,7 +20,7 @@ impl<T: Drop> From<AllocFailed<T>> for Memory {
     }
 }
 
-/// Appends the item to a list whose room isn't used up, so no memory is taken.
+/// Appends an item to a list that has room for it, without allocating.
 pub fn push_within_capacity<T: Drop>(items: &mut Vec<T>, item: T)
     requires room { vec_len items.old < vec_capacity items.old }
     ensures items { items.new.items ≡ items.old.items ++ item ∷ [] }

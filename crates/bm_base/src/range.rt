@@ -1,18 +1,18 @@
-//! Ranges of physical addresses, as the firmware's entries and `struct range` have them. That base and size add up to
-//! a `u64` is kept by the type, so that no layer above has to look whether an end wraps.
+//! Ranges of physical addresses, frames, and rounding to multiples.
 
-ghost use Rattle.std.specs.Prelude.{◌≡◌, ℕ, ◌+◌, ◌-◌, ◌%◌, ◌^◌, ◌<◌, ◌↔◌, SomeIff, IsTrue};
+ghost use Rattle.std.specs.Prelude.{◌≡◌, ◌+◌, ◌-◌, ◌%◌, ◌^◌, ◌<◌, ◌↔◌, SomeIff, IsTrue};
 ghost use Rattle.std.specs.Int.{next_multiple_of};
 ghost use Rattle.bm_base.specs.Range.{covers, end_of, Meet};
 ghost use Rattle.bm_base.specs.Frames.{frames_within};
 
 use std::marker::Model;
 
-/// The bytes of a frame (`PAGE_SIZE` of x86-64). Frame n begins at address n times this (`PFN_PHYS`).
+/// The bytes of a frame (`PAGE_SIZE` of x86-64). Frame n begins at address n times this
+/// (`PFN_PHYS`).
 pub const FRAME_SIZE: u64 = 4096;
 
-/// The addresses from `base` on, `size` bytes of them. The sum of both is at most 2^64 - 1, so the
-/// address behind the last byte is a `u64` too. A range of size 0 holds no address.
+/// A range of `size` bytes that begins at address `base`. The sum of both is at most 2^64 - 1, so
+/// the end is a `u64` too. A range of size 0 has no address.
 #[derive(Clone, Copy, Debug, PartialEq, Eq)]
 pub struct Range {
     /// The first address, in bytes.
@@ -35,7 +35,8 @@ impl Model for Range {
 }
 
 impl Range {
-    /// The range of `size` bytes from `base` on; `None` exactly where their sum exceeds 2^64 - 1.
+    /// Returns the range of `size` bytes that begins at `base`, or `None` if their sum exceeds
+    /// 2^64 - 1.
     pub fn new(base: u64, size: u64) -> Option<Range>
         ensures { SomeIff result (base + size < 2 ^ 64) (record { base = base; size = size }) }
     {
@@ -43,7 +44,7 @@ impl Range {
         Some(Range { base, size })
     }
 
-    /// The range from `from` on, up to `until` and without it; `None` exactly where it has no address.
+    /// Returns the range from `from` to `until`, without `until`, or `None` if that is empty.
     pub fn between(from: u64, until: u64) -> Option<Range>
         ensures { SomeIff result (from < until) (record { base = from; size = until - from }) }
     {
@@ -56,7 +57,7 @@ impl Range {
         })
     }
 
-    /// The address behind the last byte.
+    /// Returns the address right after the last byte.
     pub fn end(&self) -> u64
         ensures value { result ≡ end_of self.now }
         ensures small { end_of self.now < 2 ^ 64 }
@@ -64,15 +65,15 @@ impl Range {
         self.base + self.size
     }
 
-    /// Whether the address lies in the range.
+    /// Returns whether the address lies in the range.
     pub fn contains(&self, address: u64) -> bool
         ensures { result ≡ covers self.now address }
     {
         self.base <= address && address < self.end()
     }
 
-    /// The whole frames of the range: its start is rounded up to a frame and its end down (`PFN_UP`, `PFN_DOWN`). `None` exactly
-    /// where it has none.
+    /// Returns the whole frames of the range, or `None` if there are none. The start is rounded
+    /// up to a frame (`PFN_UP`), the end down (`PFN_DOWN`).
     pub fn whole_frames(&self) -> Option<Range>
         ensures { result ≡ frames_within self.now }
     {
@@ -80,18 +81,19 @@ impl Range {
         Range::between(from, round_down(self.end(), FRAME_SIZE))
     }
 
-    /// Whether some address lies in both ranges.
+    /// Returns whether some address lies in both ranges.
     pub fn overlaps(&self, other: &Range) -> bool
         ensures { IsTrue result ↔ Meet self.now other.now }
     {
         let first = self.base.max(other.base);
-        let behind = self.end().min(other.end());
-        first < behind
+        let end = self.end().min(other.end());
+        first < end
     }
 }
 
-/// The least multiple of `to` at or above `x`; `None` exactly where it exceeds 2^64 - 1, at which the
-/// kernel's `round_up` (include/linux/math.h) wraps. `to` is above 0; the kernel's is a power of two.
+/// Returns the least multiple of `to` at or above `x`, or `None` if it exceeds 2^64 - 1. `to`
+/// must be above 0. The kernel's `round_up` (include/linux/math.h) wraps instead and takes only
+/// powers of two.
 pub fn round_up(x: u64, to: u64) -> Option<u64>
     requires { 0 < to }
     ensures { SomeIff result (next_multiple_of x to < 2 ^ 64) (next_multiple_of x to) }
@@ -99,8 +101,8 @@ pub fn round_up(x: u64, to: u64) -> Option<u64>
     x.checked_next_multiple_of(to)
 }
 
-/// The greatest multiple of `to` at or below `x` (`round_down` of include/linux/math.h). `to` is above 0;
-/// the kernel's is a power of two.
+/// Returns the greatest multiple of `to` at or below `x`. `to` must be above 0. The kernel's
+/// `round_down` (include/linux/math.h) takes only powers of two.
 pub fn round_down(x: u64, to: u64) -> u64
     requires { 0 < to }
     ensures { result ≡ x - x % to }

@@ -1,26 +1,30 @@
-//! Numbers and sizes at the front of a text, as `memparse` (lib/cmdline.c) and `simple_strtoull` read them. The command
-//! line and the program's text inputs have them alike, so the one reader stands below both.
+//! Reads numbers and sizes from the start of a text, as `memparse` (lib/cmdline.c) and
+//! `simple_strtoull` (lib/vsprintf.c) do, without wrapping.
 
-ghost use Rattle.std.specs.Prelude.{◌≡◌, ◌↔◌, ℕ, Bool, false, List, ◌∷◌, ◌++◌, Ok, ◌+◌, ◌*◌, ◌^◌, ◌<◌, ◌≤◌, length, drop, IfSome, IfNone, IfOk, IsTrue, SomeIff};
+ghost use Rattle.std.specs.Prelude.{◌≡◌, ◌↔◌, ℕ, false, List, ◌∷◌, ◌++◌, Ok, ◌+◌, ◌*◌, ◌^◌, ◌<◌, ◌≤◌, length, drop, IfSome, IfNone, IfOk, IsTrue, SomeIff};
 ghost use Rattle.std.specs.Char.{is_digit};
 ghost use Rattle.std.specs.Fmt.{decimal};
 ghost use Rattle.bm_base.specs.Size.{front_digits, front_digits_value, is_hexadecimal, begins_with_digit, radix_of, suffix_of, number_of, size_of, IsSize, IsNumber};
 ghost use Rattle.bm_base.specs.Spelling.{SpellsNumber, SpellsSize};
 
-/// Why a text doesn't begin with a number.
+/// Why no number can be read from the start of a text.
 #[derive(Clone, Copy, Debug, PartialEq, Eq)]
 pub enum NumFault {
-    /// There is no first byte, or it isn't a decimal digit.
+    /// The text is empty, or its first byte isn't a decimal digit.
     NoDigits,
-    /// The value, with its suffix, exceeds 2^64 - 1.
+    /// The value, including the suffix, exceeds 2^64 - 1.
     TooLarge,
 }
 
-/// The size at the front of `text`, and the number of bytes that it took (`memparse`).
+/// Reads the size at the start of `text` and returns it with its length in bytes (`memparse`).
 ///
-/// A number is hexadecimal behind `0x` or `0X` where a hexadecimal digit follows, octal behind
-/// another first `0`, else decimal; it takes as many digits as there are. One suffix may follow in
-/// either case: K, M, G, T, P or E, for 2^10, 2^20 and so on to 2^60.
+/// `0x` or `0X` before a hexadecimal digit begins a hexadecimal number, any other leading `0` an
+/// octal one. Other numbers are decimal. All digits that follow are read. One suffix may follow, in
+/// upper or lower case: K, M, G, T, P or E, for 2^10, 2^20 and so on up to 2^60.
+///
+/// # Errors
+///
+/// `NoDigits` if the first byte isn't a decimal digit, `TooLarge` if the size exceeds 2^64 - 1.
 pub fn read_size(text: &[u8]) -> Result<(u64, usize), NumFault>
     ensures value { result ≡ size_of text.now }
     ensures bound { IfOk result (λ found. found.1 ≤ length text.now) }
@@ -31,8 +35,12 @@ pub fn read_size(text: &[u8]) -> Result<(u64, usize), NumFault>
     Ok((value, end + taken))
 }
 
-/// The number at the front of `text`, and the number of bytes that it took: as [`read_size`], but a
-/// suffix isn't looked at (`simple_strtoull`).
+/// Reads the number at the start of `text` and returns it with its length in bytes
+/// (`simple_strtoull`). This is [`read_size`] without a suffix.
+///
+/// # Errors
+///
+/// As for [`read_size`].
 pub fn read_number(text: &[u8]) -> Result<(u64, usize), NumFault>
     ensures value { result ≡ number_of text.now }
     ensures bound { IfOk result (λ found. found.1 ≤ length text.now) }
@@ -47,8 +55,8 @@ pub fn read_number(text: &[u8]) -> Result<(u64, usize), NumFault>
     Ok((value, prefix + count))
 }
 
-/// A law: what is spelled as a number is read as that number. A size goes as far as the next byte that
-/// is no digit and no letter, and the decimal digits of a `u64` are read as it.
+/// Law: a size or number ends before a byte that is neither a digit nor a letter, and the decimal
+/// digits of a `u64` are read as that `u64`.
 pub fn spelled_sizes_are_read()
     ensures size { (text rest : List ℕ) (mark : ℕ) → is_digit mark 36 ≡ false →
         size_of (text ++ (mark ∷ rest)) ≡ size_of text }
@@ -57,8 +65,8 @@ pub fn spelled_sizes_are_read()
     ensures decimal { (n : ℕ) → n < 2 ^ 64 → IsSize (decimal n) n }
 {}
 
-/// Law: a text is read as a size or a number exactly if it is spelled as one, base by base, with
-/// or without a suffix. What is read at the front of a text is spelled so up to there.
+/// Law: a text is read as a size or number exactly if the grammar of `specs/Spelling.antt` spells
+/// it. If only the start of a text is read, that start alone is read the same way.
 pub fn sizes_are_spelled()
     ensures size { (text : List ℕ) (n : ℕ) → IsSize text n ↔ SpellsSize text n }
     ensures number { (text : List ℕ) (n : ℕ) → IsNumber text n ↔ SpellsNumber text n }
@@ -70,7 +78,7 @@ pub fn sizes_are_spelled()
         × (length front ≡ end) }
 {}
 
-/// Whether the text begins with a decimal digit.
+/// Returns whether the text begins with a decimal digit.
 fn begins_with_a_digit(text: &[u8]) -> bool
     ensures { result ≡ begins_with_digit text.now }
 {
@@ -80,7 +88,7 @@ fn begins_with_a_digit(text: &[u8]) -> bool
     }
 }
 
-/// Whether the text begins with `0x` or `0X` and a hexadecimal digit.
+/// Returns whether the text begins with `0x` or `0X` and a hexadecimal digit.
 fn is_hex(text: &[u8]) -> bool
     ensures value { result ≡ is_hexadecimal text.now }
     ensures long { IsTrue result → 2 ≤ length text.now }
@@ -91,7 +99,7 @@ fn is_hex(text: &[u8]) -> bool
     }
 }
 
-/// The base of the number at the front: 16, 8 or 10.
+/// Returns the base of the number at the start: 16, 8 or 10.
 fn radix_at(text: &[u8]) -> u32
     ensures value { result ≡ radix_of text.now }
     ensures lower_bound { 2 ≤ result }
@@ -106,12 +114,14 @@ fn radix_at(text: &[u8]) -> u32
     }
 }
 
-/// The value of the digits at the front, and how many there are; `None` where it is no `u64`.
+/// Returns the value of the digits at the start, and how many there are, or `None` if the value
+/// exceeds 2^64 - 1.
 fn read_digits(text: &[u8], radix: u32) -> Option<(u64, usize)>
     requires lower_bound { 2 ≤ radix }
     requires upper_bound { radix ≤ 36 }
     ensures found { IfSome result (λ found.
-        (found.0 ≡ front_digits_value radix text.now) × (found.1 ≡ length (front_digits radix text.now))) }
+        (found.0 ≡ front_digits_value radix text.now) × (found.1
+        ≡ length (front_digits radix text.now))) }
     ensures bound { IfSome result (λ found. found.1 ≤ length text.now) }
     ensures none { IfNone result (2 ^ 64 ≤ front_digits_value radix text.now) }
 {
@@ -125,14 +135,14 @@ fn read_digits(text: &[u8], radix: u32) -> Option<(u64, usize)>
     Some((value, text.len()))
 }
 
-/// The number that one more digit makes of `value`; `None` exactly where it exceeds 2^64 - 1.
+/// Appends one digit to the number `value`; `None` if the result exceeds 2^64 - 1.
 fn with_digit(value: u64, radix: u64, digit: u64) -> Option<u64>
     ensures { SomeIff result (value * radix + digit < 2 ^ 64) (value * radix + digit) }
 {
     value.checked_mul(radix)?.checked_add(digit)
 }
 
-/// The factor of the suffix that stands at `end`, and the bytes that it takes.
+/// Returns the factor of the suffix at index `end`, and its length: 1 and 0 if there is none.
 fn read_suffix(text: &[u8], end: usize) -> (u64, usize)
     requires { end ≤ length text.now }
     ensures value { result ≡ suffix_of (drop end text.now) }

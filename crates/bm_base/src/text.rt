@@ -1,14 +1,20 @@
-//! Numbers and text in reports, in the forms of the kernel's log. They go to a buffer of the caller, which is as it
-//! was where it can't grow, so that a report is written whole or not at all. They want memory only where its room is too small.
+//! Appends text and numbers to a buffer, in the forms of the kernel's log.
+//!
+//! Each function fails only if the buffer has too little room and can't grow. The buffer is then
+//! unchanged.
 
-ghost use Rattle.std.specs.Prelude.{◌≡◌, ℕ, ◌<◌, ◌≤◌, OnErr, false};
+ghost use Rattle.std.specs.Prelude.{◌≡◌, ◌<◌, ◌≤◌, OnErr, false};
 ghost use Rattle.std.specs.Fmt.{digit_glyph};
 ghost use Rattle.bm_base.specs.PutsText.{PutsText};
 ghost use Rattle.bm_base.specs.Text.{hex_text, padded_decimal};
 
 use crate::memory::Memory;
 
-/// Appends the bytes of a text.
+/// Appends a text.
+///
+/// # Errors
+///
+/// `Memory` if `out` can't grow; `out` is unchanged.
 pub fn put_text(out: &mut Vec<u8>, text: &[u8]) -> Result<(), Memory>
     ensures puts { PutsText out.old out.new result text.now }
     ensures err { OnErr result (out.new.items ≡ out.old.items) }
@@ -17,7 +23,12 @@ pub fn put_text(out: &mut Vec<u8>, text: &[u8]) -> Result<(), Memory>
     Ok(())
 }
 
-/// Appends `0x` and 16 lower-case hexadecimal digits, as the kernel's log prints an address.
+/// Appends `0x` and 16 lower-case hexadecimal digits, as the kernel's log prints an address
+/// (`%#018llx`).
+///
+/// # Errors
+///
+/// `Memory` if `out` can't grow; `out` is unchanged.
 pub fn put_hex(out: &mut Vec<u8>, value: u64) -> Result<(), Memory>
     ensures puts { PutsText out.old out.new result (hex_text value) }
     ensures err { OnErr result (out.new.items ≡ out.old.items) }
@@ -31,8 +42,12 @@ pub fn put_hex(out: &mut Vec<u8>, value: u64) -> Result<(), Memory>
     put_text(out, &text)
 }
 
-/// Appends the decimal digits of a number, right-aligned with spaces in `width` places. `width` is
-/// at most 20, the length of the longest number; a longer number takes the places that it needs.
+/// Appends a decimal number, padded on the left with spaces to `width` characters (`%*llu`). A
+/// number with more digits isn't cut. `width` must be at most 20, the digits of 2^64 - 1.
+///
+/// # Errors
+///
+/// `Memory` if `out` can't grow; `out` is unchanged.
 pub fn put_dec(out: &mut Vec<u8>, value: u64, width: u32) -> Result<(), Memory>
     requires { width ≤ 20 }
     ensures puts { PutsText out.old out.new result (padded_decimal width value) }
