@@ -1,4 +1,4 @@
--- Values that agree are the same, and where an edit leaves nothing.
+-- Values that agree are equal; and an edit below an address leaves it empty.
 use Rattle.std.proofs.Common.{◌≡◌, ℕ, ◌+◌, ◌≤◌, Bool, true, false, Option, Some, None, refl, sym, ◌∙◌, ap, inl, inr, arith}
 use Rattle.std.proofs.lemmas.Bool.Decides.{nat_tests}
 use Rattle.std.proofs.lemmas.Bool.{cases_Bool}
@@ -6,12 +6,12 @@ use Rattle.bm_base.specs.Range.{RangeView, covers}
 use Rattle.address_runs.specs.Runs.{DecidesEquality}
 use Rattle.address_runs.specs.Edits.{cover_range, uncover_range, relabel_range, replace_in_range, agree, NothingFrom}
 
--- an address behind the range isn't in it
+-- an address at or above the end isn't in the range
 pub not_covered : (r : RangeView) (x : ℕ) → r.base + r.size ≤ x → covers r x ≡ false
 not_covered r x past = grind (arith, nat_tests)
 
 module _ {X : Type 0} where
-  -- what agrees is the same, and what is the same agrees
+  -- values agree exactly if they are equal
   pub agree-yes : (same : X → X → Bool) → DecidesEquality same → (a b : Option X) → agree same a b ≡ true → a ≡ b
   agree-yes same tells None None h = refl
   agree-yes same tells None (Some b) h = cc
@@ -25,7 +25,7 @@ module _ {X : Type 0} where
   pub agree-same : (same : X → X → Bool) → DecidesEquality same → (a b : Option X) → a ≡ b → agree same a b ≡ true
   agree-same same tells a b e = ap (λ o. agree same a o) (sym e) ∙ agree-self same tells a
 
-  -- where nothing stands from an address on, an edit whose range ends by it leaves nothing there
+  -- if nothing is carried at or above an address, nothing is after an edit of a range that ends there or below
   pub nothing-covered : (at : ℕ) (r : RangeView) (v : X) (f : ℕ → Option X) → r.base + r.size ≤ at → NothingFrom at f
       → NothingFrom at (cover_range r v f)
   nothing-covered at r v f ends none x le = let past : r.base + r.size ≤ x = omega arith in rw (not_covered r x past) (none x le)
@@ -34,7 +34,7 @@ module _ {X : Type 0} where
       → NothingFrom at (replace_in_range r v f)
   nothing-replaced at r v f ends none x le = let past : r.base + r.size ≤ x = omega arith in rw (not_covered r x past) (none x le)
 
-  -- and one that gives nothing to what carries nothing leaves none wherever it ends
+  -- an edit that adds nothing to empty addresses leaves them empty, wherever its range ends
   pub nothing-uncovered : (at : ℕ) (r : RangeView) (f : ℕ → Option X) → NothingFrom at f → NothingFrom at (uncover_range r f)
   nothing-uncovered at r f none x le =
       elim (cases_Bool (covers r x)) as (λ _. uncover_range r f x ≡ None) [ inl inside ↦ rw inside refl | inr outside ↦ rw outside (none x le) ]

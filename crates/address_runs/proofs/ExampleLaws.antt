@@ -1,42 +1,38 @@
--- Small lists of runs, computed.
+-- Worked examples: small lists of runs.
 use Rattle.std.proofs.Common.{◌≡◌, ℕ, ◌+◌, ◌^◌, ◌<◌, ◌≤◌, ◌==◌, nat_lt, true, false, if◌then◌else◌, Option, Some, None, [], ◌∷◌, refl, arith}
 use Rattle.std.proofs.lemmas.Bool.Decides.{nat_tests}
-use Rattle.address_runs.specs.Runs.{RunOf, DecidesEquality, run_end, lies_in, value_at, IsBefore, AreRuns, IsRunsOf, one_address, prepend_address, runs_from, runs_of}
+use Rattle.address_runs.specs.Runs.{RunOf, DecidesEquality, run_end, lies_in, value_at, IsBefore, AreRuns, IsRunsOf, runs_from, runs_of}
 use Rattle.address_runs.specs.Sweep.{Stays, StartAtOrPast, EndBy, FirstEndsPast, FirstEndsAtOrPast, IsSweptTo, IsRestFrom, IsBuiltTo}
-use Rattle.address_runs.specs.Overlay.{overlay_values, value_in_run, overlay_runs, HaveAddresses}
+use Rattle.address_runs.specs.Overlay.{overlay_runs, HaveAddresses}
 use Rattle.address_runs.proofs.RunsLaws.{the_list}
 
 run : ℕ → ℕ → ℕ → RunOf ℕ
 run base size value = record { base = base; size = size; value = value }
 
--- 0 and 1 have the value 1, 2 and 3 none, 4 and 5 the value 1 again, 6 the value 2
+-- addresses 0 and 1 have the value 1, 4 and 5 have 1 again, 6 has 2, all others have none
 abbrev gaps : ℕ → Option ℕ
 gaps x = if nat_lt x 2 then Some 1 else (if nat_lt x 4 then None else
     (if nat_lt x 6 then Some 1 else (if nat_lt x 7 then Some 2 else None)))
 
--- a gap parts two runs of one value, and touching values are two runs; one value everywhere is one run
+-- a gap separates two runs of one value; touching runs have different values; one value everywhere is one run
 from_examples : (runs_from (λ a b. a == b) gaps 0 8 ≡ run 0 2 1 ∷ (run 4 2 1 ∷ (run 6 1 2 ∷ [])))
     × (runs_from (λ a b. a == b) (λ x. Some 7) 0 8 ≡ run 0 8 7 ∷ [])
 unfolding runs_from run
 from_examples = (refl, refl)
 
--- a run has its base and its last address, and not the one behind
+-- a run contains its base and its last address, but not its end
 lies_examples : (lies_in (run 4 2 1) 3 ≡ false) × (lies_in (run 4 2 1) 4 ≡ true) × (lies_in (run 4 2 1) 5 ≡ true)
     × (lies_in (run 4 2 1) 6 ≡ false) × (run_end (run 4 2 1) ≡ 6) × (run_end (run 9 0 1) ≡ 9)
 unfolding run
 lies_examples = (refl, refl, refl, refl, refl, refl)
 
--- a list gives the value of the first run that has the address
+-- the first run that contains the address decides
 value_examples : (value_at (run 0 2 1 ∷ (run 4 2 3 ∷ [])) 5 ≡ Some 3) × (value_at (run 0 2 1 ∷ (run 4 2 3 ∷ [])) 2 ≡ None)
     × (value_at (run 0 4 1 ∷ (run 2 4 3 ∷ [])) 3 ≡ Some 1)
 unfolding run
 value_examples = (refl, refl, refl)
 
-one_address_examples : (one_address 7 1 ≡ run 7 1 1) × (one_address 0 5 ≡ run 0 1 5)
-unfolding run
-one_address_examples = (refl, refl)
-
--- a run stands before one that begins behind it, or right there with another value
+-- a run precedes one that begins above its end, or right at its end with another value
 before_examples : IsBefore (run 0 2 1) (run 3 1 1 ∷ []) × IsBefore (run 0 2 1) (run 2 1 5 ∷ []) × IsBefore (run 0 2 1) []
 unfolding run
 before_examples = ((omega arith, λ touch same. absurd (omega arith)), (omega arith, λ touch same. absurd (omega arith)), tt)
@@ -45,7 +41,7 @@ not_before_the_same : ¬ IsBefore (run 0 2 1) (run 2 1 1 ∷ [])
 unfolding run
 not_before_the_same before = before.1 refl refl
 
--- canonical: ascending, and another value where two runs touch, or a gap between
+-- canonical: runs that touch have different values, runs with a gap may have the same
 touching_values_differ : AreRuns (run 0 2 1 ∷ (run 2 2 3 ∷ (run 6 1 3 ∷ [])))
 unfolding run
 touching_values_differ = (
@@ -63,30 +59,14 @@ not_canonical = (
   λ runs. let some : 0 < 0 = runs.0 in absurd (omega arith),
 )
 
--- an address in front of the runs behind it lengthens the first, begins one, or has no value
-led_examples : (prepend_address (λ a b. a == b) 3 (Some 1) (run 4 2 1 ∷ []) ≡ run 3 3 1 ∷ [])
-    × (prepend_address (λ a b. a == b) 3 (Some 2) (run 4 2 1 ∷ []) ≡ run 3 1 2 ∷ (run 4 2 1 ∷ []))
-    × (prepend_address (λ a b. a == b) 2 (Some 1) (run 4 2 1 ∷ []) ≡ run 2 1 1 ∷ (run 4 2 1 ∷ []))
-    × (prepend_address (λ a b. a == b) 3 None (run 4 2 1 ∷ []) ≡ run 4 2 1 ∷ [])
-unfolding run
-led_examples = (refl, refl, refl, refl)
-
--- a list that is canonical is the list of what it gives
+-- a canonical list is the list of runs of what it gives, and of no other function
 is_of_itself : IsRunsOf (value_at (run 0 2 1 ∷ (run 2 2 3 ∷ []))) (run 0 2 1 ∷ (run 2 2 3 ∷ []))
 unfolding run
 is_of_itself = record { runs = (omega arith, (omega arith, λ touch same. absurd (omega arith)), (omega arith, tt, tt)); each = λ x. refl }
 
--- and of nothing else
-is_not_of_another : ¬ IsRunsOf (λ x. Some 1) (run 0 2 1 ∷ [])
-unfolding run
-is_not_of_another known = let none : None ≡ Some 1 = known.each 2 in cc none
-
 -- the runs of all addresses below 2^64: one page of RAM, and nothing at all
 tells_numbers : DecidesEquality {X = ℕ} (λ a b. a == b)
 tells_numbers = record { true_is_equal = λ a b h. grind (arith, nat_tests); equal_is_true = λ a b h. grind (arith, nat_tests) }
-
-not_telling : ¬ DecidesEquality {X = ℕ} (λ a b. true)
-not_telling tells = let same : 1 ≡ 2 = tells.true_is_equal 1 2 refl in absurd (omega (arith, same))
 
 one_page : ℕ → Option ℕ
 one_page = value_at (run 0x1000 0x1000 1 ∷ [])
@@ -100,36 +80,25 @@ unfolding one_page run
 runs_of_one_page = the_list (λ a b. a == b) tells_numbers one_page (run 0x1000 0x1000 1 ∷ []) none_behind_the_page
     (record { runs = (omega arith, tt, tt); each = λ x. refl })
 
-runs_of_nothing : [] ≡ runs_of {X = ℕ} (λ a b. a == b) (λ x. None)
-runs_of_nothing = the_list (λ a b. a == b) tells_numbers (λ x. None) [] (λ x far. refl) (record { runs = tt; each = λ x. refl })
-
--- where several give a value, here the sum
+-- values are joined by their sum
 abbrev sum_of : Option ℕ → Option ℕ → Option ℕ
 sum_of None l = l
 sum_of (Some k) None = Some k
 sum_of (Some k) (Some l) = Some (k + l)
-
-overlaid_examples : (overlay_values sum_of gaps (λ x. Some 10) 1 ≡ Some 11) × (overlay_values sum_of gaps (λ x. Some 10) 2 ≡ Some 10)
-    × (overlay_values sum_of gaps (λ x. None) 2 ≡ None)
-overlaid_examples = (refl, refl, refl)
-
-given_examples : (value_in_run (run 4 2 1) 5 ≡ Some 1) × (value_in_run (run 4 2 1) 6 ≡ None)
-unfolding run
-given_examples = (refl, refl)
 
 all_overlaid_examples : (overlay_runs sum_of (run 0 4 1 ∷ (run 2 4 3 ∷ [])) 3 ≡ Some 4)
     × (overlay_runs sum_of (run 0 4 1 ∷ (run 2 4 3 ∷ [])) 5 ≡ Some 3) × (overlay_runs sum_of (run 0 4 1 ∷ (run 2 4 3 ∷ [])) 6 ≡ None)
 unfolding run
 all_overlaid_examples = (refl, refl, refl)
 
--- a function that stays at one value between two addresses, and one that doesn't
+-- a function that keeps its value from 0 to 2, but not from 0 to 3
 stays_examples : Stays gaps 0 2 (Some 1) × Stays gaps 2 4 None
 stays_examples = (λ x from until. grind (arith, nat_tests), λ x from until. grind (arith, nat_tests))
 
 changes_at_two : ¬ Stays gaps 0 3 (Some 1)
 changes_at_two stays = let at_two : None ≡ Some 1 = stays 2 (omega arith) (omega arith) in absurd (cc at_two)
 
--- where a list begins and where it ends; a run that ends right at the address must have another value
+-- both sides of each fact on where a list begins and ends; a run that ends exactly at the address must have another value
 start_examples : StartAtOrPast 4 (run 4 2 1 ∷ []) × EndBy 6 (Some 2) (run 4 2 1 ∷ []) × FirstEndsPast 5 (run 4 2 1 ∷ [])
     × FirstEndsAtOrPast 6 (run 4 2 1 ∷ [])
 unfolding run
@@ -147,7 +116,7 @@ begins_lower : ¬ StartAtOrPast 5 (run 4 2 1 ∷ [])
 unfolding run
 begins_lower start = let higher : 5 ≤ 4 = start in absurd (omega arith)
 
--- below 3 the function has one run, and from 3 on two; up to 6 one of them is built and one begun
+-- below 3 the function has one run, above it two; at 6 one of them is finished and one is still open
 swept_to_three : IsSweptTo gaps 3 (run 0 2 1 ∷ [])
 unfolding run
 swept_to_three = record {
@@ -169,13 +138,6 @@ rest_from_three = record {
   runs = (omega arith, (omega arith, λ touch same. absurd (omega arith)), (omega arith, tt, tt));
   ends = omega arith;
   each = λ x above. grind (arith, nat_tests);
-}
-
-built_to_two : IsBuiltTo gaps 2 [] 0 (Some 1)
-built_to_two = record {
-  begun = omega arith;
-  swept = record { runs = tt; ends = tt; each = λ x below. absurd (omega arith) };
-  stays = λ x from until. grind (arith, nat_tests);
 }
 
 built_to_six : IsBuiltTo gaps 6 (run 0 2 1 ∷ []) 4 (Some 1)

@@ -1,11 +1,11 @@
--- Canonical lists that agree at every address are equal, and `runs_of` is one.
+-- Canonical lists that agree at every address are equal, and `runs_of` returns one.
 use Rattle.std.proofs.Common.{◌≡◌, ◌≢◌, ℕ, zero, suc, ◌+◌, ◌^◌, ◌<◌, ◌≤◌, ◌==◌, Bool, true, false, ◌&&◌, if◌then◌else◌, Option, Some, None, List, [], ◌∷◌, refl, sym, ◌∙◌, ap, inl, inr, arith}
 use Rattle.std.proofs.lemmas.Bool.Decides.{nat_tests}
 use Rattle.std.proofs.lemmas.Bool.{cases_lt, true≢false}
 use Rattle.address_runs.specs.Runs.{RunOf, DecidesEquality, run_end, lies_in, value_at, IsBefore, AreRuns, IsRunsOf, one_address, prepend_address, runs_from, runs_of}
 use Rattle.address_runs.specs.Sweep.{StartAtOrPast}
 
--- an address from the base up to the end lies in the run
+-- an address at or above the base and below the end lies in the run
 pub inside : {X : Type 0} (r : RunOf X) (x : ℕ) → r.base ≤ x → x < r.base + r.size → lies_in r x ≡ true
 inside r x above below = grind (arith, nat_tests)
 
@@ -15,7 +15,7 @@ below r x h = grind (arith, nat_tests)
 pub behind : {X : Type 0} (r : RunOf X) (x : ℕ) → r.base + r.size ≤ x → lies_in r x ≡ false
 behind r x h = grind (arith, nat_tests)
 
--- nothing stands below the first run
+-- nothing is carried below the first run
 pub none_below : {X : Type 0} (at x : ℕ) (rs : List (RunOf X)) → AreRuns rs → StartAtOrPast at rs → x < at → value_at rs x ≡ None
 none_below at x [] runs start h = refl
 none_below at x (r ∷ []) runs start h = let lt : x < r.base = omega arith in rw (below r x lt) refl
@@ -24,17 +24,17 @@ none_below at x (r ∷ (s ∷ ss)) runs start h =
     let from : r.base ≤ s.base = omega arith in
     rw (below r x lt) (none_below r.base x (s ∷ ss) runs.2 from lt)
 
--- no run begins before address 0
+-- no run begins below address 0
 pub start_zero : {X : Type 0} (rs : List (RunOf X)) → StartAtOrPast 0 rs
 start_zero [] = tt
 start_zero (r ∷ rs) = omega arith
 
--- the runs behind the first one begin behind its base, and at its end or behind it
+-- the runs after the first one begin above its base, at or above its end
 pub rest_from : {X : Type 0} (r : RunOf X) (rs : List (RunOf X)) → AreRuns (r ∷ rs) → StartAtOrPast (run_end r) rs
 rest_from r [] runs = tt
 rest_from r (s ∷ ss) runs = runs.1.0
 
--- right behind a run another value stands, or none
+-- right at the end of a run there is another value, or none
 pub other_behind : {X : Type 0} (r : RunOf X) (rs : List (RunOf X)) → AreRuns (r ∷ rs) → value_at rs (run_end r) ≢ Some r.value
 other_behind r [] runs = λ same. cc
 other_behind r (s ∷ ss) runs =
@@ -46,7 +46,7 @@ other_behind r (s ∷ ss) runs =
           rw (inside s (run_end r) (omega arith) (omega arith)) (λ same. let equal : r.value ≡ s.value = cc in runs.1.1 touch equal)
     ]
 
--- the value of the first run, at its base
+-- the value at the base of the first run is its value
 value_first : {X : Type 0} (r : RunOf X) (rs : List (RunOf X)) → 0 < r.size → value_at (r ∷ rs) r.base ≡ Some r.value
 value_first r rs some = rw (inside r r.base (omega arith) (omega arith)) refl
 
@@ -56,7 +56,7 @@ value_inside r rs x above below_end = rw (inside r x above below_end) refl
 value_behind : {X : Type 0} (r : RunOf X) (rs : List (RunOf X)) (x : ℕ) → run_end r ≤ x → value_at (r ∷ rs) x ≡ value_at rs x
 value_behind r rs x h = rw (behind r x h) refl
 
--- two lists that agree everywhere don't begin one before the other
+-- of two lists that agree everywhere, neither begins below the other
 no_earlier : {X : Type 0} (r s : RunOf X) (rs ss : List (RunOf X)) → AreRuns (r ∷ rs) → AreRuns (s ∷ ss)
     → ((x : ℕ) → value_at (r ∷ rs) x ≡ value_at (s ∷ ss) x) → s.base ≤ r.base
 no_earlier r s rs ss rr ra same =
@@ -67,7 +67,7 @@ no_earlier r s rs ss rr ra same =
       | inr ge ↦ ge
     ]
 
--- of two lists that agree everywhere the first run of neither ends before the other's
+-- of two lists that agree everywhere, neither first run ends below the other
 no_shorter : {X : Type 0} (r s : RunOf X) (rs ss : List (RunOf X)) → AreRuns (r ∷ rs) → AreRuns (s ∷ ss)
     → ((x : ℕ) → value_at (r ∷ rs) x ≡ value_at (s ∷ ss) x) → r.base ≡ s.base → r.value ≡ s.value → run_end s ≤ run_end r
 no_shorter r s rs ss rr ra same bases values =
@@ -83,7 +83,7 @@ same_run : {X : Type 0} (r s : RunOf X) → r.base ≡ s.base → r.size ≡ s.s
 same_run r s bases sizes values =
     let same : s ≡ record { base = r.base; size = r.size; value = r.value } = rw (bases, sizes, values) refl in sym same
 
--- lists that agree everywhere still do behind their equal first runs
+-- lists that agree everywhere still agree without their equal first runs
 same_rest : {X : Type 0} (r : RunOf X) (rs ss : List (RunOf X)) → AreRuns (r ∷ rs) → AreRuns (r ∷ ss)
     → ((x : ℕ) → value_at (r ∷ rs) x ≡ value_at (r ∷ ss) x) → (x : ℕ) → value_at rs x ≡ value_at ss x
 same_rest r rs ss rr ra same x =
@@ -109,25 +109,25 @@ same_lists {X} (r ∷ rs) (s ∷ ss) rr ra same =
     let equal : (x : ℕ) → value_at (r ∷ rs) x ≡ value_at (r ∷ ss) x = λ x. same x ∙ ap (λ (t : RunOf X). value_at (t ∷ ss) x) heads in
     rw heads (ap (λ ts. r ∷ ts) (same_lists rs ss rr.2 ra.2 (same_rest r rs ss rr (rw heads at ra) equal)))
 
--- a function has one list of runs
+-- a function has at most one list of runs
 pub one_list : {X : Type 0} (f : ℕ → Option X) (rs ss : List (RunOf X)) → IsRunsOf f rs → IsRunsOf f ss → rs ≡ ss
 one_list f rs ss rr ra = same_lists rs ss rr.runs ra.runs (λ x. rr.each x ∙ sym (ra.each x))
 
--- what the test of `led_by` tells
+-- what the test of `prepend_address` decides
 touches : (same : Bool) (a b : ℕ) → ((a == b) && same) ≡ true → (a ≡ b) × (same ≡ true)
 touches same a b h = grind (arith, nat_tests)
 
 touches_not : (same : Bool) (a b : ℕ) → ((a == b) && same) ≡ false → a ≡ b → same ≡ false
 touches_not same a b h e = grind (arith, nat_tests)
 
--- a lengthened first run still goes before what is behind it
+-- a first run that grew downwards still precedes the next one
 before_longer : {X : Type 0} (x n : ℕ) (v : X) (r : RunOf X) (rs : List (RunOf X)) → x + n ≡ run_end r → v ≡ r.value → IsBefore r rs
     → IsBefore (record { base = x; size = n; value = v }) rs
 before_longer x n v r [] ends values before = tt
 before_longer x n v r (s ∷ ss) ends values before =
     (omega arith, λ touch equal. let at : run_end r ≡ s.base = omega arith in before.1 at (cc (values, equal)))
 
--- an address with a value in front of a list behind it: canonical again
+-- an address and its value before a canonical list make a canonical list
 runs_led_some : {X : Type 0} (same : X → X → Bool) → DecidesEquality same → (x : ℕ) (v : X) (r : RunOf X) (rs : List (RunOf X))
     → AreRuns (r ∷ rs) → x + 1 ≤ r.base → AreRuns (prepend_address same x (Some v) (r ∷ rs))
 runs_led_some same tells x v r rs runs start = by_test ((r.base == x + 1) && same v r.value) refl
@@ -161,7 +161,7 @@ start_led same x (Some v) (r ∷ rs) start = by_test ((r.base == x + 1) && same 
     by_test true = omega arith
     by_test false = omega arith
 
--- at the address itself the value leads, elsewhere the list behind it gives what it gave
+-- at the new address the list gives the new value, elsewhere what it gave before
 value_led : {X : Type 0} (same : X → X → Bool) → DecidesEquality same → (x : ℕ) (v : Option X) (rs : List (RunOf X)) (y : ℕ)
     → AreRuns rs → StartAtOrPast (x + 1) rs → value_at (prepend_address same x v rs) y ≡ (if y == x then v else value_at rs y)
 value_led same tells x None rs y runs start =
@@ -182,7 +182,7 @@ value_led same tells x (Some v) (r ∷ rs) y runs start = by_test ((r.base == x 
         grind (arith, nat_tests, equal, at_base)
     by_test false fails = grind (arith, nat_tests)
 
--- the n addresses from x on, as `runs_from` lists them
+-- a list of the runs of n addresses, beginning with x
 pub record IsRunsBetween {X : Type 0} (f : ℕ → Option X) (x n : ℕ) (rs : List (RunOf X)) : Type 0 where
   pub runs : AreRuns rs
   pub start : StartAtOrPast x rs
@@ -205,7 +205,7 @@ between_led {X} same tells f x n rs known = record {
       value_led same tells x (f x) rs y known.runs known.start ∙ rw not_here (known.past y (omega arith));
 }
 
--- the runs from 0 up to an address from which on there are none are all of them
+-- the runs of all addresses below a limit are all runs, if there are no values at or above it
 all_runs : {X : Type 0} (f : ℕ → Option X) (rs : List (RunOf X)) → IsRunsBetween f 0 (2 ^ 64) rs → ((x : ℕ) → 2 ^ 64 ≤ x → f x ≡ None)
     → IsRunsOf f rs
 all_runs f rs known none = record {
@@ -216,19 +216,19 @@ all_runs f rs known none = record {
   ];
 }
 
--- `runs_from` lists the runs of its addresses
+-- `runs_from` returns the runs of its addresses
 pub from_runs : {X : Type 0} (same : X → X → Bool) → DecidesEquality same → (f : ℕ → Option X) (n x : ℕ) → IsRunsBetween f x n (runs_from same f x n)
 unfolding runs_from
 from_runs same tells f zero x = record { runs = tt; start = tt; within = λ y above below_end. absurd (omega arith); past = λ y h. refl }
 from_runs same tells f (suc n) x = between_led same tells f x n (runs_from same f (x + 1) n) (from_runs same tells f n (x + 1))
 
--- `runs_of` is the list of runs of a function without a value from 2^64 on
+-- `runs_of` returns the runs of a function that has no value at or above 2^64
 pub by_address : {X : Type 0} (same : X → X → Bool) → DecidesEquality same → (f : ℕ → Option X) → ((x : ℕ) → 2 ^ 64 ≤ x → f x ≡ None)
     → IsRunsOf f (runs_of same f)
 unfolding runs_of
 by_address same tells f none = all_runs f (runs_from same f 0 (2 ^ 64)) (from_runs same tells f (2 ^ 64) 0) none
 
--- so each list of its runs is this one
+-- so every list of its runs equals this one
 pub the_list : {X : Type 0} (same : X → X → Bool) → DecidesEquality same → (f : ℕ → Option X) (rs : List (RunOf X))
     → ((x : ℕ) → 2 ^ 64 ≤ x → f x ≡ None) → IsRunsOf f rs → rs ≡ runs_of same f
 the_list same tells f rs none known = one_list f rs (runs_of same f) known (by_address same tells f none)

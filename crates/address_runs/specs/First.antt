@@ -1,9 +1,9 @@
--- Where several runs lie over one another and the first one's value holds.
+-- If several runs overlap, the value of the first one holds.
 use Rattle.std.specs.Prelude.{◌≡◌, refl, Option, Some, None}
 use Rattle.std.specs.Option.{option_or}
 
 module _ {X : Type 0} where
-  -- one alone is what it is, and of three it doesn't matter which two are compared first
+  -- the first of two values, if there are any: no value is neutral, and the order of joining three doesn't matter
   pub first_none : (v : Option X) → option_or None v ≡ v
   first_none v = refl
 

@@ -1,26 +1,25 @@
--- Runs of a function over addresses, whatever its values are: types of memory, owners, nodes.
--- A run is a maximal set of consecutive addresses at which the function gives one value
--- (what `e820__update_table` and `memblock_merge_regions` keep their tables in).
+-- Runs of a function over addresses, for any type of values: types of memory, owners, nodes. A run is a maximal set of consecutive
+-- addresses with one value, as `e820__update_table` and `memblock_merge_regions` keep their tables.
 use Rattle.std.specs.Prelude.{◌≡◌, ◌≢◌, ℕ, zero, suc, ◌+◌, ◌^◌, ◌<◌, ◌≤◌, ◌==◌, Bool, true, ◌&&◌, if◌then◌else◌, Option, Some, None, List, [], ◌∷◌}
 use Rattle.bm_base.specs.Range.{RangeView, covers}
 
--- a run: its first address, its number of addresses, and its value
+-- a run: its first address, its size, and its value
 pub record RunOf (X : Type 0) : Type 0 where
   pub base : ℕ
   pub size : ℕ
   pub value : X
 
--- a test that tells whether two values are equal
+-- the test decides whether two values are equal
 pub record DecidesEquality {X : Type 0} (same : X → X → Bool) : Type 0 where
   pub true_is_equal : (a b : X) → same a b ≡ true → a ≡ b
   pub equal_is_true : (a b : X) → a ≡ b → same a b ≡ true
 
 module _ {X : Type 0} where
-  -- the address behind the last one of the run
+  -- the address right after the last one of the run
   abbrev pub run_end : RunOf X → ℕ
   run_end r = r.base + r.size
 
-  -- its addresses
+  -- the range of its addresses
   abbrev pub extent_of : RunOf X → RangeView
   extent_of r = record { base = r.base; size = r.size }
 
@@ -28,12 +27,12 @@ module _ {X : Type 0} where
   abbrev pub lies_in : RunOf X → ℕ → Bool
   lies_in r x = covers (extent_of r) x
 
-  -- what a list of runs gives at an address: the value of the first run that it lies in
+  -- what a list of runs gives at an address: the value of the first run that contains it, if any does
   abbrev pub value_at : List (RunOf X) → ℕ → Option X
   value_at [] x = None
   value_at (r ∷ rs) x = if lies_in r x then Some r.value else value_at rs x
 
-  -- the next run of the list begins behind this one, and has another value where they touch
+  -- the list begins above the run, or right at its end with another value
   abbrev pub IsBefore : RunOf X → List (RunOf X) → Type 0
   IsBefore r [] = Unit {0}
   IsBefore r (s ∷ ss) = (run_end r ≤ s.base) × (run_end r ≡ s.base → r.value ≢ s.value)
@@ -43,16 +42,16 @@ module _ {X : Type 0} where
   AreRuns [] = Unit {0}
   AreRuns (r ∷ rs) = (0 < r.size) × IsBefore r rs × AreRuns rs
 
-  -- the canonical list gives what the function gives, at every address
+  -- the list is canonical and gives at each address what the function gives
   pub record IsRunsOf (f : ℕ → Option X) (rs : List (RunOf X)) : Type 0 where
     pub runs : AreRuns rs
     pub each : (x : ℕ) → value_at rs x ≡ f x
 
-  -- the run of one address
+  -- the run of a single address
   abbrev pub one_address : ℕ → X → RunOf X
   one_address x v = record { base = x; size = 1; value = v }
 
-  -- the address and its value in front of the runs behind it: it lengthens the first, or begins one
+  -- puts an address and its value before runs that begin above it: the first run grows by it, or a new run begins
   abbrev pub prepend_address : (X → X → Bool) → ℕ → Option X → List (RunOf X) → List (RunOf X)
   prepend_address same x None rs = rs
   prepend_address same x (Some v) [] = one_address x v ∷ []
@@ -61,7 +60,7 @@ module _ {X : Type 0} where
       then record { base = x; size = r.size + 1; value = v } ∷ rs
       else (one_address x v ∷ (r ∷ rs))
 
-  -- the runs of the n addresses from x on
+  -- the runs of the n addresses that begin with x
   unfoldable pub runs_from : (X → X → Bool) → (ℕ → Option X) → ℕ → ℕ → List (RunOf X)
   runs_from same f x zero = []
   runs_from same f x (suc n) = prepend_address same x (f x) (runs_from same f (x + 1) n)

@@ -1,22 +1,23 @@
-//! Runs of a function over addresses, whatever its values are.
+//! Runs: maximal ranges of addresses that carry one value.
 //!
-//! The firmware's map, the owners of memory and its nodes are all functions of an address. They are
-//! kept and printed as lists of runs: maximal sets of consecutive addresses of one value, as
-//! `e820__update_table` and `memblock_merge_regions` leave their tables. This crate has the words
-//! for that, generic in the value: `specs/Runs.antt` says what the runs of a function are, once as
-//! a relation (`IsRunsOf`) and once as a function by addresses (`runs_of`), and `specs/Sweep.antt`
-//! has the words for a list that is built from the lowest address on.
+//! The firmware's map, the owners of memory and its nodes each give a value to an address, or
+//! none. They are kept and printed as sorted lists of runs, as `e820__update_table` and
+//! `memblock_merge_regions` leave the kernel's tables. This crate is generic in the value.
+//! `specs/Runs.antt` defines the runs of a function over addresses, as a relation (`IsRunsOf`)
+//! and as a function (`runs_of`). `specs/Sweep.antt` is about lists that are read or built in
+//! order of addresses, `specs/Edits.antt` about what an edit does to one address.
 //!
-//! A record of a range and a value, as `struct e820_entry` is one, is a [`Stretch`]; where its values
-//! can be laid over one another it is an [`Overlay`]. [`RunOf`] is that record for any value, where nothing fixes
-//! another one. [`overlay_all`] gives the runs of any list of such stretches, which may overlap and come in any order: at each address what they say of it,
-//! joined in the order of the list. A list that is in order already takes n steps and is answered as
-//! it is (`order.rt`); another one is laid over itself by halves (`layers.rt`), which takes n log n
-//! steps where the stretches overlap little.
+//! A [`Stretch`] is any record of a range and a value, such as `struct e820_entry`. An
+//! [`Overlay`] also says which value holds if two records cover an address. [`RunOf`] is such a
+//! record for code that isn't bound to another format.
 //!
-//! [`runs_are_unique`] and [`runs_of_gives_the_runs`] are the laws that tie relation and function: a
-//! function has exactly one list of runs, and `runs_of` is it. The layers above may rest on them,
-//! and on the lemmas of `proofs/RunsLaws.antt` and `proofs/SweepLaws.antt`.
+//! [`overlay_all`] returns the runs of any list of records, which may overlap and may be in any
+//! order. It takes n steps if the records are already a list of runs, and n log n steps if few of
+//! them overlap.
+//!
+//! The laws [`runs_are_unique`] and [`runs_of_gives_the_runs`] tie relation and function
+//! together: a function has exactly one list of runs, and `runs_of` returns it. A law is an empty
+//! function whose contract is a proven fact.
 #![tactic(auto)]
 
 mod builder;

@@ -1,9 +1,9 @@
-//! Whether stretches are a list of runs already: ascending, none overlapping another, no two that
-//! could be one.
+//! Tests whether records already are a list of runs: ascending, disjoint, and no two of them
+//! mergeable.
 //!
-//! Firmware hands over tables that mostly are in this order, and a table that was settled once always
-//! is. A look at each stretch and the one behind it tells, and of two lists of runs a look at the last
-//! of the one and the first of the other; then nothing has to be laid over anything.
+//! Firmware usually hands over a table in this order, and a sanitised table always has it. The
+//! test looks at each record and the next one; for two lists of runs it looks only at the last of
+//! one and the first of the other.
 
 ghost use Rattle.std.specs.Prelude.{◌≡◌, ◌↔◌, ◌++◌, ℕ, ◌^◌, ◌≤◌, Bool, Option, None, List, map, IsTrue};
 ghost use Rattle.address_runs.specs.Runs.{RunOf, AreRuns, IsBefore, IsRunsOf, DecidesEquality, runs_of};
@@ -11,8 +11,8 @@ ghost use Rattle.address_runs.specs.Overlay.{HaveAddresses};
 
 use crate::stretch::Stretch;
 
-/// Whether the stretch stands before the others, which are ascending: it ends where the first of them
-/// begins or below, and has another value where they touch.
+/// Returns whether a record can precede a list of runs: it ends at or below the start of the
+/// first of them, and has another value if they touch.
 fn is_before<S: Stretch>(stretch: &S, others: &[S]) -> bool
     ensures { IsTrue result ↔ IsBefore (S.run stretch.now) (map S.run others.now) }
 {
@@ -24,7 +24,7 @@ fn is_before<S: Stretch>(stretch: &S, others: &[S]) -> bool
     end < base || (end == base && !S::is_same(stretch.value(), next.value()))
 }
 
-/// Whether the stretches are a list of runs.
+/// Returns whether the records are a list of runs. None of them may be empty.
 pub fn are_runs<S: Stretch>(stretches: &[S]) -> bool
     requires { HaveAddresses (map S.run stretches.now) }
     ensures { IsTrue result ↔ AreRuns (map S.run stretches.now) }
@@ -39,7 +39,7 @@ pub fn are_runs<S: Stretch>(stretches: &[S]) -> bool
     true
 }
 
-/// Whether the two lists of runs, the second behind the first, are one list of runs.
+/// Returns whether the second list of runs, appended to the first, makes one list of runs.
 pub fn are_apart<S: Stretch>(first: &[S], second: &[S]) -> bool
     requires first { AreRuns (map S.run first.now) }
     requires second { AreRuns (map S.run second.now) }
@@ -51,13 +51,13 @@ pub fn are_apart<S: Stretch>(first: &[S], second: &[S]) -> bool
     is_before(last, second)
 }
 
-/// A law: a function has one list of runs, so what a caller reads of one list holds of each.
+/// Law: a function over addresses has at most one list of runs.
 pub fn runs_are_unique<T>()
-    ensures { (f : ℕ → Option T) (rs ss : List (RunOf T)) → IsRunsOf f rs → IsRunsOf f ss → rs ≡ ss }
+    ensures { (f : ℕ → Option T) (rs ss : List (RunOf T)) → IsRunsOf f rs → IsRunsOf f ss →
+        rs ≡ ss }
 {}
 
-/// A law: `runs_of` is the list of runs of a function that has no value from 2^64 on, for each
-/// test that tells equal values from others.
+/// Law: `runs_of` returns the runs of every function that has no value at or above 2^64.
 pub fn runs_of_gives_the_runs<T>()
     ensures { (same : T → T → Bool) (f : ℕ → Option T) → DecidesEquality same →
         ((x : ℕ) → 2 ^ 64 ≤ x → f x ≡ None) → IsRunsOf f (runs_of same f) }

@@ -1,5 +1,4 @@
-//! The run itself, in code: one record for every value that addresses may carry, where no format and no public
-//! surface fixes a record of its own.
+//! A record of a range and a value, for code that isn't bound to another format.
 
 ghost use Rattle.std.specs.Prelude.{◌≡◌, ◌↔◌, Option, IsTrue};
 ghost use Rattle.std.specs.Option.{option_or};
@@ -9,9 +8,9 @@ use crate::stretch::{Overlay, Stretch};
 use bm_base::Range;
 use std::marker::Model;
 
-/// A value that runs are made of: a test tells equal ones from others.
+/// A type of values that runs can carry: two values can be compared.
 pub trait RunValue: Copy {
-    /// Whether both are the same.
+    /// Returns whether the values are equal.
     fn is_same(first: Self, second: Self) -> bool
         ensures { IsTrue result ↔ (first ≡ second) };
 }
@@ -28,13 +27,13 @@ impl RunValue for bool {
     }
 }
 
-/// A range of addresses and the value that each of them carries. In a list of runs it is as long as it can be. Where several lie
-/// over one another, the first one's value holds.
+/// A range of addresses and the value that each of them carries. If several overlap, the value of
+/// the first one holds.
 #[derive(Clone, Copy, Debug, PartialEq, Eq)]
 pub struct RunOf<V> {
-    /// The addresses.
+    /// The range.
     pub range: Range,
-    /// What each of them carries.
+    /// The value of each address in the range.
     pub value: V,
 }
 
@@ -48,7 +47,10 @@ impl<V> Model for RunOf<V> {
 
     ghost invariant = { λ r. r.range.base + r.range.size < 2 ^ 64 };
 
-    ghost inverse = { λ r. record { range = record { base = r.base; size = r.size }; value = r.value } };
+    ghost inverse = { λ r. record {
+      range = record { base = r.base; size = r.size };
+      value = r.value;
+    } };
 }
 
 impl<V: RunValue> Stretch for RunOf<V> {

@@ -1,47 +1,48 @@
-//! What a record must tell, so that its lists can be kept as runs: its range and its value, as
-//! `struct e820_entry` and `struct memblock_region` have them.
+//! The traits of a record that lists of runs can be made of.
 //!
-//! [`Stretch`] is enough to build a list of runs and to tell one. An [`Overlay`] says besides what holds
-//! where two of them cover an address: the greater type of memory, or the later owner.
+//! [`Stretch`] has a range and a value, as `struct e820_entry` and `struct memblock_region` do.
+//! [`Overlay`] also decides which value holds if two records cover an address, such as the
+//! greater type of memory.
 
 ghost use Rattle.std.specs.Prelude.{◌≡◌, ◌↔◌, Option, None, IsTrue};
 ghost use Rattle.address_runs.specs.Runs.{RunOf};
 
 use bm_base::Range;
 
-/// A record of a range of addresses and a value that is told of each of them.
+/// A record of a range of addresses and the value of each of them.
 pub trait Stretch: Copy {
-    /// What is told of the addresses.
+    /// The type of the values.
     type Value: Copy;
 
-    // the record as a run, which clauses speak of
+    // the record as a run, which clauses use
     ghost run: { Self → RunOf Self.Value };
 
-    /// The stretch of the range with the value.
+    /// Makes a record of a range and a value.
     fn of(range: Range, value: Self::Value) -> Self
         ensures { run result ≡ record { base = range.base; size = range.size; value = value } };
 
-    /// Its addresses.
+    /// Returns the range.
     fn range(&self) -> Range
         ensures base { result.base ≡ (run self.now).base }
         ensures size { result.size ≡ (run self.now).size };
 
-    /// What is told of them.
+    /// Returns the value.
     fn value(&self) -> Self::Value
         ensures { result ≡ (run self.now).value };
 
-    /// Whether two values are the same.
+    /// Returns whether two values are equal.
     fn is_same(first: Self::Value, second: Self::Value) -> bool
         ensures { IsTrue result ↔ (first ≡ second) };
 }
 
-/// A stretch whose values can be laid over one another.
+/// A record whose values can be joined if records overlap.
 pub trait Overlay: Stretch {
-    // what `join` gives
+    // the result of `join`
     ghost join_of: { Option Self.Value → Option Self.Value → Option Self.Value };
 
-    /// What holds where the one says `first` and the other `second`: what the one says alone where
-    /// the other says nothing. Of several, how they are grouped doesn't matter.
+    /// Returns the value at an address for which one record gives `first` and the other `second`.
+    /// `None` is a record that doesn't cover the address, so the other value holds. Joining is
+    /// associative.
     fn join(first: Option<Self::Value>, second: Option<Self::Value>) -> Option<Self::Value>
         ensures { result ≡ join_of first second };
 
@@ -49,5 +50,6 @@ pub trait Overlay: Stretch {
 
     ghost right_identity: { (v : Option Self.Value) → join_of v None ≡ v };
 
-    ghost associative: { (u v w : Option Self.Value) → join_of (join_of u v) w ≡ join_of u (join_of v w) };
+    ghost associative: { (u v w : Option Self.Value) →
+        join_of (join_of u v) w ≡ join_of u (join_of v w) };
 }
