@@ -1,4 +1,4 @@
--- A function that is changed over a range: below it, inside and behind; and the room for the runs while it is written.
+-- A function that is changed over a range: below the range, inside and above it; and room for its runs while they are written.
 use Rattle.std.proofs.Common.{◌≡◌, ℕ, ◌+◌, ◌-◌, ◌^◌, ◌<◌, ◌≤◌, Bool, true, false, Option, None, List, length, take, drop, refl, sym, ◌∙◌, ap, arith}
 use Rattle.std.specs.Prelude.{is_some}
 use Rattle.std.proofs.lemmas.Bool.Decides.{nat_tests}
@@ -29,7 +29,7 @@ module _ {X : Type 0} where
       ≡ f x
   amended_behind change r f x past = rw (not_covered r x past) refl
 
-  -- where a function stays inside the range, the changed one does
+  -- if a function is constant, so is the changed one inside the range
   pub amended_stays : (change : Option X → Option X) (r : RangeView) (f : ℕ → Option X) (from to next : ℕ) (v : Option X) → r.base ≤ from
       → to ≤ r.base + r.size → to ≤ next
       → Stays f from next (f from) → v ≡ change (f from) → Stays (change_range change r f) from to v
@@ -42,12 +42,12 @@ module _ {X : Type 0} where
   amended_stays_behind change r f from next v past stays is x above under = amended_behind change r f x (omega arith)
       ∙ stays x above under ∙ sym is
 
-  -- nothing is changed far behind the range
+  -- nothing is changed above the range
   pub amended_ends : (change : Option X → Option X) (r : RangeView) (f : ℕ → Option X) (at : ℕ) → r.base + r.size ≤ at → NothingFrom at f
       → NothingFrom at (change_range change r f)
   amended_ends change r f at ends none x le = amended_behind change r f x (omega arith) ∙ none x le
 
-  -- where the stretch that goes on is to be written and there is no free place, there is room for one more
+  -- if the open run must be written and there is no free slot, there is room for one more record
   pub room_here : (same : X → X → Bool) → DecidesEquality same → (f g : ℕ → Option X) (start from to : ℕ) (v : Option X) (rs : List (RunOf X))
       (write read room : ℕ) → HasRoomToEdit same f g room
       → NothingFrom (2 ^ 64) f → from ≤ to → to ≤ 2 ^ 64 → IsBuiltTo g from (take write rs) start v → (g from ≡ v → v ≡ None)

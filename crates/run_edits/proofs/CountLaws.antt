@@ -1,4 +1,4 @@
--- How many runs an edit adds at most: covering a range as many as it has bare pieces, taking the range out one, any other change two.
+-- How many runs an edit adds at most: covering a range one for each gap, uncovering it one, any other change two.
 use Rattle.std.proofs.Common.{◌≡◌, ℕ, ◌+◌, ◌-◌, ◌^◌, ◌≤◌, ◌==◌, Bool, true, false, ◌&&◌, if◌then◌else◌, is_none, Option, Some, None, List, length, refl, ◌∙◌, ap, inl, inr, arith}
 use Rattle.std.specs.Prelude.{unwrap_or}
 use Rattle.std.specs.Option.{option_map}
@@ -13,7 +13,7 @@ use Rattle.run_edits.specs.Records.{EndsNoRun}
 use Rattle.run_edits.specs.Ends.{total, edge, edges, spike, HasRoomToEdit}
 use Rattle.run_edits.proofs.EndLaws.{total-fewer, total-add, total-split, spikes_few, edge-self, edge-few, all_ends}
 
--- where a range begins or ends between two neighbours
+-- the range begins, or ends, between two neighbours
 begins_here : (r : RangeView) (x : ℕ) → covers r x ≡ false → covers r (x + 1) ≡ true → (x + 1 == r.base) ≡ true
 begins_here r x out in_it = grind (arith, nat_tests)
 
@@ -28,7 +28,7 @@ spikes_two r n =
     omega (arith, both, one, other)
 
 module _ {X : Type 0} where
-  -- a function that ends few more runs than another at each address has so many more runs
+  -- a function that ends at most n more runs than another has at most n more runs
   total-more : (same : X → X → Bool) (f g : ℕ → Option X) (s : ℕ → ℕ) (few x n : ℕ) → ((y : ℕ) → edges same g y ≤ edges same f y + s y)
       → total s x n ≤ few
       → total (edges same g) x n ≤ total (edges same f) x n + few
@@ -55,7 +55,7 @@ module _ {X : Type 0} where
       let sums = total-more same (value_at rs) (value_at ss) s few 0 (2 ^ 64) each some in
       omega (arith, first, second, sums)
 
-  -- inside its range a change that ends no run ends none
+  -- a change that can't end a run inside its range doesn't
   inside_edges : (same : X → X → Bool) → DecidesEquality same → (change : Option X → Option X) → EndsNoRun change → (a b : Option X)
       → edge same (change a) (change b) ≤ edge same a b
   inside_edges same tells change (inl stays) None b = rw stays (omega arith)
@@ -69,7 +69,7 @@ module _ {X : Type 0} where
       ]
   inside_edges same tells change (inr one) a b = rw (one a, one b, edge-self same tells (change None)) (omega arith)
 
-  -- so it ends one at the start of the range and one at its end
+  -- so it ends at most one run at the start of the range, and one at the end
   pub amended_edges : (same : X → X → Bool) → DecidesEquality same → (change : Option X → Option X) → EndsNoRun change
       → (r : RangeView) (f : ℕ → Option X) (x : ℕ)
       → edges same (change_range change r f) x ≤ edges same f x + (spike r.base x + spike (r.base + r.size) x)
@@ -87,7 +87,7 @@ module _ {X : Type 0} where
         ]
       ]
 
-  -- a range that is taken out ends no run at its end
+  -- uncovering a range ends no run at the end of the range
   pub uncovered_edges : (same : X → X → Bool) (r : RangeView) (f : ℕ → Option X) (x : ℕ)
       → edges same (uncover_range r f) x ≤ edges same f x + spike r.base x
   uncovered_edges same r f x =
@@ -99,7 +99,7 @@ module _ {X : Type 0} where
         ]
       ]
 
-  -- a range that is covered ends runs where its bare pieces do
+  -- covering a range ends no run except at the end of a gap
   cover_at : (same : X → X → Bool) → DecidesEquality same → (v w : X) (here next : Bool) (a b : Option X)
       → edge same (if here then Some (unwrap_or a v) else a) (if next then Some (unwrap_or b v) else b)
       ≤ edge same a b + edge same (if here && is_none a then Some w else None) (if next && is_none b then Some w else None)
@@ -118,11 +118,11 @@ module _ {X : Type 0} where
       → edges same (cover_range r v f) x ≤ edges same f x + edges same (gaps_in_range r w f) x
   covered_edges same tells r v w f x = cover_at same tells v w (covers r x) (covers r (x + 1)) (f x) (f (x + 1))
 
-  -- the bare pieces of a range, counted by their ends
+  -- the gaps of a range, counted by their ends
   bare_ends : (r : RangeView) (w : X) (f : ℕ → Option X) → r.base + r.size ≤ 2 ^ 64 → NothingFrom (2 ^ 64) (gaps_in_range r w f)
   bare_ends r w f ends x le = let past : r.base + r.size ≤ x = omega arith in rw (not_covered r x past) refl
 
-  -- how many runs there are of a function
+  -- the number of runs of a function
   runs_told : (same : X → X → Bool) → DecidesEquality same → (f : ℕ → Option X) → NothingFrom (2 ^ 64) f → length (runs_of same f)
       ≡ total (edges same f) 0 (2 ^ 64)
   runs_told same tells f none =
@@ -135,7 +135,7 @@ module _ {X : Type 0} where
       → length (runs_of same (gaps_in_range r w f)) ≡ total (edges same (gaps_in_range r w f)) 0 (2 ^ 64)
   pieces_ends same tells r w f ends = runs_told same tells (gaps_in_range r w f) (bare_ends r w f ends)
 
-  -- how many runs an edit adds
+  -- the number of runs that an edit adds
   runs_more : (same : X → X → Bool) → DecidesEquality same → (f g : ℕ → Option X) (s : ℕ → ℕ) (few : ℕ) → NothingFrom (2 ^ 64) f
       → NothingFrom (2 ^ 64) g
       → ((y : ℕ) → edges same g y ≤ edges same f y + s y) → total s 0 (2 ^ 64) ≤ few

@@ -34,7 +34,7 @@ unfolding total
 total-add g h x zero = refl
 total-add g h x (suc n) = let rest = total-add g h (x + 1) n in omega (arith, rest)
 
--- the first m addresses, and the n behind them
+-- the sum over m + n addresses is that over the first m and that over the last n
 pub total-split : (g : ℕ → ℕ) (x m n all middle : ℕ) → all ≡ m + n → middle ≡ x + m → total g x all ≡ total g x m + total g middle n
 unfolding total
 total-split g x zero n all middle is at =
@@ -52,7 +52,7 @@ pub total-next : (g : ℕ → ℕ) (x n : ℕ) → total g x (suc n) ≡ g x + t
 unfolding total
 total-next g x n = refl
 
--- the sum of one spike
+-- the sum of a spike is at most 1
 pub spikes_few : (b x n : ℕ) → total (spike b) x n ≤ 1
 unfolding total
 spikes_few b x zero = omega arith
@@ -66,7 +66,7 @@ spikes_few b x (suc n) =
       | inr other ↦ rw other (let rest : total (spike b) (x + 1) n ≤ 1 = spikes_few b (x + 1) n in omega arith)
     ]
 
--- no run ends between two neighbours that carry the same, and one does where another value follows
+-- no run ends between equal neighbours, and one ends before another value
 pub edge-self : {X : Type 0} (same : X → X → Bool) → DecidesEquality same → (a : Option X) → edge same a a ≡ 0
 edge-self same tells None = refl
 edge-self same tells (Some a) = rw (tells.equal_is_true a a refl) refl
@@ -85,12 +85,12 @@ edge-other same tells v (Some w) other =
       | inr not ↦ rw not refl
     ]
 
--- the runs behind a run end behind its end
+-- the runs after a run end above its end
 pub behind_run : {X : Type 0} (r : RunOf X) (rs : List (RunOf X)) → AreRuns (r ∷ rs) → FirstEndsPast (run_end r) rs
 behind_run r [] runs = tt
 behind_run r (s ∷ ss) runs = let order = runs.1.0 in let some = runs.2.0 in omega arith
 
--- up to its last address a run doesn't end
+-- a run doesn't end before its last address
 quiet_inside : {X : Type 0} (same : X → X → Bool) → DecidesEquality same → (r : RunOf X) (rs : List (RunOf X)) (y : ℕ) → AreRuns (r ∷ rs)
     → y + 1 < run_end r
     → edges same (value_at (r ∷ rs)) y ≡ 0
@@ -104,7 +104,7 @@ quiet_inside same tells r rs y runs under =
           rw (here, next) (edge-self same tells (Some r.value))
     ]
 
--- a list has as many runs as end at its addresses
+-- the number of runs of a list is the number of their ends
 pub length_ends : {X : Type 0} (same : X → X → Bool) → DecidesEquality same → (rs : List (RunOf X)) (x n : ℕ) → AreRuns rs → FirstEndsPast x rs
     → ((y : ℕ) → x + n ≤ y → value_at rs y ≡ None) → length rs ≡ total (edges same (value_at rs)) x n
 length_ends same tells [] x n runs ends none = sym (total-quiet (edges same (value_at [])) x n (λ y above under. refl))
@@ -134,7 +134,7 @@ length_ends {X} same tells (r ∷ rs) x n runs ends none =
     let moved : total (edges same f) (e - 1 + 1) rest ≡ total (edges same f) e rest = ap (λ (y : ℕ). total (edges same f) y rest) at_end in
     omega arith
 
--- what ends right at an address has another value than the one there
+-- a run that ends exactly at an address has another value than the address
 last_other : {X : Type 0} (at y : ℕ) (v : Option X) (w : X) (rs : List (RunOf X)) → EndBy at v rs → y + 1 ≡ at → value_at rs y ≡ Some w
     → v ≢ Some w
 last_other at y v w [] ends next is = cc
@@ -153,7 +153,7 @@ edge_at_end : {X : Type 0} (same : X → X → Bool) → DecidesEquality same �
 edge_at_end same tells None b other = refl
 edge_at_end same tells (Some a) b other = sym (edge-other same tells a b (other a refl))
 
--- what is swept has as many runs as end there
+-- the number of runs of a list that was built up to an address is that of the ends below it
 pub swept_ends : {X : Type 0} (same : X → X → Bool) → DecidesEquality same → (g : ℕ → Option X) (at : ℕ) (xs : List (RunOf X)) → IsSweptTo g at xs
     → length xs ≡ total (edges same g) 0 at
 swept_ends same tells g at xs swept =
@@ -169,7 +169,7 @@ swept_ends same tells g at xs swept =
           rw (here, none, value) (edge_at_end same tells (g y) (g at) (λ w is. last_other at y (g at) w xs swept.ends end (here ∙ is)))
     ])
 
--- and what is left as many as end from there on
+-- the number of runs of the rest of a list is that of the ends at or above the address
 pub rest_ends : {X : Type 0} (same : X → X → Bool) → DecidesEquality same → (f : ℕ → Option X) (at : ℕ) (rs : List (RunOf X)) → IsRestFrom f at rs
     → NothingFrom (2 ^ 64) f → at ≤ 2 ^ 64
     → length rs ≡ total (edges same f) at (2 ^ 64 - at)
@@ -180,7 +180,7 @@ rest_ends same tells f at rs rest none le =
     let next : value_at rs (y + 1) ≡ f (y + 1) = rest.each (y + 1) (omega arith) in
     rw (here, next) refl)
 
--- so has the whole
+-- the number of runs of a whole list is that of all ends
 pub all_ends : {X : Type 0} (same : X → X → Bool) → DecidesEquality same → (rs : List (RunOf X)) → AreRuns rs → NothingFrom (2 ^ 64) (value_at rs)
     → length rs ≡ total (edges same (value_at rs)) 0 (2 ^ 64)
 all_ends same tells rs runs none = rest_ends same tells (value_at rs) 0 rs (rest_whole rs runs) none (omega arith)

@@ -1,4 +1,4 @@
--- Small tables, computed: what the words say of them.
+-- Worked examples: small tables.
 use Rattle.std.proofs.Common.{◌≡◌, ℕ, ◌==◌, nat_lt, if◌then◌else◌, Option, Some, None, [], ◌∷◌, refl, inl, inr, arith}
 use Rattle.address_runs.specs.Runs.{RunOf}
 use Rattle.run_edits.specs.Records.{stretch, EndBelow, IsUncut, EndsNoRun}
@@ -11,11 +11,11 @@ run base size value = record { base = base; size = size; value = value }
 stretch_examples : (stretch 4 6 (Some 1) ≡ run 4 2 1 ∷ []) × (stretch {X = ℕ} 4 4 (Some 1) ≡ []) × (stretch {X = ℕ} 4 6 None ≡ [])
 stretch_examples = (refl, refl, refl)
 
--- a run that ends right at the address doesn't end below it
+-- a run that ends exactly at the address doesn't end below it
 ends_below : EndBelow 7 (run 1 2 5 ∷ (run 4 2 1 ∷ [])) × (EndBelow 6 (run 4 2 1 ∷ []) → ⊥)
 ends_below = ((omega arith, (omega arith, tt)), λ ends. let below = ends.0 in omega (arith, below))
 
--- an address cuts a run that begins below it and ends behind it, and not one at whose ends it stands
+-- only an address strictly inside a run cuts it
 uncut_at_its_ends : (IsUncut 5 (run 4 2 1 ∷ []) → ⊥) × IsUncut 4 (run 4 2 1 ∷ []) × IsUncut 6 (run 4 2 1 ∷ [])
 uncut_at_its_ends = (
   λ uncut. let ends = uncut (omega arith) in omega (arith, ends),
@@ -23,7 +23,7 @@ uncut_at_its_ends = (
   λ lt. omega arith,
 )
 
--- to take out, and to give all the same, ends no run; to cover may
+-- uncovering and replacing end no run inside the range; covering may
 ending_none : EndsNoRun (λ (carried : Option ℕ). None) × EndsNoRun (λ (carried : Option ℕ). Some 7)
 ending_none = (inl refl, inr (λ carried. refl))
 
@@ -41,20 +41,20 @@ covering : EndsNoRun cover → ⊥
 covering (inl stays) = something_is_nothing 7 stays
 covering (inr one) = let equal : 8 ≡ 7 = same_value 8 7 (one (Some 8)) in omega (arith, equal)
 
--- 0 and 1 carry 1, 2 carries 2, and no other address anything
+-- 0 and 1 carry 1, 2 carries 2, other addresses nothing
 abbrev two_runs : ℕ → Option ℕ
 two_runs x = if nat_lt x 2 then Some 1 else (if x == 2 then Some 2 else None)
 
--- a run ends where another value follows, goes on where the same does, and where there is none, none ends
+-- a run ends before another value, goes on if the next value is the same, and can't end where there was no value
 edge_examples : (edge (λ m n. m == n) (Some 1) (Some 2) ≡ 1) × (edge (λ m n. m == n) (Some 1) (Some 1) ≡ 0)
     × (edge (λ m n. m == n) None (Some 1) ≡ 0)
 edge_examples = (refl, refl, refl)
 
--- the first run ends at its last address, and not at its first one
+-- the first run ends at its last address only
 edges_examples : (edges (λ m n. m == n) two_runs 1 ≡ 1) × (edges (λ m n. m == n) two_runs 0 ≡ 0)
 edges_examples = (refl, refl)
 
--- two runs end in all; a spike is one, where its address is among those counted
+-- two runs end in all; a spike counts if its address is among those counted
 total_examples : (total (edges (λ m n. m == n) two_runs) 0 10 ≡ 2) × (total (spike 5) 0 10 ≡ 1) × (total (spike 5) 5 10 ≡ 0)
 unfolding total
 total_examples = (refl, refl, refl)

@@ -1,4 +1,4 @@
--- Whether all addresses of a range carry one value, from where the first one's value ends.
+-- A range carries one value exactly if the value of its first address goes on to its end.
 use Rattle.std.proofs.Common.{◌≡◌, ℕ, ◌<◌, ◌≤◌, Option, Some, None, sym, ◌∙◌, inl, inr, arith}
 use Rattle.std.proofs.lemmas.Bool.{cases_lt}
 use Rattle.address_runs.specs.Sweep.{Stays}

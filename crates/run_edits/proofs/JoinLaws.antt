@@ -1,4 +1,4 @@
--- What is swept and what is left make a whole, and where an edit begins in a list.
+-- The list that was built and the rest of the old list make a whole; and how an edit begins.
 use Rattle.std.proofs.Common.{◌≡◌, ◌≢◌, ℕ, ◌+◌, ◌-◌, ◌^◌, ◌<◌, ◌≤◌, Bool, true, nat_lt, Option, Some, None, List, [], ◌∷◌, ◌++◌, length, get_or, take, drop, refl, sym, ◌∙◌, ap, subst, inl, inr, arith}
 use Rattle.std.proofs.lemmas.Bool.Decides.{nat_tests}
 use Rattle.std.proofs.lemmas.Bool.{cases_lt, cases_Bool}
@@ -42,7 +42,7 @@ module _ {X : Type 0} where
   runs_join at v (x ∷ []) rs runs ends more starts is = (runs.0, before_joined at v x rs ends.0 ends.1 more starts is, more)
   runs_join at v (x ∷ (y ∷ ys)) rs runs ends more starts is = (runs.0, runs.1, runs_join at v (y ∷ ys) rs runs.2 ends.2 more starts is)
 
-  -- what is swept up to an address and what is left from there on are all runs
+  -- the list built below an address, then the rest from the address on, are all runs
   pub swept_join : (f g : ℕ → Option X) (at : ℕ) (xs rs : List (RunOf X)) → IsSweptTo g at xs → IsRestFrom f at rs → StartAtOrPast at rs
       → ((x : ℕ) → at ≤ x → g x ≡ f x)
       → IsRunsOf g (xs ++ rs)
@@ -54,7 +54,7 @@ module _ {X : Type 0} where
     ];
   }
 
-  -- one more stretch is swept
+  -- one more run is written
   pub swept_stretch : (g : ℕ → Option X) (start until : ℕ) (v : Option X) (xs : List (RunOf X)) → IsSweptTo g start xs → start ≤ until
       → Stays g start until v
       → (g until ≡ v → v ≡ None) → IsSweptTo g until (xs ++ stretch start until v)
@@ -71,7 +71,7 @@ module _ {X : Type 0} where
             rw (none, append-nil xs) moved
       ]
 
-  -- so the stretch that goes on ends, and another begins
+  -- so the open run ends, and another begins
   pub built_stretch : (g : ℕ → Option X) (start from until : ℕ) (v w : Option X) (xs : List (RunOf X)) → IsBuiltTo g from xs start v
       → g from ≡ w → v ≢ w → from ≤ until
       → Stays g from until w → IsBuiltTo g until (xs ++ stretch start from v) from w
@@ -81,7 +81,7 @@ module _ {X : Type 0} where
     stays = stays;
   }
 
-  -- what stands in a list before a run ends by its base, with another value where it touches
+  -- the records before a run end at or below its base, with another value if they touch it
   ends_front : (xs rs : List (RunOf X)) (r : RunOf X) → AreRuns (xs ++ r ∷ rs) → EndBy r.base (Some r.value) xs
   ends_front [] rs r runs = tt
   ends_front (x ∷ []) rs r runs = (runs.1.0, (λ touch equal. runs.1.1 touch (let same : r.value ≡ x.value = cc in sym same)), tt)
@@ -98,7 +98,7 @@ module _ {X : Type 0} where
       value_append_none xs (r ∷ rs) x (none_behind r.base x (Some r.value) xs (ends_front xs rs r runs) above)
       ∙ rw (inside r x above under) refl
 
-  -- an edit that begins inside a run or at its end begins with that run
+  -- an edit that begins inside a run or exactly at its end starts with that run open
   begun_in : (g : ℕ → Option X) (at : ℕ) (xs rs : List (RunOf X)) (r : RunOf X) → AreRuns (xs ++ r ∷ rs) → r.base < at → at ≤ run_end r
       → ((x : ℕ) → x < at → g x ≡ value_at (xs ++ r ∷ rs) x) → IsBuiltTo g at xs r.base (Some r.value)
   begun_in g at xs rs r runs lt le like =
@@ -125,7 +125,7 @@ module _ {X : Type 0} where
   ends_by at v [] ends = tt
   ends_by at v (x ∷ xs) ends = (omega arith, (λ touch. absurd (omega arith)), ends_by at v xs ends.1)
 
-  -- and where no run is, with nothing
+  -- an edit that begins at any other address starts with no open run
   begun_bare : (g : ℕ → Option X) (at : ℕ) (xs rs : List (RunOf X)) → AreRuns (xs ++ rs) → EndBelow at xs → StartAtOrPast at rs
       → ((x : ℕ) → x < at → g x ≡ value_at (xs ++ rs) x) → IsBuiltTo g at xs at None
   begun_bare g at xs rs runs ends starts like = record {
@@ -152,7 +152,7 @@ module _ {X : Type 0} where
   ends_from at [] runs ends = tt
   ends_from at (r ∷ rs) runs ends = let some : 0 < r.size = runs.0 in omega arith
 
-  -- the runs that don't end below an address are what is left from the address before it on
+  -- the runs that don't end below an address are the rest from the address before it
   pub rest_before : (whole : List (RunOf X)) (at : ℕ) (xs rs : List (RunOf X)) → xs ++ rs ≡ whole → AreRuns whole → EndBelow at xs
       → FirstEndsAtOrPast at rs
       → IsRestFrom (value_at whole) (at - 1) rs
@@ -164,7 +164,7 @@ module _ {X : Type 0} where
         each = λ x above. sym (value_append_none xs rs x (none_past at x xs ends (omega arith))) ∙ ap (λ l. value_at l x) is;
       }
 
-  -- a run that ends below an address stands behind others that do
+  -- if a run ends below an address, so do those before it
   ends_order : (r : RunOf X) (rs : List (RunOf X)) (i : ℕ) (xs ys : List (RunOf X)) (s : RunOf X) → AreRuns (r ∷ rs) → rs ≡ xs ++ s ∷ ys
       → run_end r ≤ s.base
   ends_order r rs i [] ys s runs is = let before : IsBefore r (s ∷ ys) = rw is at runs.1 in before.0
@@ -176,7 +176,7 @@ module _ {X : Type 0} where
       let first : run_end r ≤ x.base = before.0 in
       omega arith
 
-  -- those up to a run that ends below the address do
+  -- so the records up to it all end below the address
   pub before_more : (at : ℕ) (xs ys : List (RunOf X)) (s : RunOf X) → AreRuns (xs ++ s ∷ ys) → run_end s < at → EndBelow at (xs ++ s ∷ [])
   before_more at [] ys s runs under = (under, tt)
   before_more at (x ∷ xs) ys s runs under =
@@ -195,7 +195,7 @@ module _ {X : Type 0} where
   length_stretch start until None lt some = cc
   length_stretch start until (Some v) lt some = let test : nat_lt start until ≡ true = grind (arith, nat_tests) in rw test refl
 
-  -- where an edit writes a run and has no free place, there is room for one more
+  -- if an edit writes a run and has no free slot, there is room for one more record
   pub room_for : (same : X → X → Bool) → DecidesEquality same → (f g : ℕ → Option X) (start from to : ℕ) (v : Option X) (xs ys : List (RunOf X))
       (room : ℕ) → HasRoomToEdit same f g room
       → NothingFrom (2 ^ 64) f → from ≤ to → to ≤ 2 ^ 64 → IsSweptTo g from (xs ++ stretch start from v) → start < from → is_some v ≡ true

@@ -1,9 +1,9 @@
--- Words for records in slots while an edit goes over them.
+-- Lists of records while an edit sweeps over them.
 use Rattle.std.specs.Prelude.{◌≡◌, ◌⊎◌, ℕ, ◌-◌, ◌<◌, ◌≤◌, nat_lt, if◌then◌else◌, Option, Some, None, List, [], ◌∷◌}
 use Rattle.address_runs.specs.Runs.{RunOf, run_end}
 
 module _ {X : Type 0} where
-  -- the run from the one address up to the other, or nothing where it is empty or has no value
+  -- the run from one address to the other, or nothing if that is empty or has no value
   abbrev pub stretch : ℕ → ℕ → Option X → List (RunOf X)
   stretch start until None = []
   stretch start until (Some v) = if nat_lt start until then record { base = start; size = until - start; value = v } ∷ [] else []
@@ -13,11 +13,11 @@ module _ {X : Type 0} where
   EndBelow at [] = Unit {0}
   EndBelow at (r ∷ rs) = (run_end r < at) × EndBelow at rs
 
-  -- the first run of the list begins at the address or behind it, or ends by it
+  -- the address isn't strictly inside the first run of the list
   abbrev pub IsUncut : ℕ → List (RunOf X) → Type 0
   IsUncut at [] = Unit {0}
   IsUncut at (r ∷ rs) = r.base < at → run_end r ≤ at
 
-  -- the change makes no end of a run: what carries nothing still carries nothing, or all carry one thing then
+  -- the change can't end a run inside its range: it leaves empty addresses empty, or gives all addresses the same
   abbrev pub EndsNoRun : (Option X → Option X) → Type 0
   EndsNoRun change = (change None ≡ None) ⊎ ((carried : Option X) → change carried ≡ change None)

@@ -1,21 +1,18 @@
-//! What a change makes of one address.
-//!
-//! A change is a value with a function over what an address carries, or nothing; the sweep applies it and knows no more of
-//! it. So a caller's own change, such as a new node for a label, needs nothing here.
+//! What an edit does to a single address.
 
 ghost use Rattle.std.specs.Prelude.{◌≡◌, Option, Some, None, unwrap_or};
 
-/// A change of what an address carries. Where a range is changed, each of its addresses is.
+/// A change of what a single address carries. An edit applies it to each address of a range.
 pub trait Change<V: Copy>: Copy {
-    // what an address carries then, by what it carried
+    // what an address carries after the change, given what it carried before
     ghost makes: { Self → Option V → Option V };
 
-    /// What an address carries then.
+    /// Returns what an address carries after the change, given what it carried before.
     fn apply(self, carried: Option<V>) -> Option<V>
         ensures { result ≡ makes self carried };
 }
 
-/// What carries nothing gets the value (`memblock_add_range`).
+/// Gives the value to addresses that carry nothing (`memblock_add_range`).
 #[derive(Clone, Copy)]
 pub struct Cover<V>(pub V);
 
@@ -29,7 +26,7 @@ impl<V: Copy> Change<V> for Cover<V> {
     }
 }
 
-/// All carry nothing any more (`memblock_remove_range`).
+/// Removes what the addresses carry (`memblock_remove_range`).
 #[derive(Clone, Copy)]
 pub struct Uncover;
 
@@ -43,7 +40,7 @@ impl<V: Copy> Change<V> for Uncover {
     }
 }
 
-/// All get the value, whatever they carried.
+/// Gives the value to all addresses, whatever they carry.
 #[derive(Clone, Copy)]
 pub struct Replace<V>(pub V);
 

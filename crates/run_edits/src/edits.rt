@@ -1,8 +1,9 @@
-//! The sweep: one body for all edits.
+//! The sweep that carries out every edit.
 //!
-//! It goes over the records that meet the range or touch it, from the lowest address on, with a place to read at and a
-//! place to write at; what it reads it has already taken out of the way, so the table is changed in place. Records
-//! behind it are moved once. `memblock_add_range` and its kin each have a loop of their own for this, and merge afterwards.
+//! It visits the records that meet or touch the range, in ascending order, with an index to read
+//! from and an index to write to. A record is read before its slot is overwritten. Records above
+//! the range are moved once. The kernel has a loop for each kind of edit (`memblock_add_range`
+//! and others) and merges neighbours afterwards.
 
 ghost use Rattle.std.specs.Prelude.{◌≡◌, ◌≢◌, ◌+◌, ◌-◌, ◌^◌, ◌<◌, ◌≤◌, ℕ, Bool, true, Option, Some, None, ◌++◌, length, take, drop, is_some};
 ghost use Rattle.address_runs.specs.Runs.{DecidesEquality, AreRuns, IsRunsOf, value_at};
@@ -13,13 +14,13 @@ ghost use Rattle.run_edits.specs.Ends.{HasRoomToEdit};
 
 use crate::change::Change;
 use crate::laws::range_end_fits;
-use crate::reading::{first_ending_from, look, skip_ended, peek};
+use crate::reading::{first_ending_from, look, peek, skip_ended};
 use crate::slots::{Rows, Slots};
 use address_runs::{Stretch, agree};
 use bm_base::Range;
 
-/// Where an edit has come to: the first `write` records are written, those from `read` on are left to
-/// be read, and the stretch from `start` on with the value goes on.
+/// The state of a sweep: the first `write` records are finished, those from index `read` on are
+/// still to be read, and a run with the value `value` is open since address `start`.
 #[derive(Clone, Copy)]
 struct Sweep<V> {
     write: u64,
@@ -28,12 +29,14 @@ struct Sweep<V> {
     value: Option<V>,
 }
 
-/// An edit that begins at the address.
+/// Starts a sweep at the address.
 fn begin<S: Stretch, T: Rows<S>>(table: &T, at: u64) -> Sweep<S::Value>
     requires { AreRuns (T.list table.now) }
-    ensures built { (g : ℕ → Option S.Value) → ((x : ℕ) → x < at → g x ≡ value_at (T.list table.now) x) →
+    ensures built { (g : ℕ → Option S.Value) →
+        ((x : ℕ) → x < at → g x ≡ value_at (T.list table.now) x) →
         IsBuiltTo g at (take result.write (T.list table.now)) result.start result.value }
-    ensures rest { IsRestFrom (value_at (T.list table.now)) at (drop result.read (T.list table.now)) }
+    ensures rest { IsRestFrom (value_at (T.list table.now)) at
+        (drop result.read (T.list table.now)) }
     ensures order { result.write ≤ result.read }
     ensures within { result.read ≤ length (T.list table.now) }
 {
@@ -48,8 +51,8 @@ fn begin<S: Stretch, T: Rows<S>>(table: &T, at: u64) -> Sweep<S::Value>
     }
 }
 
-/// Where the stretch begins that goes on at the address, and its value: that of the record at the
-/// index, if that begins below, else none.
+/// Returns the start and the value of the run that is open at the address: those of the record at
+/// index `first` if it begins below the address, else the address and no value.
 fn stretch_at<S: Stretch, T: Rows<S>>(table: &T, first: u64, at: u64) -> (u64, Option<S::Value>)
     requires runs { AreRuns (T.list table.now) }
     requires before { EndBelow at (take first (T.list table.now)) }
@@ -63,9 +66,12 @@ fn stretch_at<S: Stretch, T: Rows<S>>(table: &T, first: u64, at: u64) -> (u64, O
     }
 }
 
-/// Writes the stretch from `start` up to `until` with the value behind the first `write` records, and
-/// nothing where it is empty or has no value. The records from `read` on stay; those between are
-/// free places. Answers both numbers as they are then.
+/// Writes the run from `start` to `until` with the value at index `write`, unless the run is
+/// empty or has no value.
+///
+/// The records before index `write` and those from index `read` on are kept; those between are
+/// free slots. A record is inserted if there is no free slot. Returns both indices as they are
+/// afterwards.
 pub fn emit<S: Stretch, T: Slots<S>>(
     table: &mut T,
     write: u64,
@@ -76,8 +82,10 @@ pub fn emit<S: Stretch, T: Slots<S>>(
 ) -> (u64, u64)
     requires order { write ≤ read }
     requires within { read ≤ length (T.list table.old) }
-    requires room { write ≡ read → start < until → is_some value ≡ true → length (T.list table.old) < T.room table.old }
-    ensures written { take result.0 (T.list table.new) ≡ take write (T.list table.old) ++ stretch start until value }
+    requires room { write ≡ read → start < until → is_some value ≡ true →
+        length (T.list table.old) < T.room table.old }
+    ensures written { take result.0 (T.list table.new)
+        ≡ take write (T.list table.old) ++ stretch start until value }
     ensures rest { drop result.1 (T.list table.new) ≡ drop read (T.list table.old) }
     ensures order { result.0 ≤ result.1 }
     ensures within { result.1 ≤ length (T.list table.new) }
@@ -98,7 +106,8 @@ pub fn emit<S: Stretch, T: Slots<S>>(
     }
 }
 
-/// From the address on the table is to give the value, up to where the next call says otherwise.
+/// Continues the sweep with `value` from address `from` on, and writes the open run if its value
+/// differs.
 fn advance<S: Stretch, T: Slots<S>>(
     table: &mut T,
     sweep: Sweep<S::Value>,
@@ -138,8 +147,8 @@ fn advance<S: Stretch, T: Slots<S>>(
     }
 }
 
-/// Changes what each address of the range carries, in a table with room for the runs that there are
-/// on the way: a sweep over the records that meet the range or touch it.
+/// Applies the change to each address of the range. The range isn't empty, and the table has room
+/// for all runs that exist while the sweep goes on.
 pub fn rewrite<S: Stretch, T: Slots<S>, C: Change<S::Value>>(
     table: &mut T,
     range: &Range,
@@ -148,9 +157,11 @@ pub fn rewrite<S: Stretch, T: Slots<S>, C: Change<S::Value>>(
     requires some { 0 < range.now.size }
     requires runs { AreRuns (T.list table.old) }
     requires within { NothingFrom (2 ^ 64) (value_at (T.list table.old)) }
-    requires room { (same : S.Value → S.Value → Bool) × DecidesEquality same × HasRoomToEdit same (value_at (T.list table.old))
+    requires room { (same : S.Value → S.Value → Bool) × DecidesEquality same
+        × HasRoomToEdit same (value_at (T.list table.old))
         (change_range (C.makes change) range.now (value_at (T.list table.old))) (T.room table.old) }
-    ensures list { IsRunsOf (change_range (C.makes change) range.now (value_at (T.list table.old))) (T.list table.new) }
+    ensures list { IsRunsOf (change_range (C.makes change) range.now (value_at (T.list table.old)))
+        (T.list table.new) }
     ensures keeps { T.keeps table.old table.new }
 {
     let until = range.end();
@@ -177,8 +188,9 @@ pub fn rewrite<S: Stretch, T: Slots<S>, C: Change<S::Value>>(
     table.close(write, read - write);
 }
 
-/// Changes what each address of the range carries, by a change that isn't a cover: what carries
-/// nothing stays so, or all carry one thing then. The table has room for two records more.
+/// Applies the change to each address of the range. The range isn't empty, and the table has room
+/// for two more records. The change isn't a cover: it leaves empty addresses empty, or gives all
+/// addresses the same.
 pub fn amend<S: Stretch, T: Slots<S>, C: Change<S::Value>>(table: &mut T, range: &Range, change: C)
     requires some { 0 < range.now.size }
     requires runs { AreRuns (T.list table.old) }
@@ -186,7 +198,8 @@ pub fn amend<S: Stretch, T: Slots<S>, C: Change<S::Value>>(table: &mut T, range:
     requires change { EndsNoRun (C.makes change) }
     requires tells { (same : S.Value → S.Value → Bool) × DecidesEquality same }
     requires room { length (T.list table.old) + 2 ≤ T.room table.old }
-    ensures list { IsRunsOf (change_range (C.makes change) range.now (value_at (T.list table.old))) (T.list table.new) }
+    ensures list { IsRunsOf (change_range (C.makes change) range.now (value_at (T.list table.old)))
+        (T.list table.new) }
     ensures within { NothingFrom (2 ^ 64) (value_at (T.list table.new)) }
     ensures few { length (T.list table.new) ≤ length (T.list table.old) + 2 }
     ensures keeps { T.keeps table.old table.new }

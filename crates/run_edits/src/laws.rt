@@ -1,5 +1,4 @@
-//! What a layer that edits tables may rest on before it edits: how many runs an edit may add, said of functions alone, and that the
-//! range of an edit ends in the address space.
+//! Laws: how many runs an edit can add, and that a range ends below 2^64.
 
 ghost use Rattle.std.specs.Prelude.{◌≡◌, ℕ, ◌+◌, ◌^◌, ◌<◌, ◌≤◌, Bool, Option, length};
 ghost use Rattle.bm_base.specs.Range.{RangeView, end_of};
@@ -8,17 +7,24 @@ ghost use Rattle.address_runs.specs.Edits.{cover_range, uncover_range, relabel_r
 
 use bm_base::Range;
 
-/// A law: to cover a range adds at most as many runs as it has pieces that carry nothing
-/// (`memblock_add_range`, its count), to take it out one, to change or replace what it carries two.
+/// Law: covering a range adds at most as many runs as the range has gaps (`memblock_add_range`,
+/// its count). Uncovering a range adds at most one run, and relabelling or replacing at most two.
 pub fn edits_add_few<T>()
-    ensures cover { (same : T → T → Bool) (r : RangeView) (v w : T) (f : ℕ → Option T) → DecidesEquality same →
+    ensures cover { (same : T → T → Bool) (r : RangeView) (v w : T) (f : ℕ → Option T) →
+        DecidesEquality same →
         end_of r ≤ 2 ^ 64 → NothingFrom (2 ^ 64) f →
-        length (runs_of same (cover_range r v f)) ≤ length (runs_of same f) + length (runs_of same (gaps_in_range r w f)) }
-    ensures uncover { (same : T → T → Bool) (r : RangeView) (f : ℕ → Option T) → DecidesEquality same →
-        NothingFrom (2 ^ 64) f → length (runs_of same (uncover_range r f)) ≤ length (runs_of same f) + 1 }
-    ensures relabel { (same : T → T → Bool) (r : RangeView) (change : T → T) (f : ℕ → Option T) → DecidesEquality same →
-        NothingFrom (2 ^ 64) f → length (runs_of same (relabel_range r change f)) ≤ length (runs_of same f) + 2 }
-    ensures replace { (same : T → T → Bool) (r : RangeView) (v : T) (f : ℕ → Option T) → DecidesEquality same →
+        length (runs_of same (cover_range r v f))
+        ≤ length (runs_of same f) + length (runs_of same (gaps_in_range r w f)) }
+    ensures uncover { (same : T → T → Bool) (r : RangeView) (f : ℕ → Option T) →
+        DecidesEquality same →
+        NothingFrom (2 ^ 64) f → length (runs_of same (uncover_range r f))
+        ≤ length (runs_of same f) + 1 }
+    ensures relabel { (same : T → T → Bool) (r : RangeView) (change : T → T) (f : ℕ → Option T) →
+        DecidesEquality same →
+        NothingFrom (2 ^ 64) f → length (runs_of same (relabel_range r change f))
+        ≤ length (runs_of same f) + 2 }
+    ensures replace { (same : T → T → Bool) (r : RangeView) (v : T) (f : ℕ → Option T) →
+        DecidesEquality same →
         end_of r ≤ 2 ^ 64 → NothingFrom (2 ^ 64) f →
         length (runs_of same (replace_in_range r v f)) ≤ length (runs_of same f) + 2 }
 {}

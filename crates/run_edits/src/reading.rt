@@ -1,7 +1,5 @@
-//! Reading a table of runs: where an address lies, what it carries, how far that goes.
-//!
-//! A binary search finds the first record that ends behind an address; a look tells what holds there and up to where. The sweep,
-//! look-ups and whatever walks over a table are made of these.
+//! Reads a table of runs: which record contains an address, what an address carries, and how far
+//! that goes.
 
 ghost use Rattle.std.specs.Prelude.{◌≡◌, ◌+◌, ◌-◌, ◌^◌, ◌<◌, ◌≤◌, ℕ, Option, Some, None, [], ◌∷◌, length, take, drop, IsTrue, ◌↔◌, MatchOption};
 ghost use Rattle.bm_base.specs.Range.{end_of};
@@ -13,11 +11,12 @@ use crate::slots::Rows;
 use address_runs::{Stretch, agree};
 use bm_base::Range;
 
-/// The record at the index, if there is one.
+/// Returns the record at the index, or `None` past the last one.
 pub(crate) fn peek<S: Stretch, T: Rows<S>>(table: &T, i: u64) -> Option<S>
     ensures record { MatchOption result (drop i (T.list table.now) ≡ [])
         (λ r. drop i (T.list table.now) ≡ S.run r ∷ drop (i + 1) (T.list table.now)) }
-    ensures within { MatchOption result (length (T.list table.now) ≤ i) (λ r. i < length (T.list table.now)) }
+    ensures within { MatchOption result (length (T.list table.now) ≤ i)
+        (λ r. i < length (T.list table.now)) }
     ensures small { length (T.list table.now) < 2 ^ 64 }
 {
     if i < table.count() {
@@ -27,7 +26,7 @@ pub(crate) fn peek<S: Stretch, T: Rows<S>>(table: &T, i: u64) -> Option<S>
     }
 }
 
-/// The index of the first record that ends at the address or behind it.
+/// Returns the index of the first record that ends at or above the address, by binary search.
 pub(crate) fn first_ending_from<S: Stretch, T: Rows<S>>(table: &T, at: u64) -> u64
     requires { AreRuns (T.list table.now) }
     ensures before { EndBelow at (take result (T.list table.now)) }
@@ -47,13 +46,16 @@ pub(crate) fn first_ending_from<S: Stretch, T: Rows<S>>(table: &T, at: u64) -> u
     low
 }
 
-/// The index behind the record at `read`, if that record ends by the address; else `read`.
+/// Returns `read`, or `read + 1` if the record at index `read` ends at or below the address.
 pub fn skip_ended<S: Stretch, T: Rows<S>>(table: &T, read: u64, at: u64) -> u64
-    ensures rest { (f : ℕ → Option S.Value) (before : ℕ) → IsRestFrom f before (drop read (T.list table.now)) →
+    ensures rest { (f : ℕ → Option S.Value) (before : ℕ) →
+        IsRestFrom f before (drop read (T.list table.now)) →
         before ≤ at → FirstEndsAtOrPast at (drop read (T.list table.now)) →
         IsRestFrom f at (drop result (T.list table.now)) }
-    ensures starts { (f : ℕ → Option S.Value) (before : ℕ) → IsRestFrom f before (drop read (T.list table.now)) →
-        FirstEndsAtOrPast at (drop read (T.list table.now)) → IsUncut at (drop read (T.list table.now)) →
+    ensures starts { (f : ℕ → Option S.Value) (before : ℕ) →
+        IsRestFrom f before (drop read (T.list table.now)) →
+        FirstEndsAtOrPast at (drop read (T.list table.now)) →
+        IsUncut at (drop read (T.list table.now)) →
         StartAtOrPast at (drop result (T.list table.now)) }
     ensures order { read ≤ result }
     ensures within { read ≤ length (T.list table.now) → result ≤ length (T.list table.now) }
@@ -64,8 +66,8 @@ pub fn skip_ended<S: Stretch, T: Rows<S>>(table: &T, read: u64, at: u64) -> u64
     }
 }
 
-/// What the address `from` carries by the records from `read` on, and the first address behind it
-/// that carries something else; 2^64 - 1 where nothing is left.
+/// Returns what the address `from` carries, and the first address above it that carries something
+/// else (2^64 - 1 if no record is left). The records are read from index `read` on.
 pub fn look<S: Stretch, T: Rows<S>>(table: &T, read: u64, from: u64) -> (Option<S::Value>, u64)
     ensures value { (f : ℕ → Option S.Value) → IsRestFrom f from (drop read (T.list table.now)) →
         result.0 ≡ f from }
@@ -73,8 +75,10 @@ pub fn look<S: Stretch, T: Rows<S>>(table: &T, read: u64, from: u64) -> (Option<
         Stays f from result.1 (f from) }
     ensures another { (f : ℕ → Option S.Value) → IsRestFrom f from (drop read (T.list table.now)) →
         f result.1 ≡ f from → f from ≡ None }
-    ensures behind { FirstEndsPast from (drop read (T.list table.now)) → from < 2 ^ 64 - 1 → from < result.1 }
-    ensures forward { FirstEndsPast from (drop read (T.list table.now)) → from < 2 ^ 64 → from ≤ result.1 }
+    ensures behind { FirstEndsPast from (drop read (T.list table.now)) → from < 2 ^ 64 - 1 →
+        from < result.1 }
+    ensures forward { FirstEndsPast from (drop read (T.list table.now)) → from < 2 ^ 64 →
+        from ≤ result.1 }
     ensures ends { FirstEndsPast from (drop read (T.list table.now)) →
         FirstEndsAtOrPast result.1 (drop read (T.list table.now)) }
     ensures uncut { IsUncut result.1 (drop read (T.list table.now)) }
@@ -90,7 +94,7 @@ pub fn look<S: Stretch, T: Rows<S>>(table: &T, read: u64, from: u64) -> (Option<
     }
 }
 
-/// The index from which on the records are what is left from the address on.
+/// Returns the index of the first record that ends above the address.
 pub fn seek<S: Stretch, T: Rows<S>>(table: &T, at: u64) -> u64
     requires { AreRuns (T.list table.now) }
     ensures rest { IsRestFrom (value_at (T.list table.now)) at (drop result (T.list table.now)) }
@@ -100,7 +104,7 @@ pub fn seek<S: Stretch, T: Rows<S>>(table: &T, at: u64) -> u64
     skip_ended(table, first, at)
 }
 
-/// What the address carries.
+/// Returns what the address carries.
 pub fn value_at<S: Stretch, T: Rows<S>>(table: &T, x: u64) -> Option<S::Value>
     requires { AreRuns (T.list table.now) }
     ensures { result ≡ value_at (T.list table.now) x }
@@ -109,8 +113,12 @@ pub fn value_at<S: Stretch, T: Rows<S>>(table: &T, x: u64) -> Option<S::Value>
     look(table, read, x).0
 }
 
-/// Whether each address of the range carries the value.
-pub fn has_value_throughout<S: Stretch, T: Rows<S>>(table: &T, range: &Range, value: S::Value) -> bool
+/// Returns whether each address of the range carries the value.
+pub fn has_value_throughout<S: Stretch, T: Rows<S>>(
+    table: &T,
+    range: &Range,
+    value: S::Value,
+) -> bool
     requires { AreRuns (T.list table.now) }
     ensures { IsTrue result ↔ ((x : ℕ) → range.now.base ≤ x → x < end_of range.now →
         value_at (T.list table.now) x ≡ Some value) }

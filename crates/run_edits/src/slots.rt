@@ -1,55 +1,57 @@
-//! The seam between the sweep and where a table lies.
+//! How the sweep reaches a table.
 //!
-//! The journal keeps its runs in a list, memblock keeps its tables in the bytes that they describe; both are records in a
-//! row that can be read, written, opened at a place and closed. Reading is a trait of its own, since it needs no table
-//! to change.
+//! The journal keeps its runs in a `Vec`. memblock keeps its tables in the memory that they
+//! describe. Both implement [`Rows`] to read records, and [`Slots`] to change them.
 
 ghost use Rattle.std.specs.Prelude.{◌≡◌, ◌+◌, ◌^◌, ◌<◌, ◌≤◌, ℕ, List, ◌∷◌, ◌++◌, length, get_or, take, drop, set, map, vec_capacity};
 ghost use Rattle.address_runs.specs.Runs.{RunOf};
 
 use address_runs::Stretch;
 
-/// Records one behind the other, to be read.
+/// A sequence of records that can be read.
 pub trait Rows<S: Stretch> {
-    // the records as runs, in their order
+    // the records as runs, in order
     ghost list: { Self → List (RunOf S.Value) };
 
-    /// How many records there are.
+    /// Returns the number of records.
     fn count(&self) -> u64
         ensures { result ≡ length (list self.now) };
 
-    /// The record at the index.
+    /// Returns the record at the index, which is below the number of records.
     fn get(&self, i: u64) -> S
         requires { i < length (list self.now) }
         ensures { S.run result ≡ get_or (list self.now) i (S.run result) };
 }
 
-/// Records that can be written, with room for so many. No call takes memory.
+/// A sequence of records that can be changed, with a fixed room. No call allocates.
 pub trait Slots<S: Stretch>: Rows<S> {
-    // how many records there is room for
+    // the number of records that there is room for
     ghost room: { Self → ℕ };
 
-    // what stays when records are written
+    // what else of the table stays the same when records are written
     ghost keeps: { Self → Self → Type 0 };
 
-    /// Writes the record over the one at the index.
+    /// Overwrites the record at the index.
     fn put(&mut self, i: u64, item: S)
         requires { i < length (Self.list self.old) }
         ensures list { Self.list self.new ≡ set (Self.list self.old) i (S.run item) }
         ensures keeps { keeps self.old self.new };
 
-    /// Puts the record before the one at the index, or behind all: those from there on move up.
+    /// Inserts a record at the index; the records from that index on move up. There must be room
+    /// for it.
     fn insert(&mut self, i: u64, item: S)
         requires within { i ≤ length (Self.list self.old) }
         requires room { length (Self.list self.old) < room self.old }
-        ensures list { Self.list self.new ≡ take i (Self.list self.old) ++ S.run item ∷ drop i (Self.list self.old) }
+        ensures list { Self.list self.new
+            ≡ take i (Self.list self.old) ++ S.run item ∷ drop i (Self.list self.old) }
         ensures small { length (Self.list self.new) < 2 ^ 64 }
         ensures keeps { keeps self.old self.new };
 
-    /// Takes out the `n` records from the index on: those behind move down.
+    /// Removes `n` records from the index on; the records after them move down.
     fn close(&mut self, i: u64, n: u64)
         requires { i + n ≤ length (Self.list self.old) }
-        ensures list { Self.list self.new ≡ take i (Self.list self.old) ++ drop (i + n) (Self.list self.old) }
+        ensures list { Self.list self.new
+            ≡ take i (Self.list self.old) ++ drop (i + n) (Self.list self.old) }
         ensures keeps { keeps self.old self.new };
 
     ghost keeps_itself: { (s : Self) → keeps s s };
@@ -71,7 +73,7 @@ impl<S: Stretch> Rows<S> for Vec<S> {
     }
 }
 
-/// A list has room for what it has memory for.
+/// The room of a `Vec` is its capacity.
 impl<S: Stretch> Slots<S> for Vec<S> {
     ghost room = { λ v. vec_capacity v };
 

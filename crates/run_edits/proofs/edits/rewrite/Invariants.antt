@@ -4,7 +4,7 @@ use Rattle.address_runs.specs.Edits.{change_range}
 use Rattle.address_runs.specs.Sweep.{IsBuiltTo, IsRestFrom}
 use Rattle.run_edits.proofs.edits.rewrite.Given as goal
 
--- what is changed is written up to `from`, and what is left of the old records from there on is to be read
+-- the changed runs are written up to address `from`, and the old records from there on are still to be read
 abbrev pub invariant-loop-from : goal.invariant-loop-from
 invariant-loop-from g l = record {
   first : l.range.base ≤ l.from;
