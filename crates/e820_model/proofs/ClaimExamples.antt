@@ -1,18 +1,18 @@
--- Small maps, computed from their entries.
+-- Worked examples: small maps, from their entries.
 use Rattle.std.proofs.Common.{◌≡◌, ℕ, ◌^◌, ◌<◌, ◌+◌, ◌==◌, Bool, true, false, ◌&&◌, ◌||◌, nat_lt, List, [], ◌∷◌, refl, arith}
 use Rattle.std.proofs.lemmas.Bool.Decides.{nat_tests}
-use Rattle.e820_model.specs.Claims.{Claims, no_claims, is_covered_by, EntriesFit, greatest_below, greatest_type, type_of, settled_claims, with_claims, claims_of_entries, after_edit, HasTypes, HaveTypes, after_edits, first_page, bios_area, after_bios_trim, zero_page_claims, with_extension, with_options, final_claims}
+use Rattle.e820_model.specs.Claims.{Claims, no_claims, is_covered_by, EntriesFit, type_of, settled_claims, with_claims, claims_of_entries, after_edit, HasTypes, after_edits, after_bios_trim, zero_page_claims, with_extension, with_options, final_claims}
 use Rattle.e820_model.specs.declared.entry.Entry.{Entry}
 use Rattle.e820_model.specs.declared.entry.Edit.{Edit}
 use Rattle.e820_model.specs.declared.entry.Edit.TheVariants as edit
-use Rattle.bm_base.specs.Range.{RangeView, covers}
+use Rattle.bm_base.specs.Range.{RangeView}
 use Rattle.e820_model.proofs.ClaimLaws.{greatest_is}
 
--- RAM up to 2 MiB, with ACPI data in it from 1 MiB on, 512 KiB long
+-- RAM below 2 MiB, with 512 KiB of ACPI data in it from 1 MiB on
 abbrev ram_and_acpi : List Entry
 ram_and_acpi = record { addr = 0x100000; size = 0x80000; kind = 3 } ∷ (record { addr = 0; size = 0x200000; kind = 1 } ∷ [])
 
--- an entry covers its first and its last byte, an entry may end at 2^64 - 1, and none behind it
+-- an entry covers its first and last byte but not the next; an entry may end at 2^64 - 1 but not above
 covered_examples : (is_covered_by (record { addr = 0x1000; size = 0x1000; kind = 1 }) 0x1000 ≡ true)
     × (is_covered_by (record { addr = 0x1000; size = 0x1000; kind = 1 }) 0x1FFF ≡ true)
     × (is_covered_by (record { addr = 0x1000; size = 0x1000; kind = 1 }) 0xFFF ≡ false)
@@ -23,50 +23,24 @@ ends_at_the_end : EntriesFit (record { addr = 0xFFFFFFFFFFFFF000; size = 0xFFF; 
     × (¬ EntriesFit (record { addr = 0xFFFFFFFFFFFFF000; size = 0x1000; kind = 2 } ∷ []))
 ends_at_the_end = ((omega arith, tt), λ ends. let small : 0xFFFFFFFFFFFFF000 + 0x1000 < 2 ^ 64 = ends.0 in absurd (omega arith))
 
--- both entries claim the address 1 MiB, neither does 2 MiB, an empty entry claims nothing, and an entry of type 0 neither
+-- both entries claim address 1 MiB, neither claims 2 MiB; an empty entry and an entry of type 0 claim nothing
 claims_examples : (claims_of_entries ram_and_acpi 0x100000 1 ≡ true) × (claims_of_entries ram_and_acpi 0x100000 3 ≡ true)
     × (claims_of_entries ram_and_acpi 0x200000 1 ≡ false)
     × (claims_of_entries (record { addr = 0x1000; size = 0; kind = 1 } ∷ []) 0x1000 1 ≡ false)
     × (claims_of_entries (record { addr = 0; size = 0x1000; kind = 0 } ∷ []) 0 0 ≡ false)
 claims_examples = (refl, refl, refl, refl, refl)
 
--- of the types 1 and 3 the greatest below 8 is 3
-greatest_of_two : greatest_below (claims_of_entries ram_and_acpi 0x100000) 8 ≡ 3
-unfolding greatest_below
-greatest_of_two = refl
-
--- so ACPI data is what 1 MiB is, though the entry of RAM comes later
+-- so the type at 1 MiB is ACPI data, although the entry of RAM comes later
 later_does_not_win : type_of (claims_of_entries ram_and_acpi) 0x100000 ≡ 3
 later_does_not_win =
     greatest_is (claims_of_entries ram_and_acpi 0x100000) 3 (omega arith) (λ some. refl) (λ k higher small. grind (arith, nat_tests))
 
--- of no types at all the greatest is 0, of a single type that type
-greatest_of_none : greatest_type (λ k. false) ≡ 0
-greatest_of_none = greatest_is (λ k. false) 0 (omega arith) (λ some. absurd (omega arith)) (λ k higher small. refl)
-
-greatest_of_one : greatest_type (λ k. k == 0xEFFFFFFF) ≡ 0xEFFFFFFF
-greatest_of_one = greatest_is (λ k. k == 0xEFFFFFFF) 0xEFFFFFFF (omega arith) (λ some. refl) (λ k higher small. grind (arith, nat_tests))
-
--- nothing claims 2 MiB, so its type is 0
-unclaimed_has_type_0 : type_of (claims_of_entries ram_and_acpi) 0x200000 ≡ 0
-unclaimed_has_type_0 =
-    greatest_is (claims_of_entries ram_and_acpi 0x200000) 0 (omega arith) (λ some. absurd (omega arith)) (λ k higher small. refl)
-
--- settling leaves ACPI data alone at 1 MiB, and not RAM; it claims nothing where nothing did
+-- settling leaves only ACPI data at 1 MiB, and adds no claim
 settled_examples : (settled_claims (claims_of_entries ram_and_acpi) 0x100000 3 ≡ true)
     × (settled_claims (claims_of_entries ram_and_acpi) 0x100000 1 ≡ false) × (settled_claims (claims_of_entries ram_and_acpi) 0x200000 0 ≡ false)
 settled_examples = (rw later_does_not_win refl, rw later_does_not_win refl, refl)
 
--- what is added claims beside what was there
-with_nvs : Claims
-with_nvs = with_claims (claims_of_entries ram_and_acpi) (claims_of_entries (record { addr = 0x180000; size = 0x1000; kind = 4 } ∷ []))
-
-with_claims_examples : (with_nvs 0x180000 1 ≡ true) × (with_nvs 0x180000 4 ≡ true)
-    × (with_claims no_claims (claims_of_entries ram_and_acpi) 0x200000 1 ≡ false) × (no_claims 0 1 ≡ false)
-unfolding with_nvs
-with_claims_examples = (refl, refl, refl, refl)
-
--- the edits, on the page from 0x1000 on: `memmap=4K@0x1000` and the like
+-- each edit of the page at 0x1000: `memmap=4K@0x1000` and the like
 abbrev page : RangeView
 page = record { base = 0x1000; size = 0x1000 }
 
@@ -88,13 +62,7 @@ remove_all_examples = (refl, refl, refl)
 clear_examples : (after_edit edit.Clear ram_and_nvs 0x1000 1 ≡ false) × (after_edit edit.Clear ram_and_nvs 0x9000 4 ≡ false)
 clear_examples = (refl, refl)
 
-has_types : HasTypes (edit.Change page 1 2) × HasTypes edit.Clear × HaveTypes (edit.Add page 7 ∷ edit.RemoveAll page ∷ [])
-has_types = ((omega arith, omega arith), tt, (omega arith, (tt, tt)))
-
-one_type_0_is_enough : ¬ HaveTypes (edit.Clear ∷ edit.Remove page 0 ∷ [])
-one_type_0_is_enough have = let some : 0 < 0 = have.1.0 in absurd (omega arith)
-
--- type 0 is none, and neither type of a change is 0
+-- no edit has type 0
 type_0_is_none : (¬ HasTypes (edit.Add page 0)) × (¬ HasTypes (edit.Change page 1 0)) × (¬ HasTypes (edit.Change page 0 1))
 type_0_is_none = (
   λ some. absurd (omega arith),
@@ -102,33 +70,27 @@ type_0_is_none = (
   λ some. let none : 0 < 0 = some.0 in absurd (omega arith),
 )
 
--- edits go in their order: what is cleared first is added again, and what is added first is cleared
+-- edits are applied in order: cleared and then added, or added and then cleared
 after_examples : (after_edits (edit.Clear ∷ edit.Add page 1 ∷ []) ram_and_nvs 0x1000 1 ≡ true)
     × (after_edits (edit.Add page 1 ∷ edit.Clear ∷ []) ram_and_nvs 0x1000 1 ≡ false)
     × (after_edits (edit.Remove page 1 ∷ edit.Change page 1 2 ∷ []) ram_and_nvs 0x1000 2 ≡ false)
     × (after_edits [] ram_and_nvs 0x1000 4 ≡ true)
 after_examples = (refl, refl, refl, refl)
 
--- a change takes the place of the one type and leaves the other
+-- a change replaces one type and keeps the other
 change_examples : (after_edit (edit.Change (record { base = 0; size = 0x200000 }) 1 4) (claims_of_entries ram_and_acpi) 0x100000 4 ≡ true)
     × (after_edit (edit.Change (record { base = 0; size = 0x200000 }) 1 4) (claims_of_entries ram_and_acpi) 0x100000 1 ≡ false)
     × (after_edit (edit.Change (record { base = 0; size = 0x200000 }) 1 4) (claims_of_entries ram_and_acpi) 0x100000 3 ≡ true)
 change_examples = (refl, refl, refl)
 
--- 4 KiB from 0 on, and 640 KiB up to 1 MiB
-bios_areas : (covers first_page 0xFFF ≡ true) × (covers first_page 0x1000 ≡ false) × (covers bios_area 0x9FFFF ≡ false)
-    × (covers bios_area 0xA0000 ≡ true) × (covers bios_area 0xFFFFF ≡ true) × (covers bios_area 0x100000 ≡ false)
-bios_areas = (refl, refl, refl, refl, refl, refl)
-
--- the trim makes the first page the BIOS's and leaves the second; it takes RAM away from 640 KiB on, and nothing below
+-- the trim reserves the first page but not the second, and removes RAM from 640 KiB up but not below
 trim_examples : (after_bios_trim (claims_of_entries ram_and_acpi) 0xFFF 2 ≡ true)
     × (after_bios_trim (claims_of_entries ram_and_acpi) 0x1000 1 ≡ true) × (after_bios_trim (claims_of_entries ram_and_acpi) 0xA0000 1 ≡ false)
     × (after_bios_trim (claims_of_entries ram_and_acpi) 0x9FFFF 1 ≡ true)
 trim_examples = (refl, refl, refl, refl)
 
--- the whole way: RAM up to 2 MiB with ACPI data in it; an extension that has a page at 1.5 MiB as ACPI NVS;
--- `memmap=516K$1M`, which reserves where ACPI data was and one page behind it; and an EFI map that has RAM up to 2 MiB, and ACPI data
--- in the page at 0x190000
+-- all steps: RAM below 2 MiB with ACPI data in it; an extension with a page of ACPI NVS at 1.5 MiB; `memmap=516K$1M`, which reserves the
+-- ACPI data and one more page; and an EFI map with RAM below 2 MiB and ACPI data in the page at 0x190000
 abbrev extension : List Entry
 extension = record { addr = 0x180000; size = 0x1000; kind = 4 } ∷ []
 
@@ -144,7 +106,7 @@ first_claims = zero_page_claims ram_and_acpi
 abbrev second_claims : Claims
 second_claims = with_extension extension first_claims
 
--- where each step takes the type from, at an address: the claims before it are one type alone
+-- which step an address has its type from, if the claims before the step are a single type
 abbrev alone : ℕ → ℕ → Bool
 alone t k = nat_lt 0 k && k == t
 
@@ -167,7 +129,7 @@ changed : (x t u : ℕ) → type_of (with_claims first_claims (claims_of_entries
 changed x t u known small is_in none =
     greatest_is (third_claims x) u small (λ some. rw known (is_in some)) (λ k higher below. rw known (none k higher below))
 
--- the zero page alone: ACPI data at 1 MiB, RAM not beside it
+-- the zero page alone: at 1 MiB ACPI data, and no longer RAM
 zero_page_examples : (zero_page_claims ram_and_acpi 0x100000 3 ≡ true) × (zero_page_claims ram_and_acpi 0x100000 1 ≡ false)
 zero_page_examples = (settled_examples.0, settled_examples.1)
 
@@ -191,7 +153,7 @@ nvs_after_the_edits = (rw nvs_stays refl, rw nvs_stays refl)
 nvs_in_the_map : final_claims ram_and_acpi extension edits efi 0x180000 4 ≡ true
 nvs_in_the_map = rw nvs_stays refl
 
--- what it has as ACPI data was RAM before
+-- what the EFI map calls ACPI data was RAM before
 ram_before : type_of (with_claims first_claims (claims_of_entries extension)) 0x190000 ≡ 1
 ram_before =
     let ram : type_of (claims_of_entries ram_and_acpi) 0x190000 ≡ 1 =
@@ -204,7 +166,7 @@ efi_wins =
     changed 0x190000 1 3 ram_before (omega arith) (λ some. refl) (λ k higher small. grind (arith, nat_tests)) in
     (rw acpi refl, rw acpi refl)
 
--- the EFI map comes in behind the edits: `memmap=exactmap` clears what firmware's table says, and none of it
+-- the EFI map is added after the edits: `memmap=exactmap` clears the firmware's table, but not the EFI map
 behind_the_edits : (entries more : List Entry) → final_claims entries more (edit.Clear ∷ []) efi 0x190000 3 ≡ true
 behind_the_edits entries more =
     let acpi : type_of (with_claims no_claims (claims_of_entries efi)) 0x190000 ≡ 3 =
@@ -212,7 +174,7 @@ behind_the_edits entries more =
     (λ k higher small. grind (arith, nat_tests)) in
     rw acpi refl
 
--- the first byte is RAM up to the trim, and then the BIOS's; 640 KiB is RAM, and then nothing
+-- before the trim the first byte and 640 KiB are RAM; after it the first byte is reserved and 640 KiB is nothing
 ram_until_the_trim : (x : ℕ) → x < 0x100000 → type_of third_claims x ≡ 1
 ram_until_the_trim x low =
     let ram : type_of (claims_of_entries ram_and_acpi) x ≡ 1 =
@@ -229,7 +191,7 @@ ram_below_640K : (final_claims ram_and_acpi extension edits efi 0xA0000 1 ≡ fa
     × (final_claims ram_and_acpi extension edits efi 0x9FFFF 1 ≡ true)
 ram_below_640K = (rw (ram_until_the_trim 0xA0000 (omega arith)) refl, rw (ram_until_the_trim 0x9FFFF (omega arith)) refl)
 
--- options and the EFI map go before the trim: RAM that they add from 0 to 1 MiB isn't RAM in the first page, nor from 640 KiB on
+-- the trim comes after options and the EFI map: if they add RAM below 1 MiB, it isn't RAM in the first page, nor at or above 640 KiB
 trimmed_of_ram : (c : Claims) → (after_bios_trim c 0 1 ≡ false) × (after_bios_trim c 0xA0000 1 ≡ false)
 trimmed_of_ram c = (grind (arith, nat_tests), grind (arith, nat_tests))
 

@@ -48,7 +48,7 @@ below_small s (suc n) =
       | inr not_here ↦ rw not_here (omega arith)
     ]
 
--- where there is one, it is below n
+-- the greatest type below n is below n
 pub lower_than : (s : Types) (n : ℕ) → 0 < greatest_below s n → greatest_below s n < n
 unfolding greatest_below
 lower_than s zero some = absurd (omega arith)
@@ -59,7 +59,7 @@ lower_than s (suc n) some =
       | inr not_here ↦ rw not_here (omega arith)
     ]
 
--- and so a number below n that is in the set, or 0, and above which none is, is the greatest
+-- a member of the set, or 0, with no greater member below n is the greatest below n
 pub below_is : (s : Types) (n m : ℕ) → m < n → (0 < m → s m ≡ true) → ((k : ℕ) → m < k → k < n → s k ≡ false) → greatest_below s n ≡ m
 below_is s n m small is_in none =
     let at_least : m ≤ greatest_below s n =
@@ -100,11 +100,11 @@ settled_keeps c x =
     greatest_is (settled_claims c x) (type_of c x) (greatest_small (c x)) (λ some. grind (arith, nat_tests))
     (λ k higher small. grind (arith, nat_tests))
 
--- settled claims are one at most
+-- an address has at most one settled claim
 pub settled_one : (c : Claims) (x j k : ℕ) → settled_claims c x j ≡ true → settled_claims c x k ≡ true → j ≡ k
 settled_one c x j k is_j is_k = grind (arith, nat_tests)
 
--- the trim leaves one claim where there was one
+-- if an address has at most one claim, so it has after the trim
 trim_one : (low high one : Bool) (is_j is_k : Bool) (j k : ℕ) → (is_j ≡ true → is_k ≡ true → j ≡ k) → (one ≡ true → is_j ≡ true → j ≡ 1)
     → (one ≡ true → is_k ≡ true → k ≡ 1)
     → ((if low then ((one && j == 2) || (is_j && not (j == 1))) else is_j) && not (high && j == 1)) ≡ true
@@ -123,7 +123,7 @@ finished_one entries extension edits added x j k at_j at_k =
     let before : Claims = with_claims (after_edits edits (with_extension extension (zero_page_claims entries))) (claims_of_entries added) in
     bios_trimmed_one (settled_claims before) x j k (settled_one before x) at_j at_k
 
--- where nothing is added the claims are those of the edits
+-- if no entries are added, the claims are those of the edits
 pub none_added : (entries extension : List Entry) (edits : List Edit)
     → final_claims entries extension edits [] ≡ after_bios_trim (settled_claims (after_edits edits (with_extension extension (zero_page_claims entries))))
 none_added entries extension edits =
@@ -155,12 +155,12 @@ claims_append_at (r ∷ rs) ss x k =
     let rest : claims_of (rs ++ ss) x k ≡ (claims_of rs x k || claims_of ss x k) = claims_append_at rs ss x k in
     rw rest (sym (or_assoc (lies_in r x && k == r.value) (claims_of rs x k) (claims_of ss x k)))
 
--- the greatest type of the runs that an address lies in, 0 where there is none
+-- the greatest type of the runs that contain an address, or 0
 abbrev pub top : List (RunOf ℕ) → ℕ → ℕ
 top [] x = 0
 top (r ∷ rs) x = max (if lies_in r x then r.value else 0) (top rs x)
 
--- the type of an address is the greatest type of the runs that it lies in
+-- the type of an address is the greatest type of the runs that contain it
 top_small : (rs : List (RunOf ℕ)) (x : ℕ) → AreClaims rs → top rs x < 2 ^ 32
 top_small [] x claims = omega arith
 top_small (r ∷ rs) x claims =
@@ -184,7 +184,7 @@ pub type_top : (rs : List (RunOf ℕ)) (x : ℕ) → AreClaims rs → type_of (c
 type_top rs x claims =
     greatest_is (claims_of rs x) (top rs x) (top_small rs x claims) (top_among rs x) (λ k higher small. top_above rs x k higher)
 
--- and everywhere
+-- the same at every address
 pub claims_append : (rs ss : List (RunOf ℕ)) → claims_of (rs ++ ss) ≡ with_claims (claims_of rs) (claims_of ss)
 claims_append rs ss = λ i x k. claims_append_at rs ss x k i
 
@@ -192,7 +192,7 @@ pub are_append : (rs ss : List (RunOf ℕ)) → AreClaims rs → AreClaims ss �
 are_append [] ss first second = second
 are_append (r ∷ rs) ss first second = (first.0, first.1, first.2, first.3, are_append rs ss first.4 second)
 
--- no run reaches 2^64 - 1, so nothing claims an address from there on
+-- no run reaches 2^64 - 1, so nothing claims an address at or above it
 pub top_past : (rs : List (RunOf ℕ)) (x : ℕ) → AreClaims rs → 2 ^ 64 - 1 ≤ x → top rs x ≡ 0
 top_past [] x claims far = refl
 top_past (r ∷ rs) x claims far =
@@ -204,16 +204,16 @@ none_past rs x claims far =
     let none : type_of (claims_of rs) x ≡ 0 = type_top rs x claims ∙ top_past rs x claims far in
     rw none refl
 
--- the test that tells types apart
+-- the test of equal types decides equality
 pub tells_kinds : DecidesEquality same_kind
 tells_kinds = record { true_is_equal = λ a b h. grind (arith, nat_tests); equal_is_true = λ a b h. grind (arith, nat_tests) }
 
--- the map of claims that give out is their list of runs
+-- claims that end below 2^64 have the runs of their types as their map
 pub map_runs : (c : Claims) → ((x : ℕ) → 2 ^ 64 ≤ x → kinds c x ≡ None) → IsRunsOf (kinds c) (map_of c)
 unfolding map_of
 map_runs c none = by_address same_kind tells_kinds (kinds c) none
 
--- and each list of runs of a list's claims is it
+-- and every list of these runs is that map
 pub map_unique : (rs runs : List (RunOf ℕ)) → AreClaims rs → IsRunsOf (kinds (claims_of rs)) runs → runs ≡ map_of (claims_of rs)
 map_unique rs runs claims known =
     one_list (kinds (claims_of rs)) runs (map_of (claims_of rs)) known
@@ -259,7 +259,7 @@ kind_of t k found small =
           (omega arith, omega arith)
     ]
 
--- what the list behind a run gives, the whole list gives too
+-- what the rest of a canonical list gives, the whole list gives too
 value_rest : (r : RunOf ℕ) (rs : List (RunOf ℕ)) (x k : ℕ) → AreRuns (r ∷ rs) → value_at rs x ≡ Some k → value_at (r ∷ rs) x ≡ Some k
 value_rest r rs x k runs found =
     elim (cases_lt x (run_end r)) as (λ _. value_at (r ∷ rs) x ≡ Some k) [

@@ -1,23 +1,13 @@
--- Small maps: the types of addresses, and the runs of them over all addresses.
-use Rattle.std.proofs.Common.{◌≡◌, ℕ, ◌^◌, ◌+◌, ◌<◌, true, false, Some, None, List, [], ◌∷◌, refl, arith}
+-- Worked examples: the types of addresses, and their runs.
+use Rattle.std.proofs.Common.{◌≡◌, ℕ, ◌^◌, ◌+◌, ◌<◌, Some, None, List, [], ◌∷◌, refl, arith}
 use Rattle.std.proofs.lemmas.Bool.Decides.{nat_tests}
 use Rattle.address_runs.specs.Runs.{RunOf, value_at}
 use Rattle.e820_model.specs.Claims.{type_of}
-use Rattle.e820_model.specs.Map.{some_kind, kinds, same_kind, map_of, claims_of, AreClaims}
-use Rattle.e820_model.specs.Greater.{greater}
+use Rattle.e820_model.specs.Map.{kinds, map_of, claims_of, AreClaims}
 use Rattle.e820_model.proofs.ClaimLaws.{top, type_top, map_unique}
 
 run : ℕ → ℕ → ℕ → RunOf ℕ
 run base size kind = record { base = base; size = size; value = kind }
-
--- type 0 is none
-kind_examples : (some_kind 0 ≡ None) × (some_kind 7 ≡ Some 7) × (same_kind 1 1 ≡ true) × (same_kind 1 2 ≡ false)
-kind_examples = (refl, refl, refl, refl)
-
--- of two types the greater, of one that one
-greater_examples : (greater (Some 1) (Some 3) ≡ Some 3) × (greater (Some 3) (Some 1) ≡ Some 3) × (greater None (Some 1) ≡ Some 1)
-    × (greater (Some 1) None ≡ Some 1) × (greater None None ≡ None)
-greater_examples = (refl, refl, refl, refl, refl)
 
 -- RAM of 2 MiB with 512 KiB of ACPI data in it, from 1 MiB on
 abbrev ram_and_acpi : List (RunOf ℕ)
@@ -31,12 +21,7 @@ past_the_end : ¬ AreClaims (run 0xFFFFFFFFFFFFF000 0x1000 1 ∷ [])
 unfolding run
 past_the_end claims = let small : 0xFFFFFFFFFFFFF000 + 0x1000 < 2 ^ 64 = claims.1 in absurd (omega arith)
 
-claims_examples : (claims_of ram_and_acpi 0x17FFFF 1 ≡ true) × (claims_of ram_and_acpi 0x17FFFF 3 ≡ true)
-    × (claims_of ram_and_acpi 0x180000 3 ≡ false)
-unfolding run
-claims_examples = (refl, refl, refl)
-
--- the type of an address, and no type where nothing claims it
+-- the type of an address, or none if nothing claims it
 kinds_examples : (kinds (claims_of ram_and_acpi) 0x17FFFF ≡ Some 3) × (kinds (claims_of ram_and_acpi) 0x180000 ≡ Some 1)
     × (kinds (claims_of ram_and_acpi) 0x200000 ≡ None)
 unfolding run
@@ -44,7 +29,7 @@ kinds_examples =
     let known : (x : ℕ) → type_of (claims_of ram_and_acpi) x ≡ top ram_and_acpi x = λ x. type_top ram_and_acpi x are_claims in
     (rw (known 0x17FFFF) refl, rw (known 0x180000) refl, rw (known 0x200000) refl)
 
--- the map: ACPI data parts the RAM
+-- the map: ACPI data splits the RAM
 abbrev three_runs : List (RunOf ℕ)
 three_runs = run 0 0x100000 1 ∷ (run 0x100000 0x80000 3 ∷ (run 0x180000 0x80000 1 ∷ []))
 
@@ -79,7 +64,3 @@ halves_are_one_run : run 0 0x2000 1 ∷ [] ≡ map_of (claims_of two_halves)
 unfolding run
 halves_are_one_run =
     map_unique two_halves (run 0 0x2000 1 ∷ []) halves_are_claims (record { runs = (omega arith, tt, tt); each = each_of_one })
-
--- no claims, no runs
-no_claims_no_runs : [] ≡ map_of (claims_of [])
-no_claims_no_runs = map_unique [] [] tt (record { runs = tt; each = λ x. rw (type_top [] x tt) refl })

@@ -1,5 +1,5 @@
--- The definitions of usable memory, computed on small maps.
-use Rattle.std.proofs.Common.{◌≡◌, ℕ, ◌+◌, ◌-◌, ◌^◌, ◌==◌, ◌&&◌, nat_le, nat_lt, true, false, refl, ap, ◌∙◌, Some, None, [], ◌∷◌, arith}
+-- Worked examples: usable frames of small maps.
+use Rattle.std.proofs.Common.{◌≡◌, ℕ, ◌+◌, ◌-◌, ◌^◌, ◌&&◌, nat_le, nat_lt, true, false, refl, ap, ◌∙◌, Some, None, [], ◌∷◌, arith}
 use Rattle.std.proofs.lemmas.Bool.Decides.{nat_tests}
 use Rattle.address_runs.specs.Runs.{value_at}
 use Rattle.bm_base.specs.Each.{each_from, each_in}
@@ -12,12 +12,7 @@ memory_examples : (is_memory (Some 1) ≡ true) × (is_memory (Some 128) ≡ tru
     × (is_memory (Some 0xEFFFFFFF) ≡ false) × (is_memory None ≡ false)
 memory_examples = (refl, refl, refl, refl, refl)
 
--- 0, 1 and 2 are the numbers below 5 that are below 3
-below_examples : (count_below (λ i. nat_lt i 3) 5 ≡ 3) × (count_below (λ i. i == 4) 4 ≡ 0)
-unfolding count_below
-below_examples = (refl, refl)
-
--- RAM from 0x800 up to 0x3800, but the kernel's from 0x1800 up to 0x2800: frames 1 and 2 are whole, 0 and 3 aren't
+-- RAM from 0x800 to 0x3800, from 0x1800 to 0x2800 the kernel's: frames 1 and 2 are whole, 0 and 3 aren't
 kernel_inside : TypeAt
 kernel_inside =
     value_at (record { base = 0x800; size = 0x1000; value = 1 } ∷ record { base = 0x1800; size = 0x1000; value = 128 }
@@ -42,13 +37,13 @@ byte_examples : (count_below (is_usable_frame one_byte_reserved) 4 ≡ 2) × (is
 unfolding one_byte_reserved one_byte_missing each_from each_in count_below is_usable_frame
 byte_examples = (refl, refl, refl, refl)
 
--- from the limit on no address has a type; it may lie inside a frame, which isn't usable then
+-- no address at or above the limit has a type; a frame that contains the limit isn't usable
 reach_examples : (types_below 0x1000 one_byte_reserved 0xFFF ≡ Some 1) × (types_below 0x1000 one_byte_reserved 0x1000 ≡ None)
     × (is_usable_frame (types_below 0x2800 kernel_inside) 1 ≡ true) × (is_usable_frame (types_below 0x2800 kernel_inside) 2 ≡ false)
 unfolding one_byte_reserved kernel_inside each_from each_in is_usable_frame
 reach_examples = (refl, refl, refl, refl)
 
--- of one run of RAM the whole frames count: two of 12 KiB that begin and end inside a frame, and the highest of all
+-- the whole frames of a run of RAM: two of 12 KiB that begin and end inside a frame, and the highest frame of all
 ram : ℕ → ℕ → TypeAt
 ram base size = value_at (record { base = base; size = size; value = 1 } ∷ [])
 

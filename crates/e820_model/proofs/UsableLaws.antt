@@ -49,7 +49,7 @@ count_either p q (suc n) apart =
       | inr fails ↦ (rw fails (grind (arith, nat_tests, rest)))
     ]
 
--- the numbers from a up to b
+-- the numbers from a to b
 pub count_interval : (a b n : ℕ) → count_below (λ i. nat_le a i && nat_lt i b) n ≡ min b n - a
 unfolding count_below
 count_interval a b zero = omega arith
@@ -63,7 +63,7 @@ count_interval a b (suc n) =
 abbrev pub all_bytes : (ℕ → Bool) → ℕ → Bool
 all_bytes p frame = each_in (bytes_of_frame frame) p
 
--- a frame of which some byte fails
+-- a frame with a byte that fails
 pub frame_but : (p : ℕ → Bool) (frame x : ℕ) → 4096 * frame ≤ x → x < 4096 * frame + 4096 → p x ≡ false → all_bytes p frame ≡ false
 frame_but p frame x low high fails = each_in-fails (bytes_of_frame frame) p x low high fails
 
@@ -72,7 +72,7 @@ pub frame_each : (p : ℕ → Bool) (frame : ℕ) → all_bytes p frame ≡ true
     → (x : ℕ) → 4096 * frame ≤ x → x < 4096 * frame + 4096 → p x ≡ true
 frame_each p frame all x low high = each_in-each (bytes_of_frame frame) p all x low high
 
--- the frames between two addresses are those that begin at the first or behind it and end by the second
+-- a frame lies between two addresses if it begins at or above the first and ends at or below the second
 pub interval_frame : (from until frame : ℕ)
     → all_bytes (λ x. nat_le from x && nat_lt x until) frame ≡ (nat_le ((from + 4095) / 4096) frame && nat_lt frame (until / 4096))
 interval_frame from until frame =
@@ -103,7 +103,7 @@ count_frames_between from until n =
     (λ frame lt. interval_frame from until frame)
     ∙ count_interval ((from + 4095) / 4096) (until / 4096) n
 
--- an address that lies between all of one test and all of another
+-- if all addresses below it fail one test and all above it another
 pub record IsGap (p q : ℕ → Bool) (gap : ℕ) : Type 0 where
   pub below : (x : ℕ) → gap ≤ x → p x ≡ false
   pub above : (x : ℕ) → x ≤ gap → q x ≡ false
@@ -154,7 +154,7 @@ count_split p q gap n apart =
 
 -- usable frames
 
--- a frame is usable where it is whole in memory
+-- a frame is usable exactly if it is whole in memory
 pub usable_whole : (f : TypeAt) (frame : ℕ) → is_usable_frame f frame ≡ all_bytes (λ x. is_memory (f x)) frame
 unfolding is_usable_frame
 usable_whole f frame = refl
@@ -174,9 +174,9 @@ pub usable_count : (f : TypeAt) → usable_frames f ≡ count_below (all_bytes (
 unfolding usable_frames
 usable_count f = count_same (is_usable_frame f) (all_bytes (λ x. is_memory (f x))) (2 ^ 52) (λ frame lt. usable_whole f frame)
 
--- types as far as they reach
+-- types below the limit
 
--- memory within reach
+-- memory below the limit
 pub memory_reached : (limit : ℕ) (f : TypeAt) (x : ℕ) → is_memory (types_below limit f x) ≡ (is_memory (f x) && nat_lt x limit)
 memory_reached limit f x =
     elim (cases_Bool (nat_lt x limit)) as (λ _. is_memory (types_below limit f x) ≡ (is_memory (f x) && nat_lt x limit)) [

@@ -1,4 +1,4 @@
--- What the firmware's entries, the extension, the options and the EFI map claim of one address: a set of types.
+-- The claims of an address: the set of types that the firmware's entries, the extension, the options and the EFI map give it.
 use Rattle.std.specs.Prelude.{ℕ, zero, suc, ◌+◌, ◌^◌, ◌==◌, Bool, false, ◌&&◌, ◌||◌, ◌<◌, not, nat_lt, if◌then◌else◌, List, [], ◌∷◌}
 use Rattle.bm_base.specs.Range.{RangeView, covers}
 use Rattle.bm_base.specs.declared.range.TheConstants.{FRAME_SIZE}
@@ -7,7 +7,7 @@ use Rattle.e820_model.specs.declared.entry.Entry.{Entry}
 use Rattle.e820_model.specs.declared.entry.Edit.{Edit}
 use Rattle.e820_model.specs.declared.entry.Edit.TheVariants as edit
 
--- a set of types: which ones are in it. Type 0 claims nothing, so it is never in
+-- a set of types; type 0 claims nothing, so no set has it
 abbrev pub Types : Type 0
 Types = ℕ → Bool
 
@@ -32,12 +32,12 @@ abbrev pub claims_of_entries : List Entry → Claims
 claims_of_entries [] x k = false
 claims_of_entries (e ∷ es) x k = (is_covered_by e x && nat_lt 0 k && k == e.kind) || claims_of_entries es x k
 
--- the greatest of the types below n that are in the set, 0 where there is none
+-- the greatest type of the set that is below n, or 0 if the set has none there
 unfoldable pub greatest_below : Types → ℕ → ℕ
 greatest_below s zero = 0
 greatest_below s (suc n) = if s n then n else greatest_below s n
 
--- the greatest type of the set, 0 where it is empty
+-- the greatest type of the set, or 0 if the set is empty
 unfoldable pub greatest_type : Types → ℕ
 greatest_type s = greatest_below s (2 ^ 32)
 
@@ -45,16 +45,16 @@ greatest_type s = greatest_below s (2 ^ 32)
 abbrev pub type_of : Claims → ℕ → ℕ
 type_of c x = greatest_type (c x)
 
--- each address keeps its greatest claim alone (`e820__update_table`: the greatest type wins)
+-- each address keeps only its greatest claim (`e820__update_table`: the greatest type wins)
 abbrev pub settled_claims : Claims → Claims
 settled_claims c x k = nat_lt 0 k && k == type_of c x
 
--- the claims of both
+-- an address has the claims of both
 abbrev pub with_claims : Claims → Claims → Claims
 with_claims c d x k = c x k || d x k
 
--- what an edit makes of the claims of an address (`parse_memmap_one`: `e820__range_add`,
--- `e820__range_remove` with and without a type, `e820__range_update`, and the cleared table of `exactmap`)
+-- the claims after an edit (`parse_memmap_one`: `e820__range_add`, `e820__range_remove` with and without a type, `e820__range_update`,
+-- and the cleared table of `exactmap`)
 abbrev pub after_edit : Edit → Claims → Claims
 after_edit (edit.Add range kind) c x k = c x k || (covers range x && k == kind)
 after_edit (edit.Remove range kind) c x k = c x k && not (covers range x && k == kind)
@@ -75,13 +75,12 @@ abbrev pub HaveTypes : List Edit → Type 0
 HaveTypes [] = Unit {0}
 HaveTypes (e ∷ es) = HasTypes e × HaveTypes es
 
--- the edits in their order
+-- the claims after all edits, in order
 abbrev pub after_edits : List Edit → Claims → Claims
 after_edits [] c = c
 after_edits (e ∷ es) c = after_edits es (after_edit e c)
 
--- the first page is the BIOS's even where firmware calls it RAM, and from 640 KiB to 1 MiB there
--- is none (`trim_bios_range`)
+-- the first page belongs to the BIOS even if firmware calls it RAM, and from 640 KiB to 1 MiB there is no RAM (`trim_bios_range`)
 abbrev pub first_page : RangeView
 first_page = record { base = 0; size = FRAME_SIZE }
 
@@ -95,17 +94,17 @@ after_bios_trim c = after_edit (edit.Remove bios_area E820_TYPE_RAM) (after_edit
 abbrev pub zero_page_claims : List Entry → Claims
 zero_page_claims entries = settled_claims (claims_of_entries entries)
 
--- step 2: the extension's entries come in, and the table settles (`e820__memory_setup_extended`)
+-- step 2: the extension's entries are added, and the table is settled (`e820__memory_setup_extended`)
 abbrev pub with_extension : List Entry → Claims → Claims
 with_extension extension c = settled_claims (with_claims c (claims_of_entries extension))
 
--- steps 3 to 5: the options' edits in their order, then the entries of the firmware's EFI map that an option adds come in
--- (`do_add_efi_memmap`), and the table settles (`e820__finish_early_params`)
+-- steps 3 to 5: the options' edits are applied in order, the entries of the firmware's EFI map are added if an option asks for them
+-- (`do_add_efi_memmap`), and the table is settled (`e820__finish_early_params`)
 abbrev pub with_options : List Edit → List Entry → Claims → Claims
 with_options edits added c = settled_claims (with_claims (after_edits edits c) (claims_of_entries added))
 
--- the claims of the finished map: of the zero page's entries, the extension's, the options' edits, and the entries of the EFI map that
--- are added; none of these where there is no such map, or no option asks for it
+-- the claims of the final map: steps 1 to 5, then the BIOS ranges are trimmed. `added` is empty unless there is an EFI map and an option
+-- asks for it
 abbrev pub final_claims : List Entry → List Entry → List Edit → List Entry → Claims
 final_claims entries extension edits added =
     after_bios_trim (with_options edits added (with_extension extension (zero_page_claims entries)))

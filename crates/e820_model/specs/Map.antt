@@ -1,16 +1,16 @@
--- The map: the runs of addresses of one type, and lists of runs read as claims.
+-- The map: the runs of one type. And lists of runs read as claims.
 use Rattle.std.specs.Prelude.{ℕ, ◌+◌, ◌^◌, ◌==◌, ◌<◌, Bool, ◌&&◌, ◌||◌, false, if◌then◌else◌, Option, Some, None, List, [], ◌∷◌}
 use Rattle.address_runs.specs.Runs.{RunOf, lies_in, runs_of}
 use Rattle.e820_model.specs.Claims.{Claims, type_of}
 
--- the type of every address, where it has one
+-- the type of each address that has one
 abbrev pub TypeAt : Type 0
 TypeAt = ℕ → Option ℕ
 
 abbrev pub some_kind : ℕ → Option ℕ
 some_kind k = if k == 0 then None else Some k
 
--- the types that the claims give
+-- the types that result from the claims
 abbrev pub kinds : Claims → TypeAt
 kinds c x = some_kind (type_of c x)
 
@@ -21,12 +21,12 @@ same_kind a b = a == b
 unfoldable pub map_of : Claims → List (RunOf ℕ)
 map_of c = runs_of same_kind (kinds c)
 
--- a list of ranges with types, which may overlap, read as claims
+-- the claims that a list of ranges with types makes; the ranges may overlap
 abbrev pub claims_of : List (RunOf ℕ) → Claims
 claims_of [] x k = false
 claims_of (r ∷ rs) x k = (lies_in r x && k == r.value) || claims_of rs x k
 
--- each of the ranges has an address and ends below 2^64, and its type is a u32 above 0
+-- no range is empty, each ends below 2^64, and each type is a u32 above 0
 abbrev pub AreClaims : List (RunOf ℕ) → Type 0
 AreClaims [] = Unit {0}
 AreClaims (r ∷ rs) = (0 < r.size) × (r.base + r.size < 2 ^ 64) × (0 < r.value) × (r.value < 2 ^ 32) × AreClaims rs

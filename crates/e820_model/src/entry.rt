@@ -1,5 +1,4 @@
-//! An entry of the firmware's table, as plain data: the crates that read tables make them, and the one that keeps the
-//! map takes them.
+//! Entries of the firmware's table, edits of it, its size, and the types of memory.
 
 use bm_base::Range;
 
@@ -8,53 +7,57 @@ use bm_base::Range;
 pub struct Entry {
     /// The first address, in bytes.
     pub addr: u64,
-    /// The number of bytes; an entry of size 0 claims nothing.
+    /// The number of bytes. An entry of size 0 claims nothing.
     pub size: u64,
-    /// The type (`enum e820_type`): 1 RAM, 2 reserved, 3 ACPI data, and so on; 0 claims nothing.
+    /// The type (`enum e820_type`): 1 RAM, 2 reserved, 3 ACPI data, and so on. An entry of type 0
+    /// claims nothing.
     pub kind: u32,
 }
 
-/// What an option does to the table (`parse_memmap_one`). No type in it is 0.
+/// An edit of the table by an option of the command line (`parse_memmap_one`). Its types are
+/// above 0.
 #[derive(Clone, Copy, Debug, PartialEq, Eq)]
 pub enum Edit {
-    /// Each address of the range is claimed for the type too (`e820__range_add`).
+    /// Adds the type to the claims of each address of the range (`e820__range_add`).
     Add { range: Range, kind: u32 },
-    /// The type no longer claims an address of the range (`e820__range_remove` with a type).
+    /// Removes the type from the claims of each address of the range (`e820__range_remove` with a
+    /// type).
     Remove { range: Range, kind: u32 },
-    /// No type claims an address of the range (`e820__range_remove` without one).
+    /// Removes all claims of each address of the range (`e820__range_remove` without a type).
     RemoveAll { range: Range },
-    /// Where `from` claims an address of the range, `to` does in its place (`e820__range_update`).
+    /// Replaces the claim `from` by `to` at each address of the range that has it
+    /// (`e820__range_update`).
     Change { range: Range, from: u32, to: u32 },
-    /// No address is claimed any more (`memmap=exactmap`).
+    /// Removes all claims of all addresses (`memmap=exactmap`).
     Clear,
 }
 
-/// The most runs that a map may have (`E820_MAX_ENTRIES` of a kernel with 1,024 nodes).
+/// The greatest number of runs of a map (`E820_MAX_ENTRIES` of a kernel with 1,024 nodes).
 pub const E820_MAX_ENTRIES: u64 = 3200;
 
-/// Memory that may be used.
+/// Usable memory.
 pub const E820_TYPE_RAM: u32 = 1;
 
-/// What isn't to be used.
+/// Memory or addresses that must not be used.
 pub const E820_TYPE_RESERVED: u32 = 2;
 
-/// ACPI's tables, which may be used once they are read.
+/// ACPI tables; the memory may be used once they have been read.
 pub const E820_TYPE_ACPI: u32 = 3;
 
-/// Memory that ACPI's firmware keeps.
+/// ACPI non-volatile storage, kept by firmware.
 pub const E820_TYPE_NVS: u32 = 4;
 
 /// Memory with errors.
 pub const E820_TYPE_UNUSABLE: u32 = 5;
 
-/// Memory that keeps its bytes without power.
+/// Persistent memory.
 pub const E820_TYPE_PMEM: u32 = 7;
 
-/// The same, by its older number.
+/// Persistent memory by its older, non-standard number (`memmap=nn!ss`).
 pub const E820_TYPE_PRAM: u32 = 12;
 
-/// Memory that is the kernel's own.
+/// Memory in use by the kernel itself.
 pub const E820_TYPE_RESERVED_KERN: u32 = 128;
 
-/// Memory that firmware keeps for a driver.
+/// Memory that firmware sets aside for a driver.
 pub const E820_TYPE_SOFT_RESERVED: u32 = 0xEFFF_FFFF;

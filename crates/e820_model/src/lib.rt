@@ -1,13 +1,15 @@
-//! The words in which the firmware's map is spoken of, by every layer above.
+//! The firmware's memory map: entries, edits, claims, the map and usable frames.
 //!
-//! Firmware hands the kernel a table of entries (`struct boot_e820_entry`): ranges with a type. They
-//! may overlap and come in any order, an extension may follow, options edit them, and one adds what UEFI's own
-//! map says. What holds of an address is a set of claims (`specs/Claims.antt`), of which the greatest is its type; the map
-//! is the list of runs of one type (`specs/Map.antt`), of which a kernel's table has room for
-//! [`E820_MAX_ENTRIES`]; a frame of which every byte is memory is usable (`specs/Usable.antt`).
+//! Firmware hands the kernel a table of entries (`struct boot_e820_entry`), each a range and a
+//! type. They may overlap and come in any order. An extension may add entries, options edit them,
+//! and one option adds those of UEFI's own map.
 //!
-//! [`Entry`], [`Edit`] and [`Run`] are plain data. They stand here, below the crates that read and
-//! change them, because the definitions speak of them.
+//! An address has a set of types, its claims (`specs/Claims.antt`); the greatest claim is its
+//! type. The map is the list of runs of one type (`specs/Map.antt`), at most [`E820_MAX_ENTRIES`]
+//! of them. A frame is usable if each of its bytes is memory (`specs/Usable.antt`).
+//!
+//! [`Entry`], [`Edit`] and [`Run`] are plain data. They are here because the definitions use
+//! them. A law is an empty function whose contract is a proven fact.
 #![tactic(auto)]
 
 mod entry;
@@ -19,5 +21,8 @@ pub use entry::{
     E820_TYPE_RESERVED, E820_TYPE_RESERVED_KERN, E820_TYPE_SOFT_RESERVED, E820_TYPE_UNUSABLE, Edit,
     Entry,
 };
-pub use laws::{greatest_is_greatest, map_is_runs, edits_alone_make_the_map, final_claims_are_single, settling_keeps_types};
+pub use laws::{
+    edits_alone_make_the_map, final_claims_are_single, greatest_is_greatest, map_is_runs,
+    settling_keeps_types,
+};
 pub use run::Run;

@@ -1,5 +1,4 @@
-//! A run of the map, and how runs that lie over one another are joined: the greater type holds
-//! (`e820__update_table`). By this `address_runs` makes the map, knowing nothing of types.
+//! A run of the map. If runs overlap, the greater type holds (`e820__update_table`).
 
 ghost use Rattle.std.specs.Prelude.{◌≡◌, ℕ, ◌+◌, ◌^◌, ◌<◌};
 ghost use Rattle.address_runs.specs.Runs.{RunOf};
@@ -9,7 +8,7 @@ use address_runs::{Overlay, Stretch};
 use bm_base::Range;
 use std::marker::Model;
 
-/// A range of addresses and the type that claims it. In the map it is a run: as long as it can be.
+/// A range of addresses and its type. In the map it is as long as possible.
 #[derive(Clone, Copy, Debug, PartialEq, Eq)]
 pub struct Run {
     pub range: Range,
@@ -27,7 +26,10 @@ impl Model for Run {
 
     ghost invariant = { λ r. r.range.base + r.range.size < 2 ^ 64 };
 
-    ghost inverse = { λ r. record { range = record { base = r.base; size = r.size }; kind = r.value } };
+    ghost inverse = { λ r. record {
+      range = record { base = r.base; size = r.size };
+      kind = r.value;
+    } };
 }
 
 impl Stretch for Run {
@@ -52,7 +54,7 @@ impl Stretch for Run {
     }
 }
 
-/// Where two ranges with types lie over one another the greater type holds.
+/// If two ranges overlap, the greater type holds.
 impl Overlay for Run {
     ghost join_of = { greater };
 
