@@ -1,7 +1,7 @@
--- Small journals, computed: who owns a byte, what it is to memory, and the limit.
+-- Worked examples: small journals.
 use Rattle.std.proofs.Common.{◌≡◌, ◌==◌, true, false, nat_lt, if◌then◌else◌, Some, None, List, [], ◌∷◌, refl, sym, arith}
 use Rattle.std.proofs.lemmas.Bool.Decides.{nat_tests}
-use Rattle.address_runs.specs.Runs.{RunOf, runs_from}
+use Rattle.address_runs.specs.Runs.{RunOf}
 use Rattle.address_runs.proofs.RunsLaws.{the_list}
 use Rattle.memblock_model.specs.declared.owner.Owner.{Owner}
 use Rattle.memblock_model.specs.declared.owner.Owner.TheVariants as owner
@@ -12,7 +12,7 @@ use Rattle.memblock_model.specs.declared.item.Item.TheVariants as item
 use Rattle.bm_base.specs.Each.{each_from, each_in}
 use Rattle.memblock_model.specs.Labels.{Labels, plain_label, with_node, with_mirror}
 use Rattle.memblock_model.specs.Same.{same_owner}
-use Rattle.memblock_model.specs.Items.{IsItem, AreItems, owners_after, no_owners, owner_of, memory_after, no_memory, trim_frames, memory_of, tag_of, limit_after, limit_of, upward_after, upward_of, owner_runs_of}
+use Rattle.memblock_model.specs.Items.{IsItem, owner_of, trim_frames, memory_of, tag_of, limit_of, upward_of, owner_runs_of}
 use Rattle.memblock_model.proofs.SameLaws.{owner_tells}
 use Rattle.memblock_model.proofs.LabelExamples.{bytes}
 
@@ -21,32 +21,8 @@ item_examples : (IsItem (item.Mem (bytes 7 1))) × (IsItem (item.Mem (bytes 7 0)
     × (IsItem (item.Claim (bytes 7 0) owner.Kernel) → ⊥) × (IsItem (item.Free (bytes 7 0)) → ⊥) × (IsItem (item.Mirror (bytes 7 0)) → ⊥)
 item_examples = (omega arith, λ some. omega arith, λ some. omega arith, λ some. omega arith, λ some. omega arith, λ some. omega arith)
 
-items_of_some : AreItems (item.Trim ∷ (item.Claim (bytes 7 1) owner.Kernel ∷ []))
-items_of_some = (tt, (omega arith, tt))
-
-none_in_the_list : AreItems (item.Trim ∷ (item.Free (bytes 7 0) ∷ [])) → ⊥
-none_in_the_list some = let empty = some.1.0 in omega arith
-
--- at first nobody has a byte
-no_owners_examples : (no_owners 0 ≡ None) × (no_owners 5 ≡ None)
-no_owners_examples = (refl, refl)
-
--- one item alone: a claim up to its last byte, and not behind it
-owners_after_examples : (owners_after no_owners (item.Claim (bytes 4 8) owner.Soft) 11 ≡ Some owner.Soft)
-    × (owners_after no_owners (item.Claim (bytes 4 8) owner.Soft) 12 ≡ None)
-owners_after_examples = (refl, refl)
-
--- and none is memory
-no_memory_examples : (no_memory 0 ≡ None) × (no_memory 5 ≡ None)
-no_memory_examples = (refl, refl)
-
--- memory from its first byte on, and not below it
-memory_after_examples : (memory_after no_memory (item.Mem (bytes 4 8)) 4 ≡ Some plain_label)
-    × (memory_after no_memory (item.Mem (bytes 4 8)) 3 ≡ None)
-memory_after_examples = (refl, refl)
-
--- the newest item that covers a byte decides: a claim over a claim, an older claim beside it, a free behind a claim,
--- a claim behind a free
+-- the newest item that covers a byte decides: a claim over a claim, and a byte that only the older claim covers; a free after a claim, a
+-- claim after a free
 owner_of_examples : (owner_of (item.Claim (bytes 0 8) owner.Kernel ∷ (item.Claim (bytes 4 8) owner.Low1M ∷ [])) 5 ≡ Some owner.Low1M)
     × (owner_of (item.Claim (bytes 0 8) owner.Kernel ∷ (item.Claim (bytes 4 8) owner.Low1M ∷ [])) 3 ≡ Some owner.Kernel)
     × (owner_of (item.Claim (bytes 0 8) owner.Kernel ∷ (item.Free (bytes 4 2) ∷ [])) 5 ≡ None)
@@ -64,14 +40,13 @@ owner_stays_examples : (owner_of (item.Claim (bytes 0 8) owner.Kernel ∷ memory
     × (owner_of memory_alone 5 ≡ None)
 owner_stays_examples = (refl, refl)
 
--- memory that has a node keeps it when it is added again, and new memory has none; a node for bytes that aren't memory is
--- nothing
+-- memory keeps its node when it is added again, and new memory has none; a node for bytes that aren't memory changes nothing
 tag_of_examples : (tag_of (item.Mem (bytes 0 8) ∷ (item.Node (bytes 0 4) 1 ∷ (item.Mem (bytes 0 16) ∷ []))) 3 ≡ tag.Memory (Some 1) false)
     × (tag_of (item.Mem (bytes 0 8) ∷ (item.Node (bytes 0 4) 1 ∷ (item.Mem (bytes 0 16) ∷ []))) 9 ≡ tag.Memory None false)
     × (tag_of (item.Node (bytes 0 4) 1 ∷ []) 3 ≡ tag.Absent)
 tag_of_examples = (refl, refl, refl)
 
--- a later node takes the place of an earlier one, which stays beside it; a mirror leaves the node
+-- a later node replaces an earlier one where both cover; a mirror keeps the node
 memory_of_examples : (memory_of (item.Mem (bytes 0 8) ∷ (item.Node (bytes 0 8) 1 ∷ (item.Node (bytes 4 4) 2 ∷ []))) 4
     ≡ Some (with_node (Some 2) plain_label))
     × (memory_of (item.Mem (bytes 0 8) ∷ (item.Node (bytes 0 8) 1 ∷ (item.Node (bytes 4 4) 2 ∷ []))) 3
@@ -80,8 +55,7 @@ memory_of_examples : (memory_of (item.Mem (bytes 0 8) ∷ (item.Node (bytes 0 8)
     ≡ Some (with_mirror (with_node (Some 2) plain_label)))
 memory_of_examples = (refl, refl, refl)
 
--- a mirror marks memory: nothing where there is none; memory of its range alone, under a later node; it stays when memory is
--- added again
+-- a mirror marks only memory of its range; it stays under a later node, and if memory is added again
 mirror_examples : (tag_of (item.Mirror (bytes 0 4) ∷ []) 3 ≡ tag.Absent)
     × (tag_of (item.Mem (bytes 0 8) ∷ (item.Mirror (bytes 0 4) ∷ (item.Node (bytes 0 8) 1 ∷ []))) 3 ≡ tag.Memory (Some 1) true)
     × (tag_of (item.Mem (bytes 0 8) ∷ (item.Mirror (bytes 0 4) ∷ (item.Node (bytes 0 8) 1 ∷ []))) 4 ≡ tag.Memory (Some 1) false)
@@ -97,7 +71,7 @@ owners_alone = item.Claim (bytes 0 8) owner.Kernel
 memory_stays_examples : (tag_of (item.Mem (bytes 0 8) ∷ owners_alone) 3 ≡ tag.Memory None false) × (tag_of owners_alone 5 ≡ tag.Absent)
 memory_stays_examples = (refl, refl)
 
--- a frame that is memory whole stays; it goes where one byte is missing, where it is mirrored in part, where it is of two nodes
+-- a frame stays if it is all memory with one label; it goes if a byte is missing, if it is mirrored in part, or if it has two nodes
 trim_examples : (tag_of (item.Mem (bytes 0 4096) ∷ (item.Trim ∷ [])) 5 ≡ tag.Memory None false)
     × (tag_of (item.Mem (bytes 0 4095) ∷ (item.Trim ∷ [])) 5 ≡ tag.Absent)
     × (tag_of (item.Mem (bytes 0 4096) ∷ (item.Mirror (bytes 0 100) ∷ (item.Trim ∷ []))) 5 ≡ tag.Absent)
@@ -105,20 +79,16 @@ trim_examples : (tag_of (item.Mem (bytes 0 4096) ∷ (item.Trim ∷ [])) 5 ≡ t
 unfolding trim_frames each_in each_from
 trim_examples = (refl, refl, refl, refl)
 
--- the first frame carries one label, the second too but for its last byte, which carries another, and the third but for one byte
+-- the first frame has one label; in the second only the last byte differs, in the third one byte isn't memory
 abbrev frames : Labels
 frames x = if nat_lt x 8191 then Some plain_label else (if x == 8191 then Some (with_node (Some 8) plain_label) else
     (if nat_lt x 12287 then Some plain_label else None))
 
--- the whole frame up to its last byte; two labels, at the first byte and at the last; one byte short
+-- the last byte of the whole frame; the first and last byte of the frame with two labels; the frame that lacks a byte
 trimmed_examples : (trim_frames frames 4095 ≡ Some plain_label) × (trim_frames frames 4096 ≡ None) × (trim_frames frames 8191 ≡ None)
     × (trim_frames frames 8192 ≡ None)
 unfolding trim_frames each_in each_from
 trimmed_examples = (refl, refl, refl, refl)
-
--- a limit is set, and another item leaves it
-limit_after_examples : (limit_after 7 (item.Limit 5) ≡ 5) × (limit_after 7 (item.Free (bytes 0 4)) ≡ 7)
-limit_after_examples = (refl, refl)
 
 -- the newest limit, whether it is lower or higher; 0 without one; it stays whatever else happens
 limit_of_examples : (limit_of (item.Limit 5 ∷ (item.Limit 3 ∷ (item.Trim ∷ []))) ≡ 3)
@@ -133,18 +103,6 @@ upward_of_examples : (upward_of (item.Trim ∷ []) ≡ false)
     × (upward_of (item.Upward true ∷ (item.Upward false ∷ [])) ≡ false)
 upward_of_examples = (refl, refl, refl)
 
--- another item leaves the direction
-direction_left : upward_after true (item.Free (bytes 0 4)) ≡ true
-direction_left = refl
-
--- claims of one owner that touch are one run, of two owners two
-owner_run_examples : (runs_from same_owner (owner_of (item.Claim (bytes 1 2) owner.Kernel ∷ (item.Claim (bytes 3 2) owner.Kernel
-    ∷ []))) 0 8 ≡ record { base = 1; size = 4; value = owner.Kernel } ∷ [])
-    × (runs_from same_owner (owner_of (item.Claim (bytes 1 2) (owner.Script 1) ∷ (item.Claim (bytes 3 2) (owner.Script 2) ∷ []))) 0 8
-    ≡ record { base = 1; size = 2; value = owner.Script 1 } ∷ (record { base = 3; size = 2; value = owner.Script 2 } ∷ []))
-unfolding runs_from
-owner_run_examples = (refl, refl)
-
 -- over all addresses, by the laws: a byte in the middle is freed; all bytes are
 abbrev parted : List Item
 parted = item.Claim (bytes 1 3) owner.Kernel ∷ (item.Free (bytes 2 1) ∷ [])
@@ -158,11 +116,3 @@ runs_of_parted = sym (the_list same_owner owner_tells (owner_of parted) parted_r
   runs = (omega arith, (omega arith, λ touch. absurd (omega arith)), (omega arith, tt, tt));
   each = λ x. grind (arith, nat_tests);
 }))
-
-abbrev freed : List Item
-freed = item.Claim (bytes 1 3) owner.Kernel ∷ (item.Free (bytes 0 8) ∷ [])
-
-no_runs_of_freed : owner_runs_of freed ≡ []
-unfolding owner_runs_of
-no_runs_of_freed = sym (the_list same_owner owner_tells (owner_of freed) [] (λ x le. grind (arith, nat_tests))
-    (record { runs = tt; each = λ x. grind (arith, nat_tests) }))

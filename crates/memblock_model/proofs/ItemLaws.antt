@@ -56,7 +56,7 @@ reserved_of-after f (item.Claim range owner) = reserved_of-replaced range owner 
 reserved_of-after f (item.Free range) = reserved_of-uncovered range f
 reserved_of-after f i = refl
 
--- each table goes by itself
+-- what a table says, its room and its place don't depend on the owners
 pub table_of-push : (w : Which) (items : List Item) (i : Item) → table_of w (items ++ i ∷ []) ≡ table_after w (table_of w items) i
 table_of-push which.Memory items i = memory_of-push items i
 table_of-push which.Reserved items i = ap reserved_of (owner_of-push items i) ∙ reserved_of-after (owner_of items) i

@@ -4,7 +4,6 @@ pub mod ItemLaws
 pub mod SearchLaws
 pub mod TableLaws
 mod LabelExamples
-mod SameExamples
 mod ItemExamples
 mod TableExamples
 mod SearchExamples

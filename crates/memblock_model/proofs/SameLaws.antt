@@ -1,4 +1,4 @@
--- The tests of sameness tell.
+-- The tests of equality decide equality.
 use Rattle.std.proofs.Common.{◌≡◌, ℕ, ◌==◌, Bool, true, false, if◌then◌else◌, Option, Some, None, refl, sym, ◌∙◌, ap}
 use Rattle.std.proofs.lemmas.Bool.{eqb-true, eq-eqb, and_parts, and_from}
 use Rattle.address_runs.specs.Runs.{DecidesEquality}

@@ -12,28 +12,12 @@ use Rattle.bm_base.specs.Each.{each_from, each_in}
 use Rattle.memblock_model.specs.Labels.{LabelView, Labels, plain_label, with_node, with_mirror}
 use Rattle.memblock_model.specs.Items.{no_memory}
 use Rattle.memblock_model.specs.Tables.{table_of}
-use Rattle.memblock_model.specs.Search.{last_below, first_below, outermost_below, allows, suits, fits_in, top_place_in, fits, top_place, best_place}
+use Rattle.memblock_model.specs.Search.{suits, fits_in, top_place_in, fits, top_place, best_place}
 use Rattle.memblock_model.proofs.SearchLaws.{fits_in-parts, top_place_in-first, best_place_in-plain, best_place_in-last, best_place_in-fails, plain_or_none}
 use Rattle.memblock_model.proofs.LabelExamples.{bytes}
 
--- the first of all that pass, or the last
-outermost_examples : (outermost_below true (λ n. nat_lt 2 n) 10 ≡ Some 3) × (outermost_below false (λ n. nat_lt 2 n) 10 ≡ Some 9)
-unfolding first_below last_below
-outermost_examples = (refl, refl)
-
--- any memory suits where no mirror is wanted; where one is, plain memory doesn't, mirrored memory does, and nothing doesn't
-suits_examples : (suits false (Some plain_label) ≡ true) × (suits true (Some plain_label) ≡ false)
-    × (suits true (Some (with_mirror plain_label)) ≡ true) × (suits true None ≡ false)
-suits_examples = (refl, refl, refl, refl)
-
 abbrev of_node : ℕ → LabelView
 of_node node = with_node (Some node) plain_label
-
--- a query for any node takes memory without one, too; a query for a node that node's memory, not another's, not what is
--- nothing, not memory without a node
-allows_examples : (allows None (Some plain_label) ≡ true) × (allows (Some 1) (Some (of_node 1)) ≡ true)
-    × (allows (Some 1) (Some (of_node 2)) ≡ false) × (allows (Some 1) None ≡ false) × (allows (Some 1) (Some plain_label) ≡ false)
-allows_examples = (refl, refl, refl, refl, refl)
 
 -- bytes 4096 to 4103 are memory of node 1, the rest of node 2; byte 4101 is claimed
 abbrev memory : Labels
@@ -65,30 +49,18 @@ window_examples : (fits_in false memory claimed (pairs 4098 4200) 4098 ≡ true)
 unfolding fits_in each_in each_from
 window_examples = (refl, refl, refl, refl)
 
--- the last number that passes, none, and the greatest of those that fit
-last_examples : (last_below (λ n. nat_lt n 3) 10 ≡ Some 2) × (last_below (λ n. n == 5) 5 ≡ None)
-    × (last_below (fits_in false memory claimed (pairs 0 4103)) 4110 ≡ Some 4098)
-unfolding last_below fits_in each_in each_from
-last_examples = (refl, refl, refl)
-
--- the first number that passes, none, and the least of those that fit
-first_examples : (first_below (λ n. nat_lt 2 n) 10 ≡ Some 3) × (first_below (λ n. n == 5) 5 ≡ None)
-    × (first_below (fits_in false memory claimed (pairs 0 4104)) 4110 ≡ Some 4096)
-unfolding first_below fits_in each_in each_from
-first_examples = (refl, refl, refl)
-
 -- bytes 4096 to 4103 mirrored, and no more
 abbrev half_mirrored : Labels
 half_mirrored x = if nat_lt x 4104 then Some (with_mirror (of_node 1)) else Some (of_node 1)
 
--- where a mirror is wanted unmirrored memory doesn't fit, and mirrored memory does; nothing fits over its border
+-- in a search of mirrored memory unmirrored memory doesn't fit, and nothing fits across the border
 mirrored_examples : (fits_in true memory claimed (pairs 0 4104) 4096 ≡ false)
     × (fits_in true half_mirrored claimed (pairs 0 5000) 4098 ≡ true)
     × (fits_in false half_mirrored claimed (record { lo = 0; hi = 5000; size = 2; align = 1; node = None }) 4103 ≡ false)
 unfolding fits_in each_in each_from
 mirrored_examples = (refl, refl, refl)
 
--- 64 KiB of memory: the best page below its end, and none where a claim leaves the first frame alone
+-- 64 KiB of memory: the best page below its end, or none if only the first frame is unclaimed
 abbrev small : List Item
 small = item.Mem (bytes 0 0x10000) ∷ []
 
@@ -131,7 +103,7 @@ unfolding best_place
 nothing_best = best_place_in-fails false (table_of which.Memory crowded) (table_of which.Reserved crowded) page
     (λ b lt. false_from_ne_true _ (nothing_fits b))
 
--- its lowest page, where the search goes up: never the first frame
+-- its lowest page if the search goes up: never the first frame
 abbrev turned : List Item
 turned = item.Mem (bytes 0 0x10000) ∷ (item.Upward true ∷ [])
 

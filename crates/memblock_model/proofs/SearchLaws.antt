@@ -22,7 +22,7 @@ pub record IsLastBelow (p : ℕ → Bool) (n a : ℕ) : Type 0 where
   pub passes : p a ≡ true
   pub last : (b : ℕ) → b < n → p b ≡ true → b ≤ a
 
--- a number that passes stays the last one where the next doesn't pass
+-- a number that passes stays the last one if the next doesn't pass
 last_more : (p : ℕ → Bool) (n a : ℕ) → p n ≡ false → IsLastBelow p n a → IsLastBelow p (suc n) a
 last_more p n a fails known = record {
   below = let lt = known.below in omega arith;
@@ -33,7 +33,7 @@ last_more p n a fails known = record {
   ];
 }
 
--- the answer is the last one
+-- the result is the last one that passes
 pub last_below-is : (p : ℕ → Bool) (n a : ℕ) → last_below p n ≡ Some a → IsLastBelow p n a
 unfolding last_below
 last_below-is p zero a h = cc
@@ -44,7 +44,7 @@ last_below-is p (suc n) a h =
       | inr fails ↦ last_more p n a fails (last_below-is p n a (rw fails at h))
     ]
 
--- with no answer none passes
+-- if there is no result, no number passes
 pub last_below-none : (p : ℕ → Bool) (n : ℕ) → last_below p n ≡ None → (b : ℕ) → b < n → p b ≡ false
 unfolding last_below
 last_below-none p zero h b lt = absurd (omega arith)
@@ -57,7 +57,7 @@ last_below-none p (suc n) h b lt =
       ]
     ]
 
--- the last one is the answer
+-- the last one that passes is the result
 pub last_below-last : (p : ℕ → Bool) (n a : ℕ) → IsLastBelow p n a → last_below p n ≡ Some a
 unfolding last_below
 last_below-last p zero a known = absurd (let lt = known.below in omega arith)
@@ -82,7 +82,7 @@ last_below-last p (suc n) a known =
           }))
     ]
 
--- where none passes there is no answer
+-- if no number passes, there is no result
 pub last_below-fails : (p : ℕ → Bool) (n : ℕ) → ((b : ℕ) → b < n → p b ≡ false) → last_below p n ≡ None
 unfolding last_below
 last_below-fails p zero none = refl
@@ -162,7 +162,7 @@ fits_unmirrored mirror memory reserved q a h =
       free = known.free;
     })
 
--- where it fits nowhere, or doesn't suit, it doesn't fit
+-- if some byte isn't free memory of one label, or the label doesn't suit, the address doesn't fit
 unfit : (mirror : Bool) (memory reserved : Labels) (q : Query) (a : ℕ) → fits_in false memory reserved q a ≡ false
     → fits_in mirror memory reserved q a ≡ false
 unfit mirror memory reserved q a fails =
@@ -173,7 +173,7 @@ unsuited : (mirror : Bool) (memory reserved : Labels) (q : Query) (a : ℕ) → 
 unsuited mirror memory reserved q a fails =
     false_from_ne_true _ (λ fits. true≢false (sym (fits_in-parts mirror memory reserved q a fits).suited ∙ fails))
 
--- of two answers there is none, or one
+-- the first of two results, if there is one
 or_none : (a b : Option ℕ) → option_or a b ≡ None → a ≡ None
 or_none None b h = refl
 or_none (Some n) b h = cc
@@ -196,7 +196,7 @@ pub record IsFirstBelow (p : ℕ → Bool) (n a : ℕ) : Type 0 where
   pub passes : p a ≡ true
   pub first : (b : ℕ) → b < n → p b ≡ true → a ≤ b
 
--- with no answer none passes
+-- if there is no result, no number passes
 pub first_below-none : (p : ℕ → Bool) (n : ℕ) → first_below p n ≡ None → (b : ℕ) → b < n → p b ≡ false
 unfolding first_below
 first_below-none p zero h b lt = absurd (omega arith)
@@ -233,13 +233,13 @@ first_of p n a None is none h =
       ];
     })
 
--- the answer is the first one
+-- the result is the first one that passes
 pub first_below-is : (p : ℕ → Bool) (n a : ℕ) → first_below p n ≡ Some a → IsFirstBelow p n a
 unfolding first_below
 first_below-is p zero a h = cc
 first_below-is p (suc n) a h = first_of p n a (first_below p n) (first_below-is p n) (first_below-none p n) h
 
--- the first one is the answer
+-- the first one that passes is the result
 first_answer : (p : ℕ → Bool) (n a : ℕ) → IsFirstBelow p n a → (o : Option ℕ) → first_below p n ≡ o → first_below p n ≡ Some a
 first_answer p n a known None is = absurd (true≢false (sym known.passes ∙ first_below-none p n is a known.below))
 first_answer p n a known (Some m) is =
@@ -252,14 +252,14 @@ first_answer p n a known (Some m) is =
 pub first_below-first : (p : ℕ → Bool) (n a : ℕ) → IsFirstBelow p n a → first_below p n ≡ Some a
 first_below-first p n a known = first_answer p n a known (first_below p n) refl
 
--- where none passes there is no answer
+-- if no number passes, there is no result
 pub first_below-fails : (p : ℕ → Bool) (n : ℕ) → ((b : ℕ) → b < n → p b ≡ false) → first_below p n ≡ None
 unfolding first_below
 first_below-fails p zero none = refl
 first_below-fails p (suc n) none = let here : p n ≡ false = none n (omega arith) in
     rw (first_below-fails p n (λ b lt. none b (omega arith)), here) refl
 
--- the top place passes, and where there is none, none passes
+-- the top place passes; if there is none, nothing passes
 pub outermost_below-passes : (up : Bool) (p : ℕ → Bool) (n a : ℕ) → outermost_below up p n ≡ Some a → p a ≡ true
 outermost_below-passes true p n a h = (first_below-is p n a h).passes
 outermost_below-passes false p n a h = (last_below-is p n a h).passes
@@ -288,7 +288,7 @@ pub top_place_in-fails : (mode : Mode) (memory reserved : Labels) (q : Query)
 unfolding top_place_in
 top_place_in-fails mode memory reserved q none = outermost_below-fails mode.up (fits_in mode.mirror memory reserved q) (2 ^ 64) none
 
--- and to prove that an address is it: the last one downward, the first one upward
+-- to show that an address is the top place: it is the last one that fits, or the first if the search goes up
 pub top_place_in-last : (mirror : Bool) (memory reserved : Labels) (q : Query) (a : ℕ) → IsLastBelow (fits_in mirror memory reserved q) (2 ^ 64) a
     → top_place_in (record { mirror = mirror; up = false }) memory reserved q ≡ Some a
 unfolding top_place_in
@@ -300,7 +300,7 @@ pub top_place_in-first : (mirror : Bool) (memory reserved : Labels) (q : Query) 
 unfolding top_place_in
 top_place_in-first mirror memory reserved q a known = first_below-first (fits_in mirror memory reserved q) (2 ^ 64) a known
 
--- the best place is the top one of mirrored memory, where there is one, and else that of any
+-- the best place is the top place of mirrored memory, or else of any memory
 pub best_place_in-mirrored : (up : Bool) (memory reserved : Labels) (q : Query) (a : ℕ)
     → top_place_in (record { mirror = true; up = up }) memory reserved q ≡ Some a → best_place_in up memory reserved q ≡ Some a
 unfolding best_place_in
@@ -341,7 +341,7 @@ pub plain_or_none : (b : Bool) → suits true (if b then Some plain_label else N
 plain_or_none true = refl
 plain_or_none false = refl
 
--- where nothing is mirrored it is the top one of any memory
+-- if nothing is mirrored, it is the top place of any memory
 pub top_place_in-mirrorless : (up : Bool) (memory reserved : Labels) (q : Query) → ((x : ℕ) → suits true (memory x) ≡ false)
     → top_place_in (record { mirror = true; up = up }) memory reserved q ≡ None
 top_place_in-mirrorless up memory reserved q none = top_place_in-fails (record { mirror = true; up = up }) memory reserved q
@@ -351,7 +351,7 @@ pub best_place_in-plain : (up : Bool) (memory reserved : Labels) (q : Query) →
     → best_place_in up memory reserved q ≡ top_place_in (record { mirror = false; up = up }) memory reserved q
 best_place_in-plain up memory reserved q none = best_place_in-other up memory reserved q (top_place_in-mirrorless up memory reserved q none)
 
--- and to prove that an address is the best one: where nothing is mirrored, the last one that fits
+-- to show that an address is the best place if nothing is mirrored: it is the last one that fits
 pub best_place_in-last : (memory reserved : Labels) (q : Query) (a : ℕ) → ((x : ℕ) → suits true (memory x) ≡ false)
     → IsLastBelow (fits_in false memory reserved q) (2 ^ 64) a → best_place_in false memory reserved q ≡ Some a
 best_place_in-last memory reserved q a none known = best_place_in-plain false memory reserved q none ∙ top_place_in-last false memory reserved q a known

@@ -1,5 +1,5 @@
--- Small tables, computed: their records, their room and their places.
-use Rattle.std.proofs.Common.{◌≡◌, ◌^◌, Some, None, List, [], ◌∷◌, length, refl, sym, ap, arith}
+-- Worked examples: small tables.
+use Rattle.std.proofs.Common.{◌≡◌, ◌^◌, true, false, Some, None, List, [], ◌∷◌, length, refl, sym, ap, arith}
 use Rattle.std.proofs.lemmas.Bool.Decides.{nat_tests}
 use Rattle.bm_base.specs.Range.{RangeView}
 use Rattle.address_runs.specs.Edits.{gaps_in_range, NothingFrom}
@@ -9,19 +9,14 @@ use Rattle.memblock_model.specs.declared.owner.Which.TheVariants as which
 use Rattle.memblock_model.specs.declared.item.Item.{Item}
 use Rattle.memblock_model.specs.declared.item.Item.TheVariants as item
 use Rattle.memblock_model.specs.Labels.{LabelView, Labels, plain_label, with_node}
-use Rattle.memblock_model.specs.Same.{same_label}
-use Rattle.memblock_model.specs.Items.{no_owners, owner_of, no_memory}
-use Rattle.memblock_model.specs.Tables.{without_owner, reserved_of, reserved_after, table_of, table_after, records_for, records_of, pieces, room_after, room_of, moved_after, moved_to, built_in_place, table_place, table_bytes}
+use Rattle.memblock_model.specs.Same.{same_which, same_label}
+use Rattle.memblock_model.specs.Tables.{table_of, records_for, records_of, pieces, room_of, moved_to, built_in_place, table_place, table_bytes}
 use Rattle.memblock_model.proofs.TableLaws.{records_for-is}
 use Rattle.memblock_model.proofs.LabelExamples.{bytes}
 
 -- memory of node 7
 abbrev seventh : LabelView
 seventh = with_node (Some 7) plain_label
-
--- the reserved table knows that a byte is claimed, and not for whom; nothing stays nothing
-without_owner_examples : (without_owner (Some owner.Kernel) ≡ Some plain_label) × (without_owner None ≡ None)
-without_owner_examples = (refl, refl)
 
 -- what the two tables say after one journal: byte 3 is claimed memory of node 7, byte 1 is memory without a node
 abbrev few : List Item
@@ -31,21 +26,6 @@ few = item.Mem (bytes 1 4) ∷ (item.Node (bytes 3 2) 7 ∷ (item.Claim (bytes 2
 table_of_examples : (table_of which.Memory few 3 ≡ Some seventh) × (table_of which.Memory few 1 ≡ Some plain_label)
     × (table_of which.Reserved few 3 ≡ Some plain_label)
 table_of_examples = (refl, refl, refl)
-
--- a byte that nobody has, and a claimed one
-reserved_of_examples : (reserved_of (owner_of few) 4 ≡ None) × (reserved_of (owner_of few) 3 ≡ Some plain_label)
-reserved_of_examples = (refl, refl)
-
--- a claim covers no byte behind it, and a free uncovers
-reserved_after_examples : (reserved_after (reserved_of no_owners) (item.Claim (bytes 1 4) owner.Kernel) 5 ≡ None)
-    × (reserved_after (reserved_of (owner_of few)) (item.Free (bytes 3 1)) 3 ≡ None)
-reserved_after_examples = (refl, refl)
-
--- a claim changes the one table and not the other; memory changes the other and not the one
-table_after_examples : (table_after which.Reserved (reserved_of no_owners) (item.Claim (bytes 1 4) owner.Kernel) 4 ≡ Some plain_label)
-    × (table_after which.Memory no_memory (item.Claim (bytes 1 4) owner.Kernel) 4 ≡ None)
-    × (table_after which.Reserved (reserved_of no_owners) (item.Mem (bytes 1 4)) 4 ≡ None)
-table_after_examples = (refl, refl, refl)
 
 -- the reserved table doesn't say whose a byte is, so claims of two owners that touch are one record
 claims_are_one_record : runs_from same_label (table_of which.Reserved
@@ -89,14 +69,7 @@ unfolding records_of
 records_of_reserved = sym (records_for-is (table_of which.Reserved few) reserved_records reserved_ends
     (record { runs = (omega arith, tt, tt); each = λ x. grind (arith, nat_tests) }))
 
--- a record in the middle of the range leaves two pieces that it doesn't cover, and none of a range within it
-bare_examples : (runs_from same_label (gaps_in_range (bytes 1 6) plain_label (table_of which.Memory (item.Mem (bytes 3 2) ∷ []))) 0 8
-    ≡ record { base = 1; size = 2; value = plain_label } ∷ (record { base = 5; size = 2; value = plain_label } ∷ []))
-    × (runs_from same_label (gaps_in_range (bytes 3 1) plain_label (table_of which.Memory (item.Mem (bytes 3 2) ∷ []))) 0 8 ≡ [])
-unfolding runs_from
-bare_examples = (refl, refl)
-
--- the bytes 1 to 6 of which 3 and 4 are memory: over all addresses, by the laws
+-- bytes 1 to 6, where 3 and 4 are memory: the gaps over all addresses, by the laws
 abbrev partly : Labels
 partly = table_of which.Memory (item.Mem (bytes 3 2) ∷ [])
 
@@ -134,12 +107,7 @@ room_of_examples : (room_of which.Memory (item.Grown which.Memory 4096 256 ∷ (
     × (room_of which.Memory (item.Grown which.Reserved 8192 256 ∷ []) ≡ 128)
 room_of_examples = (refl, refl)
 
--- it doubles whatever number the item has; the other table's stays
-room_after_examples : (room_after which.Reserved 256 (item.Grown which.Reserved 8192 7) ≡ 512)
-    × (room_after which.Memory 256 (item.Grown which.Reserved 8192 7) ≡ 256)
-room_after_examples = (refl, refl)
-
--- nothing else speaks of room or place
+-- no other item changes room or place
 abbrev no_growth : List Item
 no_growth = item.Mem (bytes 1 4) ∷ (item.Node (bytes 3 2) 7 ∷ (item.Trim ∷
     (item.Claim (bytes 2 2) owner.Kernel ∷ (item.Free (bytes 2 1) ∷ (item.Limit 4 ∷ [])))))
@@ -151,11 +119,6 @@ room_stays = refl
 moved_to_examples : (moved_to which.Reserved (item.Grown which.Reserved 8192 256 ∷ no_growth) ≡ Some 8192)
     × (moved_to which.Reserved (item.Grown which.Memory 8192 256 ∷ no_growth) ≡ None)
 moved_to_examples = (refl, refl)
-
--- a table moves again; the other's growth leaves it
-moved_after_examples : (moved_after which.Memory (Some 8192) (item.Grown which.Memory 4096 256) ≡ Some 4096)
-    × (moved_after which.Memory (Some 8192) (item.Grown which.Reserved 4096 256) ≡ Some 8192)
-moved_after_examples = (refl, refl)
 
 -- the kernel's image lies from 16 MiB to 48 MiB
 abbrev kernel : RangeView
@@ -174,3 +137,8 @@ place_of_examples = (refl, refl)
 live_examples : (table_bytes which.Reserved kernel [] ≡ bytes 0x2FFF000 3072)
     × (table_bytes which.Memory kernel (item.Grown which.Memory 4096 256 ∷ []) ≡ bytes 4096 6144)
 live_examples = (refl, refl)
+
+-- each table is itself, and not the other one
+which_examples : (same_which which.Memory which.Memory ≡ true) × (same_which which.Reserved which.Reserved ≡ true)
+    × (same_which which.Memory which.Reserved ≡ false) × (same_which which.Reserved which.Memory ≡ false)
+which_examples = (refl, refl, refl, refl)

@@ -1,4 +1,4 @@
--- Records and what a table says stand for one another, and each change of the one is the change of the other.
+-- The records of a table and what it says determine each other, and an edit of one is an edit of the other.
 use Rattle.std.proofs.Common.{◌≡◌, ℕ, ◌^◌, ◌≤◌, None, List, [], ◌∷◌, sym, ◌∙◌, ap, inl, inr, arith}
 use Rattle.std.proofs.lemmas.Bool.{cases_Bool}
 use Rattle.std.specs.List.{fold}
@@ -29,18 +29,18 @@ records_for-is f rs ends known = the_list same_label label_tells f rs ends known
 pub value_at-records : (f : Labels) → NothingFrom (2 ^ 64) f → value_at (records_for f) ≡ f
 value_at-records f ends = λ k x. (records_for-runs f ends).each x k
 
--- an edit of the records by a word is the edit of what they stand for
+-- an edit of the records is the same edit of what they stand for
 pub records-edit : (edit : Labels → Labels) (f g : Labels) (rs now : List (RunOf LabelView)) → NothingFrom (2 ^ 64) f → rs ≡ records_for f
     → now ≡ records_for (edit (value_at rs)) → g ≡ edit f → now ≡ records_for g
 records-edit edit f g rs now ends old new same =
     new ∙ ap (λ (t : Labels). records_for (edit t)) (ap value_at old ∙ value_at-records f ends) ∙ ap records_for (sym same)
 
--- a trim leaves nothing where nothing was
+-- a trim adds nothing to empty addresses
 pub nothing-trimmed : (at : ℕ) (f : Labels) → NothingFrom at f → NothingFrom at (trim_frames f)
 nothing-trimmed at f none x le =
     elim (trim_frames-cases f x) as (λ _. trim_frames f x ≡ None) [ inl one ↦ trim_frames-whole f x one ∙ none x le | inr bare ↦ bare ]
 
--- there is room for 128 records at least
+-- there is always room for at least 128 records
 room_after-least : (w : Which) (n : ℕ) (i : Item) → 128 ≤ n → 128 ≤ room_after w n i
 room_after-least w n (item.Grown v place room) least =
     elim (cases_Bool (same_which w v)) as (λ _. 128 ≤ room_after w n (item.Grown v place room))

@@ -1,4 +1,4 @@
--- What a list of items, oldest first, says of one byte and of the whole. An item that a definition doesn't name changes nothing there.
+-- What a list of items, oldest first, makes of memory. An item that a definition doesn't name changes nothing there.
 use Rattle.std.specs.Prelude.{ℕ, ◌<◌, Bool, false, if◌then◌else◌, Option, Some, None, List, [], ◌∷◌, fold}
 use Rattle.address_runs.specs.Runs.{RunOf, runs_of}
 use Rattle.address_runs.specs.Edits.{cover_range, uncover_range, relabel_range, replace_in_range, agree}
@@ -11,7 +11,7 @@ use Rattle.memblock_model.specs.declared.label.Tag.{Tag}
 use Rattle.memblock_model.specs.declared.item.Item.{Item}
 use Rattle.memblock_model.specs.declared.item.Item.TheVariants as item
 
--- no item's range is empty
+-- the range of the item, if it has one, isn't empty
 abbrev pub IsItem : Item → Type 0
 IsItem (item.Mem range) = 0 < range.size
 IsItem (item.Node range node) = 0 < range.size
@@ -24,11 +24,11 @@ abbrev pub AreItems : List Item → Type 0
 AreItems [] = Unit {0}
 AreItems (i ∷ is) = IsItem i × AreItems is
 
--- who has each byte
+-- the owner of each byte
 abbrev pub Owners : Type 0
 Owners = ℕ → Option Owner
 
--- what an item makes of the owners (`memblock_reserve`, `memblock_phys_free`)
+-- the owners after an item (`memblock_reserve`, `memblock_phys_free`)
 abbrev pub owners_after : Owners → Item → Owners
 owners_after f (item.Claim range owner) = replace_in_range range owner f
 owners_after f (item.Free range) = uncover_range range f
@@ -37,16 +37,15 @@ owners_after f i = f
 abbrev pub no_owners : Owners
 no_owners x = None
 
--- the owner of each byte: at first none, and then the newest item that covers the byte decides
+-- the owner of each byte: none at first, then the newest item that covers the byte decides
 abbrev pub owner_of : List Item → Owners
 owner_of items = fold owners_after no_owners items
 
--- a byte keeps what it carries where all bytes of its frame carry the same, and else carries nothing (`memblock_trim_memory`)
+-- a byte keeps what it carries if all bytes of its frame carry the same, and else carries nothing (`memblock_trim_memory`)
 unfoldable pub trim_frames : Labels → Labels
 trim_frames f x = if each_in (frame_around x) (λ y. agree same_label (f y) (f x)) then f x else None
 
--- what an item makes of memory and its labels (`memblock_add`, `memblock_trim_memory`, `memblock_set_node`,
--- `memblock_mark_mirror`)
+-- memory and its labels after an item (`memblock_add`, `memblock_trim_memory`, `memblock_set_node`, `memblock_mark_mirror`)
 abbrev pub memory_after : Labels → Item → Labels
 memory_after f (item.Mem range) = cover_range range plain_label f
 memory_after f item.Trim = trim_frames f
@@ -57,7 +56,7 @@ memory_after f i = f
 abbrev pub no_memory : Labels
 no_memory x = None
 
--- the bytes that are memory, each with its label
+-- the label of each byte of memory
 abbrev pub memory_of : List Item → Labels
 memory_of items = fold memory_after no_memory items
 
@@ -65,8 +64,8 @@ memory_of items = fold memory_after no_memory items
 abbrev pub tag_of : List Item → ℕ → Tag
 tag_of items x = tag_for (memory_of items x)
 
--- the limit: 0 at first, then the newest one (`memblock.current_limit`). A query doesn't know it: an allocation asks for a window
--- that ends at the smaller of the limit and the end that it states, if it states one (`memblock_find_in_range_node`)
+-- the limit of allocations: 0 at first, then the newest one (`memblock.current_limit`). A query doesn't know it: an allocation searches
+-- below the smaller of the limit and its own maximum (`memblock_find_in_range_node`)
 abbrev pub limit_after : ℕ → Item → ℕ
 limit_after l (item.Limit at) = at
 limit_after l i = l
@@ -74,7 +73,7 @@ limit_after l i = l
 abbrev pub limit_of : List Item → ℕ
 limit_of items = fold limit_after 0 items
 
--- whether a search goes from the lowest address up: off at first, then as the newest item says (`memblock_set_bottom_up`)
+-- whether a search takes the lowest address: no at first, then as the newest item says (`memblock_set_bottom_up`)
 abbrev pub upward_after : Bool → Item → Bool
 upward_after up (item.Upward on) = on
 upward_after up i = up

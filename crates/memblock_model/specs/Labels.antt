@@ -1,18 +1,19 @@
--- What a byte of memory carries beside being memory: its label. And what a table says of each byte.
+-- What a byte of memory carries, its label; and what a table says of each byte.
 use Rattle.std.specs.Prelude.{ℕ, Bool, true, false, Option, Some, None}
 use Rattle.memblock_model.specs.declared.label.Tag.{Tag}
 use Rattle.memblock_model.specs.declared.label.Tag.TheVariants as tag
 
--- the node, or none yet, and whether it is mirrored (`struct memblock_region`: `nid`, `MEMBLOCK_MIRROR` of `flags`)
+-- what contracts see of a `Label`: the node, or none yet, and whether the memory is mirrored (`struct memblock_region`: `nid`,
+-- `MEMBLOCK_MIRROR` of `flags`)
 pub record LabelView : Type 0 where
   pub node : Option ℕ
   pub mirror : Bool
 
--- what a table says of each byte: not covered, or covered with a label
+-- what a table says of each byte: the label of the record that covers it, if one does
 abbrev pub Labels : Type 0
 Labels = ℕ → Option LabelView
 
--- the label of new memory, and of all that the reserved table covers (`memblock_add`, `memblock_reserve`)
+-- the label of new memory, and of everything in the reserved table (`memblock_add`, `memblock_reserve`)
 abbrev pub plain_label : LabelView
 plain_label = record { node = None; mirror = false }
 
@@ -24,12 +25,12 @@ with_node node label = record label { node = node }
 abbrev pub with_mirror : LabelView → LabelView
 with_mirror label = record label { mirror = true }
 
--- the tag of a byte of which the memory table says this
+-- the tag of a byte, given what the memory table says of it
 abbrev pub tag_for : Option LabelView → Tag
 tag_for None = tag.Absent
 tag_for (Some label) = tag.Memory label.node label.mirror
 
--- the node that a tag tells, where it tells one
+-- the node of a tag, if it has one
 abbrev pub node_of_tag : Tag → Option ℕ
 node_of_tag tag.Absent = None
 node_of_tag (tag.Memory node mirror) = node

@@ -1,4 +1,4 @@
--- Tests of whether two tables, two labels, two owners are the same.
+-- Tests of whether two tables, labels or owners are equal.
 use Rattle.std.specs.Prelude.{ℕ, ◌==◌, Bool, true, false, ◌&&◌, Option, Some, None}
 use Rattle.memblock_model.specs.Labels.{LabelView}
 use Rattle.memblock_model.specs.declared.owner.Which.{Which}
@@ -25,11 +25,11 @@ same_switch true b = b
 same_switch false true = false
 same_switch false false = true
 
--- the parts of both labels are the same
+-- all parts of both labels are the same
 abbrev pub same_label : LabelView → LabelView → Bool
 same_label a b = same_node_or_none a.node b.node && same_switch a.mirror b.mirror
 
--- the place of the owner's variant in the list of them
+-- the index of the owner's variant
 abbrev pub variant_of : Owner → ℕ
 variant_of owner.Kernel = 0
 variant_of owner.Low64K = 1
@@ -46,7 +46,7 @@ variant_of (owner.Usage n) = 11
 variant_of (owner.Map n) = 12
 variant_of (owner.Script n) = 13
 
--- the number that the owner carries: of the node, the root, the section or the ID; 0 or 1 for the tables; else 0
+-- the number of the owner: of its node, root, section or ID; 0 or 1 for the tables; else 0
 abbrev pub owner_number : Owner → ℕ
 owner_number (owner.Table which.Reserved) = 1
 owner_number (owner.NodeData n) = n
@@ -56,6 +56,6 @@ owner_number (owner.Map n) = n
 owner_number (owner.Script n) = n
 owner_number o = 0
 
--- the variants and their numbers are the same
+-- both have the same variant and the same number
 abbrev pub same_owner : Owner → Owner → Bool
 same_owner a b = (variant_of a == variant_of b) && (owner_number a == owner_number b)

@@ -1,5 +1,5 @@
--- Which addresses a search may answer, and the one that it answers (`memblock_find_in_range_node`): from the top down, or from
--- below up (`__memblock_find_range_top_down`, `__memblock_find_range_bottom_up`); in mirrored memory first (`choose_memblock_flags`).
+-- The places that fit a query, and the one that a search returns (`memblock_find_in_range_node`): the highest or the lowest
+-- (`__memblock_find_range_top_down`, `__memblock_find_range_bottom_up`), in mirrored memory first (`choose_memblock_flags`).
 use Rattle.std.specs.Prelude.{ℕ, zero, suc, ◌+◌, ◌%◌, ◌^◌, ◌==◌, Bool, true, false, ◌&&◌, nat_le, is_some, is_none, if◌then◌else◌, Option, Some, None, List}
 use Rattle.std.specs.Option.{option_or}
 use Rattle.address_runs.specs.Edits.{agree}
@@ -24,41 +24,42 @@ unfoldable pub first_below : (ℕ → Bool) → ℕ → Option ℕ
 first_below p zero = None
 first_below p (suc n) = option_or (first_below p n) (if p n then Some n else None)
 
--- the least of them, or the greatest
+-- the least number below n that passes the test, or the greatest
 abbrev pub outermost_below : Bool → (ℕ → Bool) → ℕ → Option ℕ
 outermost_below true p n = first_below p n
 outermost_below false p n = last_below p n
 
--- whether a byte that carries this may be answered to a query for the node, or for any
+-- whether a byte that carries this may be part of a place of the node, or of any node
 abbrev pub allows : Option ℕ → Option LabelView → Bool
 allows None carried = true
 allows (Some node) None = false
 allows (Some node) (Some label) = same_node_or_none label.node (Some node)
 
--- whether a byte that carries this may be answered where mirrored memory alone is wanted, or any
+-- whether a byte that carries this may be part of a place in mirrored memory, or in any memory
 abbrev pub suits : Bool → Option LabelView → Bool
 suits false carried = true
 suits true None = false
 suits true (Some label) = label.mirror
 
--- the address is aligned and in the window, not in the first frame, and all bytes of the place are memory of one label, whose node
--- is allowed and which is mirrored where that is wanted, and unclaimed
+-- whether a place fits that begins at the address: the address is aligned and at or above the window's start and the second frame; the
+-- place ends in the window; all its bytes are unclaimed memory of one label; and that label has the query's node, and is mirrored if
+-- `mirror` is set
 unfoldable pub fits_in : Bool → Labels → Labels → Query → ℕ → Bool
 fits_in mirror memory reserved q a =
     (a % q.align == 0) && nat_le q.lo a && nat_le FRAME_SIZE a && nat_le (a + q.size) q.hi
     && is_some (memory a) && allows q.node (memory a) && suits mirror (memory a)
     && each_in (record { base = a; size = q.size }) (λ x. agree same_label (memory x) (memory a) && is_none (reserved x))
 
--- the greatest address that fits, or the least where the search goes up
+-- the greatest address that fits, or the least if the search goes up
 unfoldable pub top_place_in : Mode → Labels → Labels → Query → Option ℕ
 top_place_in mode memory reserved q = outermost_below mode.up (fits_in mode.mirror memory reserved q) (2 ^ 64)
 
--- such an address in mirrored memory, or in any where none fits there. Where nothing is mirrored nothing fits there
+-- the top place in mirrored memory, or in any memory if none fits there. If nothing is mirrored, nothing fits there
 unfoldable pub best_place_in : Bool → Labels → Labels → Query → Option ℕ
 best_place_in up memory reserved q =
     option_or (top_place_in (record { mirror = true; up = up }) memory reserved q) (top_place_in (record { mirror = false; up = up }) memory reserved q)
 
--- the same of what the items say, in the direction that they set
+-- these three for the tables and the direction that the items say
 unfoldable pub fits : List Item → Query → Bool → ℕ → Bool
 fits items q mirror a = fits_in mirror (table_of which.Memory items) (table_of which.Reserved items) q a
 

@@ -1,4 +1,4 @@
--- The two tables that a list of items stands for (`struct memblock_type`): their records, their room and their places.
+-- memblock's two tables after a list of items (`struct memblock_type`): their records, their room and their places.
 use Rattle.std.specs.Prelude.{ℕ, ◌-◌, ◌*◌, if◌then◌else◌, Option, Some, None, List, fold, length, unwrap_or}
 use Rattle.bm_base.specs.Range.{RangeView, end_of}
 use Rattle.bm_base.specs.declared.range.TheConstants.{FRAME_SIZE}
@@ -13,7 +13,7 @@ use Rattle.memblock_model.specs.declared.owner.Which.TheVariants as which
 use Rattle.memblock_model.specs.declared.item.Item.{Item}
 use Rattle.memblock_model.specs.declared.item.Item.TheVariants as item
 
--- the reserved table says that a byte is claimed, and not whose it is
+-- the reserved table says that a byte is claimed, but not for whom
 abbrev pub without_owner : Option Owner → Option LabelView
 without_owner None = None
 without_owner (Some owner) = Some plain_label
@@ -26,18 +26,18 @@ abbrev pub table_of : Which → List Item → Labels
 table_of which.Memory items = memory_of items
 table_of which.Reserved items = reserved_of (owner_of items)
 
--- what an item makes of what the reserved table says: a claim covers, whoever had the bytes before
+-- what the reserved table says after an item: a claim covers its range, whoever owned the bytes before
 abbrev pub reserved_after : Labels → Item → Labels
 reserved_after f (item.Claim range owner) = cover_range range plain_label f
 reserved_after f (item.Free range) = uncover_range range f
 reserved_after f i = f
 
--- what an item makes of what a table says
+-- what a table says after an item
 abbrev pub table_after : Which → Labels → Item → Labels
 table_after which.Memory f i = memory_after f i
 table_after which.Reserved f i = reserved_after f i
 
--- the records of what a table says: its runs (`memblock_add_range` merges what touches and agrees)
+-- the runs of what a table says (`memblock_add_range` merges neighbours with equal labels)
 unfoldable pub records_for : Labels → List (RunOf LabelView)
 records_for f = runs_of same_label f
 
@@ -49,7 +49,7 @@ records_of w items = records_for (table_of w items)
 unfoldable pub pieces : RangeView → Labels → ℕ
 pieces r f = length (records_for (gaps_in_range r plain_label f))
 
--- how many records there is room for: 128 (`INIT_MEMBLOCK_REGIONS`), doubled each time that the table grew, whatever number the item has
+-- the number of records that a table has room for: 128 (`INIT_MEMBLOCK_REGIONS`), doubled with each growth, whatever number the item has
 abbrev pub room_after : Which → ℕ → Item → ℕ
 room_after w n (item.Grown which place room) = if same_which w which then 2 * n else n
 room_after w n i = n
@@ -57,7 +57,7 @@ room_after w n i = n
 abbrev pub room_of : Which → List Item → ℕ
 room_of w items = fold (room_after w) 128 items
 
--- where the table moved to last, if it ever moved
+-- the place that the table last moved to, if it ever did
 abbrev pub moved_after : Which → Option ℕ → Item → Option ℕ
 moved_after w o (item.Grown which place room) = if same_which w which then Some place else o
 moved_after w o i = o
@@ -65,13 +65,13 @@ moved_after w o i = o
 abbrev pub moved_to : Which → List Item → Option ℕ
 moved_to w items = fold (moved_after w) None items
 
--- where the table lies at first: in the last two frames of the kernel's image. There the kernel has its arrays too
--- (`memblock_memory_init_regions`, `memblock_reserved_init_regions`); the places are this project's own
+-- the first address of the table: one of the last two frames of the kernel's image. The kernel has its arrays in its image too
+-- (`memblock_memory_init_regions`, `memblock_reserved_init_regions`); these places are a choice of this project
 abbrev pub built_in_place : Which → RangeView → ℕ
 built_in_place which.Memory kernel = end_of kernel - 2 * FRAME_SIZE
 built_in_place which.Reserved kernel = end_of kernel - FRAME_SIZE
 
--- where the table lies
+-- the address of the table
 abbrev pub table_place : Which → RangeView → List Item → ℕ
 table_place w kernel items = unwrap_or (moved_to w items) (built_in_place w kernel)
 

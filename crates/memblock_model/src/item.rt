@@ -1,35 +1,37 @@
-//! The items of a journal: what may happen to memory between the map and the handover.
+//! The items of a journal: everything that may happen to memory between the final map and the
+//! handover.
 //!
-//! Each is one call of memblock that changes something. They stand below the crates that write and read them, since
-//! all definitions go over lists of them.
+//! Each item is one call of memblock that changes something.
 
 use crate::{Owner, Which};
 use bm_base::Range;
 
-/// Something that happened to memory. No item's range is empty.
+/// One change of memory. The range of an item is never empty.
 #[derive(Clone, Copy, Debug, PartialEq, Eq)]
 pub enum Item {
-    /// The bytes of the range become memory without a node; what is memory already keeps its node
-    /// (`memblock_add`).
+    /// The bytes of the range become memory without a node (`memblock_add`). Bytes that are
+    /// memory already keep their node.
     Mem { range: Range },
-    /// Each frame whose bytes don't all carry one tag is memory no more (`memblock_trim_memory`).
+    /// Each frame whose bytes don't all carry the same tag stops being memory
+    /// (`memblock_trim_memory`).
     Trim,
-    /// The memory bytes of the range get the node (`memblock_set_node`). A journal takes any number;
-    /// below 1,024 it is held by the label that the memory table gets ([`crate::Label`]).
+    /// The memory bytes of the range get the node (`memblock_set_node`). A journal takes any
+    /// number; a [`crate::Label`] of the memory table only numbers below 1,024.
     Node { range: Range, node: u32 },
-    /// The memory bytes of the range become mirrored, and keep their node (`memblock_mark_mirror`).
+    /// The memory bytes of the range become mirrored and keep their node
+    /// (`memblock_mark_mirror`).
     Mirror { range: Range },
     /// The bytes of the range get the owner (`memblock_reserve`).
     Claim { range: Range, owner: Owner },
-    /// The bytes of the range get no owner (`memblock_phys_free`).
+    /// The bytes of the range lose their owner (`memblock_phys_free`).
     Free { range: Range },
-    /// The limit becomes the address (`memblock_set_current_limit`): an allocation keeps below it, also
-    /// one that states a greater end of its own.
+    /// The limit of allocations becomes the address (`memblock_set_current_limit`). An allocation
+    /// stays below the limit, also if its own maximum is greater.
     Limit { at: u64 },
-    /// From now on an allocation searches from the lowest address up, or from the highest down
+    /// From now on an allocation takes the lowest address that fits, or again the highest
     /// (`memblock_set_bottom_up`).
     Upward { on: bool },
-    /// The table has a new place and twice the room, which is `room` records now
-    /// (`memblock_double_array`). The definitions count the doublings, and don't look at `room`.
+    /// The table has moved to `place` and has twice the room, `room` records
+    /// (`memblock_double_array`). The definitions count the doublings and ignore `room`.
     Grown { which: Which, place: u64, room: u64 },
 }

@@ -1,17 +1,16 @@
-//! What a byte of memory carries, as a value: the one place where a node's number is held below 1,024.
-//!
-//! It is a record, so that a further mark of memory is a further field here, in its test and in the item that sets it.
+//! What a byte of memory carries: its node and whether it is mirrored.
 
 use address_runs::RunValue;
 use std::marker::Model;
 
-/// The flags of mirrored memory in a record of a table (`MEMBLOCK_MIRROR`). Those of other memory are 0.
+/// The flags of mirrored memory in a record of a table (`MEMBLOCK_MIRROR`). Other memory has
+/// flags 0.
 pub const MIRROR_FLAG: u32 = 2;
 
-/// What a table says of the bytes that a record covers: the node, or none yet, and whether they are mirrored.
+/// The label of a table's record: the node, or none yet, and whether the memory is mirrored.
 ///
-/// A node's number is below 1,024 (`MAX_NUMNODES` of x86-64 at its greatest), and the flags are [`MIRROR_FLAG`] or 0. That is
-/// held here, for every record of every table: contracts see no bound, and code can't make a label without it.
+/// The type guarantees that a node's number is below 1,024 (the greatest `MAX_NUMNODES` of
+/// x86-64) and that the flags are [`MIRROR_FLAG`] or 0.
 #[derive(Clone, Copy, Debug, PartialEq, Eq)]
 pub struct Label {
     node: Option<u32>,
@@ -26,7 +25,8 @@ impl Model for Label {
 
     ghost view = { λ l. record { node = l.node; mirror = l.flags == 2 } };
 
-    ghost invariant = { λ l. (unwrap_or l.node 0 < 1024) × (l.flags ≡ (if l.flags == 2 then 2 else 0)) };
+    ghost invariant = { λ l. (unwrap_or l.node 0 < 1024) × (l.flags
+        ≡ (if l.flags == 2 then 2 else 0)) };
 
     ghost inverse = { λ l. record { node = l.node; flags = if l.mirror then 2 else 0 } };
 }
@@ -41,7 +41,7 @@ impl Label {
     ghost use Rattle.std.specs.Prelude.{◌≡◌, ◌<◌, ◌==◌, if◌then◌else◌, Option, Some, unwrap_or};
     ghost use Rattle.memblock_model.specs.Labels.{plain_label, with_node, with_mirror};
 
-    /// The label of new memory: no node, and not mirrored.
+    /// Returns the label of new memory: no node, not mirrored.
     pub fn new() -> Label
         ensures { result ≡ plain_label }
     {
@@ -51,8 +51,8 @@ impl Label {
         }
     }
 
-    /// The label of memory of the node, which is below 1,024, or of none, that has the flags, mirrored where they are
-    /// [`MIRROR_FLAG`].
+    /// Returns the label with the node, if any, which is below 1,024. It is mirrored if `flags`
+    /// is [`MIRROR_FLAG`].
     pub fn from_parts(node: Option<u32>, flags: u32) -> Label
         requires { unwrap_or node 0 < 1024 }
         ensures { result ≡ record { node = node; mirror = flags == 2 } }
@@ -61,7 +61,7 @@ impl Label {
         Label { node, flags }
     }
 
-    /// The same label with the node, which is below 1,024.
+    /// Returns the label with the node, which is below 1,024.
     pub fn with_node(self, node: u32) -> Label
         requires { node < 1024 }
         ensures { result ≡ with_node (Some node) self }
@@ -72,7 +72,7 @@ impl Label {
         }
     }
 
-    /// The same label of mirrored memory.
+    /// Returns the label of mirrored memory.
     pub fn with_mirror(self) -> Label
         ensures { result ≡ with_mirror self }
     {
@@ -82,21 +82,21 @@ impl Label {
         }
     }
 
-    /// The node, or none yet.
+    /// Returns the node, or none yet.
     pub fn node(self) -> Option<u32>
         ensures { result ≡ self.node }
     {
         self.node
     }
 
-    /// Whether it is mirrored.
+    /// Returns whether the memory is mirrored.
     pub fn has_mirror_flag(self) -> bool
         ensures { result ≡ self.mirror }
     {
         self.flags == MIRROR_FLAG
     }
 
-    /// Its flags: [`MIRROR_FLAG`] of mirrored memory, else 0.
+    /// Returns [`MIRROR_FLAG`] for mirrored memory, else 0.
     pub fn flags(self) -> u32
         ensures { result ≡ (if self.mirror then 2 else 0) }
     {
@@ -104,7 +104,8 @@ impl Label {
     }
 }
 
-/// What the items say of a byte of memory: the fields of a label, but that a node may be any number, as a journal takes it.
+/// What the items say of a byte of memory. It is a label whose node may have any number, as in a
+/// journal.
 #[derive(Clone, Copy, PartialEq, Eq)]
 pub struct Marks {
     node: Option<u32>,
@@ -125,7 +126,7 @@ impl Marks {
     ghost use Rattle.std.specs.Prelude.{◌≡◌, Some};
     ghost use Rattle.memblock_model.specs.Labels.{plain_label, tag_for, with_node, with_mirror};
 
-    /// Those of new memory.
+    /// Returns the marks of new memory: no node, not mirrored.
     pub fn new() -> Marks
         ensures { result ≡ plain_label }
     {
@@ -135,7 +136,7 @@ impl Marks {
         }
     }
 
-    /// The same with the node.
+    /// Returns the marks with the node.
     pub fn with_node(self, node: u32) -> Marks
         ensures { result ≡ with_node (Some node) self }
     {
@@ -145,7 +146,7 @@ impl Marks {
         }
     }
 
-    /// The same of mirrored memory.
+    /// Returns the marks of mirrored memory.
     pub fn with_mirror(self) -> Marks
         ensures { result ≡ with_mirror self }
     {
@@ -155,7 +156,7 @@ impl Marks {
         }
     }
 
-    /// The tag of a byte that carries these.
+    /// Returns the tag of a byte that carries these marks.
     pub fn tag(self) -> Tag
         ensures { result ≡ tag_for (Some self) }
     {
@@ -166,11 +167,12 @@ impl Marks {
     }
 }
 
-/// What a byte is to the memory table.
+/// The tag of a byte: what it is to the memory table.
 #[derive(Clone, Copy, Debug, PartialEq, Eq)]
 pub enum Tag {
-    /// It isn't memory.
+    /// The byte isn't memory.
     Absent,
-    /// It is memory: of the node, or of none yet (`MAX_NUMNODES`), and mirrored (`MEMBLOCK_MIRROR`) or not.
+    /// The byte is memory, of the node or of none yet (`MAX_NUMNODES`), mirrored
+    /// (`MEMBLOCK_MIRROR`) or not.
     Memory { node: Option<u32>, mirror: bool },
 }

@@ -1,8 +1,7 @@
-//! The laws of the definitions, as functions that do nothing: what the layers above may rest on.
-//!
-//! A law that no function's contract names could stay unproved; so each stands here as one.
+//! Laws of the definitions: empty functions whose contracts are proven facts. They are functions
+//! so that an unproved law can't go unnoticed.
 
-ghost use Rattle.std.specs.Prelude.{◌≡◌, ℕ, ◌^◌, ◌<◌, ◌≤◌, Bool, true, false, Option, Some, None, List, [], ◌∷◌, ◌++◌};
+ghost use Rattle.std.specs.Prelude.{◌≡◌, ℕ, ◌^◌, ◌<◌, ◌≤◌, Bool, true, false, Some, None, List, [], ◌∷◌, ◌++◌};
 ghost use Rattle.bm_base.specs.Range.{covers};
 ghost use Rattle.address_runs.specs.Runs.{DecidesEquality, IsRunsOf};
 ghost use Rattle.memblock_model.specs.declared.item.Item.{Item};
@@ -17,8 +16,8 @@ ghost use Rattle.memblock_model.specs.Items.{trim_frames, owners_after, owner_of
 ghost use Rattle.memblock_model.specs.Tables.{table_of, table_after, room_of, room_after, moved_to, moved_after, records_of};
 ghost use Rattle.memblock_model.specs.Search.{suits, fits_in, top_place_in, best_place_in};
 
-/// A law: an item at the end of the list changes owners, memory, limit and direction as its word says, at every
-/// address at once.
+/// Law: an item appended to a list changes owners, memory, limit and direction as its definition
+/// says, at every address at once.
 pub fn appended_item_acts_last()
     ensures owners { (items : List Item) (i : Item) →
         owner_of (items ++ i ∷ []) ≡ owners_after (owner_of items) i }
@@ -30,8 +29,8 @@ pub fn appended_item_acts_last()
         upward_of (items ++ i ∷ []) ≡ upward_after (upward_of items) i }
 {}
 
-/// A law: what a table says, its room and its place follow from what they were and the new item,
-/// whoever owned the bytes that it claims.
+/// Law: what a table says, its room and its place after a new item depend only on what they were
+/// and the item, and not on the owners.
 pub fn tables_need_no_owners()
     ensures says { (w : Which) (items : List Item) (i : Item) →
         table_of w (items ++ i ∷ []) ≡ table_after w (table_of w items) i }
@@ -41,15 +40,14 @@ pub fn tables_need_no_owners()
         moved_to w (items ++ i ∷ []) ≡ moved_after w (moved_to w items) i }
 {}
 
-/// A law: the tests that records and runs of owners are made by tell equal values from others.
+/// Law: the tests of equal labels and equal owners decide equality.
 pub fn tests_decide_equality()
     ensures labels { DecidesEquality same_label }
     ensures owners { DecidesEquality same_owner }
 {}
 
-/// A law: the runs of owners, and the records of a table, are in order, none empty and no two that
-/// could be one, and they give at every address its owner, or what the table says of it. No range
-/// passes the end of numbers, so nobody owns an address from 2^64 on, and no table covers one.
+/// Law: the list of owners and the records of a table are canonical lists of runs of what they
+/// stand for, if that is nothing at or above 2^64.
 pub fn lists_are_runs()
     ensures owners { (items : List Item) → NothingFrom (2 ^ 64) (owner_of items) →
         IsRunsOf (owner_of items) (owner_runs_of items) }
@@ -57,37 +55,48 @@ pub fn lists_are_runs()
         IsRunsOf (table_of w items) (records_of w items) }
 {}
 
-/// A law: a frame that is trimmed has one label, or none.
+/// Law: after a trim all bytes of a frame carry the same label, or none does.
 pub fn trimmed_frame_is_whole()
     ensures { (f : Labels) (x y : ℕ) → covers (frame_around x) y ≡ true →
         trim_frames f y ≡ trim_frames f x }
 {}
 
-/// A law: the top place fits, and no greater address does; in a search that goes up, no lower one. Where there is none,
-/// nothing fits.
+/// Law: the top place fits, and no greater address does, or no lower one if the search goes up.
+/// If there is no top place, nothing fits.
 pub fn top_is_outermost()
     ensures fits { (mode : Mode) (memory reserved : Labels) (q : Query) (a : ℕ) →
-        top_place_in mode memory reserved q ≡ Some a → fits_in mode.mirror memory reserved q a ≡ true }
-    ensures greatest { (mode : Mode) (memory reserved : Labels) (q : Query) (a b : ℕ) → mode.up ≡ false →
-        top_place_in mode memory reserved q ≡ Some a → b < 2 ^ 64 → fits_in mode.mirror memory reserved q b ≡ true → b ≤ a }
-    ensures least { (mode : Mode) (memory reserved : Labels) (q : Query) (a b : ℕ) → mode.up ≡ true →
-        top_place_in mode memory reserved q ≡ Some a → b < 2 ^ 64 → fits_in mode.mirror memory reserved q b ≡ true → a ≤ b }
+        top_place_in mode memory reserved q ≡ Some a →
+        fits_in mode.mirror memory reserved q a ≡ true }
+    ensures greatest { (mode : Mode) (memory reserved : Labels) (q : Query) (a b : ℕ) →
+        mode.up ≡ false →
+        top_place_in mode memory reserved q ≡ Some a → b < 2 ^ 64 →
+        fits_in mode.mirror memory reserved q b ≡ true → b ≤ a }
+    ensures least { (mode : Mode) (memory reserved : Labels) (q : Query) (a b : ℕ) →
+        mode.up ≡ true →
+        top_place_in mode memory reserved q ≡ Some a → b < 2 ^ 64 →
+        fits_in mode.mirror memory reserved q b ≡ true → a ≤ b }
     ensures none { (mode : Mode) (memory reserved : Labels) (q : Query) (b : ℕ) →
-        top_place_in mode memory reserved q ≡ None → b < 2 ^ 64 → fits_in mode.mirror memory reserved q b ≡ false }
+        top_place_in mode memory reserved q ≡ None → b < 2 ^ 64 →
+        fits_in mode.mirror memory reserved q b ≡ false }
 {}
 
-/// A law: the best place fits; it is the top one of mirrored memory where there is one, and else, as where nothing is
-/// mirrored, the top one of any memory. Where there is none, nothing fits.
+/// Law: the best place fits. It is the top place of mirrored memory if there is one, and else the
+/// top place of any memory. If there is no best place, nothing fits.
 pub fn best_is_mirrored_first()
     ensures fits { (up : Bool) (memory reserved : Labels) (q : Query) (a : ℕ) →
         best_place_in up memory reserved q ≡ Some a → fits_in false memory reserved q a ≡ true }
     ensures mirrored { (up : Bool) (memory reserved : Labels) (q : Query) (a : ℕ) →
-        top_place_in (record { mirror = true; up = up }) memory reserved q ≡ Some a → best_place_in up memory reserved q ≡ Some a }
+        top_place_in (record { mirror = true; up = up }) memory reserved q ≡ Some a →
+        best_place_in up memory reserved q ≡ Some a }
     ensures other { (up : Bool) (memory reserved : Labels) (q : Query) →
         top_place_in (record { mirror = true; up = up }) memory reserved q ≡ None →
-        best_place_in up memory reserved q ≡ top_place_in (record { mirror = false; up = up }) memory reserved q }
-    ensures unmirrored { (up : Bool) (memory reserved : Labels) (q : Query) → ((x : ℕ) → suits true (memory x) ≡ false) →
-        best_place_in up memory reserved q ≡ top_place_in (record { mirror = false; up = up }) memory reserved q }
+        best_place_in up memory reserved q
+        ≡ top_place_in (record { mirror = false; up = up }) memory reserved q }
+    ensures unmirrored { (up : Bool) (memory reserved : Labels) (q : Query) →
+        ((x : ℕ) → suits true (memory x) ≡ false) →
+        best_place_in up memory reserved q
+        ≡ top_place_in (record { mirror = false; up = up }) memory reserved q }
     ensures none { (up : Bool) (memory reserved : Labels) (q : Query) (b : ℕ) →
-        best_place_in up memory reserved q ≡ None → b < 2 ^ 64 → fits_in false memory reserved q b ≡ false }
+        best_place_in up memory reserved q ≡ None → b < 2 ^ 64 →
+        fits_in false memory reserved q b ≡ false }
 {}

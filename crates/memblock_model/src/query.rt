@@ -1,42 +1,44 @@
-//! What a search is asked: here, below the crate that searches, since definitions of growth and of placed crash areas ask the same.
+//! The parameters of a search and of an allocation, and the modes of a search.
 
 /// What a search looks for (`memblock_find_in_range_node`). Addresses and sizes are in bytes.
 #[derive(Clone, Copy, Debug, PartialEq, Eq)]
 pub struct Query {
-    /// The place begins here or above.
+    /// The place begins at or above this address.
     pub lo: u64,
-    /// The place ends here or below.
+    /// The place ends at or below this address.
     pub hi: u64,
-    /// Its number of bytes; a search wants at least 1.
+    /// The size of the place, at least 1.
     pub size: u64,
-    /// Its address is a multiple of this; a search wants a power of two.
+    /// The alignment of the place's address, a power of two.
     pub align: u64,
-    /// The node that has it, or any.
+    /// The node of the place, or `None` for any.
     pub node: Option<u32>,
 }
 
-/// Which memory a search takes, and from which end it begins (`choose_memblock_flags`, `memblock_bottom_up`).
+/// The memory that a search takes, and its direction (`choose_memblock_flags`,
+/// `memblock_bottom_up`).
 #[derive(Clone, Copy, Debug, PartialEq, Eq)]
 pub struct Mode {
-    /// Mirrored memory alone (`MEMBLOCK_MIRROR`).
+    /// Whether only mirrored memory is taken (`MEMBLOCK_MIRROR`).
     pub mirror: bool,
-    /// The least address that fits, in place of the greatest.
+    /// Whether the lowest place that fits is taken, instead of the highest.
     pub up: bool,
 }
 
 /// What an allocation asks for (`memblock_alloc_range_nid`). Addresses and sizes are in bytes.
 #[derive(Clone, Copy, Debug, PartialEq, Eq)]
 pub struct Request {
-    /// The number of bytes; an allocation wants at least 1.
+    /// The size of the place, at least 1.
     pub size: u64,
-    /// The place's address is a multiple of this; an allocation wants a power of two.
+    /// The alignment of the place's address, a power of two.
     pub align: u64,
-    /// The place begins here or above, unless it must go lower; 0 states no minimum.
+    /// The preferred lowest address of the place, or 0. If nothing fits there, lower addresses
+    /// are tried.
     pub min: u64,
-    /// The place ends here or below, where this is given; the limit of allocations holds beside it.
+    /// The highest end of the place, if stated. The limit of allocations holds as well.
     pub max: Option<u64>,
-    /// The node that is asked for, or any.
+    /// The preferred node, or `None` for any.
     pub node: Option<u32>,
-    /// Whether no other node will do.
+    /// Whether other nodes are excluded.
     pub exact: bool,
 }

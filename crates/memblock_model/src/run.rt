@@ -1,11 +1,11 @@
-//! A range and its owner: the record in which the journal keeps and tells who has what.
+//! A range and its owner: the record of the journal's list of owners.
 
 use crate::Owner;
 use address_runs::Stretch;
 use bm_base::Range;
 use std::marker::Model;
 
-/// A range of addresses and its owner. In a list of runs it is as long as it can be.
+/// A range of addresses and its owner. In a list of runs it is as long as possible.
 #[derive(Clone, Copy, Debug, PartialEq, Eq)]
 pub struct OwnerRun {
     pub range: Range,
@@ -23,7 +23,10 @@ impl Model for OwnerRun {
 
     ghost invariant = { λ r. r.range.base + r.range.size < 2 ^ 64 };
 
-    ghost inverse = { λ r. record { range = record { base = r.base; size = r.size }; owner = r.value } };
+    ghost inverse = { λ r. record {
+      range = record { base = r.base; size = r.size };
+      owner = r.value;
+    } };
 }
 
 impl Stretch for OwnerRun {

@@ -1,4 +1,4 @@
--- The answer of `top_in` is the last number below 2^64 that fits, or the first.
+-- `top_place_in` returns the last number below 2^64 that fits, or the first.
 use Rattle.std.proofs.Common.{◌≡◌, ℕ, ◌<◌, ◌≤◌, Bool, true, false, Some}
 use Rattle.memblock_model.specs.Search.{outermost_below, top_place_in}
 use Rattle.memblock_model.proofs.SearchLaws.{last_below-is, first_below-is, top_place_in-fits, top_place_in-none}
