@@ -1,22 +1,22 @@
--- Small texts, split and cut: what the definitions say of them, by computing.
+-- Worked examples: small texts.
 use Rattle.std.proofs.Common.{◌≡◌, true, false, Some, None, [], ◌∷◌, codes, refl, arith}
 use Rattle.text_words.specs.declared.separators.Separators.TheVariants.{CommandLine, Script, Byte}
-use Rattle.text_words.specs.Parts.{separates, quotes, quoted_after, with_front, parts_from, parts_in, parts_of_rest, text_before, prepend_text, split_once}
+use Rattle.text_words.specs.Parts.{separates, quotes, parts_in, text_before, split_once}
 use Rattle.text_words.specs.Spelling.{HasWords, blank_first, word_alone, word_first, QuotesClose, Unquotes, no_mark, both_marks}
 use Rattle.text_words.proofs.SpellingLaws.{unquoted_exactly}
-use Rattle.text_words.specs.Words.{is_word, words_in, without_last, unquote, IsClosed, IsWord}
+use Rattle.text_words.specs.Words.{words_in, without_last, unquote, IsClosed, IsWord}
 
 -- blanks separate, and of a command line the bytes 0x09 to 0x0D; 0x08, 0x0E and 0xA0 don't
 line_separators : (separates CommandLine 0x20 ≡ true) × (separates CommandLine 0x09 ≡ true) × (separates CommandLine 0x0D ≡ true)
     × (separates CommandLine 0x08 ≡ false) × (separates CommandLine 0x0E ≡ false) × (separates CommandLine 0xA0 ≡ false)
 line_separators = (refl, refl, refl, refl, refl, refl)
 
--- of a script's line a newline and a form feed don't
+-- in a script's line a newline and a form feed don't separate
 script_separators : (separates Script 0x20 ≡ true) × (separates Script 0x09 ≡ true) × (separates Script 0x0D ≡ true)
     × (separates Script 0x0A ≡ false) × (separates Script 0x0C ≡ false)
 script_separators = (refl, refl, refl, refl, refl)
 
--- and of a list with commas the comma alone
+-- in a list with commas only the comma separates
 comma_separates : (separates (Byte 44) 44 ≡ true) × (separates (Byte 44) 0x20 ≡ false)
 comma_separates = (refl, refl)
 
@@ -24,23 +24,12 @@ comma_separates = (refl, refl)
 quoting : (quotes CommandLine 34 ≡ true) × (quotes CommandLine 39 ≡ false) × (quotes Script 34 ≡ false) × (quotes (Byte 34) 34 ≡ false)
 quoting = (refl, refl, refl, refl)
 
--- a mark opens a quotation and closes it, another byte does neither
-quoted_after_examples : (quoted_after CommandLine false 34 ≡ true) × (quoted_after CommandLine true 34 ≡ false)
-    × (quoted_after CommandLine true 97 ≡ true) × (quoted_after Script false 34 ≡ false)
-quoted_after_examples = (refl, refl, refl, refl)
-
-fronts : (with_front 97 [] ≡ codes "a" ∷ []) × (with_front 97 (codes "b" ∷ codes "c" ∷ []) ≡ codes "ab" ∷ codes "c" ∷ [])
-fronts = (refl, refl)
-
 -- a part may be empty, also the last one
 parts_between_commas : parts_in (Byte 44) (codes "2G@0,,4G@2G") ≡ codes "2G@0" ∷ [] ∷ codes "4G@2G" ∷ []
 parts_between_commas = refl
 
 trailing_comma : parts_in (Byte 44) (codes "2G@0,") ≡ codes "2G@0" ∷ [] ∷ []
 trailing_comma = refl
-
-part_of_nothing : parts_in CommandLine [] ≡ [] ∷ []
-part_of_nothing = refl
 
 -- a separator inside a quotation doesn't separate, and one that isn't closed goes on to the end
 quoted_blank : parts_in CommandLine (codes "a=\"b c\" d") ≡ codes "a=\"b c\"" ∷ codes "d" ∷ []
@@ -52,25 +41,11 @@ open_quotation = refl
 script_has_no_quotations : parts_in Script (codes "\"b c\"") ≡ codes "\"b" ∷ codes "c\"" ∷ []
 script_has_no_quotations = refl
 
--- where a quotation is open at the front, the first blank is protected
-begun_in_a_quotation : parts_from CommandLine true (codes "a b\" c") ≡ codes "a b\"" ∷ codes "c" ∷ []
-begun_in_a_quotation = refl
-
-begun_outside : parts_from CommandLine false (codes "a b\" c") ≡ codes "a" ∷ codes "b\" c" ∷ []
-begun_outside = refl
-
-behind_a_separator : (parts_of_rest (Byte 44) (Some (codes "b,c")) ≡ codes "b" ∷ codes "c" ∷ [])
-    × (parts_of_rest (Byte 44) (Some []) ≡ [] ∷ []) × (parts_of_rest (Byte 44) None ≡ [])
-behind_a_separator = (refl, refl, refl)
-
 -- a line ends at the first zero byte, if it has one
 before_zero : (text_before 0 (97 ∷ 98 ∷ 0 ∷ 99 ∷ 0 ∷ []) ≡ codes "ab") × (text_before 0 (codes "ab") ≡ codes "ab") × (text_before 0 (0 ∷ 97 ∷ []) ≡ [])
 before_zero = (refl, refl, refl)
 
-onto_halves : (prepend_text (codes "m") (codes "em", codes "4G") ≡ (codes "mem", codes "4G")) × (prepend_text [] ([], codes "4G") ≡ ([], codes "4G"))
-onto_halves = (refl, refl)
-
--- name and value, at the first mark; a mark at the very front is one
+-- name and value, split at the first mark, which may be the first byte
 cut_at_the_first : split_once 61 (codes "mem=1=2") ≡ Some (codes "mem", codes "1=2")
 cut_at_the_first = refl
 
@@ -80,10 +55,7 @@ cut_at_the_front = refl
 nothing_to_cut : split_once 61 (codes "quiet") ≡ None
 nothing_to_cut = refl
 
-some_and_none : (is_word (codes "a") ≡ true) × (is_word [] ≡ false)
-some_and_none = (refl, refl)
-
--- separators in a row make no word, in front and at the end either
+-- several separators make no empty words, and neither do those at the start or the end
 words_of_a_line : words_in CommandLine (codes "\n quiet\t mem=4G ") ≡ codes "quiet" ∷ codes "mem=4G" ∷ []
 words_of_a_line = refl
 
@@ -93,12 +65,12 @@ quotation_in_a_word = refl
 no_words : words_in Script (codes " \t\r") ≡ []
 no_words = refl
 
--- one mark at the end goes, and no more
+-- only one mark at the end is removed
 last_marks : (without_last 10 (codes "ab\n\n") ≡ codes "ab\n") × (without_last 10 (codes "\na") ≡ codes "\na")
     × (without_last 34 (codes "\"") ≡ []) × (without_last 34 [] ≡ [])
 last_marks = (refl, refl, refl, refl)
 
--- a mark at the end alone stays, one in front goes alone
+-- a mark only at the end stays; one only at the start is removed
 unquoted_texts : (unquote (codes "\"a b\"") ≡ codes "a b")
     × (unquote (codes "\"a") ≡ codes "a") × (unquote (codes "a\"") ≡ codes "a\"") × (unquote (codes "\"") ≡ [])
     × (unquote (codes "\"\"") ≡ [])
@@ -120,7 +92,7 @@ spelled_word = record { some = omega arith; closed = closed_text }
 empty_is_no_word : IsWord CommandLine [] → ⊥
 empty_is_no_word word = let some = word.some in omega arith
 
--- two words with blanks around them, the second with a blank in its quotation; and a quotation that stays open
+-- two words with blanks around them, the second with a blank in a quotation; and a quotation that stays open
 lying_words : HasWords CommandLine (codes " a \"b c\"") (codes "a" ∷ codes "\"b c\"" ∷ [])
     × (QuotesClose CommandLine false (codes "a \"b") → ⊥)
 lying_words = (
@@ -130,7 +102,7 @@ lying_words = (
   λ close. cc close,
 )
 
--- marks on both sides, on one, and at the end alone, where none is lost
+-- marks at both ends, at the start only, and at the end only, where nothing is removed
 lost_marks : Unquotes (codes "\"a b\"") (codes "a b") × Unquotes (codes "\"a") (codes "a") × Unquotes (codes "a\"") (codes "a\"")
 lost_marks = (
   both_marks (codes "a b"),

@@ -1,4 +1,4 @@
--- Laws of the parts of a text: one byte more, and what is spelled as parts.
+-- Parts of a text, byte by byte, and texts that are spelled as parts.
 use Rattle.std.proofs.Common.{◌≡◌, ℕ, Bool, true, false, ◌&&◌, not, List, [], ◌∷◌, ◌++◌, refl, ap, sym, append_assoc, ◌+◌, ◌<◌, length, take, drop, get_or, Some, add-one, drop-cons, eq-eqb, suc}
 use Rattle.std.specs.Option.{option_map}
 use Rattle.std.proofs.Math.Bool.{and-false}
@@ -7,43 +7,43 @@ use Rattle.text_words.specs.declared.separators.Separators.{Separators}
 use Rattle.text_words.specs.Parts.{separates, quoted_after, with_front, parts_from, parts_in, prepend_text, split_once}
 use Rattle.text_words.specs.Words.{IsClosed}
 
--- the text before the first part, which becomes longer by it
+-- prepends the text to the first part
 abbrev pub glued : List ℕ → List (List ℕ) → List (List ℕ)
 glued [] [] = []
 glued (b ∷ bs) [] = (b ∷ bs) ∷ []
 glued front (p ∷ ps) = (front ++ p) ∷ ps
 
--- nothing before the first part
+-- prepending nothing changes nothing
 pub glued-nil : (ps : List (List ℕ)) → glued [] ps ≡ ps
 glued-nil [] = refl
 glued-nil (p ∷ ps) = refl
 
--- one byte before the first part, and then a text
+-- prepending a text and then a byte prepends both
 pub glued-with_front : (front : List ℕ) (b : ℕ) (ps : List (List ℕ)) → glued front (with_front b ps) ≡ glued (front ++ (b ∷ [])) ps
 glued-with_front [] b [] = refl
 glued-with_front (a ∷ front) b [] = refl
 glued-with_front [] b (p ∷ ps) = refl
 glued-with_front (a ∷ front) b (p ∷ ps) = ap (λ (part : List ℕ). (a ∷ part) ∷ ps) (sym (append_assoc front (b ∷ []) p))
 
--- a separator ends the part before it
+-- a separator ends the part
 pub parts-end : (s : Separators) (quoted : Bool) (front : List ℕ) (b : ℕ) (rest : List ℕ)
     → separates s b ≡ true → quoted ≡ false → glued front (parts_from s quoted (b ∷ rest)) ≡ front ∷ parts_in s rest
 parts-end s true front b rest is closed = cc
 parts-end s false [] b rest is closed = rw is refl
 parts-end s false (a ∷ front) b rest is closed = rw is (ap (λ (part : List ℕ). (a ∷ part) ∷ parts_in s rest) (append-nil front))
 
--- any other byte lengthens it
+-- any other byte belongs to the part
 pub parts-more : (s : Separators) (quoted : Bool) (front : List ℕ) (b : ℕ) (rest : List ℕ)
     → separates s b && not quoted ≡ false
     → glued front (parts_from s quoted (b ∷ rest)) ≡ glued (front ++ (b ∷ [])) (parts_from s (quoted_after s quoted b) rest)
 parts-more s quoted front b rest stays = rw stays (glued-with_front front b (parts_from s (quoted_after s quoted b) rest))
 
--- the text ends the last part
+-- the end of the text ends the last part
 pub parts-last : (s : Separators) (quoted : Bool) (front : List ℕ) → glued front (parts_from s quoted []) ≡ front ∷ []
 parts-last s quoted [] = refl
 parts-last s quoted (a ∷ front) = ap (λ (part : List ℕ). (a ∷ part) ∷ []) (append-nil front)
 
--- a part whose quotations close goes as far as the separator behind it
+-- a part whose quotations close ends before the next separator
 pub parts-spelled : (s : Separators) (quoted : Bool) (part : List ℕ) (b : ℕ) (rest : List ℕ)
     → IsClosed s quoted part → separates s b ≡ true → parts_from s quoted (part ++ (b ∷ rest)) ≡ part ∷ parts_in s rest
 parts-spelled s true [] b rest closed is = cc
@@ -61,7 +61,7 @@ parts-one s true (a ∷ part) closed =
 parts-one s false (a ∷ part) closed =
     rw (closed.0) (ap (with_front a) (parts-one s (quoted_after s false a) part closed.1))
 
--- the first byte that is the mark cuts the text there
+-- the text is split at the first byte that is the mark
 pub split_once-found : (mark : ℕ) (text : List ℕ) (i : ℕ) → i < length text → get_or text i 0 ≡ mark
     → option_map (prepend_text (take i text)) (split_once mark (drop i text)) ≡ Some (take i text, drop (i + 1) text)
 split_once-found mark text i inside is =

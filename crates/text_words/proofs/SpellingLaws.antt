@@ -1,4 +1,4 @@
--- The words of a text are those that lie in it, and a text loses the quotation marks that it has.
+-- Words are read exactly as they are spelled, and unquoting removes exactly the marks that the grammar allows.
 use Rattle.std.proofs.Common.{◌≡◌, ◌≢◌, ◌↔◌, ◌⊎◌, inl, inr, ℕ, ◌+◌, ◌≤◌, ◌==◌, if◌then◌else◌, zero, suc, Bool, true, false, List, [], ◌∷◌, ◌++◌, length, refl, subst, ap, sym, ◌∙◌, codes, eq-eqb, length-append, arith}
 use Rattle.std.proofs.lemmas.Bool.{eqb-true, ne_eqb}
 use Rattle.text_words.specs.declared.separators.Separators.{Separators}
@@ -39,7 +39,7 @@ first_part s false (a ∷ text) close = by_test (separates s a) refl (first_part
     by_test false is (inr found) =
         inr (a ∷ found.0, found.1, found.2, ap (λ (bs : List ℕ). a ∷ bs) found.3, (is, found.4), found.5, found.6)
 
--- words lie in a text as they are read
+-- words that are read are spelled in the text
 one_word : (s : Separators) (text : List ℕ) → IsClosed s false text → HasWords s text (words_in s text)
 one_word s [] closed = no_byte
 one_word s (a ∷ bs) closed =
@@ -116,7 +116,7 @@ ends_or_not (b ∷ c ∷ bs) = longer (ends_or_not (c ∷ bs))
 no_quote : (b : ℕ) (bs : List ℕ) → b == 34 ≡ false → (rest : List ℕ) → b ∷ bs ≢ codes "\"" ++ rest
 no_quote b bs isnt rest same = let is : b ≡ 34 = cc in let test : b == 34 ≡ true = eq-eqb b 34 is in cc
 
--- the quotation marks that a text loses
+-- unquoting, for each form of the text
 quotes_lost : (text : List ℕ) → Unquotes text (unquote text)
 quotes_lost [] = no_mark [] (λ rest same. cc)
 quotes_lost (b ∷ bs) = by_test (b == 34) refl (ends_or_not bs)

@@ -1,15 +1,15 @@
--- How the words of a text lie in it, and what its quotation marks are, in the words of the grammar (`next_arg` of lib/cmdline.c).
+-- The grammar of words and quotation marks (`next_arg` of lib/cmdline.c).
 use Rattle.std.specs.Prelude.{◌≡◌, ◌≢◌, ℕ, Bool, true, false, List, [], ◌∷◌, ◌++◌, codes}
 use Rattle.text_words.specs.declared.separators.Separators.{Separators}
 use Rattle.text_words.specs.Parts.{separates, quoted_after}
 use Rattle.text_words.specs.Words.{IsWord}
 
--- each quotation of the text closes. The flag says whether one is open where the text begins
+-- each quotation of the text closes. The flag says whether one is open at the start
 abbrev pub QuotesClose : Separators → Bool → List ℕ → Type 0
 QuotesClose s quoted [] = quoted ≡ false
 QuotesClose s quoted (b ∷ bs) = QuotesClose s (quoted_after s quoted b) bs
 
--- the text has those words, one separator or more between two, and any before the first and after the last
+-- the text has exactly those words, with at least one separator between two of them, and any number before the first and after the last
 pub data HasWords (s : Separators) : List ℕ → List (List ℕ) → Type 0 where
   no_byte : HasWords s [] []
   blank_first : (b : ℕ) (text : List ℕ) (words : List (List ℕ)) → separates s b ≡ true → HasWords s text words
@@ -18,7 +18,7 @@ pub data HasWords (s : Separators) : List ℕ → List (List ℕ) → Type 0 whe
   word_first : (word : List ℕ) (b : ℕ) (text : List ℕ) (words : List (List ℕ)) → IsWord s word → separates s b ≡ true
       → HasWords s text words → HasWords s (word ++ (b ∷ text)) (word ∷ words)
 
--- a text and what is left without its quotation marks: only one that begins with `"` loses it, and then one at its end
+-- unquoting the first text gives the second: only a text that begins with `"` loses it, and then one at its end
 pub data Unquotes : List ℕ → List ℕ → Type 0 where
   no_mark : (text : List ℕ) → ((rest : List ℕ) → text ≢ codes "\"" ++ rest) → Unquotes text text
   both_marks : (inner : List ℕ) → Unquotes (codes "\"" ++ (inner ++ codes "\"")) inner

@@ -1,10 +1,8 @@
-//! Parts of a text: how it falls apart at its separators, and at the first of one byte.
+//! Splits a text at its separators, or at the first occurrence of a byte.
 //!
-//! A part may be empty, as between two commas, and the text has always at least one. What goes
-//! over the parts keeps the rest of the text, and no place in it; words are made of parts, in the
-//! file beside this one.
+//! A text has at least one part, and a part may be empty, as between two commas.
 
-ghost use Rattle.std.specs.Prelude.{◌≡◌, ℕ, ◌<◌, ◌≤◌, Bool, true, false, List, [], ◌∷◌, ◌++◌, length, IfSome};
+ghost use Rattle.std.specs.Prelude.{◌≡◌, ℕ, ◌<◌, ◌≤◌, true, false, List, [], ◌∷◌, ◌++◌, length, IfSome};
 ghost use Rattle.std.specs.Option.{option_map};
 ghost use Rattle.text_words.specs.declared.separators.Separators.{Separators as SomeSeparators};
 ghost use Rattle.text_words.specs.Parts.{separates, parts_in, parts_of_rest, text_before, split_once};
@@ -12,8 +10,8 @@ ghost use Rattle.text_words.specs.Words.{IsClosed};
 
 use crate::Separators;
 
-/// The first part of the text, and what stands behind its separator; `None` where there is no
-/// separator, so that the part is the last one. A part may be empty.
+/// Returns the first part of the text, and the text after its separator. The rest is `None` if
+/// there is no separator, so that the part is the last one.
 pub fn next_part(text: &[u8], separators: Separators) -> (&[u8], Option<&[u8]>)
     ensures parts { parts_in separators text.now
         ≡ result.0.now ∷ parts_of_rest separators (option_map (λ rest. rest.now) result.1) }
@@ -32,7 +30,7 @@ pub fn next_part(text: &[u8], separators: Separators) -> (&[u8], Option<&[u8]>)
     (text, None)
 }
 
-/// What stands before the first byte `mark`, the whole text where there is none.
+/// Returns the text before the first byte `mark`, or the whole text if it has no such byte.
 pub fn text_before(text: &[u8], mark: u8) -> &[u8]
     ensures { result.now ≡ text_before mark text.now }
 {
@@ -44,7 +42,7 @@ pub fn text_before(text: &[u8], mark: u8) -> &[u8]
     text
 }
 
-/// What stands before and behind the first byte `mark`; `None` where there is none.
+/// Returns the texts before and after the first byte `mark`, or `None` if there is none.
 pub fn split_once(text: &[u8], mark: u8) -> Option<(&[u8], &[u8])>
     ensures { option_map (λ found. (found.0.now, found.1.now)) result ≡ split_once mark text.now }
 {
@@ -56,7 +54,7 @@ pub fn split_once(text: &[u8], mark: u8) -> Option<(&[u8], &[u8])>
     None
 }
 
-/// A law: what is spelled as parts with separators between them is read as those parts.
+/// Law: a text that is spelled as parts with separators between them is split into those parts.
 pub fn spelled_parts_are_read()
     ensures first { (s : SomeSeparators) (part : List ℕ) (b : ℕ) (rest : List ℕ)
         → IsClosed s false part → separates s b ≡ true

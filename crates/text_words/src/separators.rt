@@ -1,27 +1,24 @@
-//! Which bytes separate the parts of a text, and which byte protects from that.
-//!
-//! All texts of the program are split in one way and differ only in this, so the kinds of texts
-//! are told apart here alone: the kernel's command line (`isspace` and `next_arg`), a line of a
-//! script, and a list with one separating byte.
+//! The separators of the three kinds of texts: the kernel's command line (`isspace` and
+//! `next_arg`), a line of a script, and a list with one separating byte.
 
 ghost use Rattle.std.specs.Prelude.{◌≡◌};
 
-/// Which bytes separate the parts of a text, and whether quotations protect from them.
+/// The bytes that separate the parts of a text, and whether quotations protect them.
 #[derive(Clone, Copy, Debug, PartialEq, Eq)]
 pub enum Separators {
-    /// The bytes 0x20 and 0x09 to 0x0D, outside quotations; `"` opens and closes one. The byte 0xA0
-    /// doesn't separate.
+    /// The bytes 0x20 and 0x09 to 0x0D, outside quotations. `"` opens and closes a quotation.
+    /// 0xA0 doesn't separate.
     CommandLine,
-    /// The bytes 0x20, 0x09 and 0x0D; there are no quotations.
+    /// The bytes 0x20, 0x09 and 0x0D. There are no quotations.
     Script,
-    /// This byte alone; there are no quotations.
+    /// Only this byte. There are no quotations.
     Byte(u8),
 }
 
 impl Separators {
     ghost use Rattle.text_words.specs.Parts.{separates, quotes};
 
-    /// Whether the byte separates, where no quotation is open.
+    /// Returns whether the byte separates, outside quotations.
     pub fn separates(self, byte: u8) -> bool
         ensures { result ≡ separates self byte }
     {
@@ -32,7 +29,7 @@ impl Separators {
         }
     }
 
-    /// Whether the byte opens and closes a quotation.
+    /// Returns whether the byte opens and closes quotations.
     pub fn quotes(self, byte: u8) -> bool
         ensures { result ≡ quotes self byte }
     {

@@ -1,8 +1,8 @@
-//! Words of a text: its parts that aren't empty, and the quotation marks around a word or its
+//! Words, the parts of a text that aren't empty, and the quotation marks around a word or a
 //! value.
 //!
-//! `next_arg` of lib/cmdline.c does both in one pass and writes into the line; here the text
-//! stays as it is, and a word is a slice of it.
+//! The kernel does both in one pass and writes into the line (`next_arg` of lib/cmdline.c). Here
+//! the text isn't changed, and a word is a slice of it.
 
 ghost use Rattle.std.specs.Prelude.{◌≡◌, ◌↔◌, ℕ, ◌<◌, ◌≤◌, true, false, List, [], ◌∷◌, ◌++◌, length, IfSome, IfNone};
 ghost use Rattle.text_words.specs.declared.separators.Separators.{Separators as SomeSeparators};
@@ -12,7 +12,7 @@ ghost use Rattle.text_words.specs.Spelling.{HasWords, QuotesClose, Unquotes};
 
 use crate::{Separators, next_part};
 
-/// The first word of the text, and a text with the words behind it; `None` where there is no word.
+/// Returns the first word of the text and the text after it, or `None` if there is no word.
 pub fn next_word(text: &[u8], separators: Separators) -> Option<(&[u8], &[u8])>
     ensures some { IfSome result (λ found.
         words_in separators text.now ≡ found.0.now ∷ words_in separators found.1.now) }
@@ -31,8 +31,8 @@ pub fn next_word(text: &[u8], separators: Separators) -> Option<(&[u8], &[u8])>
     None
 }
 
-/// The text without the `"` that it begins with, and then without the `"` at its end; a text that
-/// doesn't begin with one stays as it is.
+/// Removes the `"` at the start of the text, and then one at its end. A text that doesn't begin
+/// with `"` isn't changed.
 pub fn unquote(text: &[u8]) -> &[u8]
     ensures { result.now ≡ unquote text.now }
 {
@@ -42,7 +42,7 @@ pub fn unquote(text: &[u8]) -> &[u8]
     }
 }
 
-/// The text without its last byte, where that is `mark`.
+/// Removes the last byte of the text if it is `mark`.
 pub fn without_last(text: &[u8], mark: u8) -> &[u8]
     ensures { result.now ≡ without_last mark text.now }
 {
@@ -52,8 +52,8 @@ pub fn without_last(text: &[u8], mark: u8) -> &[u8]
     }
 }
 
-/// A law: what is spelled as words with separators between them is read as those words: a
-/// separator in front is passed over, and a word goes as far as the next separator outside
+/// Law: a text that is spelled as words with separators between them is split into those words.
+/// Separators before a word are skipped, and a word ends before the next separator outside
 /// quotations.
 pub fn spelled_words_are_read()
     ensures gap { (s : SomeSeparators) (b : ℕ) (rest : List ℕ)
@@ -65,8 +65,8 @@ pub fn spelled_words_are_read()
         → IsWord s word → words_in s word ≡ word ∷ [] }
 {}
 
-/// Law: the words of a text are exactly those that lie in it with separators around them, if each
-/// quotation closes. A text loses exactly the quotation marks that it has.
+/// Law: if all quotations close, the words of a text are exactly those that the grammar finds in
+/// it. Unquoting removes exactly the marks that the grammar allows.
 pub fn words_are_spelled()
     ensures words { (s : SomeSeparators) (text : List ℕ) (words : List (List ℕ)) →
         QuotesClose s false text → words_in s text ≡ words ↔ HasWords s text words }
