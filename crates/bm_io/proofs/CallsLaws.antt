@@ -1,4 +1,4 @@
--- One more call of the operating system, behind those before it.
+-- One more call of the operating system, after those so far.
 use Rattle.std.proofs.Common.{◌≡◌, ℕ, ◌-◌, ◌<◌, ◌≤◌, List, ◌++◌, length, take, drop, Option, Some, arith}
 use Rattle.std.proofs.lemmas.List.{length-take-le}
 use Rattle.bm_io.specs.Calls.{HasTaken, nothing_taken, took, HasGiven, gave}
@@ -9,7 +9,7 @@ pub taken_none : {W : Type 0} (writes : W → List ℕ → Option ℕ → W → 
     → HasTaken writes chunk before (length chunk - length chunk) before
 taken_none writes chunk before = let zero : length chunk - length chunk ≡ 0 = omega arith in rw zero nothing_taken
 
--- one more write took n bytes of what was left
+-- one more write took n of the remaining bytes
 pub taken_more : {W : Type 0} (writes : W → List ℕ → Option ℕ → W → Type 0) (chunk rest : List ℕ) (before mid after : W) (n : ℕ)
     → HasTaken writes chunk before (length chunk - length rest) mid → rest ≡ drop (length chunk - length rest) chunk
     → n ≤ length rest → 0 < n → writes mid rest (Some n) after

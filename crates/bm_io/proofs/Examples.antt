@@ -1,23 +1,21 @@
--- Small counts, files and outputs: what the definitions say of them, by computing.
-use Rattle.std.proofs.Common.{◌≡◌, ℕ, ◌-◌, ◌^◌, true, false, List, Option, Some, None, [], ◌∷◌, Vec, Ok, Err, codes, refl, inl, inr, arith}
-use Rattle.std.specs.declared.alloc.Global.{Global}
+-- Worked examples: small counters, files and outputs.
+use Rattle.std.proofs.Common.{◌≡◌, ℕ, ◌-◌, ◌^◌, true, false, List, Option, Some, None, [], ◌∷◌, Ok, Err, codes, refl, inl, inr, arith}
 use Rattle.bm_io.specs.declared.reading.Fetch.TheVariants as fetch
 use Rattle.bm_io.specs.declared.writing.Put.TheVariants as put
 use Rattle.bm_io.specs.declared.writing.Sink.{Ghosts as SinkOf}
-use Rattle.bm_io.specs.declared.mem_files.MemFile.{MemFile}
 use Rattle.bm_io.specs.Counts.{count_after, Rose, RoseByMoreThan}
 use Rattle.bm_io.specs.Known.{IsKnownAs, IsKnownLonger, AppendsFront, TakesKnown, GivesKnown}
-use Rattle.bm_io.specs.MemFiles.{MemFileView, MemFilesView, file_view, file_views, has_name, file_bytes, HaveOwnNames, IsRefused, IsOverLimit, fetch_failures, bytes_taken}
+use Rattle.bm_io.specs.MemFiles.{MemFileView, MemFilesView, file_bytes, HaveOwnNames, IsRefused, IsOverLimit, fetch_failures}
 use Rattle.bm_io.specs.Puts.{Puts}
 use Rattle.bm_io.specs.Calls.{HasTaken, nothing_taken, took, HasGiven, nothing_given, gave, IsPutBy, IsReadBy, IsFetchedBy}
-use Rattle.bm_io.specs.MemSink.{MemSinkView, put_failures, wants_of_memory}
+use Rattle.bm_io.specs.MemSink.{MemSinkView, put_failures}
 use Rattle.bm_io.proofs.PutsLaws.{unwanted}
 
--- a count goes up, and stands still at 2^64 - 1
+-- a counter goes up and stops at 2^64 - 1
 counts : (count_after 5 3 ≡ 8) × (count_after (2 ^ 64 - 2) 3 ≡ 2 ^ 64 - 1)
 counts = (refl, refl)
 
--- that it rose shows, but at its last value, where it can't
+-- a rise shows, except at 2^64 - 1
 it_rose : Rose 5 6 × Rose (2 ^ 64 - 1) (2 ^ 64 - 1)
 it_rose = (omega arith, omega arith)
 
@@ -30,7 +28,7 @@ rose_by_more = (omega arith, omega arith)
 rose_by_the_limit : RoseByMoreThan 16 4 20 → ⊥
 rose_by_the_limit more = omega arith
 
--- files that tell: `zp` holds three bytes; files that don't: anything may be said
+-- if contents are known, `zp` holds these three bytes; if they are unknown, nothing is claimed
 told_bytes : IsKnownAs (Some (λ name. Some (codes "abc"))) (codes "zp") (codes "abc") × IsKnownAs None (codes "zp") []
 told_bytes = (refl, tt)
 
@@ -47,7 +45,7 @@ front_went_out = (2, omega arith, refl)
 nothing_went_out : AppendsFront (Some (codes "a")) (Some (codes "a")) (codes "bcd")
 nothing_went_out = (0, omega arith, refl)
 
--- two files, of which the second call fails
+-- two files; the second call fails
 abbrev two_files : MemFilesView
 two_files = record {
   files = record { name = codes "zp"; bytes = codes "abc" } ∷ record { name = codes "line"; bytes = [] } ∷ [];
@@ -81,39 +79,14 @@ longer_than_two = (codes "abc", refl, omega arith)
 not_longer_than_none : IsOverLimit two_files (codes "line") 0 → ⊥
 not_longer_than_none longer = let same : Some [] ≡ Some longer.0 = longer.1 in let more = longer.2 in grind (arith, same, more)
 
--- a file in memory by its fields
-held_by_fields : (f : MemFile) → (file_views (f ∷ []) ≡ file_view f ∷ []) × (file_views [] ≡ [])
-held_by_fields f = (refl, refl)
-
-named_zp : (f : MemFile) → (file_view f).name ≡ codes "zp" → (has_name (codes "zp") f ≡ true) × (has_name (codes "z") f ≡ false)
-named_zp f is = (rw is refl, rw is refl)
-
--- failures and bytes of an answer of `fetch`: a file that is too long was read, one whose call failed wasn't
-failed_fetches : (fetch_failures (Err fetch.Failed) ≡ 1) × (fetch_failures (Err fetch.TooLong) ≡ 0) × (fetch_failures (Err fetch.Memory) ≡ 0)
-failed_fetches = (refl, refl, refl)
-
--- a failed fetch is counted as one that failed, and one that lacked memory isn't
+-- a failed fetch counts as a failure; one that ran out of memory doesn't
 failed_fetch_rose : Rose two_files.faults (count_after two_files.faults (fetch_failures (Err fetch.Failed)))
 failed_fetch_rose = omega arith
 
 wanting_isnt_failed : Rose two_files.faults (count_after two_files.faults (fetch_failures (Err fetch.Memory))) → ⊥
 wanting_isnt_failed rose = omega (arith, rose)
 
-taken_bytes : (bytes_taken (Err fetch.TooLong) (Some (codes "abc")) ≡ 3)
-    × (bytes_taken (Err fetch.Failed) (Some (codes "abc")) ≡ 0) × (bytes_taken (Err fetch.Failed) None ≡ 0)
-taken_bytes = (refl, refl, refl)
-
-given_bytes : (bytes : Vec ℕ Global) → (fetch_failures (Ok bytes) ≡ 0) × (bytes_taken (Ok bytes) (Some (codes "abc")) ≡ 3)
-given_bytes bytes = (refl, refl)
-
--- failures and wants of an answer of `put`
-failed_puts : (put_failures (Ok tt) ≡ 0) × (put_failures (Err put.Failed) ≡ 1) × (put_failures (Err put.Memory) ≡ 0)
-failed_puts = (refl, refl, refl)
-
-wanted_memory : (wants_of_memory (Ok tt) ≡ 0) × (wants_of_memory (Err put.Failed) ≡ 0) × (wants_of_memory (Err put.Memory) ≡ 1)
-wanted_memory = (refl, refl, refl)
-
--- an output whose second call failed, before that call and behind it: half of the chunk went out
+-- an output before and after its second call, which failed: half of the chunk was appended
 abbrev before_failure : MemSinkView
 before_failure = record { written = codes "ab"; failing = 2 ∷ []; calls = 1; faults = 0; wants = 0 }
 
@@ -127,11 +100,11 @@ counted_failure : (behind_failure.faults ≡ count_after before_failure.faults (
     × Rose before_failure.faults behind_failure.faults
 counted_failure = (refl, omega arith)
 
--- an output in memory tells its bytes and its counts
+-- the bytes and counters of an output in memory are known
 abbrev held_sink : SinkOf MemSinkView
 held_sink = record { written = λ s. Some s.written; faults = λ s. s.faults; wants = λ s. s.wants }
 
--- that call refused two bytes with a cause; with no fault counted it couldn't
+-- that call failed with a cause; without a counted fault it couldn't have failed
 failed_put : Puts held_sink before_failure behind_failure (Err put.Failed) (codes "cd")
 failed_put = record {
   whole = tt;
@@ -146,7 +119,7 @@ failed_put = record {
 no_cause : Puts held_sink before_failure before_failure (Err put.Failed) (codes "cd") → ⊥
 no_cause puts = let rose = puts.failed refl in omega (arith, rose)
 
--- an output that counted a fault, tried again, and appended the whole: its answer may be Ok. A want that was counted is told
+-- an output may count a fault, retry and append everything, with the result Ok. Running out of memory is always reported
 tried_again : Puts held_sink before_failure behind_failure (Ok tt) (codes "c")
 tried_again = record {
   whole = refl;
@@ -161,21 +134,21 @@ tried_again = record {
 want_unheard : Puts held_sink before_failure (record behind_failure { wants = 1 }) (Ok tt) (codes "c") → ⊥
 want_unheard puts = let still = unwanted puts in omega (arith, still)
 
--- a stream that tells its bytes took two of those that it was offered; a write that failed took none
+-- a stream whose bytes are known took two of those offered; a write that failed took none
 two_taken : TakesKnown (Some (codes "x")) (Some (codes "xab")) (codes "abc") (Some 2)
 two_taken = refl
 
 none_taken : TakesKnown (Some (codes "x")) (Some (codes "xa")) (codes "abc") None → ⊥
 none_taken kept = cc kept
 
--- a file that tells its bytes gave the first two; one that has bytes left isn't at its end
+-- a file whose bytes are known gave the first two; a file with bytes left isn't finished
 two_given : GivesKnown (Some (codes "abc")) (Some (codes "c")) (Some (codes "ab"))
 two_given = (refl, λ none. cc)
 
 not_at_the_end : GivesKnown (Some (codes "c")) (Some (codes "c")) (Some []) → ⊥
 not_at_the_end gives = let end : codes "c" ≡ [] = gives.1 refl in cc end
 
--- three bytes by two writes: the second was offered what the first had left
+-- three bytes in two writes: the second was offered what the first left
 abbrev known_writes : List ℕ → List ℕ → Option ℕ → List ℕ → Type 0
 known_writes before bytes taken after = TakesKnown (Some before) (Some after) bytes taken
 
@@ -186,14 +159,14 @@ by_two_writes = took {k = 2} {n = 1} {mid = codes "ab"}
 put_by_two_writes : IsPutBy known_writes [] (codes "abc") (Ok tt) (codes "abc")
 put_by_two_writes = by_two_writes
 
--- the second write failed: that, and no length, is what a put fails by
+-- a put fails if its second write failed, whatever the number of bytes
 refused_by_a_write : IsPutBy known_writes [] (codes "abc") (Err put.Failed) (codes "ab")
 refused_by_a_write = (2, codes "ab", omega arith, took {k = 0} {n = 2} {mid = []} nothing_taken refl (omega arith), inl refl)
 
 refused_by_itself : (after : List ℕ) → IsPutBy known_writes [] [] (Err put.Failed) after → ⊥
 refused_by_itself after refused = let some = refused.2 in omega (arith, some)
 
--- three bytes by two reads, and then the end
+-- three bytes in two reads, and then the end
 abbrev known_reads : List ℕ → Option (List ℕ) → List ℕ → Type 0
 known_reads before given after = GivesKnown (Some before) (Some after) given
 
@@ -202,7 +175,7 @@ by_two_reads = gave {given = codes "ab"} {bytes = codes "c"} {mid = codes "c"}
     (gave {given = []} {bytes = codes "ab"} {mid = codes "abc"} nothing_given (refl, λ none. cc) (omega arith))
     (refl, λ none. refl) (omega arith)
 
--- within a limit of two bytes the second read is one too many
+-- with a limit of two bytes the second read exceeds it
 one_too_many : IsReadBy known_reads (codes "abc") 2 (Err fetch.TooLong) 3 []
 one_too_many = (
   codes "ab",
@@ -215,7 +188,7 @@ one_too_many = (
   refl,
 )
 
--- a read that fails behind two bytes: they were taken, and nothing is answered of them
+-- a read that fails after two bytes: they count as read, and none is returned
 failed_behind_two : IsReadBy known_reads (codes "abc") 9 (Err fetch.Failed) 2 (codes "c")
 failed_behind_two = (
   codes "ab",
@@ -226,7 +199,7 @@ failed_behind_two = (
   refl,
 )
 
--- a fetch of a name that opens nothing, and of one that opens an empty file whose first read fails
+-- a fetch of a name that can't be opened, and of an empty file whose first read fails
 abbrev known_opens : List MemFileView → List ℕ → Option (List ℕ) → List MemFileView → Type 0
 known_opens before name opened after = (opened ≡ file_bytes before name) × (after ≡ before)
 

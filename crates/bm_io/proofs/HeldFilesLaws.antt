@@ -1,10 +1,10 @@
--- The list of files as the program has it, and as contracts see it.
+-- The list of files in the program's memory, and as contracts see it.
 use Rattle.std.proofs.Common.{◌≡◌, ℕ, Bool, true, false, cond, List, [], ◌∷◌, Some, find, refl}
 use Rattle.std.specs.Option.{option_map}
 use Rattle.bm_io.specs.declared.mem_files.MemFile.{MemFile}
 use Rattle.bm_io.specs.MemFiles.{file_views, file_bytes, has_name}
 
--- one more file in front of those of which it is known
+-- one more file before others for which it is proved
 file_in_front : (f : MemFile) (fs : List MemFile) (name : List ℕ) (named : Bool)
     → option_map (λ f. f.bytes.items) (find (has_name name) fs) ≡ file_bytes (file_views fs) name
     → option_map (λ f. f.bytes.items) (cond named (Some f) (find (has_name name) fs))
@@ -12,7 +12,7 @@ file_in_front : (f : MemFile) (fs : List MemFile) (name : List ℕ) (named : Boo
 file_in_front f fs name true rest = refl
 file_in_front f fs name false rest = rest
 
--- the bytes of the first file of the name are those of the file that a search finds
+-- the bytes of the first file with the name are those that a search finds
 pub bytes_of_found : (files : List MemFile) (name : List ℕ)
     → option_map (λ f. f.bytes.items) (find (has_name name) files) ≡ file_bytes (file_views files) name
 bytes_of_found [] name = refl

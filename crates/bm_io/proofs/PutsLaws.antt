@@ -1,4 +1,4 @@
--- Bytes that go out one chunk after another.
+-- Bytes that are written in several chunks.
 use Rattle.std.proofs.Common.{◌≡◌, ℕ, ◌+◌, ◌<◌, ◌≤◌, List, [], ◌∷◌, ◌++◌, length, take, drop, get_or, Option, Result, Ok, Err, inl, inr, refl, sym, ◌∙◌, ap, arith, append-nil, length-append, take-append-drop, drop-cons, add-one}
 use Rattle.std.proofs.lemmas.List.{take-append-le, take_more}
 use Rattle.std.proofs.lemmas.Grind.{flat_map-append}
@@ -11,14 +11,14 @@ use Rattle.bm_io.specs.Puts.{Puts}
 use Rattle.bm_io.specs.declared.writing.Put.{Put}
 use Rattle.bm_io.specs.declared.writing.Sink.{Ghosts as SinkOf}
 
--- the bytes of one more chunk stand behind those of the chunks before it
+-- the bytes of one more chunk come after those of the chunks before it
 pub joined_more : {P : Type 0} (bytes : P → List ℕ) (chunks : List P) (i : ℕ) (d : P) → i < length chunks
     → flat_map bytes (take (i + 1) chunks) ≡ flat_map bytes (take i chunks) ++ bytes (get_or chunks i d)
 joined_more bytes chunks i d inside =
     ap (λ t. flat_map bytes t) (take_more chunks i d inside) ∙ flat_map-append bytes (take i chunks) (get_or chunks i d ∷ [])
     ∙ ap (λ (t : List ℕ). flat_map bytes (take i chunks) ++ t) (append-nil (bytes (get_or chunks i d)))
 
--- the bytes of the chunks before one, of that chunk, and of those behind it
+-- the bytes of the chunks before one, of that chunk, and of those after it
 pub joined_at : {P : Type 0} (bytes : P → List ℕ) (chunks : List P) (i : ℕ) (d : P) → i < length chunks
     → flat_map bytes (take i chunks) ++ (bytes (get_or chunks i d) ++ flat_map bytes (drop (i + 1) chunks)) ≡ flat_map bytes chunks
 joined_at bytes chunks i d inside =
@@ -26,7 +26,7 @@ joined_at bytes chunks i d inside =
     ap (λ t. flat_map bytes (take i chunks) ++ flat_map bytes t) (sym rest)
     ∙ sym (flat_map-append bytes (take i chunks) (drop i chunks)) ∙ ap (λ t. flat_map bytes t) (take-append-drop i chunks)
 
--- where bytes that were joined are none, neither part has any
+-- if two joined lists of bytes are empty, both are
 pub none_first : (xs ys : List ℕ) → xs ++ ys ≡ [] → xs ≡ []
 none_first [] ys none = refl
 none_first (x ∷ xs) ys none = cc
@@ -35,7 +35,7 @@ pub none_behind : (xs ys : List ℕ) → xs ++ ys ≡ [] → ys ≡ []
 none_behind [] ys none = none
 none_behind (x ∷ xs) ys none = cc
 
--- bytes that went out whole, and then the front of others, are a front of all
+-- bytes that were written whole and then the first bytes of others are the first bytes of all
 front_then : (old mid new : Option (List ℕ)) (first bytes rest : List ℕ)
     → Appends old mid first → AppendsFront mid new bytes → AppendsFront old new (first ++ (bytes ++ rest))
 front_then old mid new first bytes rest before front =
@@ -47,7 +47,7 @@ front_then old mid new first bytes rest before front =
       rw (← out) (Appends-trans old mid new first (take n bytes) before front.2),
     )
 
--- bytes that went out whole wanted no memory
+-- writing bytes whole didn't run out of memory
 pub unwanted : {S : Type 0} {sink : SinkOf S} {old new : S} {done : Unit {0}} {bytes : List ℕ} → Puts sink old new (Ok done) bytes
     → sink.wants new ≡ sink.wants old
 unwanted puts = elim puts.no_want [
@@ -55,7 +55,7 @@ unwanted puts = elim puts.no_want [
   | inr same ↦ same
 ]
 
--- a refusal behind bytes that went out whole is the refusal of all
+-- an error after bytes that were written whole is the error of all
 pub puts_refused : {S : Type 0} (sink : SinkOf S) (old mid new : S) (answer : Result (Unit {0}) Put) (error : Put)
     (first bytes rest all : List ℕ)
     → answer ≡ Err error → first ++ (bytes ++ rest) ≡ all → Appends (sink.written old) (sink.written mid) first

@@ -3,14 +3,14 @@ use Rattle.std.proofs.Common.{◌≡◌, ℕ, ◌+◌, ◌-◌, ◌≤◌, List,
 use Rattle.std.specs.Io.KnownBytes.{Appends}
 use Rattle.std.proofs.KnownBytes.{Appends-trans}
 
--- what is left once k more bytes are gone, as a slice of the rest has it
+-- the remaining bytes after k more, as a slice
 abbrev pub left_of : List ℕ → ℕ → List ℕ
 left_of rest k = take (length rest - k) (drop k rest)
 
 left_is : (rest : List ℕ) (k : ℕ) → left_of rest k ≡ drop k rest
 left_is rest k = take_all (length rest - k) (drop k rest) (rw (length-drop k rest) (omega arith))
 
--- how much of the chunk is gone
+-- the number of bytes of the chunk that were taken
 pub gone_more : (chunk rest : List ℕ) (k : ℕ) → rest ≡ drop (length chunk - length rest) chunk → k ≤ length rest
     → length chunk - length (left_of rest k) ≡ (length chunk - length rest) + k
 gone_more chunk rest k left small =

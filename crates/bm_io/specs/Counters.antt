@@ -1,13 +1,13 @@
--- What contracts see of the adapters of the operating system: what they adapt, and their counters.
+-- What contracts see of the adapters to the operating system.
 use Rattle.std.specs.Prelude.{ℕ}
 
--- the files, how many fetches failed, whatever the name, and how many bytes were read
+-- what contracts see of a `RealFiles`: the files, the number of failed fetches of any name, and the number of bytes read
 pub record RealFilesView (D : Type 0) : Type 0 where
   pub files : D
   pub faults : ℕ
   pub taken : ℕ
 
--- the stream, and how many puts failed
+-- what contracts see of a `StdSink`: the stream, and the number of failed puts
 pub record StdSinkView (W : Type 0) : Type 0 where
   pub stream : W
   pub faults : ℕ

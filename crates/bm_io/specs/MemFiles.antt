@@ -1,4 +1,4 @@
--- Files that are held in memory.
+-- Files in memory.
 use Rattle.std.specs.Prelude.{◌≡◌, ℕ, ◌<◌, Bool, if◌then◌else◌, List, [], ◌∷◌, length, map, Option, Some, None, IsNone, Contains, ◌⊎◌, Result, Ok, Err, Vec, string_bytes}
 use Rattle.std.specs.Str.{bytes_eq}
 use Rattle.std.specs.declared.alloc.Global.{Global}
@@ -6,12 +6,13 @@ use Rattle.bm_io.specs.declared.reading.Fetch.{Fetch}
 use Rattle.bm_io.specs.declared.reading.Fetch.TheVariants as fetch
 use Rattle.bm_io.specs.declared.mem_files.MemFile.{MemFile}
 
--- a file: its name and its bytes
+-- what contracts see of a `MemFile`: its name and its bytes
 pub record MemFileView : Type 0 where
   pub name : List ℕ
   pub bytes : List ℕ
 
--- the files, the numbers of the calls that are to fail, and how many calls, failed calls and bytes taken there were
+-- what contracts see of a `MemFiles`: the files, the numbers of the calls that are to fail, and the numbers of calls, of failed calls and
+-- of bytes read
 pub record MemFilesView : Type 0 where
   pub files : List MemFileView
   pub failing : List ℕ
@@ -29,32 +30,32 @@ file_views files = map file_view files
 abbrev pub has_name : List ℕ → MemFile → Bool
 has_name name f = bytes_eq (string_bytes f.name) name
 
--- the bytes of the first file of the name
+-- the bytes of the first file with the name, if there is one
 abbrev pub file_bytes : List MemFileView → List ℕ → Option (List ℕ)
 file_bytes [] name = None
 file_bytes (f ∷ fs) name = if bytes_eq f.name name then Some f.bytes else file_bytes fs name
 
--- no two files have one name
+-- no two files have the same name
 abbrev pub HaveOwnNames : List MemFileView → Type 0
 HaveOwnNames [] = Unit {0}
 HaveOwnNames (f ∷ fs) = IsNone (file_bytes fs f.name) × HaveOwnNames fs
 
--- the call of that number fails: it was told to, or the name isn't held
+-- the call with that number fails: it is to fail, or there is no such file
 abbrev pub IsRefused : MemFilesView → ℕ → List ℕ → Type 0
 IsRefused held number name = Contains held.failing number ⊎ IsNone (file_bytes held.files name)
 
--- the name is held and has more bytes than the limit
+-- there is a file with the name, and it has more bytes than the limit
 abbrev pub IsOverLimit : MemFilesView → List ℕ → ℕ → Type 0
 IsOverLimit held name limit = (bytes : List ℕ) × (file_bytes held.files name ≡ Some bytes) × (limit < length bytes)
 
--- how many failures an answer is
+-- the number of failures, 0 or 1, that a result counts as
 abbrev pub fetch_failures : Result (Vec ℕ Global) Fetch → ℕ
 fetch_failures (Ok bytes) = 0
 fetch_failures (Err fetch.Failed) = 1
 fetch_failures (Err fetch.TooLong) = 0
 fetch_failures (Err fetch.Memory) = 0
 
--- how many bytes of the file an answer took: all of them where it gave them or found them too long
+-- the number of bytes that a result counts as read: all of the file's if it was returned or too long
 abbrev pub bytes_taken : Result (Vec ℕ Global) Fetch → Option (List ℕ) → ℕ
 bytes_taken answer None = 0
 bytes_taken (Ok given) (Some bytes) = length bytes

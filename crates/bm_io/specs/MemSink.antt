@@ -1,9 +1,10 @@
--- Output that is held in memory.
+-- Output in memory.
 use Rattle.std.specs.Prelude.{ℕ, List, Result, Ok, Err}
 use Rattle.bm_io.specs.declared.writing.Put.{Put}
 use Rattle.bm_io.specs.declared.writing.Put.TheVariants as put
 
--- the bytes so far, the numbers of the calls that are to fail, and how many calls, failed calls and calls with no memory there were
+-- what contracts see of a `MemSink`: the bytes so far, the numbers of the calls that are to fail, and the numbers of calls, of failed
+-- calls and of calls that ran out of memory
 pub record MemSinkView : Type 0 where
   pub written : List ℕ
   pub failing : List ℕ
@@ -11,13 +12,13 @@ pub record MemSinkView : Type 0 where
   pub faults : ℕ
   pub wants : ℕ
 
--- how many failures an answer is
+-- the number of failures, 0 or 1, that a result counts as
 abbrev pub put_failures : Result (Unit {0}) Put → ℕ
 put_failures (Ok done) = 0
 put_failures (Err put.Failed) = 1
 put_failures (Err put.Memory) = 0
 
--- how many wants of memory an answer is
+-- the number of times out of memory, 0 or 1, that a result counts as
 abbrev pub wants_of_memory : Result (Unit {0}) Put → ℕ
 wants_of_memory (Ok done) = 0
 wants_of_memory (Err put.Failed) = 0

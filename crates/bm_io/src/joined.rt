@@ -1,9 +1,7 @@
-//! A text that goes out in chunks: one call for all of them, with the contract of one put.
+//! Writes several chunks with the contract of a single put.
 //!
-//! A line of a report or of a failure is known in parts, of which some stand in the program and
-//! some are written into a buffer of a few bytes. Put one after another they need no memory for the
-//! whole. It stands here, and not above, since what it promises is `Sink::put`'s own promise for
-//! the joined bytes.
+//! A report's line has fixed parts and parts in small buffers. This writes them one by one,
+//! without allocating the whole line.
 ghost use Rattle.std.specs.Prelude.{◌≡◌, []};
 ghost use Rattle.std.specs.List.{flat_map};
 ghost use Rattle.bm_io.specs.Puts.{Puts};
@@ -11,8 +9,12 @@ ghost use Rattle.bm_io.specs.Puts.{Puts};
 use crate::writing::{Put, Sink};
 use std::convert::AsSlice;
 
-/// Appends the chunks one after another, up to the first that is refused: as one put of the joined
-/// bytes. An empty chunk makes no call, so where all are empty the output isn't touched.
+/// Appends the chunks in order and stops at the first error, as one put of the joined bytes
+/// would. Empty chunks make no call.
+///
+/// # Errors
+///
+/// The error of the chunk that failed.
 pub fn put_all<S: Sink, P: AsSlice<u8>>(out: &mut S, chunks: &[P]) -> Result<(), Put>
     ensures puts { Puts S.Sink out.old out.new result (flat_map P.items chunks.now) }
     ensures untouched { flat_map P.items chunks.now ≡ [] → out.new ≡ out.old }

@@ -1,24 +1,20 @@
-//! The outside of the program: where its inputs come from and where its output goes.
+//! Files and outputs: what the program reads its inputs from and writes its reports to.
 //!
-//! A boot reads a few whole files and writes reports. [`Files`] is what it reads from, by name and
-//! up to a limit in bytes; [`Sink`] is what it writes to, in chunks. Both may fail at any call, and
-//! the contracts of the layers above are about every implementation of them.
+//! [`Files`] reads whole files by name, up to a limit in bytes. [`Sink`] takes output in chunks.
+//! Any call may fail. The crates above are proved for every implementation of both traits.
 //!
-//! What an implementation means is said by members that only contracts see: the bytes that a name
-//! holds and those that were written, where the object tells them, and counts of what happened. A
-//! count never falls. It is a `u64` that stands still at its last value, 2^64 - 1; that it rose in
-//! a call means that it is greater afterwards, or stands there. Each refusal has its cause in such
-//! a count, so a caller can tell a refusal of the outside from a mistake of the program. The one
-//! exception is [`Fetch::Memory`], which may come at any time. Only [`Put::Memory`] moves the count
-//! of puts that ran out of memory. Any answer may move a count of faults: an object may count a
-//! fault, try again and succeed.
+//! A trait has ghost members that only contracts see: the bytes of a file, the bytes that were
+//! written (each `None` if unknown), and counters of faults. A counter never falls. It is a `u64`
+//! that stops at 2^64 - 1. Each error raises a counter, so a failure outside the program can be
+//! told apart from a bug in it. The exception is [`Fetch::Memory`], which may happen at any time.
+//! Only [`Put::Memory`] raises the counter of puts that ran out of memory. A call may raise a
+//! counter of faults and still succeed: it may have retried.
 //!
-//! [`MemFiles`] and [`MemSink`] live in memory, tell everything, and fail at the calls that they
-//! were told to fail at: tests and proofs use them. [`RealFiles`] and [`StdSink`] are for the files
-//! and streams of the operating system. They stand on one call of the system at a time
-//! ([`RawFiles`], [`RawReader`], [`RawWriter`]), and which calls they make is proved, so they fail
-//! where the system did and nowhere else. The trusted edge is what makes those calls,
-//! [`SystemFiles`] and [`SystemStream`]: a line each.
+//! [`MemFiles`] and [`MemSink`] hold their bytes in memory and fail at the calls that a test
+//! names. [`RealFiles`] and [`StdSink`] use the operating system, through traits for a single
+//! system call each ([`RawFiles`], [`RawReader`], [`RawWriter`]). It is proved which calls they
+//! make, and that they fail only if a call failed. The trusted edge is [`SystemFiles`] and
+//! [`SystemStream`], which make these calls in one line each.
 #![tactic(auto)]
 
 mod joined;

@@ -1,25 +1,22 @@
-//! Files in memory that tell everything: what tests and proofs read from.
-//!
-//! Their failures are planned, by the numbers of calls. Names are looked up in the order of the
-//! list; no name stands twice.
-ghost use Rattle.std.specs.Prelude.{◌≡◌, ℕ, ◌+◌, ◌-◌, ◌^◌, ◌<◌, ◌≤◌, ◌↔◌, List, length, min, Option, Some, OnOk, IfOk, IsErrOf, find};
+//! Files in memory, for tests and proofs. Their contents are known to contracts, and their
+//! failures are planned by the numbers of the calls.
+ghost use Rattle.std.specs.Prelude.{◌≡◌, ◌-◌, ◌^◌, ◌<◌, ◌≤◌, ◌↔◌, length, Option, Some, IfOk, IsErrOf, find};
 ghost use Rattle.std.specs.Option.{option_copied};
-ghost use Rattle.bm_io.specs.Counts.{count_after, Rose, RoseByMoreThan};
-ghost use Rattle.bm_io.specs.Known.{IsKnownAs, IsKnownLonger};
+ghost use Rattle.bm_io.specs.Counts.{count_after};
 ghost use Rattle.bm_io.specs.MemFiles.{file_views, file_bytes, HaveOwnNames, IsRefused, IsOverLimit, has_name, fetch_failures, bytes_taken};
 
 use crate::reading::{Fetch, Files};
 use std::alloc::Global;
 use std::marker::Model;
 
-/// A file in memory.
+/// A file in memory: its name and its bytes.
 #[derive(Debug, Drop)]
 pub struct MemFile {
     pub name: String,
     pub bytes: Vec<u8>,
 }
 
-/// Files in memory, of which some calls of `fetch` fail. Calls are numbered from 1.
+/// Files in memory, with planned failures. Calls of `fetch` are numbered from 1.
 #[derive(Drop)]
 pub struct MemFiles {
     files: Vec<MemFile>,
@@ -47,7 +44,8 @@ impl Model for MemFiles {
 }
 
 impl MemFiles {
-    /// The files, and the numbers of the calls that are to fail. Takes no memory.
+    /// Makes files with the numbers of the calls that are to fail. No two files have the same
+    /// name. Doesn't allocate.
     pub fn new(files: Vec<MemFile>, failing: Vec<u64>) -> MemFiles
         requires { HaveOwnNames (file_views files.items) }
         ensures files { result.files ≡ file_views files.items }
@@ -73,11 +71,17 @@ impl Files for MemFiles {
 
     ghost taken = { λ s. s.taken };
 
-    /// `Failed` comes exactly where the number of the call is one that is to fail or the name isn't
-    /// held, and `TooLong` exactly where it isn't that and the file has more than `limit` bytes.
+    /// Returns a copy of the file.
+    ///
+    /// # Errors
+    ///
+    /// `Failed` if the call's number is one that is to fail, or there is no such file. `TooLong`
+    /// if neither holds and the file has more than `limit` bytes. `Memory` if the copy can't be
+    /// allocated.
     fn fetch(&mut self, alloc: Global, name: &str, limit: u64) -> Result<Vec<u8>, Fetch>
         ensures bounded { IfOk result (λ bytes. length bytes.items ≤ limit) }
-        ensures told { IfOk result (λ bytes. file_bytes self.old.files name.now ≡ Some bytes.items) }
+        ensures told { IfOk result (λ bytes. file_bytes self.old.files name.now
+            ≡ Some bytes.items) }
         ensures failed { IsErrOf result Fetch.Failed
             ↔ IsRefused self.old self.new.calls name.now }
         ensures too_long { IsErrOf result Fetch.TooLong
@@ -116,7 +120,7 @@ impl Files for MemFiles {
     }
 }
 
-/// The bytes of the file of the name.
+/// Returns the bytes of the file with the name.
 fn bytes_named<'a>(files: &'a [MemFile], name: &str) -> Option<&'a [u8]>
     ensures { option_copied result ≡ file_bytes (file_views files.now) name.now }
 {

@@ -1,17 +1,13 @@
-//! An output in memory that tells everything: what tests and proofs write to.
-//!
-//! Its failures are planned, by the numbers of calls, so a test can have each call fail in turn and
-//! see what the layers above make of it.
-ghost use Rattle.std.specs.Prelude.{◌≡◌, ℕ, ◌+◌, ◌-◌, ◌/◌, ◌^◌, ◌<◌, ◌≤◌, List, [], ◌++◌, length, take, min, Option, Some, Contains, OnOk, OnErr, IsErrOf};
-ghost use Rattle.std.specs.Io.KnownBytes.{Appends};
-ghost use Rattle.bm_io.specs.Counts.{count_after, Rose};
-ghost use Rattle.bm_io.specs.Known.{AppendsFront};
+//! An output in memory, for tests and proofs. Its bytes are known to contracts, and its failures
+//! are planned by the numbers of the calls.
+ghost use Rattle.std.specs.Prelude.{◌≡◌, ◌+◌, ◌-◌, ◌/◌, ◌^◌, ◌<◌, ◌≤◌, [], ◌++◌, length, take, Some, Contains, OnOk, IsErrOf};
+ghost use Rattle.bm_io.specs.Counts.{count_after};
 ghost use Rattle.bm_io.specs.MemSink.{put_failures, wants_of_memory};
 
 use crate::writing::{Put, Sink};
 use std::marker::Model;
 
-/// Output in memory, of which some calls of `put` fail. Calls are numbered from 1.
+/// An output in memory, with planned failures. Calls of `put` are numbered from 1.
 #[derive(Drop)]
 pub struct MemSink {
     written: Vec<u8>,
@@ -39,7 +35,7 @@ impl Model for MemSink {
 }
 
 impl MemSink {
-    /// Nothing written yet, and the numbers of the calls that are to fail. Takes no memory.
+    /// Makes an empty output with the numbers of the calls that are to fail. Doesn't allocate.
     pub fn new(failing: Vec<u64>) -> MemSink
         ensures written { result.written ≡ [] }
         ensures failing { result.failing ≡ failing.items }
@@ -56,7 +52,7 @@ impl MemSink {
         }
     }
 
-    /// The bytes so far.
+    /// Returns the bytes written so far.
     pub fn written(&self) -> &[u8]
         ensures { result.now ≡ self.now.written }
     {
@@ -71,8 +67,12 @@ impl Sink for MemSink {
 
     ghost wants = { λ s. s.wants };
 
-    /// `Failed` comes where the number of the call is one that is to fail, and then the first half
-    /// of the chunk, rounded down, was appended. After `Memory` nothing was.
+    /// Appends the chunk.
+    ///
+    /// # Errors
+    ///
+    /// `Failed` if the call's number is one that is to fail; the first half of the chunk, rounded
+    /// down, is then appended. `Memory` if the output can't grow; nothing is then appended.
     fn put(&mut self, chunk: &[u8]) -> Result<(), Put>
         ensures whole { OnOk result (self.new.written ≡ self.old.written ++ chunk.now) }
         ensures half { IsErrOf result Put.Failed

@@ -1,40 +1,42 @@
-//! One call of the operating system at a time, as the loops of this crate see it.
+//! Traits for a single call of the operating system.
 //!
-//! What a real file gives and what a real stream keeps is known to no contract. But which calls
-//! were made, in which order and with which answers, can be said: each trait has a relation of a
-//! call's beginning, its answer and its end, and a loop that is proved for every such relation
-//! knows nothing of it but what its own calls gave. So a loop that gives up by itself, tries again
-//! or drops a failure is refused. `crate::system` has the few lines that make these calls.
+//! Contracts don't know what a real file holds or what a real stream does with bytes. But they
+//! can say which calls were made, in which order, with which results. Each trait has a relation
+//! between the state before a call, its result and the state after. A loop that is proved for
+//! every such relation can't give up early, retry or hide a failure. `crate::system` implements
+//! the traits.
 ghost use Rattle.std.specs.Prelude.{ℕ, ◌<◌, ◌≤◌, List, length, take, Option, IfSome};
 ghost use Rattle.std.specs.Option.{option_map};
 ghost use Rattle.bm_io.specs.Known.{TakesKnown, GivesKnown};
 
-/// A stream that is written to.
+/// A stream that can be written to.
 pub trait RawWriter {
-    // The bytes that the stream holds, where it tells them.
+    // The bytes that the stream holds, or `None` if unknown.
     ghost contents: { Self → Option (List ℕ) };
 
-    // One write: the stream before, the bytes that it was offered, how many it took, where it didn't
-    // fail, and the stream after.
+    // One write: the stream before, the bytes offered, how many it took (`None` if it failed),
+    // and the stream after.
     ghost writes: { Self → List ℕ → Option ℕ → Self → Type 0 };
 
-    /// Offers the bytes: how many of them, from the front, were taken. `None` where the write failed.
+    /// Offers bytes to the stream and returns how many it took, from the first on, or `None` if
+    /// the write failed.
     fn write(&mut self, bytes: &[u8]) -> Option<usize>
         ensures bound { IfSome result (λ n. n ≤ length bytes.now) }
         ensures known { TakesKnown (contents self.old) (contents self.new) bytes.now result }
         ensures call { writes self.old bytes.now result self.new };
 }
 
-/// A file that is read from.
+/// A file that can be read.
 pub trait RawReader {
-    // The bytes that are left, where the file tells them.
+    // The bytes that remain to be read, or `None` if unknown.
     ghost remaining: { Self → Option (List ℕ) };
 
-    // One read: the file before, the bytes that it gave, where it didn't fail, and the file after.
+    // One read: the file before, the bytes that it gave (`None` if it failed), and the file
+    // after.
     ghost reads: { Self → Option (List ℕ) → Self → Type 0 };
 
-    /// Fills the front of the buffer: how many bytes were given, none only at the end. `None` where the
-    /// read failed.
+    /// Reads bytes to the start of the buffer, which isn't empty. Returns how many, 0 only at the
+    /// end of the file, or `None` if the read failed.
     fn read(&mut self, buffer: &mut [u8]) -> Option<usize>
         requires { 0 < length buffer.old }
         ensures bound { IfSome result (λ n. n ≤ length buffer.new) }
@@ -43,15 +45,15 @@ pub trait RawReader {
         ensures call { reads self.old (option_map (λ n. take n buffer.new) result) self.new };
 }
 
-/// Files that are opened by name.
+/// Files that can be opened by name.
 pub trait RawFiles {
     type File: RawReader + Drop;
 
-    // One opening: the files before, the name, the opened file, where it didn't fail, and the files
-    // after.
+    // One call of open: the files before, the name, the opened file (`None` if it failed), and
+    // the files after.
     ghost opens: { Self → List ℕ → Option Self.File → Self → Type 0 };
 
-    /// The file of the name, from its front. `None` where it couldn't be opened.
+    /// Opens the file with the name at its start, or returns `None` if that failed.
     fn open(&mut self, name: &str) -> Option<Self::File>
         ensures call { opens self.old name.now result self.new };
 }

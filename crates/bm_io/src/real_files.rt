@@ -1,9 +1,8 @@
-//! The files of the operating system.
+//! Reads the files of the operating system.
 //!
-//! A read gives a part of a file, so a fetch is an opening and a loop over reads. It is generic
-//! over the files and is proved to be exactly those calls: it fails where one of them did, and
-//! nowhere else.
-ghost use Rattle.std.specs.Prelude.{◌≡◌, ℕ, ◌^◌, ◌<◌, ◌≤◌, length, None, IfSome, OnOk, IfOk, IsErrOf};
+//! A read may give only a part of a file, so a fetch opens the file and loops over reads. It is
+//! proved that it makes exactly those calls, and fails only if one of them does.
+ghost use Rattle.std.specs.Prelude.{◌≡◌, ℕ, ◌^◌, ◌<◌, ◌≤◌, length, None, IfSome, IfOk, IsErrOf};
 ghost use Rattle.bm_io.specs.Counts.{count_after, Rose, RoseByMoreThan};
 ghost use Rattle.bm_io.specs.Known.{IsKnownAs};
 ghost use Rattle.bm_io.specs.MemFiles.{fetch_failures};
@@ -16,8 +15,8 @@ use std::alloc::Global;
 use std::marker::Model;
 use std::rt;
 
-/// The files of the operating system. They tell no content; one counter of faults serves all names,
-/// and what is taken is what each read gave.
+/// The files of the operating system. Their contents are unknown to contracts. One counter of
+/// faults serves all names, and `taken` counts the bytes of every read.
 #[derive(Drop)]
 pub struct RealFiles<D: RawFiles + Drop> {
     files: D,
@@ -37,7 +36,7 @@ impl<D: RawFiles + Drop> Model for RealFiles<D> {
 }
 
 impl<'a, R: rt::Files> RealFiles<SystemFiles<'a, R>> {
-    /// The files that the runtime opens, with the counters at 0.
+    /// Makes the files that the runtime can open, with both counters at 0.
     pub fn new(runtime: &'a R) -> RealFiles<SystemFiles<'a, R>>
         ensures faults { result.faults ≡ 0 }
         ensures taken { result.taken ≡ 0 }
@@ -51,8 +50,12 @@ impl<'a, R: rt::Files> RealFiles<SystemFiles<'a, R>> {
 }
 
 impl<D: RawFiles + Drop> RealFiles<D> {
-    /// The bytes of the file up to its end, at most `limit` of them. What each read gives counts as
-    /// taken, and a read that fails as a fault.
+    /// Reads the file to its end, at most `limit` bytes. A failed read counts as a fault.
+    ///
+    /// # Errors
+    ///
+    /// `Failed` if a read failed, `TooLong` if the file has more than `limit` bytes, `Memory` if
+    /// the program ran out of memory.
     fn read_whole<F: RawReader>(
         &mut self,
         file: &mut F,
@@ -62,7 +65,8 @@ impl<D: RawFiles + Drop> RealFiles<D> {
         ensures calls { (taken : ℕ) × IsReadBy F.reads file.old limit result taken file.new
             × (self.new.taken ≡ count_after self.old.taken taken) }
         ensures bounded { IfOk result (λ bytes. length bytes.items ≤ limit) }
-        ensures whole { IfOk result (λ bytes. IfSome (F.remaining file.old) (λ all. bytes.items ≡ all)) }
+        ensures whole { IfOk result (λ bytes. IfSome (F.remaining file.old) (λ all. bytes.items
+            ≡ all)) }
         ensures faults { self.new.faults ≡ count_after self.old.faults (fetch_failures result) }
         ensures too_long { IsErrOf result Fetch.TooLong
             → RoseByMoreThan limit self.old.taken self.new.taken }
@@ -99,11 +103,16 @@ impl<D: RawFiles + Drop> Files for RealFiles<D> {
 
     ghost taken = { λ s. s.taken };
 
-    /// Opens the file and reads it. `Failed` comes exactly where it couldn't be opened or a read failed; that
-    /// is one fault, and none else is counted. What the reads gave was counted as taken.
+    /// Opens the file and reads it to its end, at most `limit` bytes.
+    ///
+    /// # Errors
+    ///
+    /// `Failed` if the file couldn't be opened or a read failed; this counts as one fault.
+    /// `TooLong` if it has more than `limit` bytes, `Memory` if the program ran out of memory.
     fn fetch(&mut self, alloc: Global, name: &str, limit: u64) -> Result<Vec<u8>, Fetch>
         ensures calls { (taken : ℕ)
-            × IsFetchedBy D.opens D.File.reads self.old.files name.now limit result taken self.new.files
+            × IsFetchedBy D.opens D.File.reads self.old.files name.now limit result taken
+            self.new.files
             × (self.new.taken ≡ count_after self.old.taken taken) }
         ensures bounded { IfOk result (λ bytes. length bytes.items ≤ limit) }
         ensures told { IfOk result (λ bytes. IsKnownAs None name.now bytes.items) }

@@ -1,9 +1,8 @@
-//! An output over a stream of the operating system.
+//! An output to a stream of the operating system.
 //!
-//! A write may take a part of what it is offered, so a put is a loop over writes. It is generic
-//! over the stream and is proved to be exactly those writes: it fails where the stream did, and
-//! nowhere else.
-ghost use Rattle.std.specs.Prelude.{◌≡◌, ℕ, ◌^◌, ◌<◌, ◌≤◌, OnOk, OnErr, IsErrOf};
+//! A write may take only some of the bytes, so a put is a loop over writes. It is proved for
+//! every stream that the loop makes exactly those writes, and fails only if one of them does.
+ghost use Rattle.std.specs.Prelude.{◌≡◌, ◌^◌, ◌<◌, ◌≤◌, OnOk, OnErr, IsErrOf};
 ghost use Rattle.std.specs.Io.KnownBytes.{Appends};
 ghost use Rattle.bm_io.specs.Counts.{count_after, Rose};
 ghost use Rattle.bm_io.specs.MemSink.{put_failures};
@@ -16,8 +15,8 @@ use crate::writing::{Put, Sink};
 use std::io::Write;
 use std::marker::Model;
 
-/// A stream of the operating system, as its standard output. It tells what the stream tells, which
-/// is nothing where that is a real one, and never answers want of memory.
+/// A stream of the operating system, such as standard output. Its bytes are known to contracts
+/// only if the stream's are, and it never runs out of memory.
 #[derive(Drop)]
 pub struct StdSink<W: RawWriter + Drop> {
     stream: W,
@@ -36,7 +35,7 @@ impl<W: RawWriter + Drop> Model for StdSink<W> {
 }
 
 impl<W: Write + Drop> StdSink<SystemStream<W>> {
-    /// The stream, with the counter at 0.
+    /// Makes an output to the stream, with the counter at 0.
     pub fn new(writer: W) -> StdSink<SystemStream<W>>
         ensures stream { result.stream.inner ≡ writer }
         ensures faults { result.faults ≡ 0 }
@@ -55,8 +54,11 @@ impl<W: RawWriter + Drop> Sink for StdSink<W> {
 
     ghost wants = { λ s. 0 };
 
-    /// Writes what is left of the chunk until nothing is. `Failed` comes exactly where a write failed or took
-    /// nothing; that is one fault, and none else is counted. Want of memory never comes.
+    /// Writes the chunk, with as many writes as it takes.
+    ///
+    /// # Errors
+    ///
+    /// `Failed` if a write failed or took nothing; this counts as one fault. Never `Memory`.
     fn put(&mut self, chunk: &[u8]) -> Result<(), Put>
         ensures calls { IsPutBy W.writes self.old.stream chunk.now result self.new.stream }
         ensures whole { OnOk result

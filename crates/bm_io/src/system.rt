@@ -1,14 +1,14 @@
-//! The operating system: its three calls, each passed on by one line.
+//! The three calls of the operating system, one line each.
 //!
-//! This is the trusted edge. Nothing here counts, loops or decides; that these lines reach the file
-//! and the stream that they were handed, no contract can say.
+//! This is the trusted edge: no contract can say that these lines reach the file or stream that
+//! they were given.
 ghost use Rattle.bm_io.specs.Known.{TakesKnown, GivesKnown};
 
 use crate::raw::{RawFiles, RawReader, RawWriter};
 use std::io::{Read, Write};
 use std::{fs, rt};
 
-/// A stream or an open file of the system.
+/// A stream or an open file of the operating system.
 #[derive(Drop)]
 pub struct SystemStream<T: Drop> {
     pub inner: T,
@@ -38,7 +38,7 @@ impl<F: Read + Drop> RawReader for SystemStream<F> {
     }
 }
 
-/// The files that the runtime opens.
+/// The files that the runtime can open.
 #[derive(Drop)]
 pub struct SystemFiles<'a, R: rt::Files> {
     pub runtime: &'a R,
@@ -47,7 +47,7 @@ pub struct SystemFiles<'a, R: rt::Files> {
 impl<'a, R: rt::Files> RawFiles for SystemFiles<'a, R> {
     type File = SystemStream<R::File>;
 
-    // Of what a name opens nothing is known.
+    // Nothing is known of what a name opens.
     ghost opens = { λ before name opened after. Unit {0} };
 
     fn open(&mut self, name: &str) -> Option<SystemStream<R::File>> {

@@ -1,4 +1,4 @@
--- One more chunk went out, or was refused: what went out is then a front of all.
+-- One more chunk was written or failed: what was written are then the first bytes of all.
 use Rattle.std.proofs.Common.{◌≡◌, ◌∙◌, Err, ap, arith, get_or, sym}
 use Rattle.std.proofs.lemmas.Result.{err_from_is_err_and}
 use Rattle.std.proofs.KnownBytes.{Appends-trans}

@@ -1,4 +1,4 @@
--- One more read: what it gave stands behind the bytes so far, or passes the limit, or there was no memory for it.
+-- One more read: its bytes are appended, or exceed the limit, or there was no memory for them.
 use Rattle.std.proofs.Common.{◌≡◌, ◌+◌, ◌++◌, rules, arith, take, length, vec_items, vec_len, refl, length-append, ◌∙◌, true}
 use Rattle.std.specs.Prelude.{is_ok}
 use Rattle.std.proofs.lemmas.List.{length-take-le}

@@ -1,4 +1,4 @@
--- The bytes so far are what the file gave, within the limit, and each of them was counted.
+-- The bytes so far are what the file gave, within the limit, and all were counted.
 use Rattle.std.proofs.Common.{◌≡◌, ◌-◌, ◌^◌, ◌<◌, ◌≤◌, vec_len, vec_items}
 use Rattle.std.specs.Io.KnownBytes.{Consumes}
 use Rattle.bm_io.specs.Counts.{count_after}
