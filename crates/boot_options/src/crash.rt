@@ -18,7 +18,7 @@ use crate::kept::keep;
 use crate::map_option::read_whole_size;
 use bm_base::Memory;
 use std::alloc::Global;
-use text_words::{Separators, split_once, next_part};
+use text_words::{Separators, next_part, split_once};
 
 /// A range of total memory, and how much is set aside if total memory lies in it. All numbers are
 /// in bytes.

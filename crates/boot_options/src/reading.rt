@@ -22,7 +22,7 @@ use crate::map_option::{MapOption, read_map_option, read_mem};
 use bm_base::Memory;
 use e820_model::Edit;
 use std::alloc::Global;
-use text_words::{Separators, split_once, next_part, next_word, unquote};
+use text_words::{Separators, next_part, next_word, split_once, unquote};
 
 /// The result of the words that have been read so far.
 #[derive(Drop)]

@@ -112,8 +112,13 @@ fn queries_and_labels(rt: HostRuntime) {
     };
     assert!(rt; bare != mirrored && bare != Tag::Absent);
     let label = Label::new().with_node(1023).with_mirror();
-    assert!(rt; label.node() == Some(1023) && label.has_mirror_flag() && label.flags() == MIRROR_FLAG);
-    assert!(rt; Label::from_parts(Some(1023), MIRROR_FLAG) == label && label != Label::from_parts(Some(1023), 1));
+    assert!(rt;
+        label.node() == Some(1023) && label.has_mirror_flag() && label.flags() == MIRROR_FLAG
+    );
+    assert!(rt;
+        Label::from_parts(Some(1023), MIRROR_FLAG) == label
+            && label != Label::from_parts(Some(1023), 1)
+    );
 }
 
 // The run ends where addresses end.

@@ -242,7 +242,13 @@ impl Memblock {
             is_full_by tables_of.Reserved (new_in tables_of.Reserved (record { base = place; size = request.now.size }))
             self.old.journal.items ≡ false → IsOk result × (self.new.journal.spare ≡ self.old.journal.spare - 1) }
     {
-        request::allocate(&mut self.journal, &mut self.tables, self.aim, request, owner)
+        request::allocate(
+            &mut self.journal,
+            &mut self.tables,
+            self.aim,
+            request,
+            owner,
+        )
     }
 
     /// Writes the byte to each address of the range, which meets no table. After `Memory` all is as before, and some

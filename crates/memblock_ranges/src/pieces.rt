@@ -6,7 +6,7 @@ ghost use Rattle.memblock_ranges.specs.Tables.{AreRecords};
 
 use crate::record::Record;
 use bm_base::Range;
-use run_edits::{Rows, look, skip_ended, seek};
+use run_edits::{Rows, look, seek, skip_ended};
 
 /// How many runs there are of the range's bytes that the table doesn't cover.
 pub fn count_pieces<T: Rows<Record>>(table: &T, range: &Range) -> u64

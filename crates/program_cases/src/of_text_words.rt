@@ -1,6 +1,6 @@
 //! Words and parts, one behind the other, the halves, the front and the inside of a text, beside the proved examples of `text_words`.
 
-use text_words::{Separators, text_before, split_once, next_part, next_word, unquote};
+use text_words::{Separators, next_part, next_word, split_once, text_before, unquote};
 
 #[test]
 fn words_of_a_line(rt: HostRuntime) {

@@ -6,8 +6,8 @@ use Rattle.memblock_grow.proofs.GoingLaws.{place-away}
 use Rattle.memblock_grow.proofs.PlaceLaws.{best_place-is, knows-mirrors}
 use Rattle.memblock_grow.proofs.memblock.Memblock.find.Goals as goal
 
-pub best_place-requires-clause-mirrors : goal.best-requires-clause-mirrors
-best_place-requires-clause-mirrors c = knows-mirrors c.self.invariant.kept
+pub best-requires-clause-mirrors : goal.best-requires-clause-mirrors
+best-requires-clause-mirrors c = knows-mirrors c.self.invariant.kept
 
 pub returns-clause-place : goal.returns-clause-place
 returns-clause-place c =
