@@ -32,11 +32,12 @@ number_in most text = if begins_with_zero text then Some (0, drop 1 text) else a
 abbrev pub is_lower_hex : ℕ → Bool
 is_lower_hex b = (nat_le 48 b && nat_le b 57) || (nat_le 97 b && nat_le b 102)
 
--- `0x` and sixteen such digits
+-- there is a text, and it is exactly sixteen lower-case hexadecimal digits
 abbrev pub are_sixteen : Option (List ℕ) → Bool
 are_sixteen None = false
 are_sixteen (Some digits) = (length digits == 16) && list_all is_lower_hex digits
 
+-- the text is `0x` and sixteen such digits
 abbrev pub is_address : List ℕ → Bool
 is_address text = are_sixteen (behind (codes "0x") text)
 

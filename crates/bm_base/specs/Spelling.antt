@@ -18,7 +18,8 @@ pub record SpellsNumber (text : List ℕ) (n : ℕ) : Type 0 where
   pub number : SpellsIn radix text n
   pub fits : n < 2 ^ 64
 
--- the text spells the size: a number, or a number and a suffix that isn't a digit of its base (`E` is a digit in base 16)
+-- the text spells the size, which is at most 2^64 - 1: a number, or a number and one of the suffixes K, M, G, T, P and E, in either case, that
+-- isn't a digit of the number's base (`E` is a digit in base 16)
 pub data SpellsSize : List ℕ → ℕ → Type 0 where
   number_alone : (text : List ℕ) (n : ℕ) → SpellsNumber text n → SpellsSize text n
   number_with_suffix : (radix n factor b : ℕ) (text : List ℕ) → SpellsIn radix text n → suffix_at b ≡ (factor, 1) → is_digit b radix ≡ false

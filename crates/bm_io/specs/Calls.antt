@@ -27,7 +27,7 @@ IsPutBy {W} writes before bytes (Err put.Failed) after =
     × (writes mid (drop k bytes) None after ⊎ writes mid (drop k bytes) (Some 0) after)
 IsPutBy writes before bytes (Err put.Memory) after = ⊥
 
--- the result of reading a file up to a limit, and the number of bytes read: Ok at a read that gives nothing, Failed at the first that
+-- the result of reading a file up to a limit, and `taken`, the number of bytes read: Ok at a read that gives nothing, Failed at the first that
 -- fails, TooLong at the first that exceeds the limit, Memory after any read that gave bytes
 abbrev pub IsReadBy : {F : Type 0} → (F → Option (List ℕ) → F → Type 0) → F → ℕ → Result (Vec ℕ Global) Fetch → ℕ → F → Type 0
 IsReadBy {F} reads before limit (Ok bytes) taken after =

@@ -12,11 +12,11 @@ abbrev pub GivesKnown : Option (List ℕ) → Option (List ℕ) → Option (List
 GivesKnown old new None = Keeps old new
 GivesKnown old new (Some bytes) = Consumes old new bytes × (bytes ≡ [] → IsAtEnd new)
 
--- if the contents of files are known, these are the bytes of the name
+-- if the contents of files are known, the file with this name has these bytes
 abbrev pub IsKnownAs : Option (List ℕ → Option (List ℕ)) → List ℕ → List ℕ → Type 0
 IsKnownAs holds name bytes = IfSome holds (λ held. held name ≡ Some bytes)
 
--- if the contents of files are known, the name has more bytes than the limit
+-- if the contents of files are known, the file with this name has more bytes than the limit
 abbrev pub IsKnownLonger : Option (List ℕ → Option (List ℕ)) → List ℕ → ℕ → Type 0
 IsKnownLonger holds name limit =
     IfSome holds (λ held. (bytes : List ℕ) × (held name ≡ Some bytes) × (limit < length bytes))

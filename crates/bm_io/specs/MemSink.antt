@@ -12,13 +12,13 @@ pub record MemSinkView : Type 0 where
   pub faults : ℕ
   pub wants : ℕ
 
--- the number of failures, 0 or 1, that a result counts as
+-- what a put with this result adds to `faults`: 1 if it failed, else 0
 abbrev pub put_failures : Result (Unit {0}) Put → ℕ
 put_failures (Ok done) = 0
 put_failures (Err put.Failed) = 1
 put_failures (Err put.Memory) = 0
 
--- the number of times out of memory, 0 or 1, that a result counts as
+-- what a put with this result adds to `wants`: 1 if it ran out of memory, else 0
 abbrev pub wants_of_memory : Result (Unit {0}) Put → ℕ
 wants_of_memory (Ok done) = 0
 wants_of_memory (Err put.Failed) = 0

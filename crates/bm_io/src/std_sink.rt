@@ -35,7 +35,7 @@ impl<W: RawWriter + Drop> Model for StdSink<W> {
 }
 
 impl<W: Write + Drop> StdSink<SystemStream<W>> {
-    /// Makes an output to the stream, with the counter at 0.
+    /// Makes an output to the stream, which has counted no failed put yet.
     pub fn new(writer: W) -> StdSink<SystemStream<W>>
         ensures stream { result.stream.inner ≡ writer }
         ensures faults { result.faults ≡ 0 }

@@ -240,7 +240,7 @@ efi_is_added : (is_efi_added three_words ≡ false) × (is_efi_added ((1, NumaOf
     × (is_numa_off ((1, AddEfi) ∷ []) ≡ false)
 efi_is_added = (refl, refl, refl)
 
--- the last `exactmap`, and the number of map options that add memory after it
+-- the last `exactmap`, and the number of map options that add a range after it
 two_behind_it : (last_exact (all_map_options three_words) ≡ Some (1, 2)) × (count_adding (all_map_options three_words) ≡ 2)
     × (count_adding ((1, ExactMap) ∷ (2, Other None) ∷ []) ≡ 0)
 two_behind_it = (refl, refl, refl)
@@ -255,7 +255,7 @@ here_or_behind : (or_here None 3 ExactMap 2 ≡ Some (3, 2)) × (or_here (Some (
     × (or_here None 3 a_page 2 ≡ None)
 here_or_behind = (refl, refl, refl)
 
--- a user map needs two map options that add memory
+-- a user map needs two map options that add a range
 abbrev nothing_chosen : Chosen
 nothing_chosen = record { edits = []; crash = no_crash; numa_off = false; add_efi = false }
 
@@ -306,7 +306,7 @@ has_range = (omega arith, λ has. omega arith)
 numbered_faults : IsNumbered (faults.BadMem 1) × IsNumbered faults.OpenQuote
 numbered_faults = (omega arith, tt)
 
--- in the middle of a line: after `exactmap` two map options that add memory are needed, and each
+-- in the middle of a line: after `exactmap` two map options that add a range are needed, and each
 -- one that is read is one fewer
 read_three_words : after_all start three_words
     ≡ record {

@@ -128,7 +128,7 @@ user_map-all st ((number, OfCrash form) ∷ said) = user_map-all (after number s
 user_map-all st ((number, NumaOff) ∷ said) = user_map-all (after number st NumaOff) said
 user_map-all st ((number, AddEfi) ∷ said) = user_map-all (after number st AddEfi) said
 
--- the user map after n more map options that add memory
+-- the user map after n more map options that add a range
 abbrev pub fewer : ℕ → UserMap → UserMap
 fewer n m = record { word = m.word; wanting = m.wanting - n }
 

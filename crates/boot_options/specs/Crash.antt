@@ -104,8 +104,8 @@ suffix_form halves = do
   size ← whole_size halves.0
   suffixed halves.1 size
 
--- a value without a colon: with a comma it has a suffix, without one it is a size with an optional
--- base
+-- the form of a value without a colon. With a comma it is `S,high` or `S,low`, and `halves` are the
+-- texts around the first one. Without a comma it is `S` or `S@BASE`
 abbrev pub without_colon : List ℕ → Option (List ℕ × List ℕ) → Option Form
 without_colon value None = simple_form value
 without_colon value (Some halves) = suffix_form halves

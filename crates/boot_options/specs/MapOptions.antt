@@ -43,10 +43,11 @@ abbrev pub number_and_rest : List ℕ → Result (ℕ × ℕ) NumFault → Optio
 number_and_rest text (Ok found) = Some (found.0, drop found.1 text)
 number_and_rest text (Err fault) = None
 
--- a size at the start of a text, or a number without a suffix, and the rest
+-- the size at the start of a text, and the rest
 abbrev pub front_size : List ℕ → Option NumberAndRest
 front_size text = number_and_rest text (size_of text)
 
+-- the number at the start of a text, and the rest, to which a suffix belongs
 abbrev pub front_number : List ℕ → Option NumberAndRest
 front_number text = number_and_rest text (number_of text)
 
@@ -77,7 +78,8 @@ range_above size = record { base = size; size = 2 ^ 64 - 1 - size }
 abbrev pub ram_above : ℕ → Option Edit
 ram_above size = unless_empty (range_above size) (Remove (range_above size) E820_TYPE_RAM)
 
--- the option `S@A`, `S#A`, `S$A` or `S!A`: adds the range with this type
+-- the option `S@A`, `S#A`, `S$A` or `S!A`: adds the range with type `kind`, of `size` bytes from
+-- the address that `place` spells. An empty range makes an adding option without an edit
 abbrev pub adding_option : ℕ → ℕ → List ℕ → Option MapOption
 adding_option kind size place = do
   base ← whole_size place

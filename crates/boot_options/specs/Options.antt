@@ -175,14 +175,14 @@ last_said pick (s ∷ said) = option_or (last_said pick said) (pick s.1)
 abbrev pub crash_by : List (ℕ × Said) → CrashWords
 crash_by said = record { plain = last_said plain_said said; high = last_said high_said said; low = last_said low_said said }
 
--- the number of map options that add memory
+-- the number of map options that add a range
 abbrev pub count_adding : List (ℕ × MapOption) → ℕ
 count_adding [] = 0
 count_adding ((number, ExactMap) ∷ ps) = count_adding ps
 count_adding ((number, Adding edit) ∷ ps) = count_adding ps + 1
 count_adding ((number, Other edit) ∷ ps) = count_adding ps
 
--- the last `exactmap`: the number of its word, and the number of map options that add memory after
+-- the last `exactmap`: the number of its word, and the number of map options that add a range after
 -- it
 abbrev pub or_here : Option (ℕ × ℕ) → ℕ → MapOption → ℕ → Option (ℕ × ℕ)
 or_here (Some found) number p behind = Some found
@@ -194,14 +194,14 @@ abbrev pub last_exact : List (ℕ × MapOption) → Option (ℕ × ℕ)
 last_exact [] = None
 last_exact (p ∷ ps) = or_here (last_exact ps) p.0 p.1 (count_adding ps)
 
--- the options of a line, what contracts see of the code's `Options`, and the options that the
--- words of a line set
+-- the options that a command line sets
 pub record Chosen : Type 0 where
   pub edits : List Edit
   pub crash : CrashWords
   pub numa_off : Bool
   pub add_efi : Bool
 
+-- what contracts see of the code's `Options`
 abbrev pub chosen : Options → Chosen
 chosen options = record {
   edits = options.edits.items;
@@ -210,6 +210,7 @@ chosen options = record {
   add_efi = options.add_efi;
 }
 
+-- the options that these words set
 abbrev pub chosen_by : List (ℕ × Said) → Chosen
 chosen_by said = record {
   edits = edits_of (all_map_options said);
@@ -218,7 +219,7 @@ chosen_by said = record {
   add_efi = is_efi_added said;
 }
 
--- after the last `exactmap` there must be at least two map options that add memory
+-- after the last `exactmap` there must be at least two map options that add a range
 abbrev pub unless_incomplete : Chosen → Option (ℕ × ℕ) → Result Chosen OptionFault
 unless_incomplete chosen None = Ok chosen
 unless_incomplete chosen (Some exact) = if nat_lt exact.1 2 then Err (faults.UserMapInvalid exact.0) else Ok chosen

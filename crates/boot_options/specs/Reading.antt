@@ -1,5 +1,5 @@
 -- The state of the reader in the middle of a command line: the result of the words so far. Of the
--- user map, the state has only the last `exactmap` and how many map options that add memory are
+-- user map, the state has only the last `exactmap` and how many map options that add a range are
 -- still needed.
 use Rattle.std.specs.Prelude.{◌≡◌, ℕ, ◌-◌, ◌==◌, if◌then◌else◌, Bool, true, false, Option, Some, None, List, [], ◌∷◌, ◌++◌, Result, Ok, Err, IsErr}
 use Rattle.std.specs.List.{cons_option}

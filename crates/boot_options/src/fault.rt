@@ -19,7 +19,8 @@ pub enum OptionFault {
     /// The word is a malformed `crashkernel=`.
     BadCrash { word: u32 },
     /// The line has no other fault, but after its last `exactmap` there are fewer than two map
-    /// options that add memory. `word` is the word of that `exactmap`.
+    /// options that add a range of any type (`@`, `#`, `$`, `!`, or `%` with only `+t`; an empty
+    /// range counts). `word` is the number of the word of that `exactmap`.
     UserMapInvalid { word: u32 },
     /// The word is a malformed `numa=`.
     BadNuma { word: u32 },

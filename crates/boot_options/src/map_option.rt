@@ -23,7 +23,7 @@ use e820_model::{E820_TYPE_ACPI, E820_TYPE_PRAM, E820_TYPE_RAM, E820_TYPE_RESERV
 pub enum MapOption {
     /// The map options that follow replace the firmware's map (`exactmap`).
     ExactMap,
-    /// Adds memory of some type. If the range is empty, there is no edit.
+    /// Adds a range of some type. If the range is empty, there is no edit.
     Adding(Option<Edit>),
     /// Removes or changes types. If the range is empty, there is no edit.
     Other(Option<Edit>),

@@ -112,7 +112,7 @@ fn read_line(bytes: &[u8]) -> Result<&[u8], OptionFault>
 ///
 /// # Errors
 ///
-/// - `UserMapInvalid`: fewer than two map options that add memory follow the last `exactmap`.
+/// - `UserMapInvalid`: fewer than two map options that add a range follow the last `exactmap`.
 /// - `Memory`: the user map is complete, but the program ran out of memory for an edit or a range
 ///   while it read the words.
 fn finish(reading: Reading) -> Result<Options, OptionFault>

@@ -3,7 +3,7 @@
 //! Each word has a meaning by itself, which depends on its name. A [`Reading`] has the result of
 //! all words so far. The edits are kept in the order of the line. Of the user map, only what the
 //! check at the end of the line needs is kept: the word of the last `exactmap`, and how many map
-//! options that add memory are still needed.
+//! options that add a range are still needed.
 //!
 //! Only this file and the values of `crashkernel=` allocate. If memory runs out, the rest of the
 //! line is still read, so that a fault anywhere in it is found. No function here returns `Memory`.
@@ -44,7 +44,7 @@ pub struct CrashRead {
     pub low: Option<u64>,
 }
 
-/// The last `exactmap` so far: the number of its word, and how many map options that add memory
+/// The last `exactmap` so far: the number of its word, and how many map options that add a range
 /// are still needed after it.
 #[derive(Clone, Copy, Debug, PartialEq, Eq)]
 pub struct UserMap {

@@ -25,7 +25,7 @@ pub enum Edit {
     Remove { range: Range, kind: u32 },
     /// Removes all claims of each address of the range (`e820__range_remove` without a type).
     RemoveAll { range: Range },
-    /// Replaces the claim `from` by `to` at each address of the range that has it
+    /// Replaces the type `from` by `to` among the claims of each address of the range that has it
     /// (`e820__range_update`).
     Change { range: Range, from: u32, to: u32 },
     /// Removes all claims of all addresses (`memmap=exactmap`).

@@ -141,8 +141,8 @@ fn push_entry(claims: &mut Vec<Run>, entry: &Entry) -> Result<(), Memory>
     push_between(claims, entry.addr, entry.addr + entry.size, entry.kind)
 }
 
-/// Returns the claims followed by those of the entries. Each entry's address plus size must be
-/// below 2^64.
+/// Returns the claims, followed by one for each entry that isn't empty and whose type isn't 0.
+/// Each entry's address plus size must be below 2^64.
 ///
 /// # Errors
 ///

@@ -17,7 +17,8 @@ pub record SetFits (first end frame s : ℕ) : Type 0 where
   pub above : first ≤ frame - frame % s
   pub below : frame - frame % s + s ≤ end
 
--- no set of a larger order fits
+-- no aligned set around the frame of an order above `order`, up to 10, lies between `first` and
+-- `end`
 abbrev pub IsGreatest : ℕ → ℕ → ℕ → ℕ → Type 0
 IsGreatest first end frame order = (o : ℕ) → order < o → o ≤ 10 → SetFits first end frame (2 ^ o) → ⊥
 

@@ -64,7 +64,8 @@ pub fn uncover(
     }
 }
 
-/// Adds the buddies of the frame's sets, of the orders from `order` to below the block's.
+/// For each order from `order` to below the block's, adds the buddy of the aligned set of that
+/// order that has the frame, on the block's node and in its zone.
 ///
 /// # Errors
 ///
@@ -85,7 +86,9 @@ pub fn put_buddies(
     Ok(())
 }
 
-/// Removes the buddies of the frame's sets, of the orders from `order` to below the block's.
+/// For each order from `order` to below the block's, removes the buddy of the aligned set of that
+/// order that has the frame, on the block's node and in its zone. A buddy that isn't there is
+/// ignored.
 pub fn put_out_buddies(blocks: &mut BTreeSet<Block>, block: &Block, order: u32, frame: u64)
     requires small { block.now.order ≤ 10 }
     requires low { frame < MAX_FRAMES }

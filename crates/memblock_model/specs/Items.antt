@@ -60,7 +60,7 @@ no_memory x = None
 abbrev pub memory_of : List Item → Labels
 memory_of items = fold memory_after no_memory items
 
--- the tag of each byte
+-- what the items make of each byte: no memory, or memory with its node, if it has one, and whether it is mirrored
 abbrev pub tag_of : List Item → ℕ → Tag
 tag_of items x = tag_for (memory_of items x)
 

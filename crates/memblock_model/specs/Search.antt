@@ -24,7 +24,7 @@ unfoldable pub first_below : (ℕ → Bool) → ℕ → Option ℕ
 first_below p zero = None
 first_below p (suc n) = option_or (first_below p n) (if p n then Some n else None)
 
--- the least number below n that passes the test, or the greatest
+-- the least number below n that passes the test if the flag is true (the search goes up), else the greatest such number
 abbrev pub outermost_below : Bool → (ℕ → Bool) → ℕ → Option ℕ
 outermost_below true p n = first_below p n
 outermost_below false p n = last_below p n

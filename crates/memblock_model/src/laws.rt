@@ -40,14 +40,15 @@ pub fn tables_need_no_owners()
         moved_to w (items ++ i ∷ []) ≡ moved_after w (moved_to w items) i }
 {}
 
-/// Law: the tests of equal labels and equal owners decide equality.
+/// Law: `same_label` and `same_owner` are true exactly if their two arguments are equal.
 pub fn tests_decide_equality()
     ensures labels { DecidesEquality same_label }
     ensures owners { DecidesEquality same_owner }
 {}
 
-/// Law: the list of owners and the records of a table are canonical lists of runs of what they
-/// stand for, if that is nothing at or above 2^64.
+/// Law: the list of owners and the records of a table are in ascending order and disjoint, none is
+/// empty, and equal neighbours are merged. At each address they give what the items give, if that
+/// is nothing at or above 2^64.
 pub fn lists_are_runs()
     ensures owners { (items : List Item) → NothingFrom (2 ^ 64) (owner_of items) →
         IsRunsOf (owner_of items) (owner_runs_of items) }

@@ -43,9 +43,9 @@ fn blocks_alone(alloc: Global, kept: &[KeptBlock]) -> Result<Vec<NodeRange>, Mem
     Ok(blocks)
 }
 
-/// Joins each run with the next one if both have the same node, also across a gap. If no two
-/// blocks of different nodes overlap, and `runs` are the overlaid blocks, the result is the runs
-/// of addresses with one node.
+/// Joins neighbouring runs of one node to a single run, which then covers the gap between them
+/// too. If `runs` is the result of `lay_blocks`, and no two blocks of different nodes overlap, this
+/// gives each address its node (`node_at`).
 ///
 /// # Errors
 ///

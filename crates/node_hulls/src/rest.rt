@@ -14,8 +14,8 @@ use address_runs::{RunOf, overlay_all};
 use bm_base::{FRAME_SIZE, Memory, Range};
 use std::alloc::Global;
 
-/// Returns the runs of memory without a node, in ascending order, each with the node that it gets.
-/// No range of memory may be empty.
+/// Returns the addresses that are in `memory` but in no run of `joined`, as runs in ascending
+/// order, each with the value `node`. No range of `memory` may be empty.
 ///
 /// # Errors
 ///

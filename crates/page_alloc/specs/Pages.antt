@@ -43,7 +43,8 @@ abbrev pub unless_taken : State → ℕ → ℕ → ℕ → Zone → Option Held
 unless_taken s id order node zone (Some what) = (outcomes.Taken, s)
 unless_taken s id order node zone None = served s id order node (first_picked s.frames node zone order)
 
--- the frames that an ID holds become free on their node, and the ID holds nothing
+-- the frames that an ID holds become free on their node, and the ID holds nothing. If it held
+-- nothing before, the outcome is `Unknown` and nothing changes
 abbrev pub given_back : State → ℕ → Option Held → PageOutcome × State
 given_back s id None = (outcomes.Unknown, s)
 given_back s id (Some what) = (

@@ -12,7 +12,8 @@ use Rattle.page_alloc.specs.declared.act.PageAct.{PageAct}
 use Rattle.page_alloc.specs.declared.act.PageAct.TheVariants as acts
 use Rattle.page_alloc.specs.Forms.{greatest_order}
 
--- a form, with any word in the place of each number
+-- a line, with any word in place of each number: `pages` allocates from one zone, `near` by the
+-- node's list of zones, and `give` frees
 pub data Form : Type 0 where
   pages : (id order node : List ℕ) (zone : Zone) → Form
   near : (id order node : List ℕ) → Form

@@ -8,8 +8,8 @@ abbrev pub lines_from : {X : Type 0} → (ℕ → X → List ℕ) → ℕ → Li
 lines_from line n [] = []
 lines_from line n (x ∷ xs) = line n x ++ lines_from line (n + 1) xs
 
--- a range: its first and its last byte. An empty range is `0x0..0x0` if it begins at 0; else its
--- last byte is below its first.
+-- a range: the addresses of its first and its last byte, each as `0x` and sixteen digits. If the
+-- range is empty, the second is one below the first, or 0 if the first is 0
 abbrev pub range_text : RangeView → List ℕ
 range_text r = hex_text r.base ++ codes ".." ++ hex_text (end_of r - 1)
 

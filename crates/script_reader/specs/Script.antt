@@ -24,7 +24,7 @@ fault_at line wrong.ZeroSize = faults.ZeroSize line
 fault_at line wrong.SecondSections = faults.SecondSections line
 fault_at line wrong.TooFar = faults.TooFar line
 
--- this line or an earlier one is `sections`
+-- the act is `sections`
 abbrev pub is_sections : Act → Bool
 is_sections (acts.Alloc id request) = false
 is_sections (acts.Reserve id range) = false
@@ -34,6 +34,7 @@ is_sections (acts.Fill id byte) = false
 is_sections (acts.Peek at len) = false
 is_sections acts.Sections = true
 
+-- this line or an earlier one is `sections`
 abbrev pub seen_behind : Bool → Option Act → Bool
 seen_behind true act = true
 seen_behind false None = false

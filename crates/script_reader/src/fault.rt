@@ -17,7 +17,8 @@ pub enum Wrong {
     ZeroSize,
     /// The line is `sections`, and so is an earlier line.
     SecondSections,
-    /// `BASE` plus `SIZE`, or `ADDR` plus `LEN`, exceeds 2^64 - 1.
+    /// In `reserve ID BASE SIZE` or `peek ADDR LEN`, the sum of the last two numbers exceeds
+    /// 2^64 - 1.
     TooFar,
 }
 
@@ -36,7 +37,8 @@ pub enum ScriptFault {
     ZeroSize { line: u32 },
     /// The line is `sections`, and so is an earlier line.
     SecondSections { line: u32 },
-    /// `BASE` plus `SIZE`, or `ADDR` plus `LEN`, exceeds 2^64 - 1.
+    /// In `reserve ID BASE SIZE` or `peek ADDR LEN`, the sum of the last two numbers exceeds
+    /// 2^64 - 1.
     TooFar { line: u32 },
     /// The program ran out of memory. This is returned only if no line has a fault.
     Memory,

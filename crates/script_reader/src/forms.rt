@@ -161,7 +161,7 @@ fn alloc_line(text: &[u8]) -> Result<Act, Wrong>
     Ok(Act::Alloc { id, request })
 }
 
-/// The largest ID.
+/// The greatest ID that a line of a script may name.
 pub const GREATEST_ID: u64 = 0xFFFF_FFFF;
 
 /// The largest number of a node.

@@ -14,7 +14,7 @@ use Rattle.stage_texts.specs.BlocksText.{block_line}
 abbrev pub last_digits : ℕ → List ℕ
 last_digits n = drop 10 (hex_text n)
 
--- the last eight digits of the address of block j in such 4 GiB, and the end of its line
+-- the end of the line of block j of a batch: the last eight digits of its address, and the newline
 abbrev pub low_digits : ℕ → List ℕ
 low_digits j = last_digits (j * 2 ^ 22) ++ codes "\n"
 
@@ -32,7 +32,7 @@ abbrev pub batch_text : List ℕ → List ℕ → List ℕ
 batch_text front digits = batch_from front digits 0 1024
 
 -- the blocks of the row are of the largest order, begin and end at multiples of 4 GiB, and all
--- their frames are below the limit
+-- their frames are below `MAX_FRAMES`
 pub record FillBatches (row : BlockRow) : Type 0 where
   pub order : row.order ≡ MAX_ORDER
   pub first : row.first % 2 ^ 20 ≡ 0

@@ -27,7 +27,7 @@ blocks_text f = lines_from block_line 0 (blocks_of f)
 abbrev pub row_text : BlockRow → List ℕ
 row_text row = lines_from block_line 0 (blocks_of_row row)
 
--- each block has an order up to 10; its first frame is below the limit, and a multiple of the
+-- each block has an order up to 10; its first frame is below `MAX_FRAMES`, and a multiple of the
 -- number of its frames
 abbrev pub ArePlaced : List Block → Type 0
 ArePlaced [] = Unit {0}

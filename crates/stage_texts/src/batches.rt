@@ -63,7 +63,8 @@ fn first_lines(alloc: Global, row: &BlockRow) -> Result<Vec<u8>, Memory>
     Ok(lines)
 }
 
-/// Changes the lines of a batch to those of the 4 GiB with this number; the lowest has number 0.
+/// Overwrites the addresses in the lines of a batch, which then are those of the blocks from
+/// address `number * 2^32` on.
 fn set_number(batch: &mut Vec<u8>, number: u64)
     requires small { number < 2 ^ 32 }
     requires whole { length batch.old.items % 1024 ≡ 0 }

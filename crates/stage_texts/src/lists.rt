@@ -14,7 +14,7 @@ use report_texts::put_lines;
 use slit_zonelists::{ListZone, Lists, SlitUse};
 
 /// Appends the zone lists: whether the SLIT is used, and a line for each node that has memory.
-/// Also allocates the list of these nodes, and the list of each node.
+/// Besides the text it allocates the list of these nodes and, one at a time, the list of each.
 ///
 /// # Errors
 ///

@@ -7,7 +7,7 @@ ghost use Rattle.bm_base.specs.Text.{hex_text};
 
 use bm_base::{Memory, put_dec, put_hex, put_text};
 
-/// Appends a word and a number.
+/// Appends the word and, directly after it, the number in decimal.
 ///
 /// # Errors
 ///
@@ -19,7 +19,7 @@ pub fn put_word_dec(text: &mut Vec<u8>, word: &[u8], number: u64) -> Result<(), 
     put_dec(text, number, 0)
 }
 
-/// Appends a word and an address.
+/// Appends the word and, directly after it, the address as `0x` and sixteen digits.
 ///
 /// # Errors
 ///
