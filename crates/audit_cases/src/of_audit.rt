@@ -227,15 +227,15 @@ fn what_fails(rt: HostRuntime) -> Result<(), Fail> {
         ),
         // the verdict is put in one chunk
         (&NAMED, [&[], &[2], &[]], 0, "sound\n", ""),
-        (&NAMED, [&[], &[1], &[1]], 4, "sou", "bootaudit: c"),
+        (&NAMED, [&[], &[1], &[1]], 4, "sou", "boot"),
         (
             &NAMED,
-            [&[2], &[], &[2]],
+            [&[2], &[], &[3]],
             3,
             "",
             "bootaudit: cannot read own",
         ),
-        (&["map"], [&[], &[], &[1]], 2, "", "bootaudi"),
+        (&["map"], [&[], &[], &[1]], 2, "", "boot"),
     ];
     compare(&rt, rt.alloc(), &rows)
 }

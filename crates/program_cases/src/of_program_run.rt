@@ -113,16 +113,10 @@ fn words_and_what_fails(rt: HostRuntime) -> Result<(), Fail> {
         (map, [&[], &[1], &[]], 4, half, "bootmem: cannot write\n"),
         // the report is one put
         (map, [&[], &[2], &[]], 0, MAP, ""),
-        (map, [&[], &[1], &[1]], 4, half, "bootmem: ca"),
-        (other, [&[], &[], &[1]], 3, "", "bootmem: c"),
+        (map, [&[], &[1], &[1]], 4, half, "boo"),
+        (other, [&[], &[], &[1]], 3, "", "boo"),
         (&["--report", "map", "-zp"], NONE, 2, "", "bootmem: usage\n"),
-        (
-            &["map", "--report", "zp"],
-            [&[], &[], &[1]],
-            2,
-            "",
-            "bootmem",
-        ),
+        (&["map", "--report", "zp"], [&[], &[], &[1]], 2, "", "boo"),
     ];
     compare(&rt, rt.alloc(), b"", &rows)
 }
@@ -411,7 +405,7 @@ fn each_call_that_fails(rt: HostRuntime) -> Result<(), Fail> {
         ),
         (FIVE, [&[6], &[1], &[]], 4, HALF_A_MAP, unwritten),
         (FIVE, [&[6], &[2], &[]], 4, MAP_AND_HALF, unwritten),
-        (&[], [&[1], &[], &[1]], 2, "", "bootmem"),
+        (&[], [&[1], &[], &[1]], 2, "", "boo"),
     ];
     let zp = machine();
     compare_fetches(&rt, rt.alloc(), &Held { zp: &zp, ..HELD }, &rows)
