@@ -1,4 +1,5 @@
--- What the edits of a table do to the bytes: a record is written over another, a gap is opened for one, a gap of several is closed.
+-- What the edits of a table do to its bytes: a record is overwritten, a gap is opened for one
+-- record, or a gap of several is closed.
 use Rattle.std.proofs.Common.{◌≡◌, ℕ, suc, ◌+◌, ◌-◌, ◌*◌, ◌<◌, ◌≤◌, ◌&&◌, ◌||◌, nat_le, nat_lt, List, ◌∷◌, ◌++◌, length, get_or, set, take, drop, refl, sym, ◌∙◌, ap, subst, arith, inl, inr, IsTrue}
 use Rattle.std.proofs.lemmas.Bool.{cases_Bool, cases_eq, cases_lt, cases_order}
 use Rattle.std.proofs.lemmas.Bool.Decides.{nat_tests}
@@ -12,7 +13,7 @@ use Rattle.memblock_ranges.specs.Spelling.{run_in, spelling_of, records_at, Fits
 use Rattle.memblock_ranges.specs.Tables.{IsTable, outside, kept_of}
 use Rattle.memblock_ranges.proofs.SpellLaws.{same_bytes, same_records, split_records, length-records_at, length-fields_of, run_back, is_record}
 
--- the list of records, of which one or several have other bytes
+-- the list of records after the bytes of one or several have changed
 module _ (f g : ℕ → ℕ) (a i : ℕ) (below : (x : ℕ) → a ≤ x → x < a + 24 * i → g x ≡ f x) where
   front : records_at g a i ≡ records_at f a i
   front = same_records f g a a i (λ k less. below (a + k) (omega arith) (omega arith))
@@ -56,7 +57,7 @@ module _ (f g : ℕ → ℕ) (a i : ℕ) (below : (x : ℕ) → a ≤ x → x < 
       ∙ drop_at (records_at f a (i + n)) (records_at f (a + 24 * (i + n)) m) (i + n) (length-records_at f a (i + n)) in
       split_records g a i m ∙ rw (front, back, first, last) refl
 
--- the bytes beside the table stay
+-- the bytes outside the table stay
 pub same_outside : (f g : ℕ → ℕ) (place room : ℕ) → ((x : ℕ) → IsTrue (nat_lt x place || nat_le (place + 24 * room) x) → g x ≡ f x) →
     outside g place room ≡ outside f place room
 same_outside f g place room same =
@@ -67,7 +68,7 @@ same_outside f g place room same =
     ] in
     λ j x. at x j
 
--- what was written stands there
+-- the bytes that were written are read back
 written_is : (s t : List Stored) (at n : ℕ) (bs : List ℕ) → Wrote s t at n (λ k. get_or bs k 0) → n ≡ 24 → length bs ≡ 24 →
     bytes_at (byte_of t) at 24 ≡ bs
 written_is s t at n bs w count long =
@@ -77,14 +78,14 @@ pub record_there : (f g : ℕ → ℕ) (a b : ℕ) → ((k : ℕ) → k < 24 →
     IsRecord (bytes_at g b 24)
 record_there f g a b same known = subst IsRecord (sym (same_bytes f g a b 24 same)) known
 
--- what an edit of a table comes to
+-- the table after an edit
 pub record Edited (s u : List Stored) (place room count : ℕ) (list : List (RunOf LabelView)) : Type 0 where
   pub list_is : records_at (byte_of u) place count ≡ list
   pub table : IsTable (byte_of u) (is_ready u) place room count
   pub others : outside (byte_of u) place room ≡ outside (byte_of s) place room
   pub ready : is_ready u ≡ is_ready s
 
--- and it keeps the rest
+-- an edited table keeps the rest
 pub edited_kept : (s u : List Stored) (place room count : ℕ) (list : List (RunOf LabelView)) → Edited s u place room count list →
     let h : Head = record { place = place; room = room; count = count } in kept_of u h ≡ kept_of s h
 edited_kept s u place room count list e = λ j. record { place = place; room = room; others = e.others j; ready = e.ready j }
@@ -176,7 +177,7 @@ insert_table s t u place room count i to rest at n r bs table less space fits is
       ready = λ j x. (w.ready x ∙ v.ready x) j;
     }
 
--- the records behind n ones from the i-th on move down, and what they leave is zeros
+-- the records after the n ones from the i-th on move down, and the bytes that they leave are 0
 pub close_table : (s t u : List Stored) (place room count i n from to rest at size : ℕ)
     → IsTable (byte_of s) (is_ready s) place room count →
     i + n ≤ count → Wrote s t to rest (λ k. byte_of s (from + k)) → Wrote t u at size (λ _. 0) →

@@ -65,7 +65,7 @@ length-trimmed f none =
     let is : cut.0 ≡ records_for (trim_frames f) = records_for-is (trim_frames f) cut.0 (nothing-trimmed (2 ^ 64) f none) cut.1 in
     omega (arith, cut.2, ap length is)
 
--- pieces end as often as they begin: what ends at an address, and what begins behind it
+-- as many pieces end as begin: one of them ends at an address, the other begins at the next
 abbrev one : Bool → ℕ
 one b = if b then 1 else 0
 
@@ -91,7 +91,7 @@ end_as_begun h (suc n) x =
     let last : one (h (x + suc n)) ≡ one (h (x + 1 + n)) = ap (λ y. one (h y)) there in
     omega (arith, rest, step, last)
 
--- a piece begins where the range does, or where a record ends
+-- a piece begins where the range begins, or where a record ends
 begin_at : (here next : Bool) (a b : Option LabelView) (s : ℕ) → (here ≡ false → next ≡ true → s ≡ 1) →
     one (not (here && is_none a) && (next && is_none b)) ≤ edge same_label a b + s
 begin_at false false a b s first = omega arith
@@ -106,7 +106,7 @@ begin_at true true (Some v) (Some w) s first = omega arith
 range_begins : (r : RangeView) (x : ℕ) → covers r x ≡ false → covers r (x + 1) ≡ true → spike r.base x ≡ 1
 range_begins r x out lies = let here : (x + 1 == r.base) ≡ true = grind (arith, nat_tests) in rw here refl
 
--- a piece at address 0 begins where the range does
+-- a piece at address 0 begins where the range begins
 first_or_spike : (r : RangeView) (f : Labels) (n : ℕ) → one (covers r 0 && is_none (f 0)) + total (spike r.base) 0 n ≤ 1
 first_or_spike r f n = elim (cases_Bool (covers r 0)) as (λ _. one (covers r 0 && is_none (f 0)) + total (spike r.base) 0 n ≤ 1) [
   | inl lies ↦
@@ -136,7 +136,7 @@ few-pieces r f ends none =
     let first = first_or_spike r f (2 ^ 64) in
     omega (arith, count, is, ended, begun, few, parts, first)
 
--- where nothing of the range is covered it is one piece
+-- a range of which nothing is covered is one piece
 pub one-piece : (r : RangeView) (f : Labels) → end_of r ≤ 2 ^ 64 → 0 < r.size → ((x : ℕ) → r.base ≤ x → x < end_of r → f x ≡ None) →
     pieces r f ≡ 1
 unfolding pieces

@@ -1,4 +1,4 @@
--- The edits of records: their room, and that the runs that they leave are the records.
+-- The edits of records: the room that they need, and that the resulting runs are the records.
 use Rattle.std.proofs.Common.{◌≡◌, ℕ, ◌+◌, ◌-◌, ◌^◌, ◌≤◌, false, Option, List, length, refl, sym, ◌∙◌, arith}
 use Rattle.std.proofs.lemmas.Bool.Decides.{nat_tests}
 use Rattle.bm_base.specs.Range.{RangeView, covers}
@@ -15,13 +15,13 @@ use Rattle.memblock_model.proofs.SameLaws.{label_tells}
 use Rattle.memblock_model.proofs.TableLaws.{records_for-is}
 use Rattle.memblock_ranges.specs.Tables.{AreRecords}
 
--- the pieces of a range are as many as the runs of its bare bytes that end
+-- the number of pieces is the number of runs of bare bytes that end in the range
 pub pieces_are : (r : RangeView) (f : Labels) → r.base + r.size ≤ 2 ^ 64 →
     pieces r f ≡ total (edges same_label (gaps_in_range r plain_label f)) 0 (2 ^ 64)
 unfolding pieces records_for
 pieces_are r f ends = pieces_ends same_label label_tells r plain_label f ends
 
--- there is room to cover a range where there is room for its pieces
+-- room for the pieces of a range is enough to cover it
 pub cover_room : (rs : List (RunOf LabelView)) (r : RangeView) (v : LabelView) (room : ℕ) → AreRecords rs → r.base + r.size ≤ 2 ^ 64 →
     length rs + pieces r (value_at rs) ≤ room → HasRoomToEdit same_label (value_at rs) (cover_range r v (value_at rs)) room
 cover_room rs r v room known ends fits =
@@ -35,7 +35,7 @@ cover_room rs r v room known ends fits =
     omega (arith, parts, more))
     (omega (arith, count, fits))
 
--- what an edit leaves are the records of what the addresses carry then
+-- the runs that an edit leaves are the records of the changed labels
 pub edited_list : (change : Option LabelView → Option LabelView) (r : RangeView) (rs now : List (RunOf LabelView)) → AreRecords rs →
     r.base + r.size ≤ 2 ^ 64 →
     IsRunsOf (change_range change r (value_at rs)) now → now ≡ records_for (change_range change r (value_at rs))

@@ -1,4 +1,4 @@
--- Small tables, computed or by the laws: what the definitions say of bytes, of one table and of both.
+-- Small tables, computed or proved by the laws: examples of bytes, of one table and of both.
 use Rattle.std.proofs.Common.{◌≡◌, ℕ, ◌-◌, ◌^◌, ◌<◌, ◌≤◌, ◌&&◌, true, false, Some, None, List, [], ◌∷◌, ◌++◌, length, replicate, refl, sym, ◌∙◌, ap, arith, IsTrue}
 use Rattle.bm_base.specs.Range.{covers}
 use Rattle.address_runs.proofs.RunsLaws.{behind}
@@ -39,7 +39,7 @@ mirrored_run = record { base = 0x1000; size = 0x9E000; value = with_mirror in_no
 abbrev kernel_run : RunOf LabelView
 kernel_run = record { base = 0x1000000; size = 0x2000000; value = plain_label }
 
--- of memory, of mirrored memory, and of a claim
+-- of memory, of mirrored memory, and of a claimed range
 number_examples : (base_in first_record ≡ 0x1000) × (size_in first_record ≡ 0x9E000) × (flags_in first_record ≡ 0)
     × (node_in first_record ≡ 0)
     × (flags_in mirrored_record ≡ 2)
@@ -64,7 +64,7 @@ run_examples : (run_in first_record ≡ first_run) × (run_in mirrored_record �
 unfolding base_in size_in flags_in node_in fields_of
 run_examples = (refl, refl, refl)
 
--- 1,024 means no node, and 2 mirrored, in both directions
+-- 1,024 means no node, and 2 means mirrored, in both directions
 node_field_examples : (node_of_field 1023 ≡ Some 1023) × (node_of_field 1024 ≡ None) × (node_field in_node_0 ≡ 0)
     × (node_field plain_label ≡ 1024)
 node_field_examples = (refl, refl, refl, refl)
@@ -83,7 +83,8 @@ fits_examples = (
   record { small = omega arith; node = omega arith; back = refl },
 )
 
--- a label of node 1,024 would be read back as one without a node, and an end of 2^64 has no record
+-- a label of node 1,024 would be read back without a node, and a run that ends at 2^64 has no
+-- record
 no_fit : ¬ FitsRecord (record { base = 0; size = 1; value = with_node (Some 1024) plain_label })
     × ¬ FitsRecord (record { base = 1; size = 2 ^ 64 - 1; value = plain_label })
 no_fit = (
@@ -98,12 +99,12 @@ record_examples = (
   is_record kernel_run fits_examples.2,
 )
 
--- no bytes are no record, and other flags than 0 and 2 aren't those of one
+-- the empty list isn't a record, and neither are bytes with flags other than 0 and 2
 no_record : ¬ IsRecord [] × ¬ IsRecord (fields_of 0x1000 0x9E000 1 0)
 unfolding fields_of flags_in node_in
 no_record = ((λ known. cc known.spells), λ known. let clash : 1 ≡ 0 = known.flags in absurd (omega arith))
 
--- two records side by side, and a table of no record
+-- two adjacent records, and a table without a record
 abbrev two : List Stored
 two = record { base = 0; bytes = first_record ++ first_record } ∷ []
 
@@ -115,14 +116,14 @@ table_examples : (spelled_table (first_run ∷ []) 2 ≡ first_record ++ replica
 unfolding spelled_table fields_of
 table_examples = (refl, refl)
 
--- records in order; records that touch and agree are none
+-- records in order; two that touch and have the same label aren't
 ordered : AreRecords [] × AreRecords (first_run ∷ [])
 ordered = (
   record { runs = tt; within = λ x le. refl },
   record { runs = (omega arith, tt, tt); within = λ x le. rw (behind first_run x (omega (arith, le))) refl },
 )
 
--- the bytes of one record, and none, as they are lent
+-- the runs of one record and of none
 lent_examples : (runs_in first_record 1 ≡ first_run ∷ []) × (runs_in [] 0 ≡ [])
 unfolding records_at bytes_at base_in size_in flags_in node_in
 lent_examples = (refl, refl)
@@ -139,7 +140,7 @@ nothing_lent = record {
 not_lent : ¬ AreLent first_record 2
 not_lent lent = let long : 24 ≡ 48 = lent.long in absurd (omega arith)
 
--- an empty table of no room stands anywhere
+-- an empty table without room, at any address
 abbrev nowhere : ℕ → Head
 nowhere place = record { place = place; room = 0; count = 0 }
 
@@ -162,7 +163,7 @@ no_records place = rw (no_list place) ordered.0
 empty_table : HasTable [] (nowhere 5) × ¬ HasTable [] (first_head 5)
 empty_table = (no_table 5 (omega arith), λ table. cc (table.prepared 5 (omega arith) (omega arith)))
 
--- bytes beside a table, and in it
+-- bytes outside a table, and in it
 outside_examples : (outside (λ x. 7) 24 1 23 ≡ 7) × (outside (λ x. 7) 24 1 24 ≡ 0) × (outside (λ x. 7) 24 1 47 ≡ 0)
     × (outside (λ x. 7) 24 1 48 ≡ 7)
 outside_examples = (refl, refl, refl, refl)
@@ -175,14 +176,14 @@ list_examples : (list_in two (record { place = 0; room = 2; count = 1 }) ≡ fir
 unfolding records_at bytes_at base_in size_in flags_in node_in
 list_examples = (refl, refl)
 
--- to edit nothing is an edit
+-- an edit that changes nothing
 no_edit : Edits [] [] (nowhere 5) (nowhere 5) (list_in [] (nowhere 5))
 no_edit = record { list_is = refl; table = empty_table.0; place_is = refl; room_is = refl; others = refl; ready = refl }
 
 touching : ¬ AreRecords (first_run ∷ record { base = 0x9F000; size = 1; value = in_node_0 } ∷ [])
 touching known = known.runs.1.1 refl refl
 
--- records that touch and differ in the mirror alone are in order
+-- records that touch and differ only in being mirrored are in order
 parted : AreRuns (first_run ∷ record { base = 0x9F000; size = 1; value = with_mirror in_node_0 } ∷ [])
 parted = (
   omega arith,
@@ -231,7 +232,7 @@ no_nodes = (
       cc clash,
 )
 
--- an empty table stands in a store, as contracts see it
+-- an empty table in a store, as contracts see it
 standing : StandsIn (table_by [] (nowhere 5)) []
 standing = stands [] (nowhere 5) empty_table.0 (no_records 5)
 
@@ -248,7 +249,7 @@ two_empty = record {
   plain = rw (no_list 5) no_nodes.0;
 }
 
--- a table of no room moves
+-- a table without room moves
 moving : Moves [] [] (nowhere 5) (nowhere 9) 9
 moving = record {
   list_is = no_list 9 ∙ sym (no_list 5);

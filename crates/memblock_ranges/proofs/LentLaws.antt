@@ -1,4 +1,4 @@
--- The bytes of a table that are lent spell its records.
+-- The copied bytes of a table have its records.
 use Rattle.std.proofs.Common.{◌≡◌, ℕ, zero, suc, ◌+◌, ◌-◌, ◌*◌, ◌<◌, ◌≤◌, List, ◌∷◌, length, get_or, take, drop, refl, sym, ◌∙◌, ap, subst, arith}
 use Rattle.std.specs.Prelude.{slice_index}
 use Rattle.std.specs.List.{slice_range}
@@ -14,7 +14,7 @@ use Rattle.memblock_ranges.specs.Lent.{runs_in, AreLent}
 use Rattle.memblock_ranges.proofs.SpellLaws.{length-records_at, get-records_at}
 use Rattle.memblock_ranges.proofs.TableSpelling.{node_field-label_of, region_back}
 
--- a piece of some bytes is a piece of what they were read from
+-- a part of copied bytes is a part of the bytes that they were copied from
 piece_at : (f : ℕ → ℕ) (a m x n : ℕ) → x + n ≤ m → bytes_at (slice_index (bytes_at f a m)) x n ≡ bytes_at f (a + x) n
 piece_at f a m x n within =
     told_bytes f (a + x) n (bytes_at (slice_index (bytes_at f a m)) x n) (length-bytes_at (slice_index (bytes_at f a m)) x n)
@@ -31,7 +31,7 @@ runs_at f a m x (suc count) within =
     ∙ ap (λ (rs : List (RunOf LabelView)). run_in (bytes_at f (a + x) 24) ∷ rs) (runs_at f a m (x + 24) count (omega arith)
     ∙ ap (λ (y : ℕ). records_at f y count) there)
 
--- the table's records are those that its bytes spell
+-- the table's records are those of its copied bytes
 pub lent_runs : (f : ℕ → ℕ) (a count : ℕ) → runs_in (bytes_at f a (24 * count)) count ≡ records_at f a count
 lent_runs f a count =
     let here : a + 0 ≡ a = omega arith in
@@ -47,7 +47,7 @@ are_lent s h table known = record {
   records = subst AreRecords (sym (lent_runs (byte_of s) h.place h.count)) known;
 }
 
--- the bytes from a place of the list on
+-- the bytes of the list from an index on
 pub slice_is : (bs : List ℕ) (from until n : ℕ) → until ≡ from + n → until ≤ length bs
     → slice_range bs from until ≡ bytes_at (slice_index bs) from n
 slice_is bs from until n is within =
@@ -57,7 +57,7 @@ slice_is bs from until n is within =
     told_bytes (slice_index bs) from n (slice_range bs from until) size
     (λ k less. get_or-take (until - from) (drop from bs) k 0 (omega arith) ∙ get_or-drop from bs k 0)
 
--- what is read of a record tells all of it
+-- the region at an index is that of the record there
 pub record_is : (bs : List ℕ) (count i : ℕ) (r : RunOf LabelView) → AreLent bs count → i < count
     → region_in (bytes_at (slice_index bs) (24 * i) 24) ≡ region_of (get_or (runs_in bs count) i r)
 record_is bs count i r lent less =
@@ -82,6 +82,6 @@ record_fits bs count i r lent less =
     subst FitsRecord (sym (get-records_at (slice_index bs) 0 count i r less ∙ ap (λ (y : ℕ). run_in (bytes_at (slice_index bs) y 24)) here))
     (run_fits (bytes_at (slice_index bs) (24 * i) 24) (lent.each i less))
 
--- how many records a table in a store has
+-- the number of records of a table in a store
 pub count_is : (s : List Stored) (h : Head) → length (list_in s h) ≡ h.count
 count_is s h = length-records_at (byte_of s) h.place h.count

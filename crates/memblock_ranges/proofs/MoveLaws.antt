@@ -16,7 +16,7 @@ bytes base size = record { base = base; size = size }
 both : (r s : RangeView) (x : ℕ) → r.base ≤ x → x < r.base + r.size → s.base ≤ x → x < s.base + s.size → Meet r s
 both r s x a b c d = (x, grind (arith, nat_tests))
 
--- what is copied lies apart from where it is copied to
+-- the bytes that are copied don't overlap those that they are copied to
 pub copied_apart : (old room count place : ℕ) → count ≤ room → ¬ Meet (bytes old (24 * room)) (bytes place (48 * room)) →
     IsTrue (nat_le (old + 24 * count) place || nat_le (place + 24 * count) old)
 copied_apart old room count place few apart =

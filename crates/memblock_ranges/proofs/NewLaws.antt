@@ -10,7 +10,7 @@ use Rattle.memblock_ranges.specs.declared.region.Head.{Head}
 use Rattle.memblock_ranges.specs.Spelling.{records_at}
 use Rattle.memblock_ranges.specs.Tables.{HasTable, list_in, Table, table_by, bytes_by, AreRecords, AreTables, HaveNoNode}
 
--- the table of that place, of which no record is there
+-- the head of a table at this address without records
 abbrev pub first_head : ℕ → Head
 first_head place = record { place = place; room = 128; count = 0 }
 

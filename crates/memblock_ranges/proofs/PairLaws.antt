@@ -1,4 +1,4 @@
--- Two tables in one store: while one is edited, the other stays.
+-- Two tables in one store: while one is edited, the other is unchanged.
 use Rattle.std.proofs.Common.{◌≡◌, ℕ, ◌+◌, ◌*◌, ◌^◌, ◌<◌, ◌≤◌, Bool, true, false, ◌||◌, Option, Some, None, List, refl, sym, ◌∙◌, ap, subst, arith, inl, inr}
 use Rattle.std.specs.Prelude.{unwrap_or}
 use Rattle.std.proofs.lemmas.Bool.{cases_Bool, false_from_ne_true, and_from, or_right}
@@ -26,7 +26,7 @@ swapped r s both = (both.0, grind (arith, nat_tests, both.1))
 pub turned : (r s : RangeView) → ¬ Meet r s → ¬ Meet s r
 turned r s apart both = apart (swapped s r both)
 
--- a table whose bytes stay stays
+-- a table whose bytes stay is unchanged
 pub stays : (s t : List Stored) (h : Head) → ((x : ℕ) → covers (bytes_by h) x ≡ true → byte_of t x ≡ byte_of s x) →
     ((x : ℕ) → is_ready s x ≡ true → is_ready t x ≡ true) → HasTable s h → HasTable t h × (table_by t h ≡ table_by s h)
 stays s t h same ready table =
@@ -45,7 +45,7 @@ stays s t h same ready table =
           (same_records (byte_of s) (byte_of t) h.place h.place h.count (λ k in_it. at (h.place + k) (omega arith) (omega arith))),
     )
 
--- beside the table that is edited no byte changes
+-- outside the edited table no byte changes
 pub edited_at : (s t : List Stored) (g h : Head) (list : List (RunOf LabelView)) → Edits s t g h list → (x : ℕ) →
     covers (bytes_by g) x ≡ false → byte_of t x ≡ byte_of s x
 edited_at s t g h list e x out = rw out at (ap (λ (o : ℕ → ℕ). o x) e.others)
@@ -56,7 +56,7 @@ edited_ready s t g h list e x = ap (λ (o : ℕ → Bool). o x) e.ready
 same_bytes_by : (s t : List Stored) (g h : Head) (list : List (RunOf LabelView)) → Edits s t g h list → bytes_by h ≡ bytes_by g
 same_bytes_by s t g h list e = rw (e.place_is, e.room_is) refl
 
--- a reserved table that stays, beside a table of memory
+-- the reserved table stays if it is apart from the edited memory table
 beside_memory : (s t : List Stored) (m r h : Head) → AreTables s m r → HasTable t r × (table_by t r ≡ table_by s r) → HasTable t h →
     ¬ Meet (bytes_by h) (bytes_by r) →
     AreRecords (list_in t h) →
@@ -102,7 +102,7 @@ pair_reserved s t m r h list both e known plain =
       other.1,
     )
 
--- no edit of the reserved table gives a record a node, where what it writes has none
+-- an edit of the reserved table gives no record a node, if the change gives none
 plain_amended : (change : Option LabelView → Option LabelView)
     → ((o : Option LabelView) (label : LabelView) → ((l : LabelView) → o ≡ Some l → l ≡ plain_label) → change o ≡ Some label → label ≡ plain_label)
     → (r : RangeView) (rs : List (RunOf LabelView)) → AreRecords rs → HaveNoNode rs → r.base + r.size ≤ 2 ^ 64 →
@@ -130,7 +130,7 @@ pub plain_uncovered : (r : RangeView) (rs : List (RunOf LabelView)) → AreRecor
     HaveNoNode (records_for (uncover_range r (value_at rs)))
 plain_uncovered = plain_amended (λ (carried : Option LabelView). None) (λ o label plain is. cc is)
 
--- a table that moves beside another one
+-- a table that moves, apart from the other
 moved_apart : (s t : List Stored) (g h o : Head) (place : ℕ) → Moves s t g h place →
     ¬ Meet (bytes_by o) (record { base = place; size = 48 * g.room }) → ¬ Meet (bytes_by o) (bytes_by h)
 moved_apart s t g h o place e apart both =
@@ -169,7 +169,7 @@ move_reserved s t m r h place both e apart =
       other.1,
     )
 
--- a change of no byte of either table
+-- both tables stay if no byte of theirs changes
 pub both_stay : (s t : List Stored) (m r : Head) → AreTables s m r → ((x : ℕ) → covers (bytes_by m) x ≡ true → byte_of t x ≡ byte_of s x) →
     ((x : ℕ) → covers (bytes_by r) x ≡ true → byte_of t x ≡ byte_of s x) → ((x : ℕ) → is_ready s x ≡ true → is_ready t x ≡ true) →
     AreTables t m r × (table_by t m ≡ table_by s m) × (table_by t r ≡ table_by s r)
@@ -194,7 +194,7 @@ filled_stay s t m r range g both w apart =
     w.outside x (grind (arith, nat_tests)))
     (λ x was. w.ready x ∙ was)
 
--- more is prepared, and no byte changes
+-- more addresses are prepared, and no byte changes
 pub prepared_stay : (s t : List Stored) (m r : Head) (range : RangeView) → AreTables s m r → ((x : ℕ) → byte_of t x ≡ byte_of s x) →
     ((x : ℕ) → is_ready t x ≡ (covers range x || is_ready s x)) → AreTables t m r × (table_by t m ≡ table_by s m)
     × (table_by t r ≡ table_by s r)

@@ -1,4 +1,5 @@
--- The pieces of a range that a table doesn't cover, counted from the lowest address on by where they end.
+-- The pieces of a range that a table doesn't cover, counted from the lowest address on by where
+-- they end.
 use Rattle.std.proofs.Common.{◌≡◌, ℕ, ◌+◌, ◌-◌, ◌^◌, ◌<◌, ◌≤◌, Bool, true, false, not, ◌&&◌, if◌then◌else◌, nat_lt, Option, Some, None, refl, sym, ◌∙◌, ap, arith}
 use Rattle.std.specs.Prelude.{is_none, is_some}
 use Rattle.std.proofs.lemmas.Bool.{false≢true}
@@ -15,7 +16,7 @@ use Rattle.memblock_model.specs.Tables.{pieces}
 use Rattle.memblock_model.proofs.SameLaws.{label_tells}
 use Rattle.memblock_ranges.proofs.EditLaws.{pieces_are}
 
--- where a function stays, a run ends at most at the last address
+-- if a function is constant on a stretch, a run ends at most at the stretch's last address
 stretch_ends : {X : Type 0} (same : X → X → Bool) → DecidesEquality same → (g : ℕ → Option X) (from to : ℕ) (v : Option X) → from < to →
     Stays g from to v →
     total (edges same g) from (to - from) ≡ edge same v (g to)
@@ -34,7 +35,7 @@ stretch_ends same tells g from to v less stays =
 abbrev pub bare_label : Bool → Option LabelView
 bare_label b = if b then Some plain_label else None
 
--- what a bare byte carries, and its neighbour
+-- a byte without a label, and its neighbour
 pub edge_bare : (a b : Bool) → edge same_label (bare_label a) (bare_label b) ≡ (if a && not b then 1 else 0)
 edge_bare true true = refl
 edge_bare true false = refl
@@ -55,7 +56,8 @@ module _ (r : RangeView) (f : Labels) where
   no_pieces = total-quiet (edges same_label (gaps_in_range r plain_label f)) 0 r.base
       (λ y above under. rw (bare_beside y (grind (arith, nat_tests))) refl)
 
-  -- over one more stretch that the table covers, or doesn't, a piece ends at most at its end
+  -- a further stretch, all covered or all not, adds at most the piece that ends at its last
+  -- address
   pub more_pieces : (from to next count more : ℕ) (here there : Bool) → r.base ≤ from → from < to → to ≤ r.base + r.size → to ≤ next →
       Stays f from next (f from) → here ≡ is_none (f from) → there ≡ is_none (f to) →
       more ≡ (if here && not (nat_lt to (r.base + r.size) && there) then 1 else 0) →
@@ -71,7 +73,7 @@ module _ (r : RangeView) (f : Labels) where
       let parts = total-split (edges same_label g) 0 from (to - from) to from (omega arith) (omega arith) in
       omega (arith, parts, stretch, at_to, so_far)
 
-  -- behind the range no further piece ends
+  -- past the range no further piece ends
   pub all_pieces : (count : ℕ) → r.base + r.size ≤ 2 ^ 64 → count ≡ total (edges same_label (gaps_in_range r plain_label f)) 0 (r.base + r.size) →
       count ≡ pieces r f
   all_pieces count ends so_far =
@@ -87,7 +89,7 @@ pub one_at_most : (b : Bool) → (if b then 1 else 0) ≤ 1
 one_at_most true = omega arith
 one_at_most false = omega arith
 
--- what a test for nothing tells
+-- what a test for None means
 pub none_told : (b : Bool) (o : Option LabelView) → is_some o ≡ not b → b ≡ is_none o
 none_told true None told = refl
 none_told true (Some l) told = absurd (false≢true (sym told))

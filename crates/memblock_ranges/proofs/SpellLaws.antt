@@ -1,4 +1,4 @@
--- Records as bytes: where they stand, and that what was written is read back.
+-- Records as bytes: where they are, and that what was written is read back.
 use Rattle.std.proofs.Common.{◌≡◌, ℕ, zero, suc, ◌+◌, ◌*◌, ◌^◌, ◌<◌, ◌≤◌, List, [], ◌∷◌, ◌++◌, length, get_or, drop, refl, sym, ◌∙◌, ap, subst, inl, inr, arith, length-append, append_assoc}
 use Rattle.std.proofs.lemmas.Bool.{cases_Bool}
 use Rattle.std.proofs.lemmas.Grind.{common_steps}
@@ -24,7 +24,7 @@ same_records f g a b (suc n) same =
     let rest = same_records f g (a + 24) (b + 24) n (λ k below. ap g (omega arith) ∙ same (24 + k) (omega arith) ∙ ap f (omega arith)) in
     rw (first, rest) refl
 
--- the records of two parts of a table
+-- the records of a table in two parts
 pub split_records : (f : ℕ → ℕ) (a m n : ℕ) → records_at f a (m + n) ≡ records_at f a m ++ records_at f (a + 24 * m) n
 unfolding records_at
 split_records f a zero n =
@@ -50,7 +50,7 @@ get-records_at f a (suc n) zero d below = ap (λ x. run_in (bytes_at f x 24)) (o
 get-records_at f a (suc n) (suc i) d below =
     get-records_at f (a + 24) n i d (omega arith) ∙ ap (λ x. run_in (bytes_at f x 24)) (omega arith)
 
--- the parts of a record's bytes
+-- the lengths of the parts of a record's bytes
 long8 : (n : ℕ) → length (little_bytes 8 n) ≡ 8
 long8 n = length-bytes_low_first 0 8 n
 
@@ -111,14 +111,14 @@ unfolding node_in
 node-fields_of base size flags node small =
     ap (little_number 4) (behind_flags base size flags node) ∙ little_number-reads_back 4 node [] small
 
--- the flags of a label are few
+-- the flags of a label are at most 2
 few_flags : (label : LabelView) → flags_field label ≤ 2
 few_flags label = elim (cases_Bool label.mirror) as (λ _. flags_field label ≤ 2) [
   | inl on ↦ rw on (omega arith)
   | inr off ↦ rw off (omega arith)
 ]
 
--- all that a record's bytes say is read back
+-- all numbers of a record's bytes are read back
 read_back : (r : RunOf LabelView) → FitsRecord r → region_in (spelling_of r) ≡ region_of r
 read_back r fits =
     let few = few_flags r.value in

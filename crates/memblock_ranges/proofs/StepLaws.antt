@@ -1,4 +1,4 @@
--- Tables follow the items one by one.
+-- A table stays equal to that of a list of items, item by item.
 use Rattle.std.proofs.Common.{◌≡◌, ◌^◌, Option, Some, None, List, [], ◌∷◌, ◌++◌, sym, ◌∙◌, ap, subst}
 use Rattle.std.specs.Prelude.{unwrap_or}
 use Rattle.std.specs.Option.{option_map}

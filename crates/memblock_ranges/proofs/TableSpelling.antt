@@ -9,7 +9,7 @@ use Rattle.memblock_ranges.specs.Spelling.{base_in, size_in, flags_in, node_in, 
 use Rattle.memblock_ranges.specs.Tables.{HasTable, AreRecords, list_in, table_by, head_of, StandsIn}
 use Rattle.memblock_ranges.proofs.SpellLaws.{length-records_at, get-records_at}
 
--- a node is read from the field that it is written to
+-- a node field is read back from the label that it gives
 pub node_field-label_of : (flags n : ℕ) → node_field (label_of flags n) ≡ n
 node_field-label_of flags n = elim (cases_Bool (n == 1024)) as (λ _. node_field (label_of flags n) ≡ n) [
   | inl none ↦ rw none (sym (eqb-true n 1024 none))
@@ -55,7 +55,7 @@ spelled_from f (suc count) (suc room) a few known zeros =
     ∙ sym (ap (λ (bs : List ℕ). bs ++ spelled_table (records_at f (a + 24) count) (suc room - 1)) first
     ∙ ap (λ n. bytes_at f a 24 ++ spelled_table (records_at f (a + 24) count) n) left)
 
--- the record that the bytes spell is the one of the list
+-- the region of a record's bytes is that of the run that they describe
 pub region_back : (bs : List ℕ) → IsRecord bs → region_in bs ≡ region_of (run_in bs)
 region_back bs known =
     let node : node_in bs ≡ node_field (label_of (flags_in bs) (node_in bs)) = sym (node_field-label_of (flags_in bs) (node_in bs)) in

@@ -1,4 +1,4 @@
--- One record after another is cut to whole frames.
+-- Each record is cut to whole frames, one after another.
 use Rattle.std.proofs.Common.{◌≡◌, ◌≢◌, ℕ, ◌+◌, ◌-◌, ◌%◌, ◌<◌, ◌≤◌, false, nat_lt, Some, None, List, [], ◌∷◌, ◌++◌, refl, sym, ◌∙◌, subst, arith, inl, inr, append-nil}
 use Rattle.std.proofs.lemmas.Bool.{cases_lt}
 use Rattle.std.proofs.lemmas.Bool.Decides.{nat_tests}
@@ -12,7 +12,8 @@ use Rattle.memblock_model.specs.Labels.{LabelView, Labels}
 use Rattle.memblock_model.specs.Items.{trim_frames}
 use Rattle.memblock_model.proofs.LabelLaws.{trim_frames-whole, trim_frames-unlike, trim_frames-cases}
 
--- the records that are left are those of the function from the address on, where the function changes
+-- the remaining records are those of the function from address `at` on, as far as it can be read
+-- from them
 pub record Turns (f : Labels) (at : ℕ) (rs : List (RunOf LabelView)) : Type 0 where
   pub runs : AreRuns rs
   pub starts : StartAtOrPast at rs
@@ -22,7 +23,7 @@ pub record Turns (f : Labels) (at : ℕ) (rs : List (RunOf LabelView)) : Type 0 
 pub turns_all : (rs : List (RunOf LabelView)) → AreRuns rs → Turns (value_at rs) 0 rs
 turns_all rs runs = record { runs = runs; starts = start_zero rs; each = λ x le. refl; turn = λ some. absurd (omega arith) }
 
--- where nothing is, a trim leaves nothing
+-- where f is None, the trimmed function is None
 trimmed_none : (f : Labels) (x : ℕ) → f x ≡ None → trim_frames f x ≡ None
 trimmed_none f x none = elim (trim_frames-cases f x) as (λ _. trim_frames f x ≡ None) [
   | inl whole ↦ trim_frames-whole f x whole ∙ none
@@ -75,7 +76,7 @@ module _ (f : Labels) (at : ℕ) (r : RunOf LabelView) (rs : List (RunOf LabelVi
         turn = λ some same. end_other (sym same ∙ in_run (run_end r - 1) (omega arith) (omega arith));
       }
 
-  -- of the record's frames those count that lie in it as a whole
+  -- the addresses of the record that are in none of its whole frames are cut
   module _ (up down : ℕ) (up_is : up ≡ r.base + (4096 - r.base % 4096) % 4096) (down_is : down ≡ run_end r - run_end r % 4096) where
     cut_low : (x : ℕ) → r.base ≤ x → x < run_end r → x < up → trim_frames f x ≡ None
     cut_low x low high less =
@@ -94,7 +95,7 @@ module _ (f : Labels) (at : ℕ) (r : RunOf LabelView) (rs : List (RunOf LabelVi
         trim_frames-whole f x (λ y in_it. let above = in_it.above in let below = in_it.below in
         in_run y (omega (arith, up_is)) (omega (arith, down_is)) ∙ sym here) ∙ here
 
-    -- below its first whole frame nothing is kept
+    -- below the record's first whole frame nothing stays
     ahead : (x : ℕ) → at ≤ x → x < run_end r → x < up → trim_frames f x ≡ None
     ahead x low high less = elim (cases_lt x r.base) as (λ _. trim_frames f x ≡ None) [
       | inl before ↦ trimmed_none f x (before_run x low before)
@@ -131,6 +132,6 @@ module _ (f : Labels) (at : ℕ) (r : RunOf LabelView) (rs : List (RunOf LabelVi
               ]))
         ]
 
--- where no record is left all are cut
+-- without a remaining record everything above is cut
 pub trim_all : (f : Labels) (at : ℕ) (xs : List (RunOf LabelView)) → IsSweptTo (trim_frames f) at xs → Turns f at [] → IsRunsOf (trim_frames f) xs
 trim_all f at xs swept turns = swept_all (trim_frames f) at xs swept (λ x le. trimmed_none f x (sym (turns.each x le)))

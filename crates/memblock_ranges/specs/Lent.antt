@@ -1,4 +1,4 @@
--- The records of a table as the bytes that are lent.
+-- The records of a table, computed from a copy of its bytes.
 use Rattle.std.specs.Prelude.{◌≡◌, ℕ, ◌*◌, ◌^◌, ◌<◌, List, length, slice_index}
 use Rattle.phys_store.specs.Bytes.{bytes_at}
 use Rattle.address_runs.specs.Runs.{RunOf}
@@ -6,11 +6,11 @@ use Rattle.memblock_model.specs.Labels.{LabelView}
 use Rattle.memblock_ranges.specs.Spelling.{IsRecord, records_at}
 use Rattle.memblock_ranges.specs.Tables.{AreRecords}
 
--- the runs of the first so many records that the bytes spell
+-- the runs of the first `count` records in the bytes
 abbrev pub runs_in : List ℕ → ℕ → List (RunOf LabelView)
 runs_in bs count = records_at (slice_index bs) 0 count
 
--- the bytes are those of so many records, which are in order
+-- the bytes are those of `count` records, which are in order
 pub record AreLent (bs : List ℕ) (count : ℕ) : Type 0 where
   pub long : length bs ≡ 24 * count
   pub small : 24 * count < 2 ^ 64

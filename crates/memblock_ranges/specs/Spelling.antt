@@ -1,6 +1,6 @@
--- The record of a table as bytes (`struct memblock_region`), little-endian: base (u64 at 0), size (u64 at 8), flags (u32 at 16), node
--- (u32 at 20), 24 bytes without padding. The flags are 2 of mirrored memory (`MEMBLOCK_MIRROR`), else 0; the node 1,024 means no node
--- (`MAX_NUMNODES`).
+-- A record of a table as 24 little-endian bytes without padding (`struct memblock_region`): base
+-- (u64 at 0), size (u64 at 8), flags (u32 at 16), node (u32 at 20). The flags are 2 for mirrored
+-- memory (`MEMBLOCK_MIRROR`), else 0. The node 1,024 means no node (`MAX_NUMNODES`).
 use Rattle.std.specs.Prelude.{◌≡◌, ℕ, zero, suc, ◌+◌, ◌-◌, ◌*◌, ◌^◌, ◌<◌, ◌≤◌, ◌==◌, if◌then◌else◌, Option, Some, None, List, [], ◌∷◌, ◌++◌, drop, replicate, unwrap_or}
 use Rattle.byteorder.specs.Endian.{little_number, little_bytes}
 use Rattle.phys_store.specs.Bytes.{bytes_at}
@@ -8,7 +8,7 @@ use Rattle.address_runs.specs.Runs.{RunOf, run_end}
 use Rattle.memblock_model.specs.Labels.{LabelView}
 use Rattle.memblock_ranges.specs.declared.region.Region.{Region}
 
--- the numbers at the offsets of a record
+-- the numbers at a record's offsets
 unfoldable pub base_in : List ℕ → ℕ
 base_in bs = little_number 8 bs
 
@@ -21,15 +21,15 @@ flags_in bs = little_number 4 (drop 16 bs)
 unfoldable pub node_in : List ℕ → ℕ
 node_in bs = little_number 4 (drop 20 bs)
 
--- the four numbers, whatever they are
+-- the record of any four numbers
 abbrev pub region_in : List ℕ → Region
 region_in bs = record { base = base_in bs; size = size_in bs; flags = flags_in bs; node = node_in bs }
 
--- the bytes of the four numbers
+-- the four numbers as bytes
 unfoldable pub fields_of : ℕ → ℕ → ℕ → ℕ → List ℕ
 fields_of base size flags node = little_bytes 8 base ++ (little_bytes 8 size ++ (little_bytes 4 flags ++ little_bytes 4 node))
 
--- the node that a node field stands for, and the label that flags and a node field stand for
+-- the node that a node field means, and the label for flags and a node field
 abbrev pub node_of_field : ℕ → Option ℕ
 node_of_field field = if field == 1024 then None else Some field
 
@@ -43,7 +43,7 @@ flags_field label = if label.mirror then 2 else 0
 abbrev pub node_field : LabelView → ℕ
 node_field label = unwrap_or label.node 1024
 
--- the run that a record stands for, and the region and the bytes of a run
+-- the run that the bytes describe, and a run as a region and as bytes
 abbrev pub run_in : List ℕ → RunOf LabelView
 run_in bs = record { base = base_in bs; size = size_in bs; value = label_of (flags_in bs) (node_in bs) }
 
@@ -53,23 +53,24 @@ region_of r = record { base = r.base; size = r.size; flags = flags_field r.value
 abbrev pub spelling_of : RunOf LabelView → List ℕ
 spelling_of r = fields_of r.base r.size (flags_field r.value) (node_field r.value)
 
--- the runs of the n records from the address a on
+-- the runs of n records, from address a on
 unfoldable pub records_at : (ℕ → ℕ) → ℕ → ℕ → List (RunOf LabelView)
 records_at f a zero = []
 records_at f a (suc n) = run_in (bytes_at f a 24) ∷ records_at f (a + 24) n
 
--- the records of a table with room for n: the bytes of its runs, then zeros
+-- the bytes of a table with room for n records: those of its runs, then zeros
 unfoldable pub spelled_table : List (RunOf LabelView) → ℕ → List ℕ
 spelled_table [] n = replicate (24 * n) 0
 spelled_table (r ∷ rs) n = spelling_of r ++ spelled_table rs (n - 1)
 
--- the run can be written as a record, and is read back
+-- the run can be written as a record, and read back from it
 pub record FitsRecord (r : RunOf LabelView) : Type 0 where
   pub small : run_end r < 2 ^ 64
   pub node : node_field r.value ≤ 1024
   pub back : label_of (flags_field r.value) (node_field r.value) ≡ r.value
 
--- the 24 bytes are those of a record: an end in the address space, the flags of its label, and a node of at most 1,024
+-- the 24 bytes are a record: its end is below 2^64, its flags are those of a label, and its node
+-- is at most 1,024
 pub record IsRecord (bs : List ℕ) : Type 0 where
   pub spells : bs ≡ fields_of (base_in bs) (size_in bs) (flags_in bs) (node_in bs)
   pub within : base_in bs + size_in bs < 2 ^ 64

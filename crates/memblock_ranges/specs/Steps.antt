@@ -1,10 +1,10 @@
--- What an item needs, that a table may follow it.
+-- What an item must satisfy, so that a table can be edited as it says.
 use Rattle.std.specs.Prelude.{◌^◌, ◌≤◌}
 use Rattle.bm_base.specs.Range.{end_of}
 use Rattle.memblock_model.specs.declared.item.Item.{Item}
 use Rattle.memblock_model.specs.declared.item.Item.TheVariants as item
 
--- the item's range, where it has one, ends in the address space, as each `Range` does
+-- the item's range, if it has one, ends at or below 2^64
 abbrev pub EndsInSpace : Item → Type 0
 EndsInSpace (item.Mem range) = end_of range ≤ 2 ^ 64
 EndsInSpace (item.Node range node) = end_of range ≤ 2 ^ 64

@@ -1,4 +1,4 @@
--- A table in the bytes that it describes, and both of them.
+-- A table in the bytes of the memory that it describes, and both tables together.
 use Rattle.std.specs.Prelude.{◌≡◌, ℕ, ◌+◌, ◌*◌, ◌^◌, ◌<◌, ◌≤◌, Bool, true, false, if◌then◌else◌, Some, List, length, get_or, IsTrue}
 use Rattle.bm_base.specs.Range.{RangeView, covers, Meet}
 use Rattle.phys_store.specs.Bytes.{Stored, byte_of, is_ready, AreReady, bytes_at}
@@ -10,8 +10,8 @@ use Rattle.memblock_model.specs.declared.owner.Which.TheVariants as which
 use Rattle.memblock_ranges.specs.Spelling.{IsRecord, region_in, region_of, records_at, spelled_table}
 use Rattle.memblock_ranges.specs.declared.region.Head.{Head}
 
--- at `place` stands a table with room for so many records, of which the first `count` are there: all its bytes are prepared, its
--- records are records, and behind them it is zeros (`struct memblock_type`)
+-- a table at `place` with `room` slots, of which the first `count` have records (`struct
+-- memblock_type`): all its bytes are prepared, and those after the records are 0
 pub record IsTable (f : ℕ → ℕ) (ready : ℕ → Bool) (place room count : ℕ) : Type 0 where
   pub few : count ≤ room
   pub fits : place + 24 * room < 2 ^ 64
@@ -19,11 +19,12 @@ pub record IsTable (f : ℕ → ℕ) (ready : ℕ → Bool) (place room count : 
   pub zeros : (x : ℕ) → place + 24 * count ≤ x → x < place + 24 * room → f x ≡ 0
   pub prepared : (x : ℕ) → place ≤ x → x < place + 24 * room → IsTrue (ready x)
 
--- the bytes beside the table, and 0 in it
+-- the bytes outside the table, and 0 for those in it
 abbrev pub outside : (ℕ → ℕ) → ℕ → ℕ → ℕ → ℕ
 outside f place room x = if covers (record { base = place; size = 24 * room }) x then 0 else f x
 
--- what an edit of a table's records leaves as it is: where it lies and its room, the bytes beside it, and what is prepared
+-- what an edit of a table's records keeps: its address and room, the bytes outside it, and which
+-- addresses are prepared
 pub record Kept : Type 0 where
   pub place : ℕ
   pub room : ℕ
@@ -40,7 +41,7 @@ list_in s h = records_at (byte_of s) h.place h.count
 abbrev pub HasTable : List Stored → Head → Type 0
 HasTable s h = IsTable (byte_of s) (is_ready s) h.place h.room h.count
 
--- the head's table has other records then, and all else is as it was
+-- the table of head g becomes that of head h with these records, and all else is unchanged
 pub record Edits (s t : List Stored) (g h : Head) (list : List (RunOf LabelView)) : Type 0 where
   pub list_is : list_in t h ≡ list
   pub table : HasTable t h
@@ -49,18 +50,19 @@ pub record Edits (s t : List Stored) (g h : Head) (list : List (RunOf LabelView)
   pub others : outside (byte_of t) g.place g.room ≡ outside (byte_of s) g.place g.room
   pub ready : is_ready t ≡ is_ready s
 
--- records in order, none empty, no two that could be one, and none passes the end of addresses
+-- records in order: none is empty, no two that touch have the same label, and none ends past 2^64
 pub record AreRecords (rs : List (RunOf LabelView)) : Type 0 where
   pub runs : AreRuns rs
   pub within : NothingFrom (2 ^ 64) (value_at rs)
 
--- a table as contracts see it: its records as runs, where it lies, and how many records it has room for
+-- a table as contracts see it: its records as runs, its address, and the number of records that it
+-- has room for
 pub record Table : Type 0 where
   pub records : List (RunOf LabelView)
   pub place : ℕ
   pub room : ℕ
 
--- both tables, and the store in which they lie
+-- both tables, and the store that has their bytes
 pub record Contents : Type 0 where
   pub memory : Table
   pub reserved : Table
@@ -83,7 +85,7 @@ place_in w t = (table_in w t).place
 abbrev pub room_in : Which → Contents → ℕ
 room_in w t = (table_in w t).room
 
--- the bytes of a table: 24 for each record that there is room for
+-- the bytes of a table: 24 for each record that it has room for
 abbrev pub bytes_of : Table → RangeView
 bytes_of t = record { base = t.place; size = 24 * t.room }
 
@@ -94,12 +96,12 @@ bytes_in w t = bytes_of (table_in w t)
 abbrev pub Overlaps : Contents → RangeView → Type 0
 Overlaps t r = (w : Which) × Meet (bytes_in w t) r
 
--- where a table lies and how full it is
+-- where a table lies, and how many records it has
 abbrev pub head_of : Table → Head
 head_of t = record { place = t.place; room = t.room; count = length t.records }
 
--- the table lies in the store: its records are in order and fit, the bytes at its place are those of the records and then zeros, so that
--- each record is read from its 24 bytes, and all of them are prepared
+-- The table is in the store. Its records are in order and fit, and each can be read from its 24
+-- bytes. All bytes of the table are prepared: those of its records, then zeros.
 pub record StandsIn (t : Table) (store : List Stored) : Type 0 where
   pub few : length t.records ≤ t.room
   pub fits : t.place + 24 * t.room < 2 ^ 64
@@ -109,12 +111,13 @@ pub record StandsIn (t : Table) (store : List Stored) : Type 0 where
       region_in (bytes_at (byte_of store) (t.place + 24 * i) 24) ≡ region_of (get_or t.records i r)
   pub prepared : AreReady store t.place (24 * t.room)
 
--- which nodes a record of a table may have: the reserved table's have none (`memblock_add_range` with `MAX_NUMNODES`)
+-- the node fields that a new record may have: in the reserved table only 1,024, so none
+-- (`memblock_add_range` with `MAX_NUMNODES`)
 abbrev pub IsNodeOf : Which → ℕ → Type 0
 IsNodeOf which.Memory node = node ≤ 1024
 IsNodeOf which.Reserved node = node ≡ 1024
 
--- no record has a node
+-- no record has a node, and none is mirrored
 abbrev pub HaveNoNode : List (RunOf LabelView) → Type 0
 HaveNoNode rs = (x : ℕ) (label : LabelView) → value_at rs x ≡ Some label → label ≡ plain_label
 
@@ -125,7 +128,7 @@ table_by s h = record { records = list_in s h; place = h.place; room = h.room }
 abbrev pub bytes_by : Head → RangeView
 bytes_by h = record { base = h.place; size = 24 * h.room }
 
--- two heads in one store: both tables stand there, in order, and have no byte in common
+-- two tables in one store: the records of both are in order, and the tables have no byte in common
 pub record AreTables (s : List Stored) (m r : Head) : Type 0 where
   pub memory : HasTable s m
   pub reserved : HasTable s r
@@ -134,7 +137,8 @@ pub record AreTables (s : List Stored) (m r : Head) : Type 0 where
   pub reserved_records : AreRecords (list_in s r)
   pub plain : HaveNoNode (list_in s r)
 
--- the head's table lies at another place then, with twice the room; what it left is zeros, and nothing else changed
+-- the table of head g moves to `place` with twice the room; its old bytes are 0, and nothing else
+-- changes
 pub record Moves (s t : List Stored) (g h : Head) (place : ℕ) : Type 0 where
   pub list_is : list_in t h ≡ list_in s g
   pub table : HasTable t h

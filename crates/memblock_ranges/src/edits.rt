@@ -1,5 +1,5 @@
-//! The edits of one table, whatever its slots are: each is a change of what one address carries, handed to
-//! the sweep of `run_edits`, with the room that it needs.
+//! The edits of one table, for any type of slots. Each edit passes a change of one address's label
+//! to the sweep of `run_edits`, which needs room for the new records.
 ghost use Rattle.std.specs.Prelude.{◌≡◌, ◌+◌, ◌<◌, ◌≤◌, Some, length};
 ghost use Rattle.std.specs.Option.{option_map};
 ghost use Rattle.address_runs.specs.Runs.{value_at};
@@ -13,7 +13,8 @@ use bm_base::Range;
 use memblock_model::Label;
 use run_edits::{Change, Cover, Slots, Uncover, amend, range_end_fits, rewrite};
 
-/// What carries a label gets the node; what carries nothing stays so (`memblock_set_node`).
+/// The change that gives a label the node, and leaves an address without a label as it is
+/// (`memblock_set_node`).
 #[derive(Clone, Copy)]
 struct SetNode {
     node: u32,
@@ -33,7 +34,8 @@ impl Change<Label> for SetNode {
     }
 }
 
-/// What carries a label gets that of mirrored memory; what carries nothing stays so (`memblock_mark_mirror`).
+/// The change that makes a label that of mirrored memory, and leaves an address without a label as
+/// it is (`memblock_mark_mirror`).
 #[derive(Clone, Copy)]
 struct SetMirror;
 
@@ -50,7 +52,7 @@ impl Change<Label> for SetMirror {
     }
 }
 
-/// The bytes of the range that aren't covered get the label.
+/// Gives the label to the bytes of the range that aren't covered. The range must not be empty.
 pub fn cover<T: Slots<Record>>(table: &mut T, range: &Range, label: Label)
     requires some { 0 < range.now.size }
     requires records { AreRecords (T.list table.old) }
@@ -63,7 +65,7 @@ pub fn cover<T: Slots<Record>>(table: &mut T, range: &Range, label: Label)
     rewrite(table, range, Cover(label));
 }
 
-/// The bytes of the range aren't covered any more.
+/// Removes the bytes of the range from the table.
 pub fn uncover<T: Slots<Record>>(table: &mut T, range: &Range)
     requires records { AreRecords (T.list table.old) }
     requires room { length (T.list table.old) + 2 ≤ T.room table.old }
@@ -77,7 +79,7 @@ pub fn uncover<T: Slots<Record>>(table: &mut T, range: &Range)
     amend(table, range, Uncover);
 }
 
-/// The covered bytes of the range get the node.
+/// Gives the node to the covered bytes of the range.
 pub fn set_node<T: Slots<Record>>(table: &mut T, range: &Range, node: u32)
     requires node { node < 1024 }
     requires records { AreRecords (T.list table.old) }
@@ -92,7 +94,7 @@ pub fn set_node<T: Slots<Record>>(table: &mut T, range: &Range, node: u32)
     amend(table, range, SetNode { node });
 }
 
-/// The covered bytes of the range become mirrored.
+/// Makes the covered bytes of the range mirrored.
 pub fn set_mirror<T: Slots<Record>>(table: &mut T, range: &Range)
     requires records { AreRecords (T.list table.old) }
     requires room { length (T.list table.old) + 2 ≤ T.room table.old }

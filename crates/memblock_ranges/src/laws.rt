@@ -1,5 +1,5 @@
-//! What the layer above needs beside the calls: how many records an edit may add, and that tables which are
-//! those of a list of items stay so when the edit of one more item is carried out.
+//! Laws for the layer above: how many records an edit may add, and that a table that has the
+//! records of a list of items still has them after each further item.
 ghost use Rattle.std.specs.Prelude.{◌≡◌, ℕ, ◌+◌, ◌^◌, ◌<◌, ◌≤◌, None, List, [], ◌∷◌, ◌++◌, length};
 ghost use Rattle.bm_base.specs.Range.{RangeView, end_of};
 ghost use Rattle.address_runs.specs.Runs.{RunOf, value_at};
@@ -11,9 +11,9 @@ ghost use Rattle.memblock_model.specs.Items.{trim_frames};
 ghost use Rattle.memblock_model.specs.Tables.{table_of, table_after, records_for, records_of, pieces};
 ghost use Rattle.memblock_ranges.specs.Steps.{EndsInSpace};
 
-/// A law: to cover a range adds at most as many records as it has pieces that aren't covered
-/// (`memblock_add_range`, its count), to uncover one adds one, to give it a node two
-/// (`memblock_isolate_range`), and to trim none.
+/// Law: covering a range adds at most as many records as the range has pieces that aren't covered
+/// (counted by `memblock_add_range`). Uncovering a range adds at most one record, giving it a node
+/// at most two (`memblock_isolate_range`), and trimming none.
 pub fn edits_add_few_records()
     ensures covered { (r : RangeView) (label : LabelView) (f : Labels) → end_of r ≤ 2 ^ 64 → NothingFrom (2 ^ 64) f →
         length (records_for (cover_range r label f)) ≤ length (records_for f) + pieces r f }
@@ -25,8 +25,8 @@ pub fn edits_add_few_records()
         length (records_for (trim_frames f)) ≤ length (records_for f) }
 {}
 
-/// A law: a range has at most one piece more than there are records, and one piece where nothing of it
-/// is covered.
+/// Law: a range has at most one more piece than there are records, and exactly one piece if none
+/// of it is covered.
 pub fn pieces_are_few()
     ensures few { (r : RangeView) (f : Labels) → end_of r ≤ 2 ^ 64 → NothingFrom (2 ^ 64) f →
         pieces r f ≤ length (records_for f) + 1 }
@@ -34,8 +34,9 @@ pub fn pieces_are_few()
         ((x : ℕ) → r.base ≤ x → x < end_of r → f x ≡ None) → pieces r f ≡ 1 }
 {}
 
-/// A law: where a table has the records of a list of items, and then what an item makes of them, it has
-/// the records of the list with the item; and where the item changes nothing of it, the records stay.
+/// Law: if a table has the records of a list of items and is edited as one more item says, it has
+/// the records of the longer list. If the item doesn't change the table, its records are those of
+/// both lists.
 pub fn edits_follow_the_items()
     ensures edited { (w : Which) (items : List Item) (i : Item) (old new : List (RunOf LabelView)) →
         NothingFrom (2 ^ 64) (table_of w items) → old ≡ records_of w items →

@@ -1,5 +1,5 @@
-//! The calls on one table of a store, for the time that store and head are lent: what each makes of its
-//! records, and that nothing else in the store changes.
+//! The calls on one table of a store, which borrow the store and the head. Each promises the
+//! table's new records, and that nothing else in the store changes.
 ghost use Rattle.std.specs.Prelude.{◌≡◌, ◌+◌, ◌*◌, ◌^◌, ◌<◌, ◌≤◌, Some, length, get_or};
 ghost use Rattle.bm_base.specs.Range.{Meet};
 ghost use Rattle.phys_store.specs.Bytes.{AreReady};
@@ -22,7 +22,8 @@ use memblock_model::Label;
 use phys_store::Store;
 use run_edits::Rows;
 
-/// The bytes of the range that the head's table doesn't cover get the label.
+/// Gives the label to the bytes of the range that the head's table doesn't cover. The range must
+/// not be empty.
 pub fn cover(store: &mut Store, head: &mut Head, range: &Range, label: Label)
     requires table { HasTable store.old head.old }
     requires records { AreRecords (list_in store.old head.old) }
@@ -36,7 +37,7 @@ pub fn cover(store: &mut Store, head: &mut Head, range: &Range, label: Label)
     edits::cover(&mut live, range, label);
 }
 
-/// The head's table doesn't cover the bytes of the range any more.
+/// Removes the bytes of the range from the head's table.
 pub fn uncover(store: &mut Store, head: &mut Head, range: &Range)
     requires table { HasTable store.old head.old }
     requires records { AreRecords (list_in store.old head.old) }
@@ -49,7 +50,7 @@ pub fn uncover(store: &mut Store, head: &mut Head, range: &Range)
     edits::uncover(&mut live, range);
 }
 
-/// The bytes of the range that the head's table covers get the node.
+/// Gives the node to the bytes of the range that the head's table covers.
 pub fn set_node(store: &mut Store, head: &mut Head, range: &Range, node: u32)
     requires table { HasTable store.old head.old }
     requires records { AreRecords (list_in store.old head.old) }
@@ -63,7 +64,7 @@ pub fn set_node(store: &mut Store, head: &mut Head, range: &Range, node: u32)
     edits::set_node(&mut live, range, node);
 }
 
-/// The bytes of the range that the head's table covers become mirrored.
+/// Makes the bytes of the range that the head's table covers mirrored.
 pub fn set_mirror(store: &mut Store, head: &mut Head, range: &Range)
     requires table { HasTable store.old head.old }
     requires records { AreRecords (list_in store.old head.old) }
@@ -76,7 +77,7 @@ pub fn set_mirror(store: &mut Store, head: &mut Head, range: &Range)
     edits::set_mirror(&mut live, range);
 }
 
-/// The head's table is cut to whole frames.
+/// Cuts the records of the head's table to whole frames.
 pub fn trim(store: &mut Store, head: &mut Head)
     requires table { HasTable store.old head.old }
     requires records { AreRecords (list_in store.old head.old) }
@@ -88,7 +89,8 @@ pub fn trim(store: &mut Store, head: &mut Head)
     trim::trim(&mut live);
 }
 
-/// The head's table moves to the place, with twice the room, and leaves zeros.
+/// Moves the head's table to address `place`, with twice the room, and fills the old bytes with
+/// zeros. The new bytes must be prepared and apart from the old ones.
 pub fn relocate(store: &mut Store, head: &mut Head, place: u64)
     requires table { HasTable store.old head.old }
     requires small { place + 48 * head.old.room < 2 ^ 64 }
@@ -120,7 +122,7 @@ pub fn relocate(store: &mut Store, head: &mut Head, place: u64)
     };
 }
 
-/// How many runs there are of the range's bytes that the head's table doesn't cover.
+/// Counts the pieces of the range: the runs of its bytes that the head's table doesn't cover.
 pub fn pieces(store: &Store, head: &Head, range: &Range) -> u64
     requires table { HasTable store.now head.now }
     requires records { AreRecords (list_in store.now head.now) }
@@ -129,7 +131,7 @@ pub fn pieces(store: &Store, head: &Head, range: &Range) -> u64
     count_pieces(&Seen { store, head }, range)
 }
 
-/// The record at the index, as callers see it.
+/// Returns the record at index `i`, as plain numbers.
 pub fn region(store: &Store, head: &Head, i: u64) -> Region
     requires table { HasTable store.now head.now }
     requires within { i < length (list_in store.now head.now) }
@@ -140,7 +142,7 @@ pub fn region(store: &Store, head: &Head, i: u64) -> Region
     region_of(&seen.get(i))
 }
 
-/// The records of the head's table, to be read.
+/// Returns a reader for the records of the head's table.
 pub fn records<'a>(store: &'a Store, head: &Head) -> Records<'a>
     requires table { HasTable store.now head.now }
     requires records { AreRecords (list_in store.now head.now) }
@@ -152,7 +154,7 @@ pub fn records<'a>(store: &'a Store, head: &Head) -> Records<'a>
     )
 }
 
-/// The bytes of the head's table.
+/// Returns the range of the table's bytes: all of its room.
 pub fn bytes(head: &Head) -> Range
     requires { head.now.place + 24 * head.now.room < 2 ^ 64 }
     ensures { result ≡ bytes_by head.now }

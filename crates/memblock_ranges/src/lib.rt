@@ -1,24 +1,36 @@
-//! memblock's two tables, in the bytes of the memory that they describe.
+//! Keeps memblock's two tables, in the bytes of the memory that they describe.
 //!
-//! `memblock.memory` says which memory there is, to which node it belongs and whether it is mirrored,
-//! `memblock.reserved` which of it someone has (`struct memblock`). Each is an array of records, sorted, none empty, no two that could
-//! be one; and each array lies in the machine's own memory: at first in the kernel's image, later where
-//! `memblock_double_array` moved it to. [`Tables`] holds just that: the bytes, as a `Store`, and for each
-//! table a [`Head`] with its place, its room and its count. There is no second copy of a record.
+//! `memblock.memory` records the machine's memory, with the node of each range and whether it is
+//! mirrored. `memblock.reserved` records which memory is in use (`struct memblock`). Each table is
+//! a sorted array of 24-byte records. No record is empty, and no two records that touch have the
+//! same label. The array lies in the machine's own memory: at first in the kernel's image, later
+//! wherever `memblock_double_array` moved it.
 //!
-//! Contracts see two lists of runs of labels with their places and rooms, and the store
-//! (`specs/Tables.antt`). What ties lists and bytes is `StandsIn`: the bytes at a table's place are the
-//! spelling of its records (`specs/Spelling.antt`) and then zeros. Each edit says three things: the records
-//! are those of the changed label of every address; the other table, both places and both rooms are as
-//! before; and so is every byte outside the table. That holds also of an edit of the one table while the
-//! other lies a frame behind it.
+//! [`Tables`] holds the bytes (a `Store`) and, for each table, a [`Head`] with its address, its
+//! room and its count. There is no second copy of a record.
 //!
-//! The calls are `memblock_add_range` ([`Tables::insert`]), `memblock_remove_range` ([`Tables::remove`]),
-//! `memblock_set_node`, `memblock_mark_mirror`, `memblock_trim_memory` and the move of `memblock_double_array`
-//! ([`Tables::relocate`]). A call has room for its records by its condition, and never takes memory:
-//! only [`Tables::new`] and [`Tables::prepare`] do. When a table grows, and where to, the layer above
-//! decides; the laws of `src/laws.rt` tell it how much room an edit needs, and that tables which are those
-//! of a list of items follow it item by item.
+//! The calls follow these functions of memblock:
+//!
+//! - [`Tables::insert`] is `memblock_add_range`, and [`Tables::remove`] is
+//!   `memblock_remove_range`.
+//! - [`Tables::set_node`] is `memblock_set_node`, [`Tables::set_mirror`] is
+//!   `memblock_mark_mirror`, and [`Tables::trim`] is `memblock_trim_memory`.
+//! - [`Tables::relocate`] moves a table and doubles its room (`memblock_double_array`).
+//!
+//! An edit requires that the table has room for the new records, and never allocates. Only
+//! [`Tables::new`] and [`Tables::prepare`] allocate. The layer above decides when a table grows,
+//! and where to.
+//!
+//! Contracts see two lists of runs of labels, with their addresses and rooms, and the store
+//! (`specs/Tables.antt`). `StandsIn` connects a list with the bytes: they are the records in
+//! memblock's format (`specs/Spelling.antt`), then zeros. The layer above may rest on three
+//! promises of each edit. The table's records are those of the changed labels. The other table and
+//! the edited table's address and room are unchanged. No byte outside the edited table changes,
+//! even if the other table lies in the next frame.
+//!
+//! In contracts, a name means the definition in `specs/`. A law is an empty function whose
+//! contract is a proven fact. The laws say how many records an edit may add, and that edits keep a
+//! table equal to that of a list of items.
 #![tactic(auto)]
 
 mod edits;

@@ -1,5 +1,6 @@
-//! A table in its bytes as slots for records: where the sweep of `run_edits` meets the store. The fact that
-//! a table stands at the head's place is lent with it, and holds again after each step.
+//! A table in its bytes, as slots for records: the sweep of `run_edits` reads and writes the store
+//! through these types. That the table is at the head's address is their invariant, which holds
+//! again after each step.
 ghost use Rattle.std.specs.Prelude.{◌≡◌, ◌≤◌, ◌<◌, refl, get_or};
 ghost use Rattle.std.proofs.Props.{props};
 ghost use Rattle.phys_store.specs.Bytes.{byte_of, is_ready};
@@ -11,7 +12,7 @@ use bm_base::Range;
 use phys_store::Store;
 use run_edits::{Rows, Slots};
 
-/// A table in the bytes that it describes, lent to be read.
+/// A table in the store, borrowed for reading.
 #[derive(Clone, Copy)]
 pub struct Seen<'a> {
     pub store: &'a Store,
@@ -19,7 +20,7 @@ pub struct Seen<'a> {
     ghost table: { IsTable (byte_of store.now) (is_ready store.now) head.now.place head.now.room head.now.count } by { Prim.hlevel props },
 }
 
-/// A table in the bytes that it describes, lent to be edited.
+/// A table in the store, borrowed for editing.
 #[derive(Drop)]
 pub struct Live<'a> {
     pub store: &'a mut Store,
@@ -27,7 +28,7 @@ pub struct Live<'a> {
     ghost table: { IsTable (byte_of store.now) (is_ready store.now) head.now.place head.now.room head.now.count } by { Prim.hlevel props },
 }
 
-/// The record in the slot at the index.
+/// Returns the record in slot `i`.
 fn read_slot(store: &Store, head: &Head, i: u64) -> Record
     requires table { HasTable store.now head.now }
     requires used { i < head.now.count }

@@ -1,4 +1,5 @@
-//! The count that `memblock_add_range` makes in its first round: how many records covering a range adds.
+//! Counts how many records covering a range would add, as the first round of `memblock_add_range`
+//! does.
 ghost use Rattle.std.specs.Prelude.{◌≡◌, Bool, true, false, ◌&&◌, ◌||◌, not, if◌then◌else◌};
 ghost use Rattle.address_runs.specs.Runs.{value_at};
 ghost use Rattle.memblock_model.specs.Tables.{pieces};
@@ -8,7 +9,7 @@ use crate::record::Record;
 use bm_base::Range;
 use run_edits::{Rows, look, seek, skip_ended};
 
-/// How many runs there are of the range's bytes that the table doesn't cover.
+/// Counts the runs of the range's bytes that the table doesn't cover.
 pub fn count_pieces<T: Rows<Record>>(table: &T, range: &Range) -> u64
     requires { AreRecords (T.list table.now) }
     ensures { result ≡ pieces range.now (value_at (T.list table.now)) }
@@ -31,8 +32,9 @@ pub fn count_pieces<T: Rows<Record>>(table: &T, range: &Range) -> u64
     count
 }
 
-/// 1 where a piece ends between neighbours, of which the first isn't covered; of the second is told
-/// whether it isn't, and whether it still lies in the range.
+/// Returns 1 if a piece ends between two neighbouring bytes, else 0. `here` says that the first
+/// byte isn't covered, `there` that the second isn't, and `inside` that the second is in the
+/// range.
 fn ends_piece(here: bool, there: bool, inside: bool) -> u64
     ensures { result ≡ (if here && not (inside && there) then 1 else 0) }
 {

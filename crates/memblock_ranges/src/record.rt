@@ -1,5 +1,5 @@
-//! A record as an edit sees it, a run of addresses that carry one label, and its bytes: here bytes become
-//! records and records bytes, and nowhere else.
+//! Records as edits see them (runs of addresses with one label), and their conversion from and to
+//! bytes. No other file of this crate converts a label.
 ghost use Rattle.std.specs.Prelude.{◌≡◌, ◌+◌, ◌^◌, ◌<◌, ◌≤◌, length};
 ghost use Rattle.memblock_ranges.specs.Spelling.{fields_of, node_of_field, label_of, flags_field, node_field, run_in, spelling_of, region_of, FitsRecord, IsRecord};
 
@@ -9,20 +9,21 @@ use bm_base::Range;
 use byteorder::{ByteOrder, LittleEndian};
 use memblock_model::Label;
 
-/// The node of a record that has none.
+/// The node field of a record without a node (`MAX_NUMNODES`).
 pub const NO_NODE: u32 = 1024;
 
-/// A record as an edit sees it: a run of addresses that carry one label.
+/// A record as an edit sees it: a run of addresses with one label.
 pub type Record = RunOf<Label>;
 
-/// The node that a node field stands for: 1,024 means none.
+/// Returns the node that a node field means, or `None` for 1,024.
 pub fn node_of_field(field: u32) -> Option<u32>
     ensures { result ≡ node_of_field field }
 {
     if field == NO_NODE { None } else { Some(field) }
 }
 
-/// The label that flags and a node field stand for: mirrored where the flags are 2, and of the node, where 1,024 means none.
+/// Returns the label for these flags and this node field: mirrored if the flags are 2, and without
+/// a node if the field is 1,024.
 pub fn label_of(flags: u32, node: u32) -> Label
     requires { node ≤ 1024 }
     ensures { result ≡ label_of flags node }
@@ -30,7 +31,7 @@ pub fn label_of(flags: u32, node: u32) -> Label
     Label::from_parts(node_of_field(node), flags)
 }
 
-/// The node field of a label: the node, or 1,024 for none.
+/// Returns the node field of the label: the node, or 1,024 if it has none.
 pub fn node_field(label: Label) -> u32
     ensures value { result ≡ node_field label }
     ensures most { result ≤ 1024 }
@@ -42,7 +43,7 @@ pub fn node_field(label: Label) -> u32
     }
 }
 
-/// The record that the 24 bytes spell.
+/// Decodes a record from 24 bytes.
 pub fn read_record(bytes: &[u8]) -> Record
     requires long { length bytes.now ≡ 24 }
     requires record { IsRecord bytes.now }
@@ -58,7 +59,7 @@ pub fn read_record(bytes: &[u8]) -> Record
     }
 }
 
-/// The bytes of the four numbers.
+/// Encodes the four numbers, little-endian.
 #[tactic(auto, unfolding(crate::specs::Spelling::fields_of))]
 fn write_fields(base: u64, size: u64, flags: u32, node: u32) -> [u8; 24]
     ensures { result ≡ fields_of base size flags node }
@@ -71,7 +72,7 @@ fn write_fields(base: u64, size: u64, flags: u32, node: u32) -> [u8; 24]
     bytes
 }
 
-/// The bytes of a record, which can be read back.
+/// Encodes the record in 24 bytes, from which it can be decoded again.
 pub fn spell(record: &Record) -> [u8; 24]
     ensures bytes { result ≡ spelling_of record.now }
     ensures fits { FitsRecord record.now }
@@ -84,7 +85,7 @@ pub fn spell(record: &Record) -> [u8; 24]
     )
 }
 
-/// The record as callers see it, which tells all of it.
+/// Returns the record as plain numbers, from which it can be computed again.
 pub fn region_of(record: &Record) -> Region
     ensures region { result ≡ region_of record.now }
     ensures fits { FitsRecord record.now }

@@ -1,5 +1,5 @@
-//! A table's records, lent to be read. Where the table lies is asked of the store once, and a record costs
-//! its 24 bytes from then on: what a walk over a table reads.
+//! A reader for the records of a table. It finds the table's bytes in the store once; after that
+//! each record takes only its 24 bytes.
 ghost use Rattle.std.specs.Prelude.{◌≡◌, ◌<◌, length, get_or};
 ghost use Rattle.address_runs.specs.Runs.{RunOf};
 ghost use Rattle.memblock_model.specs.Labels.{LabelView};
@@ -11,7 +11,7 @@ use crate::region::{RECORD_SIZE, Region, read_region};
 use memblock_model::Label;
 use std::marker::Model;
 
-/// A table's records, for as long as the tables are lent. Contracts see the list of them.
+/// The records of a table, which borrow the tables. Contracts see their list.
 #[derive(Drop)]
 pub struct Records<'a> {
     bytes: &'a [u8],
@@ -34,7 +34,7 @@ impl<'a> Model for Records<'a> {
 impl<'a> Records<'a> {
     ghost use Rattle.memblock_ranges.specs.Lent.{runs_in, AreLent};
 
-    /// The records that the bytes spell.
+    /// Wraps the bytes of `count` records.
     pub(crate) fn of(bytes: &'a [u8], count: u64) -> Records<'a>
         requires { AreLent bytes.now count }
         ensures { result ≡ runs_in bytes.entry.now count }
@@ -44,7 +44,7 @@ impl<'a> Records<'a> {
 }
 
 impl Records<'_> {
-    /// How many there are.
+    /// Returns the number of records.
     pub fn count(&self) -> u64
         ensures count { result ≡ length self.now }
         ensures records { AreRecords self.now }
@@ -52,8 +52,8 @@ impl Records<'_> {
         self.count
     }
 
-    /// The record of that index, from 0. It tells all of the record: its end is a `u64`, and its node below
-    /// 1,024, or 1,024 for none.
+    /// Returns the record at index `i`, counted from 0. Its end is below 2^64, and its node at
+    /// most 1,024, which means none.
     pub fn get(&self, i: u64) -> Region
         requires { i < length self.now }
         ensures region { (r : RunOf LabelView) → result ≡ region_of (get_or self.now i r) }
@@ -64,7 +64,7 @@ impl Records<'_> {
         read_region(&bytes[from..from + RECORD_SIZE as usize])
     }
 
-    /// What the record of that index says of its addresses.
+    /// Returns the label of the record at index `i`: its node and whether it is mirrored.
     pub fn label(&self, i: u64) -> Label
         requires { i < length self.now }
         ensures { (r : RunOf LabelView) → result ≡ (get_or self.now i r).value }

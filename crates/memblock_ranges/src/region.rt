@@ -1,5 +1,5 @@
-//! Records and heads as callers see them: plain numbers. [`region_at`] gives whatever 24 bytes say, so a
-//! [`Region`] has no invariant; the records of a table are read through it where no `Tables` is at hand.
+//! Records and heads as plain numbers. [`region_at`] decodes any 24 bytes, so a [`Region`] has no
+//! invariant. It also reads a table's record if only the store and the head are at hand.
 ghost use Rattle.std.specs.Prelude.{◌≡◌, ◌+◌, ◌*◌, ◌^◌, ◌<◌, ◌≤◌, length};
 ghost use Rattle.phys_store.specs.Bytes.{byte_of, bytes_at};
 ghost use Rattle.memblock_ranges.specs.Spelling.{region_in};
@@ -7,30 +7,30 @@ ghost use Rattle.memblock_ranges.specs.Spelling.{region_in};
 use byteorder::{ByteOrder, LittleEndian};
 use phys_store::Store;
 
-/// The bytes of a record.
+/// The size of a record in bytes.
 pub const RECORD_SIZE: u64 = 24;
 
-/// One record of a table (`struct memblock_region`): addresses, and what is said of them.
+/// One record of a table (`struct memblock_region`): a range of addresses, its flags and its node.
 #[derive(Clone, Copy, Debug, PartialEq, Eq)]
 pub struct Region {
     /// The first address, in bytes.
     pub base: u64,
     /// The number of bytes.
     pub size: u64,
-    /// 2 of mirrored memory (`MEMBLOCK_MIRROR`), else 0 (`MEMBLOCK_NONE`).
+    /// 2 for mirrored memory (`MEMBLOCK_MIRROR`), else 0 (`MEMBLOCK_NONE`).
     pub flags: u32,
-    /// The node; 1,024 means none (`MAX_NUMNODES`).
+    /// The node, or 1,024 for none (`MAX_NUMNODES`).
     pub node: u32,
 }
 
-/// Where a table lies, and how full it is.
+/// Where a table lies, and how many records it has (`struct memblock_type`).
 #[derive(Clone, Copy, Debug, PartialEq, Eq)]
 pub struct Head {
-    /// The address of its first byte.
+    /// The address of the table's first byte.
     pub place: u64,
-    /// How many records it has room for.
+    /// The number of records that the table has room for.
     pub room: u64,
-    /// How many records it has.
+    /// The number of records that the table has.
     pub count: u64,
 }
 
@@ -41,7 +41,7 @@ pub struct Heads {
     pub reserved: Head,
 }
 
-/// The record that the 24 bytes spell, whatever they are.
+/// Decodes a record from any 24 bytes, without a check.
 #[tactic(auto, unfolding(crate::specs::Spelling::base_in, crate::specs::Spelling::size_in, crate::specs::Spelling::flags_in, crate::specs::Spelling::node_in))]
 pub fn read_region(bytes: &[u8]) -> Region
     requires { length bytes.now ≡ 24 }
@@ -55,8 +55,8 @@ pub fn read_region(bytes: &[u8]) -> Region
     }
 }
 
-/// The record of that index, from 0, of the table that the head tells of, as the bytes have it. What
-/// isn't prepared is 0.
+/// Decodes the record at index `i`, counted from 0, of the head's table from the store's bytes. A
+/// byte that isn't prepared reads as 0.
 pub fn region_at(store: &Store, head: &Head, i: u64) -> Region
     requires { head.now.place + 24 * i + 24 < 2 ^ 64 }
     ensures { result ≡ region_in (bytes_at (byte_of store.now) (head.now.place + 24 * i) 24) }

@@ -1,4 +1,5 @@
-//! Both tables in one store. Each call is that of one table; what is argued here is that the other stays.
+//! Both tables in one store. Each call edits one table as `lent` does; what is proved here is that
+//! the other table is unchanged.
 ghost use Rattle.std.specs.Prelude.{◌≡◌, ℕ, ◌+◌, ◌-◌, ◌*◌, ◌^◌, ◌<◌, ◌≤◌, ◌↔◌, ◌||◌, Bool, true, false, Some, [], length, get_or, OnOk, OnErr, IfOk, IsTrue};
 ghost use Rattle.bm_base.specs.Range.{covers, end_of, Meet};
 ghost use Rattle.phys_store.specs.Bytes.{byte_of, is_ready, AreReady, Wrote, bytes_at};
@@ -23,7 +24,7 @@ use run_edits::range_end_fits;
 use std::alloc::Global;
 use std::marker::Model;
 
-/// The records that a table has room for at first (`INIT_MEMBLOCK_REGIONS`).
+/// The number of records that a table has room for at first (`INIT_MEMBLOCK_REGIONS`).
 pub const FIRST_ROOM: u64 = 128;
 
 /// Both tables, in the bytes of the memory that they describe.
@@ -48,8 +49,12 @@ impl Model for Tables {
 }
 
 impl Tables {
-    /// Both tables empty, in the last two frames of the kernel's image, which is at least 8,192 bytes
-    /// long. Their bytes are prepared.
+    /// Creates two empty tables in the last two frames of the kernel's image, and prepares their
+    /// bytes. The image must be at least 8,192 bytes long.
+    ///
+    /// # Errors
+    ///
+    /// `Memory` if this program is out of memory.
     #[tactic(auto, using(crate::proofs::NewLaws::first_table))]
     pub fn new(alloc: Global, kernel: Range) -> Result<Tables, Memory>
         requires { 8192 ≤ kernel.size }
@@ -69,7 +74,7 @@ impl Tables {
         Ok(Tables { store, heads })
     }
 
-    /// Where the table lies, and how full it is.
+    /// Returns where the table lies, and how many records it has.
     #[tactic(auto, using(crate::proofs::TableSpelling::head_is))]
     pub fn head(&self, which: Which) -> Head
         ensures head { result ≡ head_of (table_in which self.now) }
@@ -83,8 +88,8 @@ impl Tables {
         }
     }
 
-    /// The record of that index, from 0, which is below the table's count. It tells all of the record: its
-    /// end is a `u64`, and its node below 1,024, or 1,024 for none.
+    /// Returns the table's record at index `i`, which is counted from 0 and must be below the
+    /// table's count. Its end is below 2^64, and its node at most 1,024, which means none.
     pub fn region(&self, which: Which, i: u64) -> Region
         requires { i < length (records_in which self.now) }
         ensures region { (r : RunOf LabelView) → result ≡ region_of (get_or (records_in which self.now) i r) }
@@ -96,7 +101,8 @@ impl Tables {
         }
     }
 
-    /// The table's records, to be read one after another: where the table lies is found once.
+    /// Returns a reader for the table's records. It finds the table's bytes once, so that a walk
+    /// over the table is fast.
     pub fn records(&self, which: Which) -> Records<'_>
         ensures { result ≡ records_in which self.now }
     {
@@ -106,8 +112,8 @@ impl Tables {
         }
     }
 
-    /// How many runs there are of the range's bytes that the table doesn't cover: covering the range adds
-    /// so many records at most.
+    /// Counts the runs of the range's bytes that the table doesn't cover. Covering the range adds
+    /// at most that many records.
     pub fn pieces(&self, which: Which, range: Range) -> u64
         ensures { result ≡ pieces range (value_at (records_in which self.now)) }
     {
@@ -117,8 +123,9 @@ impl Tables {
         }
     }
 
-    /// The bytes of the range that the table doesn't cover get the node, and no flag; 1,024 means no node, and
-    /// the reserved table knows no other (`memblock_add_range`).
+    /// Gives the node, and no flag, to the bytes of the range that the table doesn't cover
+    /// (`memblock_add_range`). Node 1,024 means none, and is the only one for the reserved table.
+    /// The range must not be empty, and the table must have room for its pieces.
     pub fn insert(&mut self, which: Which, range: Range, node: u32)
         requires some { 0 < range.size }
         requires node { IsNodeOf which node }
@@ -142,7 +149,8 @@ impl Tables {
         }
     }
 
-    /// The table doesn't cover the bytes of the range any more (`memblock_remove_range`).
+    /// Removes the bytes of the range from the table, which must have room for two more records
+    /// (`memblock_remove_range`).
     pub fn remove(&mut self, which: Which, range: Range)
         requires { length (records_in which self.old) + 2 ≤ room_in which self.old }
         ensures table { table_in which self.new ≡ record (table_in which self.old) {
@@ -163,7 +171,8 @@ impl Tables {
         }
     }
 
-    /// The memory bytes of the range get the node, and keep their flags (`memblock_set_node`).
+    /// Gives the node to the memory of the range, which keeps its flags (`memblock_set_node`). The
+    /// memory table must have room for two more records.
     pub fn set_node(&mut self, range: Range, node: u32)
         requires node { node < 1024 }
         requires room { length self.old.memory.records + 2 ≤ self.old.memory.room }
@@ -177,7 +186,8 @@ impl Tables {
         lent::set_node(&mut self.store, &mut self.heads.memory, &range, node);
     }
 
-    /// The memory bytes of the range become mirrored, and keep their node (`memblock_mark_mirror`).
+    /// Makes the memory of the range mirrored; it keeps its node (`memblock_mark_mirror`). The
+    /// memory table must have room for two more records.
     pub fn set_mirror(&mut self, range: Range)
         requires { length self.old.memory.records + 2 ≤ self.old.memory.room }
         ensures memory { self.new.memory ≡ record self.old.memory {
@@ -190,8 +200,8 @@ impl Tables {
         lent::set_mirror(&mut self.store, &mut self.heads.memory, &range);
     }
 
-    /// Memory is cut to whole frames: a byte keeps its label where all bytes of its frame have it, and
-    /// else is memory no more (`memblock_trim_memory`).
+    /// Cuts memory to whole frames: a byte keeps its label if all bytes of its frame have it, and
+    /// else is no longer memory (`memblock_trim_memory`).
     pub fn trim(&mut self)
         ensures memory { self.new.memory ≡ record self.old.memory { records = records_for (trim_frames (value_at self.old.memory.records)) } }
         ensures reserved { self.new.reserved ≡ self.old.reserved }
@@ -201,8 +211,12 @@ impl Tables {
         lent::trim(&mut self.store, &mut self.heads.memory);
     }
 
-    /// Prepares each address of the range, as the store's call of that name. `Memory` comes only where some address
-    /// wasn't prepared.
+    /// Prepares each address of the range, as `Store::prepare` does.
+    ///
+    /// # Errors
+    ///
+    /// `Memory` if this program is out of memory. The store is then unchanged, and some address of
+    /// the range wasn't prepared.
     pub fn prepare(&mut self, range: Range) -> Result<(), Memory>
         ensures memory { self.new.memory ≡ self.old.memory }
         ensures reserved { self.new.reserved ≡ self.old.reserved }
@@ -215,8 +229,8 @@ impl Tables {
         Ok(())
     }
 
-    /// The table moves to the place, and has twice the room there. What it leaves is zeros. The new bytes
-    /// are prepared, and belong to no table (`memblock_double_array`).
+    /// Moves the table to address `place`, with twice the room, and fills its old bytes with zeros
+    /// (`memblock_double_array`). The new bytes must be prepared, and must not overlap a table.
     pub fn relocate(&mut self, which: Which, place: u64)
         requires small { place + 48 * room_in which self.old < 2 ^ 64 }
         requires prepared { AreReady self.old.store place (48 * room_in which self.old) }
@@ -238,7 +252,7 @@ impl Tables {
         }
     }
 
-    /// Whether some address of the range belongs to a table.
+    /// Tests whether an address of the range belongs to a table.
     pub fn overlaps_table(&self, range: Range) -> bool
         ensures { IsTrue result ↔ Overlaps self.now range }
     {
@@ -246,7 +260,8 @@ impl Tables {
             || lent::bytes(&self.heads.reserved).overlaps(&range)
     }
 
-    /// Writes the byte to each address of the range, which is prepared and belongs to no table.
+    /// Writes the byte to each address of the range, which must be prepared and must not overlap a
+    /// table.
     pub fn fill(&mut self, range: Range, byte: u8)
         requires prepared { AreReady self.old.store range.base range.size }
         requires apart { ¬ Overlaps self.old range }
@@ -257,7 +272,7 @@ impl Tables {
         self.store.fill(range, byte);
     }
 
-    /// Reads the bytes from the address on, the tables' own too.
+    /// Reads the bytes from address `at` on. They may be a table's own.
     pub fn read(&self, at: u64, into: &mut [u8])
         requires { at + length into.old < 2 ^ 64 }
         ensures { into.new ≡ bytes_at (byte_of self.now.store) at (length into.old) }
@@ -265,7 +280,7 @@ impl Tables {
         self.store.read(at, into);
     }
 
-    /// The store and the heads: whoever has both has the tables.
+    /// Takes the tables apart into the store and the heads, which together hold all of them.
     #[tactic(auto, using(crate::proofs::TableSpelling::head_is))]
     pub fn into_parts(self) -> (Store, Heads)
         ensures store { result.0 ≡ self.store }
@@ -279,7 +294,8 @@ impl Tables {
     }
 }
 
-/// The head of an empty table, at the start of one of the last frames of the kernel's image.
+/// Returns the head of an empty table at the start of one of the last frames of the kernel's
+/// image: `frames` frames before its end.
 fn built_in(kernel: Range, frames: u64) -> Head
     requires size { 8192 ≤ kernel.size }
     requires frames { frames ≤ 2 }
@@ -293,7 +309,7 @@ fn built_in(kernel: Range, frames: u64) -> Head
     }
 }
 
-// The tables are the bytes and two heads: nothing else tells of a record.
+// The tables are the store and two heads, and have no other copy of a record.
 #[test]
 fn tables_are_bytes_and_two_heads(rt: HostRuntime) -> Result<(), std::test::Fail> {
     let kernel = Range {

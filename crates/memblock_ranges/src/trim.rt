@@ -1,5 +1,5 @@
-//! Trimming: each record is cut to whole frames where it stands, in one pass from the lowest on. A record
-//! never needs two, so the pass wants no room.
+//! Cuts each record to whole frames in its slot, in one pass from the lowest record up. A record
+//! is never split in two, so the pass needs no room.
 ghost use Rattle.std.specs.Prelude.{◌≡◌, ◌+◌, ◌-◌, ◌%◌, ◌<◌, ◌≤◌};
 ghost use Rattle.bm_base.specs.Range.{end_of};
 ghost use Rattle.address_runs.specs.Runs.{value_at};
@@ -12,7 +12,8 @@ use address_runs::Stretch;
 use bm_base::{FRAME_SIZE, Range};
 use run_edits::{Slots, emit};
 
-/// Where the whole frames of the range begin and end; nothing lies between where there are none.
+/// Returns where the whole frames of the range begin and end. If it has none, the first address
+/// isn't below the second.
 fn frames(range: &Range) -> (u64, u64)
     ensures start { result.0 < result.1 → result.0 ≡ range.now.base + (FRAME_SIZE - range.now.base % FRAME_SIZE) % FRAME_SIZE }
     ensures until { result.1 ≡ end_of range.now - end_of range.now % FRAME_SIZE }
@@ -26,7 +27,7 @@ fn frames(range: &Range) -> (u64, u64)
     (start, until)
 }
 
-/// Each record is cut to whole frames, and dropped where it has none.
+/// Cuts each record to whole frames, and removes a record without any.
 pub fn trim<T: Slots<Record>>(table: &mut T)
     requires { AreRecords (T.list table.old) }
     ensures list { T.list table.new ≡ records_for (trim_frames (value_at (T.list table.old))) }

@@ -9,7 +9,7 @@ use Rattle.memblock_model.specs.Labels.{LabelView, plain_label}
 use Rattle.memblock_model.specs.Same.{same_label}
 use Rattle.memblock_ranges.proofs.pieces.count_pieces.Given as goal
 
--- the pieces that end below the address are counted
+-- the pieces that end below the address have been counted
 abbrev pub invariant-loop-from : goal.invariant-loop-from
 invariant-loop-from g l =
     let f : ℕ → Option LabelView = value_at (g.T.Rows.list l.table) in record {

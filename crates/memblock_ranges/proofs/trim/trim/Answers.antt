@@ -50,7 +50,7 @@ loop-read-preserved g c =
       );
     }
 
--- what is left when all are read
+-- all records have been read
 all_cut : (f : ℕ → Option LabelView) (at write read : ℕ) (t new : List (RunOf LabelView)) → NothingFrom (2 ^ 64) f →
     IsSweptTo (trim_frames f) at (take write t) →
     Turns f at (drop read t) →

@@ -6,7 +6,7 @@ use Rattle.memblock_model.specs.Items.{trim_frames}
 use Rattle.memblock_ranges.proofs.TrimLaws.{Turns}
 use Rattle.memblock_ranges.proofs.trim.trim.Given as goal
 
--- the records up to an address are cut and written, those behind it are left
+-- the records before `read` are cut and written, and those from `read` on are unchanged
 abbrev pub invariant-loop-read : goal.invariant-loop-read
 invariant-loop-read g l =
     let f : ℕ → Option LabelView = value_at (g.T.Rows.list l.fn.table) in record {

@@ -38,7 +38,7 @@ fill-requires c =
     let low = count_is c.args.self.now.store.now c.args.self.now.head.now in
     λ x from to. c.move_bytes.ensures.ready x ∙ t.prepared x (omega (arith, from)) (omega (arith, to, t.few, c.requires, low))
 
--- what the table becomes
+-- the table after the edit
 closed : (c : After-fill) → let l = c.args.self.now in
     let rs = list_in l.store.now l.head.now in
     Edited l.store.now c.fill.new.self l.head.now.place l.head.now.room (l.head.now.count - c.args.n)

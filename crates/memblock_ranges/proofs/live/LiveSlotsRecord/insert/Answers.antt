@@ -12,7 +12,7 @@ move_bytes-requires c =
     let low = count_is c.args.self.now.store.now c.args.self.now.head.now in
     λ x from to. c.args.self.now.table.prepared x (omega (arith, from)) (omega (arith, to, c.requires.within, c.requires.room, low))
 
--- what the table becomes
+-- the table after the edit
 opened : (c : After-write) → let l = c.args.self.now in
     let rs = list_in l.store.now l.head.now in
     Edited l.store.now c.write.new.self l.head.now.place l.head.now.room (l.head.now.count + 1)

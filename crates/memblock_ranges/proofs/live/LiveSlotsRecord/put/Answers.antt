@@ -21,7 +21,7 @@ write-requires c =
     ∙ length-fields_of c.args.item.base c.args.item.size (flags_field c.args.item.value) (node_field c.args.item.value) in
     λ x from to. t.prepared x (omega (arith, from)) (omega (arith, to, long, t.few, c.requires, low))
 
--- what the table becomes
+-- the table after the edit
 written : (c : After-write) → let l = c.args.self.now in
     Edited l.store.now c.write.new.self l.head.now.place l.head.now.room l.head.now.count
     (set (list_in l.store.now l.head.now) c.args.i c.args.item)
