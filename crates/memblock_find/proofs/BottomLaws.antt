@@ -1,4 +1,4 @@
--- Places in a stretch of addresses of one label, from below, and the lowest of them.
+-- Places in a stretch of addresses of one label, and the lowest of them.
 use Rattle.std.proofs.Common.{◌≡◌, ◌≢◌, ℕ, ◌+◌, ◌-◌, ◌*◌, ◌/◌, ◌%◌, ◌^◌, ◌<◌, ◌≤◌, Bool, true, false, is_some, Option, Some, None, max, min, MatchOption, sym, ◌∙◌, ap, subst, inl, inr, arith}
 use Rattle.std.proofs.Math.Nat.{mul-le-mul_right, mod-eq_of_lt, mod_self}
 use Rattle.std.specs.Int.Bits.{bit_and}
@@ -19,7 +19,7 @@ record StaysIn (memory : Labels) (until : ℕ) (label : Option LabelView) (last 
   carries : memory b ≡ label
   held : label ≢ None
 
--- what is known of the stretch of addresses in which a place is sought
+-- the stretch of addresses in which a place is searched for
 pub record IsRise (memory reserved : Labels) (from until : ℕ) (label : Option LabelView) : Type 0 where
   pub stays : Stays (unclaimed memory reserved) from until label
   pub up : label ≢ None → IsUpTo (unclaimed memory reserved) from until label
@@ -55,7 +55,7 @@ none_begins_refused mirror memory reserved q from until label found some known i
     true≢false (sym (place_serves mirror memory reserved q b place)
     ∙ ap (λ (o : Option LabelView). serves mirror q.node o) (lies.carries ∙ is) ∙ refused))
 
--- a place that begins in a stretch of memory lies between its ends, in the window
+-- a place that begins in a stretch of memory lies in the stretch and in the window
 between_ends : (mirror : Bool) (memory reserved : Labels) (q : Query) (from until b : ℕ) (label : Option LabelView) → 1 ≤ q.size
     → IsRise memory reserved from until label → fits_in mirror memory reserved q b ≡ true → from ≤ b → b < until
     → IsBetween from (min until q.hi) q.size q.align b
@@ -64,7 +64,8 @@ between_ends mirror memory reserved q from until b label some known fits above u
     let place = fits_in-parts mirror memory reserved q b fits in
     record { aligned = place.aligned; above = above; below = omega (arith, inside.below, place.high) }
 
--- so what is answered of a stretch of memory that serves, the first place between its ends, is the lowest place in it, or there is none
+-- in a stretch of memory that serves, the first aligned address with room is the lowest place;
+-- without one there is no place
 pub first_of_stretch : (mirror : Bool) (memory reserved : Labels) (q : Query) (from until : ℕ) (label : Option LabelView) (found : LabelView)
     (answer : Option ℕ) → 1 ≤ q.size → q.lo ≤ from → 4096 ≤ from
     → IsRise memory reserved from until label → label ≡ Some found → serves mirror q.node (Some found) ≡ true
@@ -86,7 +87,7 @@ first_of_stretch mirror memory reserved q from until label found (Some a) some l
           omega arith);
     }
 
--- the lowest place of the last stretch is the answer, where all stretches below have none
+-- if no place begins in the stretches below, the lowest place of a stretch is the result
 pub lowest_answer : (mirror : Bool) (memory reserved : Labels) (q : Query) (at until : ℕ) (answer : Option ℕ) → 1 ≤ q.size
     → NoPlaceBegins mirror memory reserved q (max q.lo 4096) at
     → MatchOption answer (NoPlaceBegins mirror memory reserved q at until) (IsBestFrom mirror memory reserved q at)
@@ -102,7 +103,7 @@ lowest_answer mirror memory reserved q at until (Some a) size past best some sma
           best.first b fits (past b fits (omega (arith, place.low, place.first)));
     }))
 
--- with no place in a stretch none begins below its end
+-- if a stretch has no place, none begins below its end
 pub none_yet : (mirror : Bool) (memory reserved : Labels) (q : Query) (low at until : ℕ) (answer : Option ℕ)
     → NoPlaceBegins mirror memory reserved q low at
     → MatchOption answer (NoPlaceBegins mirror memory reserved q at until) (IsBestFrom mirror memory reserved q at)
@@ -110,7 +111,7 @@ pub none_yet : (mirror : Bool) (memory reserved : Labels) (q : Query) (low at un
 none_yet mirror memory reserved q low at until None past none is = λ b fits above. none b fits (past b fits above)
 none_yet mirror memory reserved q low at until (Some a) past best is = absurd (true≢false is)
 
--- and where the walk has come to the window's end there is none
+-- if the walk has reached the window's end without a place, there is none
 pub none_at_all : (mirror : Bool) (memory reserved : Labels) (q : Query) (at : ℕ) → 1 ≤ q.size
     → NoPlaceBegins mirror memory reserved q (max q.lo 4096) at → q.hi ≤ at
     → top_place_in (record { mirror = mirror; up = true }) memory reserved q ≡ None
@@ -120,7 +121,7 @@ none_at_all mirror memory reserved q at some past high = top_place_in-fails (rec
     let begins = past b fits (omega (arith, place.low, place.first)) in
     omega (arith, place.high)))
 
--- rounding up gives a multiple, and the first one from the address on
+-- rounding up gives the first multiple from the number on
 next_aligned : (t n : ℕ) → 0 < n → (t + (n - t % n) % n) % n ≡ 0
 next_aligned t n some =
     let parts = div-add-mod' t n in
@@ -152,12 +153,12 @@ next_first t n b some aligned from =
       | inr ge ↦ let product : next / n * n ≤ b / n * n = mul-le-mul_right n ge in omega arith
     ]
 
--- the same by masks, of a power of two
+-- rounding up to a power of two by masks
 masked : (low align k : ℕ) → align ≡ 2 ^ k → bit_and (align - bit_and low (align - 1)) (align - 1) ≡ (align - low % align) % align
 masked low align k power =
     mask_rest (align - bit_and low (align - 1)) align k power ∙ ap (λ (n : ℕ). (align - n) % align) (mask_rest low align k power)
 
--- the first multiple from the address on, where the bytes end in time
+-- the first multiple from the address on, if there is room for the bytes
 pub first_is : (low high size align k place : ℕ) → align ≡ 2 ^ k
     → place ≡ low + bit_and (align - bit_and low (align - 1)) (align - 1) → place + size ≤ high
     → IsBetween low high size align place × ((b : ℕ) → IsBetween low high size align b → place ≤ b)

@@ -1,4 +1,4 @@
--- What a look down tells, and the stretch of addresses that two looks tell of.
+-- What a look down says, and the stretch of addresses that two looks describe.
 use Rattle.std.proofs.Common.{◌≡◌, ◌≢◌, ◌⊎◌, ℕ, ◌+◌, ◌-◌, ◌<◌, ◌≤◌, is_none, if◌then◌else◌, Option, Some, None, List, length, max, refl, sym, ◌∙◌, ap, subst, inl, inr, arith}
 use Rattle.std.proofs.lemmas.Bool.{cases_lt}
 use Rattle.address_runs.specs.Runs.{RunOf, run_end, value_at, AreRuns}
@@ -9,7 +9,7 @@ use Rattle.memblock_find.specs.Free.{unclaimed, IsDownTo}
 use Rattle.memblock_find.specs.Walk.{run_at, BegunAmong, BegunBelow, IsLookDown, IsDownAt, label_at}
 use Rattle.memblock_find.proofs.SlotLaws.{ends_before, ends_ascend, bases_ascend, size_at, value_in, none_beside, other_under}
 
--- with no record below the address nothing is there
+-- if no record begins below the address, the addresses below it have no label
 pub look_bottom : (rs : List (RunOf LabelView)) (at : ℕ) → BegunBelow at rs 0 → IsLookDown rs at (record { label = None; bound = 0; slot = 0 })
 look_bottom rs at begun = record {
   down = record {
@@ -21,7 +21,7 @@ look_bottom rs at begun = record {
   below = λ some. some;
 }
 
--- down to the end of the last record below the address there is nothing
+-- between the end of the last record below the address and the address there is no label
 pub look_gap : (rs : List (RunOf LabelView)) (slot at : ℕ) → 0 < slot → BegunBelow at rs slot → run_end (run_at rs (slot - 1)) < at
     → IsLookDown rs at (record { label = None; bound = run_end (run_at rs (slot - 1)); slot = slot })
 look_gap rs slot at some begun under_at =
@@ -50,7 +50,7 @@ look_gap rs slot at some begun under_at =
       below = λ _. under_at;
     }
 
--- in the last record that begins below the address there is its label
+-- in the last record that begins below the address, the label is the record's
 pub look_in : (rs : List (RunOf LabelView)) (slot at : ℕ) → 0 < slot → BegunBelow at rs slot → at ≤ run_end (run_at rs (slot - 1))
     → IsLookDown rs at (record { label = Some (run_at rs (slot - 1)).value; bound = (run_at rs (slot - 1)).base; slot = slot - 1 })
 look_in rs slot at some begun at_end =
@@ -76,20 +76,20 @@ look_in rs slot at some begun at_end =
       below = λ _. base;
     }
 
--- what is unclaimed follows from what both tables say
+-- what both tables give an address decides whether it is unclaimed
 pub unclaimed_is : (memory reserved : Labels) (x : ℕ) (a b : Option LabelView) → memory x ≡ a → reserved x ≡ b
     → unclaimed memory reserved x ≡ (if is_none b then a else None)
 unclaimed_is memory reserved x a b m r =
     ap (λ (o : Option LabelView). if is_none o then memory x else None) r ∙ ap (λ (o : Option LabelView). if is_none b then o else None) m
 
--- the addresses of a cursor's stretch carry its label
+-- the addresses of a cursor's stretch have its label
 pub stretch_stays : (ms rs : List (RunOf LabelView)) (c : Cursor) (from : ℕ) (label : Option LabelView) → IsDownAt ms rs c
     → from ≡ max c.memory.bound c.reserved.bound → label ≡ label_at c → Stays (unclaimed (value_at ms) (value_at rs)) from c.at label
 stretch_stays ms rs c from label known from_is label_is x above under =
     unclaimed_is (value_at ms) (value_at rs) x c.memory.label c.reserved.label
     (known.memory.down.stays x (omega arith) under) (known.reserved.down.stays x (omega arith) under) ∙ sym label_is
 
--- where memory or the claims change, something else is unclaimed
+-- where memory's label changes, or a claim begins, unclaimed memory changes
 pub unclaimed_changes : (carried claimed label : Option LabelView) → (carried ≢ label) ⊎ (claimed ≢ None) → label ≢ None
     → (if is_none claimed then carried else None) ≢ label
 unclaimed_changes carried None label (inl other) some = other
@@ -106,7 +106,7 @@ stretch_ends memory reserved x m r a None other_m other_r next some =
       | inr ge ↦ unclaimed_changes (memory x) (reserved x) a (inl (other_m x (omega arith))) some
     ]
 
--- and where they are unclaimed memory, the address below them carries something else
+-- below a stretch of unclaimed memory the address has another label
 pub stretch_down : (ms rs : List (RunOf LabelView)) (c : Cursor) (from : ℕ) (label : Option LabelView) → IsDownAt ms rs c
     → from ≡ max c.memory.bound c.reserved.bound → label ≡ label_at c → label ≢ None
     → IsDownTo (unclaimed (value_at ms) (value_at rs)) from c.at label
@@ -120,7 +120,7 @@ stretch_down ms rs c from label known from_is label_is some =
       another = λ x next same. ends x next (same ∙ label_is);
     }
 
--- no more records begin below an address than there are
+-- all records that begin below an address are among all records
 pub among_all : (rs : List (RunOf LabelView)) (at count : ℕ) → AreRuns rs → count ≡ length rs → BegunAmong at rs count
 among_all rs at count runs all = record {
   runs = runs;
@@ -128,7 +128,8 @@ among_all rs at count runs all = record {
   behind = λ i from less. absurd (omega arith);
 }
 
--- the records of a table that is searched for those that begin below an address: all that may, where the last of them does
+-- if the last of the first `count` records begins below the address, they are exactly those that
+-- do
 pub all_begun : (rs : List (RunOf LabelView)) (at count : ℕ) → BegunAmong at rs count → (0 < count → (run_at rs (count - 1)).base < at)
     → BegunBelow at rs count
 all_begun rs at count among last = record {

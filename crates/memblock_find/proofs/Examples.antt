@@ -1,4 +1,4 @@
--- Two small tables, computed or by the laws: what is unclaimed, the runs and stretches of it, places, and positions in a table.
+-- Examples with two small tables, computed or proved by the laws.
 use Rattle.std.proofs.Common.{◌≡◌, ℕ, zero, suc, ◌+◌, ◌-◌, ◌^◌, ◌<◌, ◌≤◌, true, false, is_some, Option, Some, None, unwrap_or, List, [], ◌∷◌, refl, sym, ◌∙◌, ap, arith}
 use Rattle.std.proofs.lemmas.Bool.{true≢false}
 use Rattle.std.proofs.lemmas.Bool.Decides.{nat_tests}
@@ -18,7 +18,7 @@ use Rattle.memblock_find.proofs.NodeLaws.{not_serving}
 use Rattle.memblock_find.proofs.PlaceLaws.{le_from_not_lt}
 use Rattle.memblock_find.proofs.UpLaws.{look_top, look_over, ended_so_far, not_ended_from}
 
--- 0x1000 to 0x1FFF of node 0 and 0x2000 to 0x2FFF of node 1, of which 0x1800 to 0x18FF are claimed
+-- 0x1000 to 0x1FFF of node 0 and 0x2000 to 0x2FFF of node 1; 0x1800 to 0x18FF are claimed
 abbrev of_node : ℕ → LabelView
 of_node node = with_node (Some node) plain_label
 
@@ -38,7 +38,7 @@ tables = record {
 abbrev free : Labels
 free = free_in tables
 
--- the node of what a byte carries, as a number
+-- the node of a label, as a number
 abbrev number : Option LabelView → ℕ
 number None = 2
 number (Some label) = unwrap_or label.node 3
@@ -50,14 +50,15 @@ unclaimed_examples = (refl, refl)
 free_examples : (free_in tables 0x2000 ≡ Some (of_node 1)) × (free_in tables 0x3000 ≡ None)
 free_examples = (refl, refl)
 
--- a pass sees the same, wherever it is
+-- a walk has the same unclaimed memory, whatever address it has reached
 abbrev pass : Pass
 pass = record { memory = memory_runs; reserved = claims; at = 0x2800 }
 
 pass_examples : (free_of pass 0x1000 ≡ Some (of_node 0)) × (free_of pass 0x1840 ≡ None)
 pass_examples = (refl, refl)
 
--- from 0x2000 up to 0x3000 there is one label, and the address below is of another node, the one behind no memory
+-- 0x2000 to below 0x3000 have one label; the address below is of another node, and 0x3000 isn't
+-- memory
 node_1_down : IsDownTo free 0x2000 0x3000 (Some (of_node 1))
 node_1_down = record {
   stays = λ x above under. grind (arith, nat_tests);
@@ -70,14 +71,15 @@ node_1_down = record {
 node_1_up : IsUpTo free 0x2000 0x3000 (Some (of_node 1))
 node_1_up = record { stays = node_1_down.stays; another = λ same. cc }
 
--- a stretch that could be longer is none
+-- a stretch whose label continues below it
 not_all_down : IsDownTo free 0x2001 0x3000 (Some (of_node 1)) → ⊥
 not_all_down known = known.another 0x2000 refl refl
 
 not_all_up : IsUpTo free 0x2000 0x2FFF (Some (of_node 1)) → ⊥
 not_all_up known = known.another refl
 
--- the run below 0x1900, over the claim, is cut at the claim's start; that below 0x2800 is cut there
+-- the run below 0x1900, where a claim ends, is cut to end at the claim's start; the run below
+-- 0x2800 is cut to end there
 run_below_claim : IsRunBelow free 0x1900 (record { base = 0x1000; size = 0x800; value = of_node 0 })
 run_below_claim = record {
   some = omega arith;
@@ -103,7 +105,8 @@ run_below_cut = record {
 not_the_highest : IsRunBelow free 0x2800 (record { base = 0x1900; size = 0x700; value = of_node 0 }) → ⊥
 not_the_highest known = let none : free 0x2000 ≡ None = known.behind 0x2000 (omega arith) (omega arith) in cc
 
--- the run from 0x1840 on, in the claim, begins at its end; that from 0x1A00 on begins there
+-- the run from 0x1840 on, inside a claim, begins at the claim's end; the run from 0x1A00 on begins
+-- there
 run_from_claim : IsRunFrom free 0x1840 (record { base = 0x1900; size = 0x700; value = of_node 0 })
 run_from_claim = record {
   some = omega arith;
@@ -130,7 +133,7 @@ between_yes = record { aligned = refl; above = omega arith; below = omega arith 
 between_no : IsBetween 0x1900 0x2000 0x100 0x100 0x2000 → ⊥
 between_no known = let ends = known.below in omega arith
 
--- of 0x1000 bytes, whatever their address, only those at 0x2000 fit
+-- 0x1000 bytes, without alignment, fit only at 0x2000
 abbrev pages : Query
 pages = record { lo = 0; hi = 0x4000; size = 0x1000; align = 1; node = None }
 
@@ -153,7 +156,7 @@ best_page = record { fits = page_fits; last = λ b fits ends. omega arith }
 no_page_at_first : IsBestBy false (value_at memory_runs) (value_at claims) pages 0x3000 0x1000 → ⊥
 no_page_at_first known = let order = known.last 0x2000 page_fits (omega arith) in omega arith
 
--- a page whose last byte lies behind all memory doesn't fit
+-- a page that ends past all memory doesn't fit
 no_page_past : (b : ℕ) → fits_in false (value_at memory_runs) (value_at claims) pages b ≡ true → 0x3000 < b + 0x1000 → ⊥
 no_page_past b fits past =
     let place = fits_in-parts false (value_at memory_runs) (value_at claims) pages b fits in
@@ -168,7 +171,7 @@ no_page_above b fits ends = le_from_not_lt 0x3000 (b + 0x1000) (no_page_past b f
 a_page_ends : NoPlaceEnds false (value_at memory_runs) (value_at claims) pages 0x2FFF 0x3000 → ⊥
 a_page_ends none = let ends = none 0x2000 page_fits (omega arith) in omega arith
 
--- and from below: that at 0x2000 is the lowest from there on, and behind it none begins before the window's end
+-- the search from below: 0x2000 is the lowest place from there on, and no place begins above it
 lowest_page : IsBestFrom false (value_at memory_runs) (value_at claims) pages 0x2000 0x2000
 lowest_page = record { fits = page_fits; first = λ b fits above. above }
 
@@ -181,7 +184,8 @@ no_page_behind b fits above = absurd (no_page_past b fits (omega arith))
 a_page_begins : NoPlaceBegins false (value_at memory_runs) (value_at claims) pages 0x1000 0x2001 → ⊥
 a_page_begins none = let begins = none 0x2000 page_fits (omega arith) in omega arith
 
--- memory of the node, where one is asked for, and mirrored, where that is; where neither is, anything serves
+-- memory of the node if one is asked for, and mirrored if that is asked for; otherwise all memory,
+-- but no other addresses
 serves_examples : (serves false (Some 1) (Some (of_node 1)) ≡ true) × (serves false (Some 0) (Some (of_node 1)) ≡ false)
     × (serves true (Some 1) (Some (of_node 1)) ≡ false)
     × (serves true None (Some (with_mirror (of_node 1))) ≡ true)
@@ -189,7 +193,7 @@ serves_examples : (serves false (Some 1) (Some (of_node 1)) ≡ true) × (serves
     × (serves false None None ≡ true)
 serves_examples = (refl, refl, refl, refl, refl, refl)
 
--- the second record, and behind the last one
+-- the second record, and an index past the last one
 record_examples : (run_at memory_runs 1 ≡ record { base = 0x2000; size = 0x1000; value = of_node 1 })
     × ((run_at memory_runs 2).size ≡ 0)
 record_examples = (refl, refl)
@@ -222,7 +226,7 @@ begun_one = record {
 not_both_begun : BegunBelow 0x2000 memory_runs 2 → ⊥
 not_both_begun known = let base = known.before 1 (omega arith) in omega arith
 
--- no more than both begin below 0x2000, and no more than one; one isn't all that begin below 0x2800
+-- at most two, and at most one, records begin below 0x2000; more than one begin below 0x2800
 among_both : BegunAmong 0x2000 memory_runs 2
 among_both = among_all memory_runs 0x2000 2 memory_in_order refl
 
@@ -232,7 +236,7 @@ among_one = record { runs = memory_in_order; within = omega arith; behind = seco
 not_among_one : BegunAmong 0x2800 memory_runs 1 → ⊥
 not_among_one known = let base = known.behind 1 (omega arith) (omega arith) in omega arith
 
--- one record of memory ends by 0x2800, and the claim
+-- one record of memory ends at or below 0x2800, and so does the claim
 ended_one : EndedBy 0x2800 memory_runs 1
 ended_one = record {
   runs = memory_in_order;
@@ -252,7 +256,7 @@ ended_claim = record {
 not_ended : EndedBy 0x2800 memory_runs 2 → ⊥
 not_ended known = let end = known.before 1 (omega arith) in omega arith
 
--- from 0x2000 on there is no memory of node 0, but there is of node 1, and of any
+-- from 0x2000 on there is no memory of node 0, but there is memory of node 1
 second_alone : (i x : ℕ) → i < 2 → 0x2000 ≤ x → x < (run_at memory_runs i).base + (run_at memory_runs i).size
     → serves false (Some 0) (Some (run_at memory_runs i).value) ≡ false
 second_alone zero x less above under = absurd (omega arith)
@@ -288,7 +292,7 @@ down_here = record { at = 0x2800; memory = memory_below; reserved = no_claim_bel
 walks_down : IsDownAt memory_runs claims down_here
 walks_down = record { memory = look_down_in; reserved = look_down_gap }
 
--- a walk up from there: up to 0x3000, and no claim is left
+-- a walk up from there: memory up to 0x3000, and no claim is left
 abbrev memory_above : Look
 memory_above = record { label = Some (of_node 1); bound = 0x3000; slot = 2 }
 
@@ -310,7 +314,7 @@ walks_up = record { memory = look_up_in; reserved = look_up_top }
 abbrev in_claim : Look
 in_claim = record { label = Some plain_label; bound = 0x1800; slot = 0 }
 
--- where both looks tell of memory and of no claim, the label is memory's; in a claim there is none
+-- if both looks describe unclaimed memory, the label is memory's; in a claim there is none
 label_examples : (label_at down_here ≡ Some (of_node 1))
     × (label_at (record { at = 0x1880; memory = memory_below; reserved = in_claim }) ≡ None)
 label_examples = (refl, refl)
@@ -318,7 +322,7 @@ label_examples = (refl, refl)
 not_the_same : ◌≡◌ {A = ℕ} 0 1 → ⊥
 not_the_same same = omega arith
 
--- a cursor whose look reaches over another label is none
+-- a look that reaches past a change of label isn't one
 not_so_far : IsLookDown memory_runs 0x2800 (record { label = Some (of_node 1); bound = 0x1FFF; slot = 1 }) → ⊥
 not_so_far known =
     let here = known.down.stays 0x1FFF (omega arith) (omega arith) in

@@ -1,4 +1,4 @@
--- Passing over records that don't serve.
+-- Laws for passing over records that don't serve a search.
 use Rattle.std.proofs.Common.{◌≡◌, ℕ, zero, suc, ◌+◌, ◌-◌, ◌<◌, ◌≤◌, Bool, false, Option, Some, None, List, [], ◌∷◌, length, sym, ◌∙◌, ap, inl, inr, arith}
 use Rattle.std.proofs.lemmas.Bool.{cases_lt, true≢false}
 use Rattle.address_runs.specs.Runs.{RunOf, run_end, value_at, AreRuns}
@@ -12,7 +12,7 @@ use Rattle.memblock_find.specs.Walk.{run_at, BegunBelow, IsLookDown}
 use Rattle.memblock_find.proofs.PlaceLaws.{le_from_not_lt, place_serves}
 use Rattle.memblock_find.proofs.SlotLaws.{ends_before, ends_ascend, bases_ascend, size_at, value_in}
 
--- the records that begin below a look's bound end by it
+-- the first records that begin below a look's bound end at or below it
 pub ends_by_bound : (rs : List (RunOf LabelView)) (from count at : ℕ) (look : Look) → IsLookDown rs from look → count ≤ look.slot
     → (count ≡ 0 → at ≡ 0) → (0 < count → at ≡ run_end (run_at rs (count - 1))) → at ≤ look.bound
 ends_by_bound rs from count at look known fewer none end =
@@ -32,7 +32,7 @@ ends_by_bound rs from count at look known fewer none end =
       | inr ge ↦ let is = none (omega arith) in omega arith
     ]
 
--- just the records up to the last one begin below its end
+-- exactly the first `count` records begin below the end of the last of them
 pub begun_at_end : (rs : List (RunOf LabelView)) (count at : ℕ) → AreRuns rs → count ≤ length rs
     → (count ≡ 0 → at ≡ 0) → (0 < count → at ≡ run_end (run_at rs (count - 1))) → BegunBelow at rs count
 begun_at_end rs count at runs within none end =
@@ -54,7 +54,8 @@ begun_at_end rs count at runs within none end =
           ];
     }
 
--- an address that lies in no record that serves isn't memory that serves, where bytes without memory don't serve
+-- an address outside all records that serve isn't memory that serves, if addresses without memory
+-- don't serve
 pub not_serving : (mirror : Bool) (node : Option ℕ) (x : ℕ) (rs : List (RunOf LabelView)) → serves mirror node None ≡ false
     → ((i : ℕ) → i < length rs → (run_at rs i).base ≤ x → x < run_end (run_at rs i) → serves mirror node (Some (run_at rs i).value) ≡ false)
     → serves mirror node (value_at rs x) ≡ false
@@ -69,7 +70,7 @@ not_serving mirror node x (r ∷ rs) narrow other =
       ]
     ]
 
--- so none is, from the end of the last record before them up to the bound
+-- from the end of the last record before those that don't serve up to the bound, no address serves
 pub passed_over : (rs : List (RunOf LabelView)) (mirror : Bool) (node : Option ℕ) (from count at : ℕ) (look : Look) → IsLookDown rs from look
     → serves mirror node None ≡ false → count ≤ look.slot → (0 < count → at ≡ run_end (run_at rs (count - 1)))
     → ((i : ℕ) → count ≤ i → i < look.slot → serves mirror node (Some (run_at rs i).value) ≡ false)
@@ -85,7 +86,7 @@ passed_over rs mirror node from count at look known narrow fewer end others x ab
     let order = known.next.behind i (omega arith) less in omega arith) in
     others i behind (omega arith))
 
--- no place ends where nothing serves
+-- no place ends where no memory serves
 pub past_refused : (mirror : Bool) (memory reserved : Labels) (q : Query) (at from : ℕ) → 1 ≤ q.size
     → NoAddressServes mirror memory q.node at from
     → NoPlaceEnds mirror memory reserved q from q.hi → NoPlaceEnds mirror memory reserved q at q.hi

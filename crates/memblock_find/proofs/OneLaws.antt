@@ -1,4 +1,5 @@
--- The search over records is the search over items, and there is one run on each side of an address.
+-- The search over records is the search over items, and there is one run on each side of an
+-- address.
 use Rattle.std.proofs.Common.{◌≡◌, ℕ, ◌-◌, ◌^◌, ◌≤◌, Bool, Some, None, List, refl, sym, ◌∙◌, ap, arith}
 use Rattle.std.proofs.lemmas.Option.{same_Some}
 use Rattle.address_runs.specs.Runs.{RunOf, run_end, value_at}
@@ -16,7 +17,7 @@ use Rattle.memblock_ranges.specs.Tables.{Contents}
 use Rattle.memblock_find.specs.Free.{unclaimed, free_in, IsRunBelow}
 use Rattle.memblock_find.proofs.PlaceLaws.{le_from_not_lt}
 
--- records that are those of the items say what the items say
+-- records that are those of the items give each address the items' label
 says : (w : Which) (items : List Item) (rs : List (RunOf LabelView)) → NothingFrom (2 ^ 64) (table_of w items) → rs ≡ records_of w items
     → value_at rs ≡ table_of w items
 unfolding records_of
@@ -58,7 +59,7 @@ same_run r s bases ends values =
     let sizes : r.size ≡ s.size = omega arith in
     λ j. record { base = bases j; size = sizes j; value = values j }
 
--- of two runs below an address the one ends no earlier than the other
+-- of two highest runs below an address, the second doesn't end above the first
 no_lower_end : (f : Labels) (below : ℕ) (r s : RunOf LabelView) → IsRunBelow f below r → IsRunBelow f below s → run_end s ≤ run_end r
 no_lower_end f below r s one two =
     le_from_not_lt (run_end r) (run_end s) (λ lt.
@@ -69,7 +70,7 @@ no_lower_end f below r s one two =
     let here : f x ≡ Some s.value = two.run.stays x (omega arith) (omega arith) in
     cc)
 
--- and begins no later, where both carry the same
+-- if they end together and have one label, the second doesn't begin below the first
 no_higher_base : (f : Labels) (below : ℕ) (r s : RunOf LabelView) → IsRunBelow f below r → IsRunBelow f below s → run_end r ≡ run_end s
     → r.value ≡ s.value → s.base ≤ r.base
 no_higher_base f below r s one two ends values =

@@ -1,4 +1,4 @@
--- Places in a stretch of addresses of one label, and the top one of them.
+-- Places in a stretch of addresses of one label, and the highest of them.
 use Rattle.std.proofs.Common.{◌≡◌, ◌≢◌, ℕ, ◌+◌, ◌-◌, ◌*◌, ◌/◌, ◌%◌, ◌^◌, ◌<◌, ◌≤◌, Bool, true, false, is_some, is_none, if◌then◌else◌, Option, Some, None, max, min, MatchOption, refl, sym, ◌∙◌, ap, subst, inl, inr, arith}
 use Rattle.std.proofs.Math.Nat.{mul-le-mul_right, one-le-pow}
 use Rattle.std.specs.Int.Bits.{bit_and}
@@ -16,7 +16,7 @@ use Rattle.memblock_find.specs.Places.{IsBetween, serves, NoPlaceEnds, IsBestBy}
 pub le_from_not_lt : (a b : ℕ) → (a < b → ⊥) → b ≤ a
 le_from_not_lt a b not_lt = elim (cases_lt a b) as (λ _. b ≤ a) [ inl lt ↦ absurd (not_lt lt) | inr ge ↦ ge ]
 
--- rounding down gives a multiple, and the last one
+-- rounding down gives the last multiple up to the number
 pub rounded_aligned : (t n : ℕ) → 0 < n → (t - t % n) % n ≡ 0
 rounded_aligned t n some =
     let parts = div-add-mod' t n in
@@ -43,12 +43,12 @@ pub held_somewhere : (o : Option LabelView) → is_some o ≡ true → o ≢ Non
 held_somewhere None h = λ same. true≢false (sym h)
 held_somewhere (Some v) h = λ same. cc
 
--- and its memory serves
+-- the memory of a place serves the search
 pub place_serves : (mirror : Bool) (memory reserved : Labels) (q : Query) (b : ℕ) → IsPlace mirror memory reserved q b
     → serves mirror q.node (memory b) ≡ true
 place_serves mirror memory reserved q b place = and_from (allows q.node (memory b)) (suits mirror (memory b)) place.allowed place.suited
 
--- what is known of the stretch of addresses in which a place is sought
+-- the stretch of addresses in which a place is searched for
 pub record IsStretch (memory reserved : Labels) (from until : ℕ) (label : Option LabelView) : Type 0 where
   pub stays : Stays (unclaimed memory reserved) from until label
   pub down : label ≢ None → IsDownTo (unclaimed memory reserved) from until label
@@ -103,7 +103,7 @@ none_above mirror memory reserved q at some none b fits ends =
     let last : ℕ = b + q.size - 1 in
     held_somewhere (memory b) place.held (sym (place.label last (omega arith) (omega arith)) ∙ none last (omega arith)))
 
--- what is unclaimed memory is memory, and isn't claimed
+-- what is unclaimed memory is memory and isn't claimed
 pub memory_there : (carried claimed : Option LabelView) (label : LabelView) → (if is_none claimed then carried else None) ≡ Some label
     → (carried ≡ Some label) × (claimed ≡ None)
 memory_there carried None label same = (same, refl)
@@ -131,7 +131,7 @@ place_of_bytes mirror memory reserved q a found some lies carry served =
       free = λ x above under. (there x above under).1;
     })
 
--- a place that ends in a stretch of memory lies between its ends, in the window
+-- a place that ends in a stretch of memory lies in the stretch and in the window
 between_ends : (mirror : Bool) (memory reserved : Labels) (q : Query) (from until b : ℕ) (label : Option LabelView) → 1 ≤ q.size
     → IsStretch memory reserved from until label → fits_in mirror memory reserved q b ≡ true → b + q.size ≤ until → from < b + q.size
     → IsBetween (max (max from q.lo) 4096) until q.size q.align b
@@ -140,7 +140,8 @@ between_ends mirror memory reserved q from until b label some known fits ends pa
     let place = fits_in-parts mirror memory reserved q b fits in
     record { aligned = place.aligned; above = omega (arith, inside.above, place.low, place.first); below = ends }
 
--- so what is answered of a stretch of memory that serves, the last place between its ends, is the best place in it, or there is none
+-- in a stretch of memory that serves, the last aligned address with room is the highest place;
+-- without one there is no place
 pub best_of_stretch : (mirror : Bool) (memory reserved : Labels) (q : Query) (from until : ℕ) (label : Option LabelView) (found : LabelView)
     (answer : Option ℕ)
     → 1 ≤ q.size → until ≤ q.hi
@@ -164,7 +165,7 @@ best_of_stretch mirror memory reserved q from until label found (Some a) some wi
           omega arith);
     }
 
--- and where the walk has come below the window there is none
+-- if the walk has come below the window without a place, there is none
 pub none_found : (mirror : Bool) (memory reserved : Labels) (q : Query) (at : ℕ) → 1 ≤ q.size → NoPlaceEnds mirror memory reserved q at q.hi
     → at ≤ max q.lo 4096 → top_place_in (record { mirror = mirror; up = false }) memory reserved q ≡ None
 none_found mirror memory reserved q at some past low = top_place_in-fails (record { mirror = mirror; up = false }) memory reserved q (λ b less.
@@ -173,7 +174,7 @@ none_found mirror memory reserved q at some past low = top_place_in-fails (recor
     let ends = past b fits place.high in
     omega (arith, place.low, place.first)))
 
--- the best place of the last stretch is the best, where all stretches above have none
+-- if no place ends in the stretches above, the highest place of a stretch is the result
 pub best_answer : (mirror : Bool) (memory reserved : Labels) (q : Query) (from at : ℕ) (answer : Option ℕ)
     → NoPlaceEnds mirror memory reserved q at q.hi
     → MatchOption answer (NoPlaceEnds mirror memory reserved q from at) (IsBestBy mirror memory reserved q at)
@@ -187,7 +188,7 @@ best_answer mirror memory reserved q from at (Some a) past best some small =
       last = λ b less fits. best.last b fits (past b fits (fits_in-parts mirror memory reserved q b fits).high);
     }))
 
--- with no place in a stretch none ends above it
+-- if a stretch has no place, none ends above its start
 pub no_answer : (mirror : Bool) (memory reserved : Labels) (q : Query) (from at : ℕ) (answer : Option ℕ)
     → NoPlaceEnds mirror memory reserved q at q.hi
     → MatchOption answer (NoPlaceEnds mirror memory reserved q from at) (IsBestBy mirror memory reserved q at)
@@ -202,7 +203,7 @@ some_align align k power = let some : 1 ≤ 2 ^ k = one-le-pow k 2 (omega arith)
 pub mask_rest : (t n k : ℕ) → n ≡ 2 ^ k → bit_and t (n - 1) ≡ t % n
 mask_rest t n k is = subst (λ (m : ℕ). bit_and t (m - 1) ≡ t % m) (sym is) (and_mask t k)
 
--- no multiple at which the bytes end in time is over the last one
+-- no multiple with room for the bytes is above the last one
 most_is : (low high size align k top place : ℕ) → align ≡ 2 ^ k → size ≤ high → top ≡ high - size
     → place ≡ top - bit_and top (align - 1) → (place ≡ top - top % align) × ((b : ℕ) → IsBetween low high size align b → b ≤ place)
 most_is low high size align k top place power room top_is place_is =
@@ -214,7 +215,7 @@ most_is low high size align k top place power room top_is place_is =
           omega arith,
     )
 
--- the greatest multiple below the last address at which the bytes end in time, where it isn't too low
+-- the greatest multiple with room for the bytes, unless it is too low
 pub last_is : (low high size align k top place : ℕ) → align ≡ 2 ^ k → size ≤ high → top ≡ high - size
     → place ≡ top - bit_and top (align - 1) → low ≤ place
     → IsBetween low high size align place × ((b : ℕ) → IsBetween low high size align b → b ≤ place)

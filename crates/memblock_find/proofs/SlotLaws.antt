@@ -1,4 +1,5 @@
--- Records of a canonical list by their index: their order, and what the list gives in them, between them and beside them.
+-- The records of a sorted list by their index: their order, and what the list gives the addresses
+-- in them and outside them.
 use Rattle.std.proofs.Common.{◌≡◌, ◌≢◌, ◌⊎◌, ℕ, zero, suc, ◌+◌, ◌-◌, ◌<◌, ◌≤◌, Some, None, List, [], ◌∷◌, length, refl, ap, inl, inr, arith}
 use Rattle.std.proofs.lemmas.Bool.{cases_lt}
 use Rattle.address_runs.specs.Runs.{RunOf, run_end, value_at, AreRuns}
@@ -10,7 +11,7 @@ use Rattle.memblock_ranges.specs.declared.region.Region.{Region}
 use Rattle.memblock_ranges.specs.Spelling.{region_of}
 use Rattle.memblock_find.specs.Walk.{run_at}
 
--- what is read of a record
+-- the base and size of a record
 pub read_of : (g : Region) (r : RunOf LabelView) → g ≡ region_of r → (g.base ≡ r.base) × (g.size ≡ r.size)
 read_of g r is = (ap (λ (h : Region). h.base) is, ap (λ (h : Region). h.size) is)
 
@@ -36,7 +37,7 @@ size_at i [] runs less = absurd (omega arith)
 size_at zero (r ∷ rs) runs less = runs.0
 size_at (suc i) (r ∷ rs) runs less = size_at i rs runs.2 (omega arith)
 
--- so a later one begins no earlier, and ends no earlier
+-- a later record begins no lower, and ends no lower
 pub bases_ascend : (i j : ℕ) (rs : List (RunOf LabelView)) → AreRuns rs → i ≤ j → j < length rs → (run_at rs i).base ≤ (run_at rs j).base
 bases_ascend i j rs runs order within =
     elim (cases_lt i j) as (λ _. (run_at rs i).base ≤ (run_at rs j).base) [
@@ -51,7 +52,7 @@ ends_ascend i j rs runs order within =
       | inr ge ↦ let same : i ≡ j = omega arith in let ends = ap (λ (k : ℕ). run_end (run_at rs k)) same in omega arith
     ]
 
--- in a record the list gives its value
+-- the list gives a record's addresses its label
 pub value_in : (i x : ℕ) (rs : List (RunOf LabelView)) → AreRuns rs → i < length rs → (run_at rs i).base ≤ x → x < run_end (run_at rs i)
     → value_at rs x ≡ Some (run_at rs i).value
 value_in i x [] runs less above under = absurd (omega arith)
@@ -60,7 +61,7 @@ value_in (suc i) x (r ∷ rs) runs less above under =
     let start = start_at (run_end r) i rs runs.2 (rest_from r rs runs) (omega arith) in
     rw (behind r x (omega arith)) (value_in i x rs runs.2 (omega arith) above under)
 
--- beside all records it gives nothing
+-- an address outside all records has no label
 pub none_beside : (x : ℕ) (rs : List (RunOf LabelView)) → ((i : ℕ) → i < length rs → (run_end (run_at rs i) ≤ x) ⊎ (x < (run_at rs i).base))
     → value_at rs x ≡ None
 none_beside x [] beside = refl
@@ -71,7 +72,7 @@ none_beside x (r ∷ rs) beside =
       | inr ahead ↦ rw (below r x ahead) rest
     ]
 
--- from the end of the last record on it gives nothing
+-- from the end of the last record on there is no label
 pub nothing_behind : (rs : List (RunOf LabelView)) (at : ℕ) → AreRuns rs → (0 < length rs → at ≡ run_end (run_at rs (length rs - 1)))
     → NothingFrom at (value_at rs)
 nothing_behind rs at runs end x from = none_beside x rs (λ i less.
@@ -79,7 +80,7 @@ nothing_behind rs at runs end x from = none_beside x rs (λ i less.
     let order = ends_ascend i (length rs - 1) rs runs (omega arith) (omega arith) in
     inl (omega arith))
 
--- right below a record the list gives another value than in it
+-- the address below a record has another label
 pub other_under : (i x : ℕ) (rs : List (RunOf LabelView)) → AreRuns rs → i < length rs → x + 1 ≡ (run_at rs i).base
     → value_at rs x ≢ Some (run_at rs i).value
 other_under i x [] runs less next = absurd (omega arith)
@@ -103,7 +104,7 @@ other_under (suc (suc i)) x (r ∷ rs) runs less next =
     let size = size_at zero rs runs.2 (omega arith) in
     rw (behind r x (omega arith)) (other_under (suc i) x rs runs.2 (omega arith) next)
 
--- and right behind it
+-- the address after a record has another label
 pub other_past : (i : ℕ) (rs : List (RunOf LabelView)) → AreRuns rs → i < length rs
     → value_at rs (run_end (run_at rs i)) ≢ Some (run_at rs i).value
 other_past i [] runs less = absurd (omega arith)

@@ -1,4 +1,4 @@
--- What a look up tells, and the stretch of addresses that two looks tell of.
+-- What a look up says, and the stretch of addresses that two looks describe.
 use Rattle.std.proofs.Common.{◌≡◌, ◌≢◌, ◌⊎◌, ℕ, ◌+◌, ◌-◌, ◌^◌, ◌<◌, ◌≤◌, is_none, if◌then◌else◌, Option, Some, None, List, length, min, refl, sym, ◌∙◌, ap, subst, inl, inr, arith}
 use Rattle.std.proofs.lemmas.Bool.{cases_lt}
 use Rattle.address_runs.specs.Runs.{RunOf, run_end, value_at, AreRuns}
@@ -12,7 +12,7 @@ use Rattle.memblock_find.specs.Walk.{run_at, EndedBy, IsLookUp, IsUpAt, label_at
 use Rattle.memblock_find.proofs.DownLaws.{unclaimed_is, unclaimed_changes}
 use Rattle.memblock_find.proofs.SlotLaws.{ends_before, ends_ascend, bases_ascend, size_at, value_in, none_beside, other_past}
 
--- with every record behind it nothing is at the address or above
+-- if every record ends at or below the address, there is no label from it on
 none_left : (rs : List (RunOf LabelView)) (at : ℕ) → EndedBy at rs (length rs) → NothingFrom at (value_at rs)
 none_left rs at ended x above = none_beside x rs (λ i less. let ends = ended.before i less in inl (omega arith))
 
@@ -36,7 +36,7 @@ look_top rs slot at all small known =
       left = λ is. none_left rs at ended;
     }
 
--- up to the next record there is nothing
+-- up to the next record there is no label
 pub look_hole : (rs : List (RunOf LabelView)) (slot at : ℕ) → slot < length rs → EndedBy at rs slot → at < (run_at rs slot).base
     → (run_at rs slot).base < 2 ^ 64
     → IsLookUp rs at (record { label = None; bound = (run_at rs slot).base; slot = slot })
@@ -69,7 +69,7 @@ look_hole rs slot at within ended before_base base_small =
       left = λ is. absurd (omega arith);
     }
 
--- and in it there is its label
+-- in the next record, the label is the record's
 pub look_over : (rs : List (RunOf LabelView)) (slot at : ℕ) → slot < length rs → EndedBy at rs slot → (run_at rs slot).base ≤ at
     → run_end (run_at rs slot) < 2 ^ 64
     → IsLookUp rs at (record { label = Some (run_at rs slot).value; bound = run_end (run_at rs slot); slot = slot + 1 })
@@ -95,7 +95,7 @@ look_over rs slot at within ended from_base end_small =
       left = λ is. absurd (omega arith);
     }
 
--- the records of a table that is searched for those that end by an address
+-- if a record ends at or below the address, so do all before it
 pub ended_so_far : (rs : List (RunOf LabelView)) (at middle : ℕ) → AreRuns rs → middle < length rs → run_end (run_at rs middle) ≤ at
     → (i : ℕ) → i < middle + 1 → run_end (run_at rs i) ≤ at
 ended_so_far rs at middle runs within ended i less = omega (arith, ends_ascend i middle rs runs (omega arith) within)
@@ -104,7 +104,7 @@ pub not_ended_from : (rs : List (RunOf LabelView)) (at middle : ℕ) → AreRuns
     → (i : ℕ) → middle ≤ i → i < length rs → at < run_end (run_at rs i)
 not_ended_from rs at middle runs behind i from within = omega (arith, ends_ascend middle i rs runs from within)
 
--- the addresses of a cursor's stretch upward carry its label
+-- the addresses of a cursor's stretch upward have its label
 pub stretch_rises : (ms rs : List (RunOf LabelView)) (c : Cursor) (until : ℕ) (label : Option LabelView) → IsUpAt ms rs c
     → until ≡ min c.memory.bound c.reserved.bound → label ≡ label_at c → Stays (unclaimed (value_at ms) (value_at rs)) c.at until label
 stretch_rises ms rs c until label known until_is label_is x above under =
@@ -125,13 +125,13 @@ stretch_stops ms rs at m r memory reserved bare some =
           rw least (unclaimed_changes (value_at ms m.bound) (value_at rs m.bound) m.label (inl (memory.another some)) some)
     ]
 
--- of what both looks tell: memory's label, and no claim
+-- two looks that describe unclaimed memory: memory's label, and no claim
 bare_claims : (carried claimed : Option LabelView) → (if is_none claimed then carried else None) ≢ None
     → (claimed ≡ None) × ((if is_none claimed then carried else None) ≡ carried)
 bare_claims carried None some = (refl, refl)
 bare_claims carried (Some v) some = absurd (some refl)
 
--- and where they are unclaimed memory, the address behind them carries something else
+-- after a stretch of unclaimed memory the address has another label
 pub stretch_up : (ms rs : List (RunOf LabelView)) (c : Cursor) (until : ℕ) (label : Option LabelView) → IsUpAt ms rs c
     → until ≡ min c.memory.bound c.reserved.bound → label ≡ label_at c → label ≢ None
     → IsUpTo (unclaimed (value_at ms) (value_at rs)) c.at until label

@@ -1,4 +1,5 @@
--- Words for a walk over a table's records: how many lie before an address, and how far a table says one thing of the addresses beside it.
+-- Walks over a table's records: how many lie below an address, and how far the addresses next to
+-- one have the same label.
 use Rattle.std.specs.Prelude.{◌≡◌, ◌≢◌, ℕ, ◌-◌, ◌^◌, ◌<◌, ◌≤◌, is_none, if◌then◌else◌, Option, None, List, length, get_or}
 use Rattle.address_runs.specs.Runs.{RunOf, run_end, value_at, AreRuns}
 use Rattle.address_runs.specs.Edits.{NothingFrom}
@@ -8,38 +9,40 @@ use Rattle.memblock_find.specs.Free.{IsDownTo}
 use Rattle.memblock_find.specs.declared.cursor.Look.{Look}
 use Rattle.memblock_find.specs.declared.cursor.Cursor.{Cursor}
 
--- the record of that index
+-- the record at index i
 abbrev pub run_at : List (RunOf LabelView) → ℕ → RunOf LabelView
 run_at rs i = get_or rs i (record { base = 0; size = 0; value = plain_label })
 
--- of the list, which is in order, no more than so many records begin below the address
+-- at most the first `count` records of the list, which is in order, begin below the address
 pub record BegunAmong (at : ℕ) (rs : List (RunOf LabelView)) (count : ℕ) : Type 0 where
   pub runs : AreRuns rs
   pub within : count ≤ length rs
   pub behind : (i : ℕ) → count ≤ i → i < length rs → at ≤ (run_at rs i).base
 
--- so many records of the list, which is in order, begin below the address
+-- exactly the first `count` records of the list, which is in order, begin below the address
 pub record BegunBelow (at : ℕ) (rs : List (RunOf LabelView)) (count : ℕ) : Type 0 where
   pub runs : AreRuns rs
   pub within : count ≤ length rs
   pub before : (i : ℕ) → i < count → (run_at rs i).base < at
   pub behind : (i : ℕ) → count ≤ i → i < length rs → at ≤ (run_at rs i).base
 
--- so many records of the list, which is in order, end by the address
+-- exactly the first `count` records of the list, which is in order, end at or below the address
 pub record EndedBy (at : ℕ) (rs : List (RunOf LabelView)) (count : ℕ) : Type 0 where
   pub runs : AreRuns rs
   pub within : count ≤ length rs
   pub before : (i : ℕ) → i < count → run_end (run_at rs i) ≤ at
   pub behind : (i : ℕ) → count ≤ i → i < length rs → at < run_end (run_at rs i)
 
--- the look down from the address tells all that the list says from there down to its bound; the next look goes on at the bound
+-- the look has the label of the addresses from its bound to below `at`, the label changes below
+-- the bound, and the next look continues there
 pub record IsLookDown (rs : List (RunOf LabelView)) (at : ℕ) (look : Look) : Type 0 where
   pub down : IsDownTo (value_at rs) look.bound at look.label
   pub next : BegunBelow look.bound rs look.slot
   pub order : look.bound ≤ at
   pub below : 0 < at → look.bound < at
 
--- the look up from the address tells all that the list says from there up to its bound. With nothing left the bound is 2^64 - 1
+-- the look has the label of the addresses from `at` to below its bound, and the label changes
+-- there; after the last record the bound is 2^64 - 1
 pub record IsLookUp (rs : List (RunOf LabelView)) (at : ℕ) (look : Look) : Type 0 where
   pub stays : Stays (value_at rs) at look.bound look.label
   pub another : look.label ≢ None → value_at rs look.bound ≢ look.label
@@ -50,11 +53,11 @@ pub record IsLookUp (rs : List (RunOf LabelView)) (at : ℕ) (look : Look) : Typ
   pub ahead : at < 2 ^ 64 - 1 → at < look.bound
   pub left : at ≡ look.bound → NothingFrom at (value_at rs)
 
--- what the addresses are that both looks tell of: unclaimed memory of one label, or none
+-- the label of the addresses that both looks describe if they are unclaimed memory, else None
 abbrev pub label_at : Cursor → Option LabelView
 label_at c = if is_none c.reserved.label then c.memory.label else None
 
--- a walk down, or up, over the records of memory and of claims has come to the cursor's address
+-- a walk down, or up, over the records of both tables has reached the cursor's address
 pub record IsDownAt (records claims : List (RunOf LabelView)) (c : Cursor) : Type 0 where
   pub memory : IsLookDown records c.at c.memory
   pub reserved : IsLookDown claims c.at c.reserved

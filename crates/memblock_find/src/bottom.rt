@@ -1,5 +1,6 @@
-//! The search from below (`__memblock_find_range_bottom_up`): unclaimed memory is walked from the window's start up, a
-//! stretch of one label at a time, and the first stretch in which a place lies has the least one.
+//! The search from below (`__memblock_find_range_bottom_up`). It walks over unclaimed memory from
+//! the window's start up, one stretch of a single label at a time. The first stretch that has a
+//! place has the least one.
 ghost use Rattle.std.specs.Prelude.{◌≡◌, ◌≢◌, ℕ, ◌^◌, ◌≤◌, true, max, min, MatchOption, Option, Some, None};
 ghost use Rattle.address_runs.specs.Runs.{value_at};
 ghost use Rattle.address_runs.specs.Sweep.{Stays};
@@ -15,8 +16,9 @@ use bm_base::FRAME_SIZE;
 use memblock_model::{Label, Query};
 use memblock_ranges::Tables;
 
-/// The search from below, in mirrored memory alone or in any.
-// Apart from `find`, as `find_served` is.
+/// Returns the least address of a place that fits, or `None`. If `mirror` is set, only mirrored
+/// memory is allowed. The size must be at least 1, and the alignment a power of two.
+// A function of its own for the same reason as `find_served`.
 #[inline(never)]
 pub fn find_upward(tables: &Tables, query: &Query, mirror: bool) -> Option<u64>
     requires some { 1 ≤ query.now.size }
@@ -37,8 +39,9 @@ pub fn find_upward(tables: &Tables, query: &Query, mirror: bool) -> Option<u64>
     None
 }
 
-/// The least place in the addresses from `from` up to `until`, where that is a stretch of unclaimed memory of one
-/// label, or of none, and unclaimed memory of that label doesn't go on behind it.
+/// Returns the least place that begins from `from` to below `until`, or `None`. These addresses
+/// must have one label, or none of them is unclaimed memory. If they have one, the label must
+/// change at `until`.
 fn place_from(
     query: &Query,
     mirror: bool,
@@ -62,7 +65,8 @@ fn place_from(
     first_between(from, until.min(query.hi), query.size, query.align)
 }
 
-/// The least multiple of the alignment at which so many bytes lie between the two addresses.
+/// Returns the least multiple of `align` at which `size` bytes lie between the two addresses, or
+/// `None`.
 fn first_between(low: u64, high: u64, size: u64, align: u64) -> Option<u64>
     requires { (k : ℕ) × (align ≡ 2 ^ k) }
     ensures { MatchOption result ((b : ℕ) → IsBetween low high size align b → ⊥)

@@ -1,19 +1,22 @@
-//! Where a walk over unclaimed memory is: an address, and for each table what it says of the addresses
-//! next to it and how far. A walk down looks at the addresses below, a walk up at those from there on. Each
-//! look costs one record, and is kept until the walk has passed it.
+//! The position of a walk over unclaimed memory: an address, and for each table the label of the
+//! addresses next to it, with the address at which that label may change. A walk down looks at the
+//! addresses below, a walk up at those from there on. Each look reads one record, and is kept
+//! until the walk has passed it.
 ghost use Rattle.std.specs.Prelude.{◌≡◌};
 ghost use Rattle.memblock_find.specs.Walk.{label_at};
 
 use memblock_model::{Label, Which};
 use memblock_ranges::{Records, Tables};
 
-/// What one table says of the addresses next to one, up to a bound: one label, or that it covers none.
+/// The label of the addresses next to an address in one table, as far as `bound`, or that the
+/// table doesn't cover them.
 #[derive(Clone, Copy)]
 pub struct Look {
     pub label: Option<Label>,
-    /// The address at which what is said may change.
+    /// The address at which the label may change.
     pub bound: u64,
-    /// How many of the table's records begin below the bound, in a walk down, or end by it, in a walk up.
+    /// In a walk down, the number of the table's records that begin below the bound. In a walk up,
+    /// the number that end at or below it.
     pub slot: u64,
 }
 
@@ -24,8 +27,9 @@ pub struct Lists<'a> {
     pub reserved: Records<'a>,
 }
 
-/// The records of both tables.
-// Returned by a call the records go through memory, which tells in a search whose first gap fits.
+/// Returns readers for the records of both tables.
+// Inlined, since a returned struct goes through memory, which costs time in a search whose first
+// gap fits.
 #[inline(always)]
 pub fn lists_of(tables: &Tables) -> Lists<'_>
     ensures memory { result.memory ≡ tables.now.memory.records }
@@ -37,7 +41,7 @@ pub fn lists_of(tables: &Tables) -> Lists<'_>
     }
 }
 
-/// Where a walk is.
+/// The position of a walk.
 #[derive(Clone, Copy)]
 pub struct Cursor {
     pub at: u64,
@@ -46,7 +50,8 @@ pub struct Cursor {
 }
 
 impl Cursor {
-    /// What the addresses are that both looks tell of: unclaimed memory of one label, or none.
+    /// Returns the label of the addresses that both looks describe if they are unclaimed memory,
+    /// else `None`.
     pub fn label(&self) -> Option<Label>
         ensures { result ≡ label_at self.now }
     {

@@ -1,6 +1,6 @@
-//! The walk down: from an address to lower ones, as `__next_mem_range_rev` goes. Where it begins, a binary
-//! search finds the record of each table; from there on each record is looked at once in either table, but for
-//! those that a search for a node, or for mirrored memory, passes over (`node.rt`).
+//! The walk down: from an address to lower ones, as in `__next_mem_range_rev`. A binary search in
+//! each table finds the first record. After that the walk looks at each record once, except those
+//! that a search for a node, or for mirrored memory, passes over (`node.rt`).
 ghost use Rattle.std.specs.Prelude.{◌≡◌, ◌≢◌, ◌<◌, ◌≤◌, max, None};
 ghost use Rattle.address_runs.specs.Sweep.{Stays};
 ghost use Rattle.memblock_find.specs.Free.{free_in, IsDownTo};
@@ -9,14 +9,14 @@ ghost use Rattle.memblock_find.specs.Walk.{BegunAmong, BegunBelow, IsLookDown, I
 use crate::cursor::{Cursor, Lists, Look};
 use memblock_ranges::Records;
 
-/// How many records begin below the address.
+/// Counts the records that begin below the address, by binary search.
 fn begun_below(records: &Records<'_>, at: u64) -> u64
     ensures { BegunBelow at records.now result }
 {
     begun_of(records, records.count(), at)
 }
 
-/// How many records begin below the address, where that is some of the first `count`.
+/// Counts the records that begin below the address, which must all be among the first `count`.
 fn begun_of(records: &Records<'_>, count: u64, at: u64) -> u64
     requires { BegunAmong at records.now count }
     ensures { BegunBelow at records.now result }
@@ -37,7 +37,8 @@ fn begun_of(records: &Records<'_>, count: u64, at: u64) -> u64
     low
 }
 
-/// What the records say of the addresses below `at`, where so many of them begin below it.
+/// Returns what the records give the addresses below `at`. Exactly `slot` records must begin below
+/// it.
 pub fn look_down(records: &Records<'_>, slot: u64, at: u64) -> Look
     requires { BegunBelow at records.now slot }
     ensures { IsLookDown records.now at result }
@@ -66,7 +67,8 @@ pub fn look_down(records: &Records<'_>, slot: u64, at: u64) -> Look
     }
 }
 
-/// The look of a walk that has come down to `at`: the same as long as its bound isn't reached.
+/// Returns the look of a walk that has come down to `at`, which is the old one until its bound is
+/// reached.
 fn look_on(records: &Records<'_>, look: Look, from: u64, at: u64) -> Look
     requires look { IsLookDown records.now from look }
     requires above { look.bound ≤ at }
@@ -80,8 +82,8 @@ fn look_on(records: &Records<'_>, look: Look, from: u64, at: u64) -> Look
     }
 }
 
-/// The look of a walk that goes on at `at`, whatever lies in between. The records that it passes aren't read:
-/// where they are several, a binary search finds the first one below.
+/// Returns the look of a walk that continues at `at`, however far below that is. The records in
+/// between aren't read: if the walk has passed several, a binary search finds the next one.
 pub fn look_past(records: &Records<'_>, look: Look, from: u64, at: u64) -> Look
     requires look { IsLookDown records.now from look }
     requires below { at ≤ from }
@@ -94,9 +96,9 @@ pub fn look_past(records: &Records<'_>, look: Look, from: u64, at: u64) -> Look
     look_down(records, slot, at)
 }
 
-/// The cursor of a walk down that begins at the address.
-// A hint, since it has several callers: returned by a call the cursor goes through memory, which tells in a
-// search whose first gap fits.
+/// Starts a walk down at the address.
+// A hint, since it has several callers: a returned cursor goes through memory, which costs time in
+// a search whose first gap fits.
 #[inline]
 pub fn cursor_below(lists: &Lists<'_>, at: u64) -> Cursor
     ensures at { result.at ≡ at }
@@ -112,15 +114,15 @@ pub fn cursor_below(lists: &Lists<'_>, at: u64) -> Cursor
 }
 
 impl Cursor {
-    /// Down to which address the label is the cursor's. Where it is unclaimed memory, what is below isn't
-    /// unclaimed memory of that label.
+    /// Returns the lowest address of the stretch that has the cursor's label. If the stretch is
+    /// unclaimed memory, the address below it isn't unclaimed memory of the same label.
     pub fn bottom(&self) -> u64
         ensures { result ≡ max self.now.memory.bound self.now.reserved.bound }
     {
         self.memory.bound.max(self.reserved.bound)
     }
 
-    /// The cursor at that address.
+    /// Moves the walk down to that address.
     pub fn down(&self, lists: &Lists<'_>) -> Cursor
         requires { IsDownAt lists.now.memory lists.now.reserved self.now }
         ensures at { result.at ≡ max self.now.memory.bound self.now.reserved.bound }

@@ -1,5 +1,6 @@
-//! Runs of unclaimed memory, one at a time: below an address or from one on. A caller that goes over several
-//! asks again at the run's start or end; each call costs two binary searches and what bare bytes it passes.
+//! Returns runs of unclaimed memory one at a time: below an address, or from an address on. To get
+//! several, call again with the run's start or end. Each call takes two binary searches, and a
+//! step for each record that it passes.
 ghost use Rattle.std.specs.Prelude.{◌≡◌, ◌-◌, ◌≤◌, MatchOption, IfSome, None};
 ghost use Rattle.address_runs.specs.Runs.{run_end, value_at};
 ghost use Rattle.address_runs.specs.Edits.{NothingFrom};
@@ -19,9 +20,9 @@ use std::marker::Model;
 #[derive(Clone, Copy, Debug, PartialEq, Eq)]
 pub struct FreeRange {
     pub range: Range,
-    /// The node; 1,024 means none (`MAX_NUMNODES`).
+    /// The node, or 1,024 for none (`MAX_NUMNODES`).
     pub node: u32,
-    /// Whether it is mirrored (`MEMBLOCK_MIRROR`).
+    /// Whether the run is mirrored (`MEMBLOCK_MIRROR`).
     pub mirror: bool,
 }
 
@@ -41,7 +42,7 @@ impl Model for FreeRange {
 }
 
 impl FreeRange {
-    /// The addresses from the one up to the other, with what the label says.
+    /// Returns the run from `from` to below `until`, with this label.
     fn between(from: u64, until: u64, label: Label) -> FreeRange
         requires { from ≤ until }
         ensures { result ≡ record { base = from; size = until - from; value = label } }
@@ -57,15 +58,15 @@ impl FreeRange {
     }
 }
 
-/// The highest run of unclaimed memory of one label whose first address is under `below`, cut to end
-/// there. `None` exactly where nothing below is unclaimed memory (`__next_mem_range_rev`).
+/// Returns the highest run of unclaimed memory that begins below `below`, cut to end there at
+/// most. `None` means that no address below is unclaimed memory (`__next_mem_range_rev`).
 pub fn prev_free(tables: &Tables, below: u64) -> Option<FreeRange>
     ensures { MatchOption result (Stays (free_in tables.now) 0 below None) (IsRunBelow (free_in tables.now) below) }
 {
     prev_in(&lists_of(tables), below)
 }
 
-/// That run by the records of both tables.
+/// Like [`prev_free`], from the records of both tables.
 fn prev_in(lists: &Lists<'_>, below: u64) -> Option<FreeRange>
     ensures { MatchOption result (Stays (unclaimed (value_at lists.now.memory) (value_at lists.now.reserved)) 0 below None)
         (IsRunBelow (unclaimed (value_at lists.now.memory) (value_at lists.now.reserved)) below) }
@@ -80,15 +81,15 @@ fn prev_in(lists: &Lists<'_>, below: u64) -> Option<FreeRange>
     None
 }
 
-/// The lowest run of unclaimed memory of one label whose last address is `from` or above, cut to begin
-/// there. `None` exactly where nothing from there on is unclaimed memory (`__next_mem_range`).
+/// Returns the lowest run of unclaimed memory that ends past `from`, cut to begin there at least.
+/// `None` means that no address from there on is unclaimed memory (`__next_mem_range`).
 pub fn next_free(tables: &Tables, from: u64) -> Option<FreeRange>
     ensures { MatchOption result (NothingFrom from (free_in tables.now)) (IsRunFrom (free_in tables.now) from) }
 {
     next_in(&lists_of(tables), from)
 }
 
-/// That run by the records of both tables.
+/// Like [`next_free`], from the records of both tables.
 fn next_in(lists: &Lists<'_>, from: u64) -> Option<FreeRange>
     ensures { MatchOption result (NothingFrom from (unclaimed (value_at lists.now.memory) (value_at lists.now.reserved)))
         (IsRunFrom (unclaimed (value_at lists.now.memory) (value_at lists.now.reserved)) from) }
@@ -96,14 +97,14 @@ fn next_in(lists: &Lists<'_>, from: u64) -> Option<FreeRange>
     climb(lists, cursor_from(lists, from)).run
 }
 
-/// The lowest run of a walk up from the cursor, and where the walk is behind it.
+/// The first run of a walk up, and the position of the walk after it.
 #[derive(Clone, Copy)]
 struct Rise {
     run: Option<FreeRange>,
     cursor: Cursor,
 }
 
-/// Walks up to the end of the first run of unclaimed memory, or to the top of the addresses.
+/// Walks up to the end of the first run of unclaimed memory, or to the highest address.
 fn climb(lists: &Lists<'_>, from: Cursor) -> Rise
     requires { IsUpAt lists.now.memory lists.now.reserved from }
     ensures run { MatchOption result.run (NothingFrom from.at (unclaimed (value_at lists.now.memory) (value_at lists.now.reserved)))
@@ -124,8 +125,9 @@ fn climb(lists: &Lists<'_>, from: Cursor) -> Rise
     Rise { run: None, cursor }
 }
 
-/// The runs of unclaimed memory from an address up, one after another. A run costs the records that the
-/// walk passes, and no search. Contracts see the records of both tables and how far the walk is.
+/// The runs of unclaimed memory from an address up, one after another. Each run costs only the
+/// records that the walk passes. Contracts see the records of both tables, and the address that
+/// the walk has reached.
 #[derive(Drop)]
 pub struct FreeRuns<'a> {
     lists: Lists<'a>,
@@ -144,7 +146,7 @@ impl<'a> Model for FreeRuns<'a> {
 }
 
 impl FreeRuns<'_> {
-    /// The walk that begins at the address.
+    /// Starts a walk at the address.
     pub fn from(tables: &Tables, at: u64) -> FreeRuns<'_>
         ensures { result ≡ record { memory = tables.now.memory.records; reserved = tables.now.reserved.records; at = at } }
     {
@@ -153,7 +155,8 @@ impl FreeRuns<'_> {
         FreeRuns { lists, cursor }
     }
 
-    /// The next run, as [`next_free`] from the address where the walk is, which is at the run's end then.
+    /// Returns the next run: the one that [`next_free`] returns for the address that the walk has
+    /// reached. The walk then continues at the run's end.
     pub fn next_run(&mut self) -> Option<FreeRange>
         ensures run { MatchOption result (NothingFrom self.old.at (free_of self.old)) (IsRunFrom (free_of self.old) self.old.at) }
         ensures at { IfSome result (λ r. self.new.at ≡ run_end r) }

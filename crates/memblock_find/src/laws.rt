@@ -1,5 +1,4 @@
-//! The laws of the search and of runs of unclaimed memory, as functions that do nothing: what the layers
-//! above may rest on.
+//! Laws of the search and of runs of unclaimed memory, on which the layers above may rest.
 ghost use Rattle.std.specs.Prelude.{◌≡◌, ℕ, ◌^◌, Bool, List};
 ghost use Rattle.address_runs.specs.Runs.{RunOf, value_at};
 ghost use Rattle.address_runs.specs.Edits.{NothingFrom};
@@ -13,8 +12,9 @@ ghost use Rattle.memblock_model.specs.Search.{top_place_in, top_place, best_plac
 ghost use Rattle.memblock_ranges.specs.Tables.{Contents};
 ghost use Rattle.memblock_find.specs.Free.{unclaimed, free_in, IsRunBelow, IsRunFrom};
 
-/// A law: where two tables have the records of a list of items, the search over them is the search over
-/// the items, and unclaimed memory is what the items say is memory and has no owner.
+/// Law: if two tables have the records of a list of items, a search over the tables finds what a
+/// search over the items finds. Unclaimed memory is then what the items say is memory and has no
+/// owner.
 pub fn searches_follow_the_items()
     ensures best { (items : List Item) (t : Contents) (q : AnyQuery) →
         NothingFrom (2 ^ 64) (table_of which.Memory items) → NothingFrom (2 ^ 64) (table_of which.Reserved items) →
@@ -31,7 +31,8 @@ pub fn searches_follow_the_items()
         free_in t ≡ unclaimed (table_of which.Memory items) (table_of which.Reserved items) }
 {}
 
-/// A law: there is one highest run below an address, and one lowest run from an address on.
+/// Law: there is at most one highest run below an address, and at most one lowest run from an
+/// address on.
 pub fn runs_are_one()
     ensures below { (f : Labels) (below : ℕ) (r s : RunOf LabelView) → IsRunBelow f below r → IsRunBelow f below s → r ≡ s }
     ensures from { (f : Labels) (from : ℕ) (r s : RunOf LabelView) → IsRunFrom f from r → IsRunFrom f from s → r ≡ s }

@@ -1,20 +1,27 @@
-//! The search for unclaimed memory, over memblock's two tables, and the walks over it.
+//! Searches unclaimed memory, and walks over it, in memblock's two tables.
 //!
-//! Unclaimed memory is what `memblock.memory` covers and `memblock.reserved` doesn't. [`find`] answers the
-//! greatest address at which a place fits a [`Query`], or the least, and takes mirrored memory alone or any, as
-//! its [`Mode`] says (`memblock_find_in_range_node`): aligned, in the window, not in the first frame, and all of
-//! it unclaimed memory of one label. It is `top_place_in` of `memblock_model`, said of what the records of both tables
-//! give at each address.
+//! Unclaimed memory is what `memblock.memory` covers and `memblock.reserved` doesn't. Nothing here
+//! allocates or changes a table.
 //!
-//! [`prev_free`] and [`next_free`] answer one run of unclaimed memory (`for_each_free_mem_range`), below an
-//! address or from one on (`specs/Free.antt`): what walks over unclaimed memory are made of. [`FreeRuns`] goes over all
-//! runs from an address up without a search a run.
+//! - [`find`] is `memblock_find_in_range_node`. It returns the greatest address at which a place
+//!   fits a [`Query`], or the least. A place is aligned, in the window, above the first frame, and
+//!   all of it is unclaimed memory of one label. A [`Mode`] says in which direction to search, and
+//!   whether only mirrored memory is allowed.
+//! - [`prev_free`] and [`next_free`] return one run of unclaimed memory, below an address or from
+//!   an address on (`for_each_free_mem_range`). [`FreeRuns`] returns all runs from an address up,
+//!   one after another, and searches only once.
 //!
-//! Nothing here takes memory or changes a table. A walk reads the records where they lie, those that it passes
-//! and no others, so a search costs what lies between the window's end and the place that it finds, and two
-//! binary searches; from below, what lies between the window's start and that place. A search from the top for a
-//! node, or for mirrored memory, reads of other memory only its label, and goes on where such memory ends, with
-//! a binary search for the claims there where it has passed several.
+//! Contracts define the result of [`find`] by `top_place_in` of `memblock_model`, applied to the
+//! labels that the records give each address. `specs/Free.antt` defines unclaimed memory and its
+//! runs. The layer above may rest on these definitions, and on the laws of `src/laws.rt`. A law is
+//! an empty function whose contract is a proven fact. In contracts, a name means the definition in
+//! `specs/`.
+//!
+//! A walk reads the records in place, and only those that it passes. So a search costs two binary
+//! searches and the records between the end of the window where it begins and the place that it
+//! finds. A search from the top for a node, or for mirrored memory, reads only the label of other
+//! memory. It continues where such memory ends; if it has passed several claims, a binary search
+//! finds the next one.
 #![tactic(auto)]
 
 mod bottom;

@@ -1,5 +1,5 @@
-//! Memory of the node that a query asks for, and mirrored memory. A search for such memory passes over all other a record at
-//! a time, and reads nothing of it but its label; the claims are looked at again where it goes on.
+//! The search for memory of a node, or for mirrored memory. It passes over other memory one record
+//! at a time and reads only its label. Where it continues, it looks at the claims again.
 ghost use Rattle.std.specs.Prelude.{◌≡◌, ℕ, ◌-◌, ◌^◌, ◌<◌, ◌≤◌, false, max, Some, None, length};
 ghost use Rattle.address_runs.specs.Runs.{run_end, value_at};
 ghost use Rattle.memblock_model.specs.Search.{top_place_in};
@@ -13,7 +13,8 @@ use bm_base::FRAME_SIZE;
 use memblock_model::{Label, Query};
 use memblock_ranges::{Records, Tables};
 
-/// Whether a search for the node, or for any, in mirrored memory alone or in any, may be answered with memory of the label.
+/// Tests whether a search may return memory of this label. If `node` is given, the memory must be
+/// on it; if `mirror` is set, it must be mirrored.
 pub fn serves(mirror: bool, node: Option<u32>, label: Label) -> bool
     ensures { result ≡ serves mirror node (Some label) }
 {
@@ -24,7 +25,8 @@ pub fn serves(mirror: bool, node: Option<u32>, label: Label) -> bool
     allowed && (!mirror || label.has_mirror_flag())
 }
 
-/// How many of the first `count` records are left, up to the last one that serves.
+/// Returns how many of the first `count` records are left after those at the end that don't serve
+/// the search have been removed.
 fn up_to_served(records: &Records<'_>, count: u64, mirror: bool, node: Option<u32>) -> u64
     requires { count ≤ length records.now }
     ensures within { result ≤ count }
@@ -40,7 +42,7 @@ fn up_to_served(records: &Records<'_>, count: u64, mirror: bool, node: Option<u3
     left
 }
 
-/// Where the last of the first `count` records ends; 0 where there is none.
+/// Returns where the last of the first `count` records ends, or 0 if `count` is 0.
 pub fn end_of(records: &Records<'_>, count: u64) -> u64
     requires { count ≤ length records.now }
     ensures none { count ≡ 0 → result ≡ 0 }
@@ -54,7 +56,8 @@ pub fn end_of(records: &Records<'_>, count: u64) -> u64
 }
 
 impl Cursor {
-    /// Whether the memory that the cursor's look tells of serves; no memory doesn't.
+    /// Tests whether the memory at the cursor serves the search. Addresses that aren't memory
+    /// don't.
     fn is_served(&self, mirror: bool, node: Option<u32>) -> bool
         requires { serves mirror node None ≡ false }
         ensures { result ≡ serves mirror node self.now.memory.label }
@@ -65,8 +68,8 @@ impl Cursor {
         }
     }
 
-    /// The cursor at the end of the next memory that serves, below all that the cursor's look at memory
-    /// tells of, or at the lowest address where there is none.
+    /// Moves the walk to the end of the next memory that serves the search, below the memory at
+    /// the cursor. If there is none, it moves to address 0.
     // A hint, as for `cursor_below`.
     #[inline]
     fn down_to_served(&self, lists: &Lists<'_>, mirror: bool, node: Option<u32>) -> Cursor
@@ -85,7 +88,8 @@ impl Cursor {
         }
     }
 
-    /// The cursor further down: at its bottom, or below that where no memory in between serves.
+    /// Moves the walk down to the cursor's bottom, or further if no memory in between serves the
+    /// search.
     fn down_for(&self, lists: &Lists<'_>, mirror: bool, node: Option<u32>) -> Cursor
         requires narrow { serves mirror node None ≡ false }
         requires down { IsDownAt lists.now.memory lists.now.reserved self.now }
@@ -101,9 +105,10 @@ impl Cursor {
     }
 }
 
-/// The search from the top down for memory of the query's node, or for mirrored memory, or for both; one of them is asked for.
-// A loop apart from `find_in`, and never compiled into `find`: together the two have too few registers, which tells in each
-// record of a search for any memory.
+/// Returns the greatest address of a place in memory of the query's node, in mirrored memory, or
+/// in memory that is both. The query must ask for at least one of them.
+// Never compiled into `find`, and with its own loop: with both loops in one function there are too
+// few registers, which costs time at each record of a search for any memory.
 #[inline(never)]
 pub fn find_served(tables: &Tables, query: &Query, mirror: bool) -> Option<u64>
     requires narrow { serves mirror query.now.node None ≡ false }

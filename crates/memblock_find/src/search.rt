@@ -1,7 +1,8 @@
-//! The search (`memblock_find_in_range_node`), from the top down (`__memblock_find_range_top_down`): unclaimed
-//! memory is walked from the window's end down, a stretch of one label at a time, and the first stretch in
-//! which a place lies has the greatest one. A search for a node, or for mirrored memory, passes over other
-//! memory (`node.rt`); one from below is the same turned round (`bottom.rt`).
+//! The search (`memblock_find_in_range_node`), with the part that goes from the top down
+//! (`__memblock_find_range_top_down`). It walks over unclaimed memory from the window's end down,
+//! one stretch of a single label at a time. The first stretch that has a place has the greatest
+//! one. A search for a node, or for mirrored memory, passes over other memory (`node.rt`). The
+//! search from below is in `bottom.rt`.
 ghost use Rattle.std.specs.Prelude.{◌≡◌, ◌≢◌, ℕ, ◌^◌, ◌≤◌, false, max, MatchOption, Option, Some, None};
 ghost use Rattle.address_runs.specs.Runs.{value_at};
 ghost use Rattle.address_runs.specs.Sweep.{Stays};
@@ -18,11 +19,12 @@ use bm_base::FRAME_SIZE;
 use memblock_model::{Label, Mode, Query};
 use memblock_ranges::Tables;
 
-/// The greatest address of a place that fits, or the least where the search goes up: aligned, in the window,
-/// not in the first frame, all of it unclaimed memory of one label that the query allows, mirrored where the mode
-/// wants that. `None` exactly where no place fits.
+/// Returns the greatest address of a place that fits the query, or the least if the mode searches
+/// upward. `None` means that no place fits.
 ///
-/// The size is at least 1 and the alignment a power of two.
+/// A place is aligned, in the window and above the first frame. All of it is unclaimed memory of
+/// one label that the query allows, and is mirrored if the mode asks for that. The size must be at
+/// least 1, and the alignment a power of two.
 pub fn find(tables: &Tables, query: &Query, mode: Mode) -> Option<u64>
     requires some { 1 ≤ query.now.size }
     requires aligned { (k : ℕ) × (query.now.align ≡ 2 ^ k) }
@@ -38,8 +40,8 @@ pub fn find(tables: &Tables, query: &Query, mode: Mode) -> Option<u64>
     }
 }
 
-/// The search from the top down for any memory, over the records of both tables, a stretch at a time. Where the
-/// window's end lies above memory's, it begins at that.
+/// Returns the greatest place in any memory, over the records of both tables. If the window ends
+/// above all memory, the walk begins where memory ends.
 fn find_in(lists: &Lists<'_>, query: &Query) -> Option<u64>
     requires some { 1 ≤ query.now.size }
     requires aligned { (k : ℕ) × (query.now.align ≡ 2 ^ k) }
@@ -66,9 +68,9 @@ fn find_in(lists: &Lists<'_>, query: &Query) -> Option<u64>
     None
 }
 
-/// The greatest place in the addresses from `from` up to `until`, where that is a stretch of unclaimed
-/// memory of one label, or of none, and unclaimed memory of that label doesn't go on below it. From `low` on
-/// lie the window's addresses that aren't in the first frame.
+/// Returns the greatest place that ends past `from` and at most at `until`, or `None`. These
+/// addresses must have one label, or none of them is unclaimed memory. If they have one, the label
+/// must change below `from`. The window's addresses above the first frame begin at `low`.
 pub fn place_in_run(
     query: &Query,
     low: u64,
@@ -94,7 +96,8 @@ pub fn place_in_run(
     last_between(from.max(low), until, query.size, query.align)
 }
 
-/// The greatest multiple of the alignment at which so many bytes lie between the two addresses.
+/// Returns the greatest multiple of `align` at which `size` bytes lie between the two addresses,
+/// or `None`.
 fn last_between(low: u64, high: u64, size: u64, align: u64) -> Option<u64>
     requires { (k : ℕ) × (align ≡ 2 ^ k) }
     ensures { MatchOption result ((b : ℕ) → IsBetween low high size align b → ⊥)

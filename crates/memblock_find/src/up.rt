@@ -1,13 +1,13 @@
-//! The walk up: from an address to higher ones, as `__next_mem_range` goes. It is the walk down turned
-//! round, but for the top of the addresses: with no record left a look reaches up to 2^64 - 1, and no
-//! record covers that address, since each record's end is a `u64`.
+//! The walk up: from an address to higher ones, as in `__next_mem_range`. It mirrors the walk
+//! down, except at the highest address. After the last record a look reaches up to 2^64 - 1, which
+//! no record covers, since each record ends below 2^64.
 ghost use Rattle.std.specs.Prelude.{◌≡◌, ◌≤◌, min};
 ghost use Rattle.memblock_find.specs.Walk.{EndedBy, IsLookUp, IsUpAt};
 
 use crate::cursor::{Cursor, Lists, Look};
 use memblock_ranges::Records;
 
-/// How many records end by the address.
+/// Counts the records that end at or below the address, by binary search.
 fn ended_by(records: &Records<'_>, at: u64) -> u64
     ensures { EndedBy at records.now result }
 {
@@ -25,7 +25,8 @@ fn ended_by(records: &Records<'_>, at: u64) -> u64
     low
 }
 
-/// What the records say of the addresses from `at` on, where so many of them end by it.
+/// Returns what the records give the addresses from `at` on. Exactly `slot` records must end at or
+/// below it.
 fn look_up(records: &Records<'_>, slot: u64, at: u64) -> Look
     requires { EndedBy at records.now slot }
     ensures { IsLookUp records.now at result }
@@ -54,7 +55,8 @@ fn look_up(records: &Records<'_>, slot: u64, at: u64) -> Look
     }
 }
 
-/// The look of a walk that has come up to `at`: the same as long as its bound isn't reached.
+/// Returns the look of a walk that has come up to `at`, which is the old one until its bound is
+/// reached.
 fn look_on(records: &Records<'_>, look: Look, from: u64, at: u64) -> Look
     requires look { IsLookUp records.now from look }
     requires above { from ≤ at }
@@ -68,7 +70,7 @@ fn look_on(records: &Records<'_>, look: Look, from: u64, at: u64) -> Look
     }
 }
 
-/// The cursor of a walk up that begins at the address.
+/// Starts a walk up at the address.
 pub fn cursor_from(lists: &Lists<'_>, at: u64) -> Cursor
     ensures at { result.at ≡ at }
     ensures up { IsUpAt lists.now.memory lists.now.reserved result }
@@ -83,15 +85,15 @@ pub fn cursor_from(lists: &Lists<'_>, at: u64) -> Cursor
 }
 
 impl Cursor {
-    /// Up to which address the label is the cursor's. Where it is unclaimed memory, what is there isn't
-    /// unclaimed memory of that label.
+    /// Returns the address at which the stretch that has the cursor's label ends. If the stretch
+    /// is unclaimed memory, that address isn't unclaimed memory of the same label.
     pub fn top(&self) -> u64
         ensures { result ≡ min self.now.memory.bound self.now.reserved.bound }
     {
         self.memory.bound.min(self.reserved.bound)
     }
 
-    /// The cursor at that address.
+    /// Moves the walk up to that address.
     pub fn up(&self, lists: &Lists<'_>) -> Cursor
         requires { IsUpAt lists.now.memory lists.now.reserved self.now }
         ensures at { result.at ≡ min self.now.memory.bound self.now.reserved.bound }

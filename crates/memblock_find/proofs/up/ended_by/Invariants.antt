@@ -3,7 +3,7 @@ use Rattle.address_runs.specs.Runs.{run_end, AreRuns}
 use Rattle.memblock_find.specs.Walk.{run_at}
 use Rattle.memblock_find.proofs.up.ended_by.Given as goal
 
--- the records before `low` end by the address, and those from `high` on don't
+-- the records before `low` end at or below the address, and those from `high` on don't
 abbrev pub invariant-loop-low : goal.invariant-loop-low
 invariant-loop-low l = record {
   runs : AreRuns l.records;
