@@ -1,4 +1,5 @@
--- A kernel's image with both tables in its last two frames, a memory table that moves twice, and fills before, between and behind.
+-- Examples: a kernel's image with both tables in its last two frames, a memory table that moves
+-- twice, and fills before, between and after the moves.
 use Rattle.std.proofs.Common.{◌≡◌, ℕ, true, false, List, [], ◌∷◌, ◌++◌, refl, sym, arith, lit≤}
 use Rattle.bm_base.specs.Range.{RangeView}
 use Rattle.address_runs.specs.Runs.{RunOf}
@@ -15,7 +16,7 @@ use Rattle.growth_model.proofs.BytesLaws.{shown_by-again, after-byte}
 abbrev at_base : ℕ → ℕ → RangeView
 at_base base size = record { base = base; size = size }
 
--- one record, 0x1000 to 0x17FF, in a table with room for two at 0x500000
+-- one record, 0x1000 to 0x17FF, in a table at 0x500000 with room for two
 abbrev one_run : RunOf LabelView
 one_run = record { base = 0x1000; size = 0x800; value = plain_label }
 
@@ -25,7 +26,7 @@ small_table = record { records = one_run ∷ []; place = 0x500000; room = 2 }
 abbrev empty_table : Table
 empty_table = record { records = []; place = 0x600000; room = 1 }
 
--- bytes of its base, its size, its node (1,024), and behind its record
+-- bytes of its base, its size and its node (1,024), and one after its record
 spelled_examples : (spelled_at small_table 0x500001 ≡ 0x10) × (spelled_at small_table 0x500009 ≡ 8) × (spelled_at small_table 0x500015 ≡ 4)
     × (spelled_at small_table 0x500018 ≡ 0)
 unfolding spelled_table fields_of
@@ -36,7 +37,7 @@ shown_by_examples : (shown_by small_table empty_table 0x500001 7 ≡ 0x10) × (s
 unfolding spelled_table fields_of
 shown_by_examples = (refl, refl, refl)
 
--- both tables lie in a memory of 7s that shows them, and not in one of 7s alone
+-- memory with the tables in it and 7 elsewhere has both tables; memory with 7 everywhere hasn't
 are_spelled : AreSpelled small_table empty_table (λ x. shown_by small_table empty_table x 7)
 are_spelled = λ x. sym (shown_by-again small_table empty_table x 7)
 
@@ -47,7 +48,8 @@ not_spelled = λ spelled. let clash : 7 ≡ 0x10 = spelled 0x500001 in omega (ar
 left_examples : (left_by small_table 0x500010 9 ≡ 0) × (left_by small_table 0x500030 9 ≡ 9)
 left_examples = (refl, refl)
 
--- the image ends at 0x1100000; the memory table lies at 0x10FE000 at first, the reserved one at 0x10FF000
+-- the image ends at 0x1100000; at first the memory table is at 0x10FE000 and the reserved one at
+-- 0x10FF000
 abbrev kernel : RangeView
 kernel = at_base 0x1000000 0x100000
 
@@ -71,7 +73,7 @@ table_examples : ((table_for which.Memory kernel begun).place ≡ 0x10FE000) × 
     × ((table_for which.Memory kernel moved_once).room ≡ 256)
 table_examples = (refl, refl, refl, refl)
 
--- the first move leaves the frame in the image, the second the new place
+-- the first move leaves the frame in the image, and the second leaves the place of the first
 leaves_examples : (leaves kernel begun first_move 0x10FE000 ≡ true) × (leaves kernel begun first_move 0x10FF000 ≡ false)
     × (leaves kernel moved_once second_move 0x2000000 ≡ true)
     × (leaves kernel moved_once (item.Mem kernel) 0x2000000 ≡ false)
@@ -85,7 +87,8 @@ is_left_examples = (refl, refl, refl)
 beyond_examples : (beyond begun moved_twice ≡ first_move ∷ second_move ∷ []) × (beyond moved_twice moved_twice ≡ [])
 beyond_examples = (refl, refl)
 
--- beside the tables the given byte is shown, and what was left is 0, whatever stood there
+-- outside the tables the given byte is shown, and the old bytes of a table are 0, whatever they
+-- were
 shown_example : shown kernel moved_once 0x10FE000 7 ≡ 7
 shown_example = refl
 
@@ -94,7 +97,7 @@ after_examples : (byte_after kernel begun moved_twice 0x10FE000 7 ≡ 0) × (byt
 unfolding byte_after
 after_examples = (refl, refl, refl)
 
--- a fill before the first move, one between the moves, one behind both
+-- a fill before the first move, one between the moves, and one after both
 abbrev early : Filled
 early = record { range = at_base 0x10FE000 0x1000; byte = 1; at = 1 }
 
@@ -113,7 +116,8 @@ put_examples = (refl, refl)
 filled_examples : (filled 1 fills 0x10FE000 9 ≡ 1) × (filled 2 fills 0x10FE000 9 ≡ 9) × (filled 2 fills 0x10FE900 9 ≡ 2)
 filled_examples = (refl, refl, refl)
 
--- the early fill went with the table's move; the one behind it stands; the late one overwrites what the second move left
+-- the early fill is lost when the table moves; the fill between stays; the late one overwrites the
+-- bytes that the second move left
 written_examples : (written kernel fills [] moved_twice 0x10FE000 0 ≡ 0) × (written kernel fills [] moved_twice 0x10FE900 0 ≡ 2)
     × (written kernel fills [] moved_twice 0x2000000 0 ≡ 3)
     × (written kernel fills [] moved_twice 0x2000010 0 ≡ 0)
@@ -127,7 +131,7 @@ byte_examples = (refl, refl, refl)
 made_examples : AreMadeBy 3 fills × ¬ AreMadeBy 2 fills
 made_examples = ((lit≤ tt, (lit≤ tt, (lit≤ tt, tt))), λ made. absurd (omega (arith, made.1.1.0)))
 
--- by the second law: the bytes of the items and the first two fills, behind the second move
+-- by the law on parts: the bytes of the items and the first two fills, after the second move
 follows_example : Follows kernel moved_once moved_twice (byte kernel moved_once (early ∷ between ∷ []))
     (byte kernel moved_twice (early ∷ between ∷ []))
 follows_example = record {

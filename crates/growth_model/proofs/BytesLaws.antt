@@ -1,5 +1,5 @@
--- Why what stands behind further items may be told in parts: a table lies at an address until an item moves it away from there, and
--- where it lies the older bytes don't count.
+-- Why the effect of further items can be computed in parts: a table stays at an address until an
+-- item moves it away, and as long as it is there the older bytes don't matter.
 use Rattle.std.proofs.Common.{◌≡◌, ℕ, ◌+◌, ◌<◌, ◌≤◌, ◌==◌, Bool, true, false, ◌&&◌, ◌||◌, if◌then◌else◌, List, [], ◌∷◌, ◌++◌, length, refl, sym, ◌∙◌, ap, subst, append_assoc, arith, length-append}
 use Rattle.std.proofs.lemmas.Bool.{ne_eqb, or_parts}
 use Rattle.std.proofs.lemmas.List.{append-nil}
@@ -15,7 +15,7 @@ use Rattle.memblock_ranges.specs.Tables.{Table, bytes_of}
 use Rattle.growth_model.proofs.PlacedLaws.{live_by, table_bytes-is}
 use Rattle.growth_model.specs.Bytes.{table_for, spelled_at, shown_by, shown, leaves, is_left, byte_after, Filled, filled, written, byte, AreMadeBy}
 
--- a table's bytes behind one more item
+-- a table's bytes after one more item
 table_bytes-push : (w : Which) (kernel : RangeView) (items : List Item) (i : Item) →
     table_bytes w kernel (items ++ i ∷ []) ≡ live_by w kernel (moved_after w (moved_to w items) i) (room_after w (room_of w items) i)
 table_bytes-push w kernel items i = table_bytes-is w kernel (items ++ i ∷ []) _ _ (moved_to-push w items i) (room_of-push w items i)
@@ -35,7 +35,7 @@ pub stays_or_left : (w : Which) (kernel : RangeView) (items : List Item) (i : It
 stays_or_left w kernel items i x here stays =
     subst (λ (r : RangeView). covers r x ≡ true) (sym (table_bytes-push w kernel items i)) (stays_at w kernel items i x here stays)
 
--- so do several
+-- several such items leave it there too
 pub still_live : (w : Which) (kernel : RangeView) (items more : List Item) (x : ℕ) → covers (table_bytes w kernel items) x ≡ true →
     is_left kernel items more x ≡ false → covers (table_bytes w kernel (items ++ more)) x ≡ true
 still_live w kernel items [] x here stays = subst (λ (is : List Item). covers (table_bytes w kernel is) x ≡ true) (sym (append-nil items)) here
@@ -44,7 +44,7 @@ still_live w kernel items (i ∷ more) x here stays =
     subst (λ (is : List Item). covers (table_bytes w kernel is) x ≡ true) (append_assoc items (i ∷ []) more)
     (still_live w kernel (items ++ i ∷ []) more x (stays_or_left w kernel items i x here parts.0) parts.1)
 
--- the byte of two tables that lie where the others lay hides what those showed
+-- two tables that cover what two older ones covered hide the older ones' bytes
 over_bools : (m r n s : Bool) (a b d e c : ℕ) → (m ≡ true → n ≡ true) → (r ≡ true → s ≡ true) →
     (if n then a else (if s then b else (if m then d else (if r then e else c)))) ≡ (if n then a else (if s then b else c))
 over_bools m r true s a b d e c first second = refl
@@ -59,7 +59,7 @@ shown_by-over m r n s x c first second =
     over_bools (covers (bytes_of m) x) (covers (bytes_of r) x) (covers (bytes_of n) x) (covers (bytes_of s) x)
     (spelled_at n x) (spelled_at s x) (spelled_at m x) (spelled_at r x) c first second
 
--- what two tables show, they show again
+-- the bytes of two tables, applied twice
 pub shown_by-again : (m r : Table) (x c : ℕ) → shown_by m r x (shown_by m r x c) ≡ shown_by m r x c
 shown_by-again m r x c = shown_by-over m r m r x c (λ here. here) (λ here. here)
 
@@ -75,7 +75,7 @@ or_assoc : (a b c : Bool) → (a || (b || c)) ≡ ((a || b) || c)
 or_assoc true b c = refl
 or_assoc false b c = refl
 
--- an address is left by items and further ones where it is by the first, or by the second behind them
+-- an address is left by items and further ones if the first leave it, or the second after them
 pub is_left-append : (kernel : RangeView) (items more further : List Item) (x : ℕ) →
     is_left kernel items (more ++ further) x ≡ (is_left kernel items more x || is_left kernel (items ++ more) further x)
 is_left-append kernel items [] further x = ap (λ (is : List Item). is_left kernel is further x) (sym (append-nil items))
@@ -95,7 +95,7 @@ pub after-along : (kernel : RangeView) (items more longer : List Item) (x b : �
     byte_after kernel items longer x b ≡ shown kernel longer x (if is_left kernel items more x then 0 else b)
 after-along kernel items more longer x b goes = rw goes (after-is kernel items more x b)
 
--- what was left behind in two parts
+-- what two parts of the items leave
 left_twice : (g h : ℕ → ℕ) (first second : Bool) (b : ℕ) → (second ≡ false → (c : ℕ) → g (h c) ≡ g c) →
     g (if second then 0 else h (if first then 0 else b)) ≡ g (if first || second then 0 else b)
 left_twice g h true true b hides = refl
@@ -103,7 +103,7 @@ left_twice g h false true b hides = refl
 left_twice g h true false b hides = hides refl 0
 left_twice g h false false b hides = hides refl b
 
--- what stands behind items and further ones is what the further ones make of what stands behind the first
+-- the further items, applied to the byte after the first ones, give the byte after all of them
 pub after-after : (kernel : RangeView) (items more further : List Item) (x b : ℕ) →
     byte_after kernel (items ++ more) ((items ++ more) ++ further) x (byte_after kernel items (items ++ more) x b)
     ≡ byte_after kernel items ((items ++ more) ++ further) x b
@@ -120,7 +120,7 @@ pub after-chain : (kernel : RangeView) (items more further mid last : List Item)
     byte_after kernel mid last x (byte_after kernel items mid x b) ≡ byte_after kernel items last x b
 after-chain kernel items more further mid last x b goes goes_on = rw (goes_on, goes) (after-after kernel items more further x b)
 
--- fills that were made before change nothing later
+-- fills that were made earlier change nothing later
 filled-later : (n m : ℕ) (fills : List Filled) (x b : ℕ) → AreMadeBy n fills → n < m → filled m fills x b ≡ b
 filled-later n m [] x b made less = refl
 filled-later n m (f ∷ fills) x b made less =
@@ -141,7 +141,7 @@ written-append kernel fills items (i ∷ more) further x b =
     ∙ ap (λ (is : List Item). written kernel fills is further x (written kernel fills (items ++ i ∷ []) more x now))
     (append_assoc items (i ∷ []) more)
 
--- behind the last fill only moves write
+-- after the last fill only moves write
 written-beyond : (kernel : RangeView) (fills : List Filled) (items more : List Item) (x b : ℕ) → AreMadeBy (length items) fills →
     written kernel fills items more x b ≡ (if is_left kernel items more x then 0 else b)
 written-beyond kernel fills items [] x b made = refl
@@ -154,7 +154,7 @@ written-beyond kernel fills items (i ∷ more) x b made =
     (AreMadeBy-more (length items) (length (items ++ i ∷ [])) fills (omega arith) made)
     ∙ left_twice (λ (n : ℕ). n) (λ (n : ℕ). n) (leaves kernel items i x) (is_left kernel (items ++ i ∷ []) more x) b (λ stays c. refl)
 
--- the byte of the longer list is what the further items make of the byte
+-- the byte of the longer list is the byte of the first items, with the further items applied
 pub after-byte : (kernel : RangeView) (items more : List Item) (fills : List Filled) (x : ℕ) → AreMadeBy (length items) fills →
     byte_after kernel items (items ++ more) x (byte kernel items fills x) ≡ byte kernel (items ++ more) fills x
 unfolding byte

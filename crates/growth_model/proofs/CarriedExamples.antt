@@ -1,4 +1,4 @@
--- What small lists of items come to.
+-- Examples: small lists of items that are to be written.
 use Rattle.std.proofs.Common.{◌≡◌, List, [], ◌∷◌, Some, None, Ok, Err, true, false, refl}
 use Rattle.bm_base.specs.Range.{RangeView}
 use Rattle.memblock_model.specs.declared.owner.Which.TheVariants as which
@@ -15,18 +15,18 @@ page = record { base = 0x1000; size = 0x1000 }
 abbrev full : Refused
 full = record { which = which.Reserved; room = 128 }
 
--- a range is added behind growth; a trim is written as it is
+-- a range is added after growth; a trim is written without growth
 changes : (items : List Item) → (change (item.Mem page) items ≡ added page items) × ((change item.Trim items).steps ≡ (item.Trim ∷ []) ∷ [])
 changes items = (refl, refl)
 
--- and so does a node, a mirror, a claim and a free
+-- a node, a mirrored range, a claim and a free are written after growth
 grow_first : (items : List Item) → (change (item.Node page 3) items ≡ noded page 3 items)
     × (change (item.Mirror page) items ≡ mirrored page items)
     × (change (item.Claim page owner.Soft) items ≡ claimed page owner.Soft items)
     × (change (item.Free page) items ≡ freed page items)
 grow_first items = (refl, refl, refl, refl)
 
--- what a change comes to, with and without a refusal
+-- the end of a change with and without a refusal
 ended_examples : (ended (item.Trim ∷ []) (record { steps = (item.Free page ∷ []) ∷ []; refused = None })
     ≡ Ok (item.Trim ∷ item.Free page ∷ []))
     × (ended (item.Trim ∷ []) (record { steps = (item.Free page ∷ []) ∷ []; refused = Some full }) ≡ Err full)
@@ -35,7 +35,7 @@ ended_examples = (refl, refl)
 unless_examples : (unless_refused None [] ≡ Ok []) × (unless_refused (Some full) [] ≡ Err full)
 unless_examples = (refl, refl)
 
--- nothing, and items that need no growth
+-- an empty list, and items that need no growth
 carries_nothing : (items : List Item) → carried_out [] items ≡ Ok items
 unfolding carried_out
 carries_nothing items = refl
@@ -45,7 +45,7 @@ carries_two : carried_out (item.Trim ∷ item.Limit 0x2000 ∷ []) (item.Free pa
 unfolding carried_out
 carries_two = refl
 
--- a claim says nothing of memory, nor where a search begins; a trim and a mirror do
+-- a claim and a search direction don't change memory; a trim and a mirrored range do
 kinds_of_items : (is_of_memory (item.Claim page owner.Kernel) ≡ false) × (is_of_memory item.Trim ≡ true)
     × (is_of_memory (item.Upward true) ≡ false) × (is_of_memory (item.Mirror page) ≡ true)
 kinds_of_items = (refl, refl, refl, refl)
@@ -54,7 +54,7 @@ some_of_memory : memory_items (item.Mem page ∷ item.Claim page owner.Kernel �
     ≡ item.Mem page ∷ item.Limit 0x2000 ∷ []
 some_of_memory = refl
 
--- a claim behind the growth of its table is quiet
+-- a claim after the growth of its table is quiet
 quiet_steps : AreQuiet ((item.Grown which.Reserved 0x4000 256 ∷ item.Claim page (owner.Table which.Reserved) ∷ [])
     ∷ (item.Claim page owner.Kernel ∷ []) ∷ [])
 quiet_steps = (refl, (refl, tt))

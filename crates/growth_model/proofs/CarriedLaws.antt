@@ -1,4 +1,4 @@
--- What is carried out appears among the items in its order, and of memory nothing else does.
+-- What is to be written appears among the items in its order, and no other item changes memory.
 use Rattle.std.proofs.Common.{◌≡◌, List, [], ◌∷◌, ◌++◌, Option, Some, None, Result, Ok, Err, refl, sym, ap, ◌∙◌}
 use Rattle.std.proofs.lemmas.List.{append-nil, append_assoc}
 use Rattle.bm_base.specs.ResultSteps.{◌>>=◌}
@@ -12,7 +12,7 @@ use Rattle.growth_model.proofs.EndLaws.{joined-append}
 use Rattle.growth_model.proofs.MemoryItemLaws.{memory_items-append, quiet-joined}
 use Rattle.growth_model.proofs.QuietLaws.{IsQuiet, quiet-grown, reserved_growth-quiet, memory_growth-quiet}
 
--- an answer that went on, and what came of it
+-- a result that wasn't an error, and the result of what followed
 pub record GoesOn (answer : Result (List Item) Refused) (others : List Item → Result (List Item) Refused) (last : List Item) : Type 0 where
   pub next : List Item
   pub first : answer ≡ Ok next
@@ -28,7 +28,8 @@ pub first_carried : (i : Item) (is items last : List Item) → carried_out (i �
 unfolding carried_out
 first_carried i is items last ends = goes_on (ended items (change i items)) (carried_out is) last ends
 
--- behind quiet steps and an item, the items of memory are those before and that one, if it is of memory
+-- after quiet steps and an item, the items that change memory are those before and this one, if it
+-- changes memory
 one_behind : (items : List Item) (ss : List (List Item)) (i : Item) → AreQuiet ss
     → memory_items (items ++ joined (ss ++ (i ∷ []) ∷ [])) ≡ memory_items items ++ memory_items (i ∷ [])
 one_behind items ss i quiet =
@@ -46,7 +47,7 @@ written_behind first None items next i is quiet ends =
 written_behind first (Some r) items next i is quiet ends =
     let clash : unless_refused (Some r) (after items first) ≡ Ok next = rw is at ends in absurd (cc)
 
--- a change that writes its item behind a quiet growth
+-- a change that writes its item after quiet growth
 grown_behind : (growth : Change) (i : Item) (items next : List Item) → IsQuiet growth → ended items ((growth >> write i) items) ≡ Ok next
     → memory_items next ≡ memory_items items ++ memory_items (i ∷ [])
 grown_behind growth i items next quiet ends =
@@ -58,7 +59,7 @@ plainly_behind i items next ends =
     let same : items ++ (i ∷ [] ++ []) ≡ next = cc in
     ap memory_items (sym same) ∙ one_behind items [] i tt
 
--- one item that is carried out
+-- one item that was to be written
 pub change-memory : (i : Item) (items next : List Item) → ended items (change i items) ≡ Ok next
     → memory_items next ≡ memory_items items ++ memory_items (i ∷ [])
 unfolding added noded mirrored claimed freed
@@ -75,7 +76,7 @@ change-memory (item.Free range) items next ends =
     grown_behind _ (item.Free range) items next (quiet-grown which.Reserved two _ (reserved_growth-quiet range)) ends
 change-memory i items next ends = plainly_behind i items next ends
 
--- and all of them: growth appears in no law of memory
+-- all items that were to be written; growth is in no law about memory
 pub carried-memory : (is items last : List Item) → carried_out is items ≡ Ok last
     → memory_items last ≡ memory_items items ++ memory_items is
 unfolding carried_out
@@ -88,7 +89,7 @@ carried-memory (i ∷ is) items last ends =
     ∙ append_assoc (memory_items items) (memory_items (i ∷ [])) (memory_items is)
     ∙ ap (λ (t : List Item). memory_items items ++ t) (sym (memory_items-append (i ∷ []) is))
 
--- first some of what is wanted and then the rest
+-- a part of the list first, and then the rest
 further : (answer : Result (List Item) Refused) (first rest all : List Item → Result (List Item) Refused)
     → ((next : List Item) → all next ≡ (first next >>= rest)) → (answer >>= all) ≡ ((answer >>= first) >>= rest)
 further (Ok next) first rest all each = each next

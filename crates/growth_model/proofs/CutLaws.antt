@@ -1,4 +1,5 @@
--- What holds after every number of steps of a change holds wherever a call ends that carries it out.
+-- What holds after every number of steps of a change holds wherever a call that makes the change
+-- ends.
 use Rattle.std.proofs.Common.{◌≡◌, ℕ, zero, suc, Bool, Option, Some, None, List, [], ◌∷◌, ◌++◌, take, Result, Ok, Err, refl, sym, ◌∙◌, ap, subst, append_assoc, inl, inr}
 use Rattle.std.proofs.lemmas.Bool.{cases_Bool}
 use Rattle.std.proofs.lemmas.List.{append-nil}
@@ -11,7 +12,7 @@ use Rattle.growth_model.specs.Growth.{is_full, grown}
 use Rattle.growth_model.specs.Ends.{EndsBy}
 use Rattle.growth_model.proofs.EndLaws.{after-both, followed}
 
--- it holds of the items, and still after each step
+-- P holds of the items, and after each further step
 abbrev pub EachCut : (List Item → Type 0) → List Item → List (List Item) → Type 0
 EachCut P items [] = P items
 EachCut P items (s ∷ ss) = P items × EachCut P (items ++ s) ss
@@ -20,7 +21,7 @@ pub cuts-first : (P : List Item → Type 0) (items : List Item) (ss : List (List
 cuts-first P items [] h = h
 cuts-first P items (s ∷ ss) h = h.0
 
--- at the end, and after some of the steps
+-- after the last step, and after some of the steps
 pub cuts-last : (P : List Item → Type 0) (items : List Item) (ss : List (List Item)) → EachCut P items ss → P (items ++ joined ss)
 cuts-last P items [] h = subst P (sym (append-nil items)) h
 cuts-last P items (s ∷ ss) h = subst P (append_assoc items s (joined ss)) (cuts-last P (items ++ s) ss h.1)
@@ -78,13 +79,13 @@ pub cuts-map : (P Q : List Item → Type 0) (items : List Item) (ss : List (List
 cuts-map P Q items [] keep h = keep items h
 cuts-map P Q items (s ∷ ss) keep h = (keep items h.0, cuts-map P Q (items ++ s) ss keep h.1)
 
--- the ends of a first change that wasn't refused, and of the second
+-- the items after two changes, if the first wasn't refused
 pub after-then : (items : List Item) (first second : Change) → (first items).refused ≡ None
     → after items ((first >> second) items) ≡ after (after items (first items)) (second (after items (first items)))
 after-then items first second unrefused = ap (λ (o : Outcome). after items o) (followed first second items unrefused)
     ∙ sym (after-both items (first items) (second (after items (first items))))
 
--- both parts of a change that wasn't refused weren't
+-- if two changes in turn weren't refused, neither was
 refused_by : (o : Outcome) (n : Option Refused) (p : Outcome) → o.refused ≡ n → (followed_by o n p).refused ≡ None
     → (o.refused ≡ None) × (p.refused ≡ None)
 refused_by o None p is h = (is, h)

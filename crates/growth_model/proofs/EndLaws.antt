@@ -1,4 +1,4 @@
--- How one call after another ends: by the ends of both.
+-- How two calls in turn end.
 use Rattle.std.proofs.Common.{◌≡◌, ℕ, ◌+◌, ◌<◌, Bool, true, false, Option, Some, None, List, [], ◌∷◌, ◌++◌, length, take, Result, Ok, Err, refl, sym, ◌∙◌, ap, subst, append_assoc, arith}
 use Rattle.std.proofs.lemmas.List.{append-nil, length-append, take-append-le}
 use Rattle.std.proofs.Math.Seq.{take-append-add}
@@ -13,7 +13,7 @@ pub joined-append : (a b : List (List Item)) → joined (a ++ b) ≡ joined a ++
 joined-append [] b = refl
 joined-append (s ∷ ss) b = ap (λ (t : List Item). s ++ t) (joined-append ss b) ∙ sym (append_assoc s (joined ss) (joined b))
 
--- the steps of two changes, one behind the other
+-- the steps of two changes, one after the other
 abbrev pub both_steps : Outcome → Outcome → Outcome
 both_steps o p = record { steps = o.steps ++ p.steps; refused = p.refused }
 
@@ -21,13 +21,14 @@ pub after-both : (items : List Item) (o p : Outcome) → after (after items o) p
 after-both items o p = append_assoc items (joined o.steps) (joined p.steps)
     ∙ ap (λ (t : List Item). items ++ t) (sym (joined-append o.steps p.steps))
 
--- what is cut short is cut
+-- some of the steps, with one missing, are some of the steps
 pub cut-short : (old new : List Item) (steps : List (List Item)) → IsCutShort old new steps → IsCut old new steps
 cut-short old new steps cut =
     let short : cut.count < length steps = cut.short in
     record { count = cut.count; within = omega (arith, short); stands = cut.stands }
 
--- some of the first steps are some of all, and so are all of the first and some of the others
+-- some steps of the first change are some steps of both; all of the first and some of the second
+-- are too
 pub cut-first : (old new : List Item) (a b : List (List Item)) → IsCutShort old new a → IsCutShort old new (a ++ b)
 cut-first old new a b cut =
     let short : cut.count < length a = cut.short in
@@ -55,7 +56,7 @@ second_by (Err refusal.NoGap) old new o p h = h
 second_by (Err (refusal.NoGapForTable w room)) old new o p h = (h.0, h.1 ∙ after-both old o p)
 second_by (Err refusal.Memory) old new o p h = cut-second old new o.steps p.steps h
 
--- the first change wasn't refused: so the second followed
+-- if the first change wasn't refused, the second followed
 pub followed : (first second : Change) (items : List Item) → (first items).refused ≡ None
     → (first >> second) items ≡ both_steps (first items) (second (after items (first items)))
 followed first second items unrefused = rw unrefused refl
@@ -74,7 +75,8 @@ first_by T U (refusal.NoGapForTable w room) old new o (Some r) p is h = h
 first_by T U refusal.Memory old new o None p is h = cut-first old new o.steps p.steps h
 first_by T U refusal.Memory old new o (Some r) p is h = h
 
--- the first change was refused, or memory ran out in it: the second didn't follow
+-- if the first change was refused, or the program was out of memory in it, the second didn't
+-- follow
 pub Ends-first : (T U : Type 0) (e : Refusal) (old new : List Item) (first second : Change) → Ends {T = T} (Err e) old new first
     → Ends {T = U} (Err e) old new (first >> second)
 Ends-first T U e old new first second h = first_by T U e old new (first old) (first old).refused
@@ -98,17 +100,17 @@ pub Ends-refused : (T : Type 0) (w : Which) (room : ℕ) (items : List Item)
     → Ends {T = T} (Err (refusal.NoGapForTable w room)) items items (refuse w room)
 Ends-refused T w room items = (refl, sym (append-nil items))
 
--- memory ran out before the first step of a change that has one
+-- out of memory before the first step of a change that has one
 pub Ends-wanting : (T : Type 0) (items : List Item) (change : Change) → 0 < length (change items).steps
     → Ends {T = T} (Err refusal.Memory) items items change
 Ends-wanting T items change some = record { count = 0; short = some; stands = sym (append-nil items) }
 
--- the ends of an answer that is known
+-- the end of a call whose result is known
 pub Ends-along : {T : Type 0} (r s : Result T Refusal) (old new : List Item) (change : Change) → r ≡ s → Ends r old new change
     → Ends s old new change
 Ends-along r s old new change is h = subst (λ (t : Result _ Refusal). Ends t old new change) is h
 
--- an error is the same whatever the value would have been
+-- an error doesn't depend on the type of the result
 pub Ends-error : (T U : Type 0) (e : Refusal) (old new : List Item) (change : Change) → Ends {T = T} (Err e) old new change
     → Ends {T = U} (Err e) old new change
 Ends-error T U refusal.NoGap old new change h = h

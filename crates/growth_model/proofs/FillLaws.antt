@@ -1,4 +1,5 @@
--- A fill that meets neither table is the newest that was written there, and the tables go on to lie in their bytes.
+-- A fill that overlaps no table is the newest write to its range, and both tables stay in their
+-- bytes.
 use Rattle.std.proofs.Common.{◌≡◌, ℕ, ◌+◌, ◌<◌, ◌≤◌, ◌==◌, Bool, true, false, ◌&&◌, if◌then◌else◌, List, [], ◌∷◌, ◌++◌, length, refl, sym, ◌∙◌, ap, arith, eq-eqb, length-append}
 use Rattle.std.proofs.lemmas.Bool.{ne_eqb}
 use Rattle.bm_base.specs.Range.{RangeView, covers}
@@ -14,14 +15,14 @@ filled-append : (n : ℕ) (fills : List Filled) (f : Filled) (x b : ℕ) →
 filled-append n [] f x b = refl
 filled-append n (g ∷ fills) f x b = filled-append n fills f x (if (g.at == n) && covers g.range x then g.byte else b)
 
--- at its own number of items a fill comes last
+-- a fill at this number of items is applied last
 filled-newest : (n : ℕ) (fills : List Filled) (f : Filled) (x b : ℕ) → f.at ≡ n →
     filled n (fills ++ f ∷ []) x b ≡ put f x (filled n fills x b)
 filled-newest n fills f x b now =
     filled-append n fills f x b
     ∙ ap (λ (t : Bool). if t && covers f.range x then f.byte else filled n fills x b) (eq-eqb f.at n now)
 
--- before, nothing is there of it
+-- a fill isn't applied before its number of items is reached
 filled-before : (n : ℕ) (fills : List Filled) (f : Filled) (x b : ℕ) → n < f.at → filled n (fills ++ f ∷ []) x b ≡ filled n fills x b
 filled-before n fills f x b later =
     filled-append n fills f x b
@@ -54,7 +55,7 @@ put_through true r true a b v n first second = absurd (first refl refl)
 put_through false true true a b v n first second = absurd (second refl refl)
 put_through false false true a b v n first second = refl
 
--- a fill beside both tables is shown
+-- a fill apart from both tables is shown
 pub shown_by-put : (m r : Table) (f : Filled) (x b : ℕ) → Clear f.range (bytes_of m) → Clear f.range (bytes_of r) →
     shown_by m r x (put f x b) ≡ put f x (shown_by m r x b)
 shown_by-put m r f x b first second =
@@ -70,7 +71,7 @@ fill-newest kernel items fills f x last away =
     ∙ shown_by-put (table_for which.Memory kernel items) (table_for which.Reserved kernel items) f x
     (written kernel fills [] items x (filled 0 fills x 0)) away.0 away.1
 
--- after a fill the tables lie in their bytes as before
+-- after a fill both tables are in their bytes as before
 pub fill-spelled : (m r : Table) (fill : Filled) (f g : ℕ → ℕ) → Clear fill.range (bytes_of m) → Clear fill.range (bytes_of r) →
     AreSpelled m r f → ((x : ℕ) → g x ≡ put fill x (f x)) → AreSpelled m r g
 fill-spelled m r fill f g first second spelled filled_in = λ x.
@@ -82,7 +83,7 @@ AreMadeBy-append : (n : ℕ) (fills : List Filled) (f : Filled) → AreMadeBy n 
 AreMadeBy-append n [] f made now = (now, tt)
 AreMadeBy-append n (g ∷ fills) f made now = (made.0, AreMadeBy-append n fills f made.1 now)
 
--- bytes that are those of items and fills stay so behind a call
+-- bytes that are those of items and fills are so after a call
 pub holds-call : (kernel : RangeView) (items longer : List Item) (fills : List Filled) (f g : ℕ → ℕ) → Holds kernel items fills f →
     Follows kernel items longer f g → Holds kernel longer fills g
 holds-call kernel items longer fills f g holds follows =
@@ -95,7 +96,7 @@ holds-call kernel items longer fills f g holds follows =
           ∙ ap (λ (l : List Item). byte kernel l fills x) (sym follows.goes_on);
     }
 
--- and behind a fill
+-- and after a fill
 pub holds-fill : (kernel : RangeView) (items : List Item) (fills : List Filled) (fill : Filled) (f g : ℕ → ℕ) → Holds kernel items fills f →
     fill.at ≡ length items → IsAway kernel fill.range items → ((x : ℕ) → g x ≡ put fill x (f x)) →
     Holds kernel items (fills ++ fill ∷ []) g

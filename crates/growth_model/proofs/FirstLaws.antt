@@ -19,7 +19,7 @@ use Rattle.growth_model.specs.Sound.{ShareNoFrame, Seated, IsImage}
 use Rattle.growth_model.proofs.IdleLaws.{claimed-idle}
 use Rattle.growth_model.proofs.SeatLaws.{Seat-new}
 
--- a table that says nothing has no records
+-- a table that covers nothing has no records
 pub no_records : (f : Labels) → ((x : ℕ) → f x ≡ None) → length (records_for f) ≡ 0
 no_records f none = ap length (sym (records_for-is f [] (λ x le. none x) (record { runs = tt; each = λ x. sym (none x) })))
 
@@ -27,7 +27,7 @@ pub nothing_said : (w : Which) (x : ℕ) → table_of w [] x ≡ None
 nothing_said which.Memory x = refl
 nothing_said which.Reserved x = refl
 
--- so the first claim, of one run, finds room
+-- the table isn't full for the first claim, which is one run
 pub first-full : (r : RangeView) → end_of r ≤ 2 ^ 64 → is_full which.Reserved (new_in which.Reserved r) [] ≡ false
 unfolding records_of
 first-full r small =
@@ -40,16 +40,16 @@ pub first-full_by_two : is_full which.Reserved two [] ≡ false
 unfolding records_of
 first-full_by_two = let none = no_records (table_of which.Reserved []) (λ x. refl) in grind (arith, nat_tests, none)
 
--- so each table fits at first
+-- each table fits at first
 pub no_table_full : (w : Which) → count w [] ≤ room_of w []
 unfolding records_of
 no_table_full w = let none = no_records (table_of w []) (nothing_said w) in omega arith
 
--- and the first claim writes its item alone
+-- the first claim writes only its item
 pub first-claimed : (r : RangeView) (o : Owner) → end_of r ≤ 2 ^ 64 → claimed r o [] ≡ write (item.Claim r o) []
 first-claimed r o small = claimed-idle [] r o (first-full r small)
 
--- the built-in places, in the last two frames of the image
+-- the items after the claim of the image, with the built-in places in its last two frames
 abbrev first_items : RangeView → List Item
 first_items kernel = item.Claim kernel owner.Kernel ∷ []
 

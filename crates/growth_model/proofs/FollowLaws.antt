@@ -1,4 +1,4 @@
--- How bytes follow items: through no item, one item, one call behind another.
+-- How bytes follow items: no item, one item, and one call after another.
 use Rattle.std.proofs.Common.{◌≡◌, ℕ, Bool, false, if◌then◌else◌, List, [], ◌∷◌, ◌++◌, refl, sym, ◌∙◌, ap, subst, append_assoc}
 use Rattle.std.proofs.lemmas.List.{append-nil}
 use Rattle.std.proofs.Math.Bool.{or-false}
@@ -11,12 +11,12 @@ use Rattle.memblock_ranges.specs.Tables.{Table}
 use Rattle.growth_model.specs.Bytes.{table_for, shown_by, AreSpelled, left_by, shown, leaves, is_left, byte_after, Follows}
 use Rattle.growth_model.proofs.BytesLaws.{shown_by-again, after-along, after-chain}
 
--- two tables that are those of the items show what the items show
+-- two tables that are those of the items show the same bytes
 pub shown-by : (kernel : RangeView) (items : List Item) (m r : Table) (x b : ℕ) → m ≡ table_for which.Memory kernel items →
     r ≡ table_for which.Reserved kernel items → shown_by m r x b ≡ shown kernel items x b
 shown-by kernel items m r x b first second = rw (first, second) refl
 
--- tables that lie in their bytes do so also as those of the items
+-- tables that are in their bytes are so too as those of the items
 pub spelled-by : (kernel : RangeView) (items : List Item) (m r : Table) (f : ℕ → ℕ) → m ≡ table_for which.Memory kernel items →
     r ≡ table_for which.Reserved kernel items → AreSpelled m r f →
     AreSpelled (table_for which.Memory kernel items) (table_for which.Reserved kernel items) f
@@ -41,7 +41,7 @@ pub follows-none : (kernel : RangeView) (items : List Item) (m r : Table) (f : �
     r ≡ table_for which.Reserved kernel items → AreSpelled m r f → Follows kernel items items f f
 follows-none kernel items m r f first second spelled = follows-still kernel items m r f f first second spelled (λ x. refl)
 
--- one item that moves no table: the premise on it is `λ x. refl`
+-- one item that moves no table; the premise about that is `λ x. refl`
 pub follows-item : (kernel : RangeView) (items : List Item) (i : Item) (m r : Table) (f g : ℕ → ℕ) →
     ((x : ℕ) → leaves kernel items i x ≡ false) → m ≡ table_for which.Memory kernel (items ++ i ∷ []) →
     r ≡ table_for which.Reserved kernel (items ++ i ∷ []) → ((x : ℕ) → g x ≡ shown_by m r x (f x)) →
@@ -63,7 +63,7 @@ follows-grown kernel items w place room old m r f g was first second told =
     ∙ ap (λ (t : Table). shown kernel (items ++ i ∷ []) x (left_by t x (f x))) was
     ∙ ap (λ (t : Bool). shown kernel (items ++ i ∷ []) x (if t then 0 else f x)) (sym (or-false (leaves kernel items i x))))
 
--- one behind another
+-- one call after another
 pub follows-then : (kernel : RangeView) (items mid last : List Item) (f g h : ℕ → ℕ) → Follows kernel items mid f g →
     Follows kernel mid last g h → Follows kernel items last f h
 follows-then kernel items mid last f g h first second = record {
@@ -73,13 +73,13 @@ follows-then kernel items mid last f g h first second = record {
       ∙ after-chain kernel items first.more second.more mid last x (f x) first.goes_on second.goes_on;
 }
 
--- the same where the second speaks of an equal range of the kernel
+-- one call after another, the second with an equal range for the kernel
 pub follows-next : (kernel other : RangeView) (items mid last : List Item) (f g h : ℕ → ℕ) → other ≡ kernel →
     Follows kernel items mid f g → Follows other mid last g h → Follows kernel items last f h
 follows-next kernel other items mid last f g h same first second =
     follows-then kernel items mid last f g h first (subst (λ (k : RangeView). Follows k mid last g h) same second)
 
--- behind the items the tables lie in their bytes again
+-- after the items both tables are in their bytes again
 pub follows-spelled : (kernel : RangeView) (items longer : List Item) (f g : ℕ → ℕ) → Follows kernel items longer f g →
     AreSpelled (table_for which.Memory kernel longer) (table_for which.Reserved kernel longer) g
 unfolding byte_after
@@ -88,7 +88,7 @@ follows-spelled kernel items longer f g follows = λ x.
     let r = table_for which.Reserved kernel longer in
     follows.each x ∙ sym (ap (λ (n : ℕ). shown_by m r x n) (follows.each x) ∙ shown_by-again m r x _)
 
--- also as the tables that are those of the longer list
+-- two tables that are those of the longer list are in their bytes
 pub follows-stands : (kernel : RangeView) (items longer : List Item) (m r : Table) (f g : ℕ → ℕ) →
     m ≡ table_for which.Memory kernel longer → r ≡ table_for which.Reserved kernel longer → Follows kernel items longer f g →
     AreSpelled m r g

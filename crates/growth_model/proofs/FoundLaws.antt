@@ -1,4 +1,4 @@
--- A place that a search found: nobody has its bytes, so neither table lies there.
+-- A place that a search found: no one has its bytes, so it overlaps no table.
 use Rattle.std.proofs.Common.{◌≡◌, ℕ, ◌+◌, ◌*◌, ◌%◌, ◌<◌, ◌≤◌, Bool, true, false, ◌==◌, if◌then◌else◌, min, Option, Some, None, List, [], ◌∷◌, ◌++◌, refl, ap, subst, inl, inr, arith}
 use Rattle.std.proofs.lemmas.Bool.{and_parts}
 use Rattle.bm_base.specs.Range.{RangeView, end_of, covers, Meet}
@@ -36,7 +36,7 @@ pub no_owner : (o : Option Owner) → without_owner o ≡ None → o ≡ None
 no_owner None e = refl
 no_owner (Some o) e = cc
 
--- nobody has a byte of what fits
+-- no byte of a place that fits has an owner
 fits-unclaimed : (items : List Item) (q : Query) (mirror : Bool) (place : ℕ)
     → IsPlace mirror (table_of which.Memory items) (table_of which.Reserved items) q place
     → Unclaimed (owner_of items) (record { base = place; size = q.size })
@@ -48,7 +48,8 @@ pub found-unclaimed : (items : List Item) (q : Query) (place : ℕ) → best_pla
     → Unclaimed (owner_of items) (record { base = place; size = q.size })
 found-unclaimed items q place found = fits-unclaimed items q false place (found-fits items q place found)
 
--- a new place for a table with that room: aligned, nobody's, in the address space, and beside the range
+-- a new place for a table that has this room: aligned, unclaimed, below 2^64, and apart from the
+-- range
 pub record IsNew (items : List Item) (avoid : RangeView) (room place : ℕ) : Type 0 where
   pub aligned : place % 4096 ≡ 0
   pub free : Unclaimed (owner_of items) (frames_at place (48 * room))
@@ -79,7 +80,7 @@ beside-new items avoid room place found =
       | inr below ↦ new_between items avoid room 0 before place (omega arith) (λ x from under low high. omega arith) below
     ]
 
--- what an allocation tries
+-- a query that an allocation tries
 pub record IsTried (r : Request) (limit : ℕ) (q : Query) : Type 0 where
   pub sized : q.size ≡ r.size
   pub aligned : q.align ≡ r.align
@@ -117,7 +118,7 @@ tried_all : (r : Request) (limit : ℕ) → AreTried r limit (attempts r limit)
 tried_all r limit = tried_append r limit (round r limit r.min) (if r.min == 0 then [] else round r limit 0)
     (tried_round r limit r.min) (tried_if r limit (r.min == 0) [] (round r limit 0) tt (tried_round r limit 0))
 
--- a search of it found the place
+-- one of its searches found the place
 pub record IsFound (r : Request) (items : List Item) (limit place : ℕ) : Type 0 where
   pub attempt : Attempt
   pub tried : IsTried r limit attempt.query
@@ -136,7 +137,7 @@ pub place-found : (r : Request) (items : List Item) (place : ℕ) → place_for 
     → IsFound r items (limit_of items) place
 place-found r items place h = first_found r items (limit_of items) place (attempts r (limit_of items)) (tried_all r (limit_of items)) h
 
--- the place of an allocation is nobody's, and ends below the limit
+-- the place of an allocation is unclaimed, and ends at or below the limit
 pub place-unclaimed : (r : Request) (items : List Item) (place : ℕ) → place_for r items ≡ Some place
     → Unclaimed (owner_of items) (record { base = place; size = r.size })
 place-unclaimed r items place h =
@@ -152,7 +153,7 @@ place-within r items place h =
     let tried = was.tried in
     omega arith
 
--- bytes without an owner meet no table
+-- unclaimed bytes overlap no table
 pub unclaimed-away : (kernel a : RangeView) (items : List Item) → Seated kernel items → Unclaimed (owner_of items) a → IsAway kernel a items
 unclaimed-away kernel a items placed free = (
   unclaimed-clear (owner_of items) a (table_bytes which.Memory kernel items) free placed.seats.first,
@@ -164,12 +165,12 @@ pub found-away : (kernel : RangeView) (items : List Item) (q : Query) (place : �
 found-away kernel items q place placed found =
     unclaimed-away kernel (record { base = place; size = q.size }) items placed (found-unclaimed items q place found)
 
--- a part of a range that is away is away
+-- a part of a range that overlaps no table overlaps none
 pub away-within : (kernel a b : RangeView) (items : List Item) → ((x : ℕ) → covers b x ≡ true → covers a x ≡ true) → IsAway kernel a items
     → IsAway kernel b items
 away-within kernel a b items inside away = (λ x at. away.0 x (inside x at), λ x at. away.1 x (inside x at))
 
--- such a range overlaps neither table, as the tables see it, and the other way round
+-- such a range and the tables as they are stored have no byte in common, and the other way round
 away_at : (kernel a : RangeView) (items : List Item) (w : Which) → IsAway kernel a items → Meet (table_bytes w kernel items) a → ⊥
 away_at kernel a items which.Memory away (x, both) = let parts = and_parts _ _ both in away.0 x parts.1 parts.0
 away_at kernel a items which.Reserved away (x, both) = let parts = and_parts _ _ both in away.1 x parts.1 parts.0
@@ -184,7 +185,8 @@ pub away-apart : (kernel a : RangeView) (items : List Item) (t : Contents) → t
 away-apart kernel a items t memory reserved away (w, meet) =
     away_at kernel a items w away (subst (λ (e : RangeView). Meet e a) (live_bytes kernel items t w memory reserved) meet)
 
--- a place that was found, for a table with twice the room: what `Tables::relocate` wants
+-- the place that was found for a table with twice the room satisfies what `Tables::relocate`
+-- requires
 pub found-apart : (kernel : RangeView) (items : List Item) (t : Contents) (room place : ℕ) → t.memory ≡ table_for which.Memory kernel items
     → t.reserved ≡ table_for which.Reserved kernel items → Seated kernel items
     → Unclaimed (owner_of items) (frames_at place (48 * room)) → ¬ Overlaps t (record { base = place; size = 48 * room })

@@ -1,4 +1,5 @@
--- Small changes, computed: what is written step by step, which growth is refused, what an allocation tries, and how calls end.
+-- Examples of small changes, computed: the items of each step, the growth that is refused, the
+-- searches of an allocation, and the ends of calls.
 use Rattle.std.proofs.Common.{◌≡◌, ℕ, zero, suc, ◌+◌, ◌*◌, ◌%◌, ◌^◌, ◌<◌, ◌≤◌, Bool, true, false, nat_lt, Option, Some, None, List, [], ◌∷◌, ◌++◌, length, take, Ok, Err, refl, sym, ap, arith}
 use Rattle.std.proofs.lemmas.Bool.{false_from_ne_true}
 use Rattle.std.proofs.lemmas.Bool.Decides.{nat_tests}
@@ -29,7 +30,7 @@ use Rattle.growth_model.proofs.EndLaws.{cut-short}
 use Rattle.growth_model.proofs.FirstLaws.{no_records, first-full_by_two, first-claimed}
 use Rattle.growth_model.proofs.IdleLaws.{claimed-idle, freed-idle, added-idle, noded-idle, mirrored-idle}
 
--- 256 KiB of memory, in which the kernel's image has four frames from 64 KiB on
+-- 256 KiB of memory; the kernel's image has four frames from 64 KiB on
 abbrev pub image : RangeView
 image = record { base = 65536; size = 16384 }
 
@@ -39,23 +40,23 @@ small = item.Mem (record { base = 0; size = 262144 }) ∷ (item.Claim image owne
 abbrev pub frame : ℕ → RangeView
 frame n = record { base = 4096 * n; size = 4096 }
 
--- steps, and the items behind them
+-- two steps, and one with a refusal
 abbrev two_steps : Outcome
 two_steps = record { steps = (item.Trim ∷ (item.Limit 5 ∷ [])) ∷ ((item.Limit 7 ∷ []) ∷ []); refused = None }
 
 abbrev stopped : Outcome
 stopped = record { steps = (item.Trim ∷ []) ∷ []; refused = Some (record { which = which.Memory; room = 128 }) }
 
--- all steps joined, and none
+-- the items of all steps
 joined_examples : (joined two_steps.steps ≡ item.Trim ∷ (item.Limit 5 ∷ (item.Limit 7 ∷ []))) × (joined [] ≡ [])
 joined_examples = (refl, refl)
 
--- what stands behind two steps, and behind a refusal
+-- the items after two steps, and after a refusal
 behind_examples : (after (item.Limit 3 ∷ []) two_steps ≡ item.Limit 3 ∷ (item.Trim ∷ (item.Limit 5 ∷ (item.Limit 7 ∷ []))))
     × (after [] stopped ≡ item.Trim ∷ [])
 behind_examples = (refl, refl)
 
--- nothing writes nothing, and isn't refused
+-- a change that writes nothing isn't refused
 nothing_examples : ((nothing small).steps ≡ []) × ((nothing []).refused ≡ None)
 nothing_examples = (refl, refl)
 
@@ -69,30 +70,30 @@ write_examples : (write item.Trim [] ≡ record { steps = (item.Trim ∷ []) ∷
     × (after (item.Trim ∷ []) (write (item.Limit 5) (item.Trim ∷ [])) ≡ item.Trim ∷ (item.Limit 5 ∷ []))
 write_examples = (refl, refl)
 
--- no place for a table: it is told for which room, and nothing is written
+-- no place for a table: the refusal has its room, and nothing is written
 refuse_examples : ((refuse which.Reserved 128 small).refused ≡ Some (record { which = which.Reserved; room = 128 }))
     × ((refuse which.Memory 256 small).steps ≡ [])
 refuse_examples = (refl, refl)
 
--- one behind the other, unless the first was refused
+-- the second change follows unless the first was refused
 followed_by_examples : (followed_by two_steps None stopped
     ≡ record { steps = two_steps.steps ++ stopped.steps; refused = Some (record { which = which.Memory; room = 128 }) })
     × (followed_by stopped (Some (record { which = which.Memory; room = 128 })) two_steps ≡ stopped)
 followed_by_examples = (refl, refl)
 
--- so it is with two changes in turn: both, none behind a refusal, the first alone where the second is refused
+-- two changes in turn: both; only the first if it is refused; both, with the refusal of the second
 then_examples : ((write item.Trim >> write (item.Limit 5)) []
     ≡ record { steps = (item.Trim ∷ []) ∷ ((item.Limit 5 ∷ []) ∷ []); refused = None })
     × ((refuse which.Memory 128 >> write (item.Limit 5)) [] ≡ refuse which.Memory 128 [])
     × ((write item.Trim >> refuse which.Memory 128) [] ≡ stopped)
 then_examples = (refl, refl, refl)
 
--- a change that is due, and one that is not
+-- a change that is due, and one that isn't
 if_due_examples : (if_due (λ items. nat_lt 1 (length items)) (write item.Trim) small ≡ write item.Trim small)
     × (if_due (λ items. nat_lt 5 (length items)) (write item.Trim) small ≡ nothing small)
 if_due_examples = (refl, refl)
 
--- a refusal is forgotten; where none is, nothing changes
+-- a refusal is dropped; without one nothing changes
 whatever_refused_examples : (whatever_refused (write item.Trim >> refuse which.Memory 128) [] ≡ write item.Trim [])
     × (whatever_refused (write item.Trim) small ≡ write item.Trim small)
 whatever_refused_examples = (refl, refl)
@@ -106,7 +107,7 @@ frames_at_examples : (frames_at 65536 (48 * 128) ≡ record { base = 65536; size
     × (frames_at 65536 (24 * 128) ≡ record { base = 65536; size = 4096 })
 frames_at_examples = (refl, refl)
 
--- what a table looks for, at first and when it has grown
+-- the query of a table at first, and after it has grown
 table_query_examples : (table_query 128 0 262144 ≡ record { lo = 0; hi = 262144; size = 8192; align = 4096; node = None })
     × (table_query 256 4096 8192 ≡ record { lo = 4096; hi = 8192; size = 12288; align = 4096; node = None })
 table_query_examples = (refl, refl)
@@ -115,7 +116,7 @@ table_query_examples = (refl, refl)
 small_is_plain : (x : ℕ) → suits true (table_of which.Memory small x) ≡ false
 small_is_plain x = plain_or_none (covers (record { base = 0; size = 262144 }) x)
 
--- the last place in a window of it
+-- the last place in a window of the small memory
 window_last : (lo hi a : ℕ) → a + 8192 ≡ hi → hi ≤ 262144 → a % 4096 ≡ 0 → 81920 ≤ a → lo ≤ a
     → IsLastBelow (fits_in false (table_of which.Memory small) (table_of which.Reserved small) (table_query 128 lo hi)) (2 ^ 64) a
 window_last lo hi a ends within aligned above low = record {
@@ -137,7 +138,8 @@ window_last lo hi a ends within aligned above low = record {
       omega arith;
 }
 
--- it is the best one, and the one that a search of any memory finds; a search of mirrored memory finds none
+-- it is the best place, and the one that a search of any memory finds; a search of mirrored memory
+-- finds none
 window_place : (lo hi a : ℕ) → a + 8192 ≡ hi → hi ≤ 262144 → a % 4096 ≡ 0 → 81920 ≤ a → lo ≤ a → best_place small (table_query 128 lo hi) ≡ Some a
 unfolding best_place
 window_place lo hi a ends within aligned above low =
@@ -155,7 +157,7 @@ nothing_mirrored : (q : Query) → top_place small q true ≡ None
 unfolding top_place
 nothing_mirrored q = top_place_in-mirrorless false (table_of which.Memory small) (table_of which.Reserved small) q small_is_plain
 
--- nothing fits where no number could
+-- if no address is in the window, nothing fits
 none_fits : (mirror : Bool) (items : List Item) (q : Query) → ((a : ℕ) → q.lo ≤ a → 4096 ≤ a → a + q.size ≤ q.hi → ⊥) → (a : ℕ)
     → fits_in mirror (table_of which.Memory items) (table_of which.Reserved items) q a ≡ false
 none_fits mirror items q never a = false_from_ne_true _ (λ fits.
@@ -168,14 +170,15 @@ no_window lo hi none =
     best_place_in-fails false (table_of which.Memory small) (table_of which.Reserved small) (table_query 128 lo hi)
     (λ b lt. none_fits false small (table_query 128 lo hi) (λ a low first high. omega arith) b)
 
--- above the frame at 128 KiB there is room; above the last 64 KiB there is none, but there is below them
+-- above the frame at 128 KiB there is room; above the last 64 KiB there is none, but below them
+-- there is
 above_place : place_beside (frame 32) 128 small ≡ Some 253952
 above_place = rw (window_place 135168 262144 253952 refl (omega arith) refl (omega arith) (omega arith)) refl
 
 below_place : place_beside (record { base = 196608; size = 65536 }) 128 small ≡ Some 188416
 below_place = rw (no_window 262144 262144 (omega arith)) (window_place 0 196608 188416 refl (omega arith) refl (omega arith) (omega arith))
 
--- a table that never moved leaves nothing behind; one that did leaves its frames
+-- a table that never moved frees nothing; one that did frees its frames
 left_items_examples : (left 128 None ≡ []) × (left 256 (Some 65536) ≡ item.Free (record { base = 65536; size = 8192 }) ∷ [])
 left_items_examples = (refl, refl)
 
@@ -184,7 +187,8 @@ first_move : reserved_items 128 None 253952
 unfolding reserved_items
 first_move = refl
 
--- the table at 248 KiB goes to 128 KiB: it has its new place before the old one is nobody's, and in the end that alone
+-- the table at 248 KiB moves to 128 KiB: it claims its new place before it frees the old one, and
+-- finally has only the new one
 abbrev moving : ℕ → List Item
 moving written = small ++ (reserved_items 128 None 253952 ++ take written (reserved_items 256 (Some 253952) 131072))
 
@@ -202,7 +206,7 @@ moved_with_all_its_room : (table_bytes which.Reserved image (moving 0) ≡ recor
 unfolding reserved_items
 moved_with_all_its_room = (refl, refl)
 
--- without a place the growth is refused, with one it is one step
+-- without a place the growth is refused; with one it is one step
 growth_at_examples : (reserved_growth_at 128 None None small ≡ refuse which.Reserved 128 small)
     × ((reserved_growth_at 128 None (Some 253952) small).steps ≡ reserved_items 128 None 253952 ∷ [])
 unfolding reserved_growth_at
@@ -243,7 +247,7 @@ none_at_first : count which.Memory [] ≡ 0
 unfolding records_of
 none_at_first = no_records (table_of which.Memory []) (λ x. refl)
 
--- an edit adds two pieces at most, so nothing is full; 128 further records would be too many
+-- an edit adds at most two pieces, so no table is full; 128 further records would be too many
 new_has_room : (w : Which) (r : RangeView) → end_of r ≤ 2 ^ 64 → NothingFrom (2 ^ 64) (table_of w small) → count w small ≡ 1
     → is_full w (new_in w r) small ≡ false
 unfolding records_of
@@ -265,7 +269,7 @@ too_many = grind (arith, nat_tests, memory_count)
 two_examples : (two [] ≡ 2) × (two small ≡ 2)
 two_examples = (refl, refl)
 
--- with room an item is written alone
+-- if there is room, only the item is written
 first_claim : claimed image owner.Kernel [] ≡ write (item.Claim image owner.Kernel) []
 first_claim = first-claimed image owner.Kernel (omega arith)
 
@@ -287,7 +291,7 @@ a_node = noded-idle small (frame 1) 3 (two_have_room which.Memory memory_count)
 a_mirror : mirrored (frame 1) small ≡ write (item.Mirror (frame 1)) small
 a_mirror = mirrored-idle small (frame 1) (two_have_room which.Memory memory_count)
 
--- a table that is full grows until it isn't, twice at most
+-- a full table grows at most twice, until it isn't full
 abbrev moves : Change
 moves = write (item.Grown which.Memory 4096 256)
 
@@ -323,7 +327,8 @@ a_frame_to_leave = rw a_free refl
 leaving_is_never_refused : (frames : RangeView) (items : List Item) → (leave (Some frames) items).refused ≡ None
 leaving_is_never_refused frames items = refl
 
--- a free may add two records: where 127 of 128 are there, the table grows first, and without a place the free is refused
+-- a free may add two records: if 127 of 128 are used, the table grows first, and without a place
+-- the free is refused
 free_behind_127 : (range : RangeView) (items : List Item) → count which.Reserved items ≡ 127 → room_of which.Reserved items ≡ 128
     → place_beside range 128 items ≡ None → freed range items ≡ refuse which.Reserved 128 items
 unfolding freed reserved_growth reserved_growth_at
@@ -356,7 +361,7 @@ memory_grows : memory_growth small ≡ first_growth
 unfolding memory_growth
 memory_grows = rw (window_place 0 262144 253952 refl (omega arith) refl (omega arith) (omega arith)) place_taken
 
--- memory goes on above the limit, and the new place doesn't
+-- memory continues above the limit, and the new place doesn't
 abbrev half_allowed : List Item
 half_allowed = item.Mem (record { base = 0; size = 262144 }) ∷ (item.Claim image owner.Kernel ∷ (item.Limit 131072 ∷ []))
 
@@ -370,7 +375,7 @@ without_memory = ap (λ (o : Option ℕ). memory_growth_at 128 None o [])
     (best_place_in-fails false (table_of which.Memory []) (table_of which.Reserved []) (table_query 128 0 0)
     (λ b lt. none_fits false [] (table_query 128 0 0) (λ a low first high. omega arith) b))
 
--- the searches of an allocation: one frame, from 128 KiB on if it can be, of node 1 if it can be
+-- the searches of an allocation of one frame: from 128 KiB on if possible, on node 1 if possible
 abbrev a_frame : Request
 a_frame = record { size = 4096; align = 4096; min = 0; max = None; node = None; exact = false }
 
@@ -380,25 +385,26 @@ from_the_middle = record { size = 4096; align = 8192; min = 131072; max = Some 1
 abbrev of_node_one : Request
 of_node_one = record from_the_middle { exact = true }
 
--- the limit ends a search, or the maximum; a mirror is asked for, or any memory will do
+-- the window ends at the limit, or at the request's maximum; in mirrored memory, or in any
 attempt_examples : ((attempt a_frame 262144 0 false None).query ≡ record { lo = 0; hi = 262144; size = 4096; align = 4096; node = None })
     × ((attempt from_the_middle 262144 131072 true (Some 1)).query
     ≡ record { lo = 131072; hi = 196608; size = 4096; align = 8192; node = Some 1 })
     × ((attempt a_frame 262144 0 true None).mirror ≡ true) × ((attempt a_frame 262144 0 false None).mirror ≡ false)
 attempt_examples = (refl, refl, refl, refl)
 
--- any node behind the one that is wanted, unless that one alone will do; nothing where none is wanted
+-- any node after the preferred one, unless only that one is allowed; nothing if no node is
+-- preferred
 anywhere_examples : (anywhere from_the_middle 262144 0 true (Some 1) ≡ attempt from_the_middle 262144 0 true None ∷ [])
     × (anywhere of_node_one 262144 0 false (Some 1) ≡ []) × (anywhere a_frame 262144 0 false None ≡ [])
 anywhere_examples = (refl, refl, refl)
 
--- both searches, or that of the node alone
+-- both searches, or only the one on the node
 nodes_examples : (nodes from_the_middle 262144 131072 false
     ≡ attempt from_the_middle 262144 131072 false (Some 1) ∷ (attempt from_the_middle 262144 131072 false None ∷ []))
     × (nodes of_node_one 262144 131072 true ≡ attempt of_node_one 262144 131072 true (Some 1) ∷ [])
 nodes_examples = (refl, refl)
 
--- mirrored memory of any node goes before other memory of the node
+-- mirrored memory of any node comes before other memory of the node
 a_round_of_four : round from_the_middle 262144 131072
     ≡ attempt from_the_middle 262144 131072 true (Some 1) ∷ (attempt from_the_middle 262144 131072 true None
     ∷ (attempt from_the_middle 262144 131072 false (Some 1) ∷ (attempt from_the_middle 262144 131072 false None ∷ [])))
@@ -408,7 +414,8 @@ a_round_of_two : round of_node_one 262144 131072
     ≡ attempt of_node_one 262144 131072 true (Some 1) ∷ (attempt of_node_one 262144 131072 false (Some 1) ∷ [])
 a_round_of_two = refl
 
--- a minimum is tried first and then left; without one there is one round
+-- the searches from the minimum on come first, then those from 0 on; without a minimum there is
+-- one round
 attempts_examples : (attempts of_node_one 262144
     ≡ attempt of_node_one 262144 131072 true (Some 1) ∷ (attempt of_node_one 262144 131072 false (Some 1)
     ∷ (attempt of_node_one 262144 0 true (Some 1) ∷ (attempt of_node_one 262144 0 false (Some 1) ∷ []))))
@@ -424,7 +431,7 @@ mirrored_memory q = record { query = q; mirror = true }
 no_search : first_top small [] ≡ None
 no_search = refl
 
--- nothing is mirrored, so the search of any memory is answered
+-- nothing is mirrored, so the search of any memory finds the place
 second_search : first_top small (mirrored_memory (table_query 128 0 262144) ∷ (any_memory (table_query 128 0 262144) ∷ [])) ≡ Some 253952
 second_search =
     rw (nothing_mirrored (table_query 128 0 262144), window_top 0 262144 253952 refl (omega arith) refl (omega arith) (omega arith)) refl
@@ -432,7 +439,7 @@ second_search =
 first_search : first_top small (any_memory (table_query 128 0 131072) ∷ (any_memory (table_query 128 0 262144) ∷ [])) ≡ Some 122880
 first_search = rw (window_top 0 131072 122880 refl (omega arith) refl (omega arith) (omega arith)) refl
 
--- eight KiB go to the top of memory; half a MiB doesn't fit
+-- 8 KiB get the highest place in memory; 512 KiB don't fit
 abbrev two_frames_please : Request
 two_frames_please = record a_frame { size = 8192 }
 
@@ -447,7 +454,7 @@ no_top q mirror none = top_place_in-fails (record { mirror = mirror; up = false 
 no_place_so_low : place_for (record two_frames_please { max = Some 0 }) small ≡ None
 no_place_so_low = rw (nothing_mirrored (table_query 128 0 0), no_top (table_query 128 0 0) false refl) refl
 
--- how calls end: all of it, one step of two, nothing at all
+-- ends of calls: after all steps, after one of two, and after none
 all_of_two : IsCut [] (joined two_steps.steps) two_steps.steps
 all_of_two = record { count = 2; within = omega arith; stands = refl }
 
@@ -457,26 +464,26 @@ one_of_two = record { count = 1; short = omega arith; stands = refl }
 some_of_two : IsCut [] (item.Trim ∷ (item.Limit 5 ∷ [])) two_steps.steps
 some_of_two = cut-short [] (item.Trim ∷ (item.Limit 5 ∷ [])) two_steps.steps one_of_two
 
--- fewer steps than both don't write all of their items
+-- fewer than both steps don't write all items
 fewer_of_two : (n : ℕ) → n < 2 → joined two_steps.steps ≡ joined (take n two_steps.steps) → ⊥
 fewer_of_two zero less same = cc
 fewer_of_two (suc zero) less same = cc
 fewer_of_two (suc (suc n)) less same = omega (arith, less)
 
--- where all steps were taken no memory is wanted, nor where a growth is refused before any
+-- after all steps, or if a growth is refused before any, the end isn't out of memory
 wanted_behind_all : EndsBy {T = ℕ} (Err refusal.Memory) [] (joined two_steps.steps) two_steps → ⊥
 wanted_behind_all cut = fewer_of_two cut.count cut.short cut.stands
 
 wanted_at_a_refusal : Ends {T = ℕ} (Err refusal.Memory) small small (refuse which.Memory 128) → ⊥
 wanted_at_a_refusal cut = let none : cut.count < 0 = cut.short in omega (arith, none)
 
--- a call that ends well, and one that is refused; a gap is never wanting
+-- a call that succeeds, and one that is refused; NoGap is never returned
 ends_by_examples : (EndsBy {T = ℕ} (Ok 3) [] (item.Trim ∷ (item.Limit 5 ∷ (item.Limit 7 ∷ []))) two_steps)
     × (EndsBy {T = ℕ} (Err (refusal.NoGapForTable which.Memory 128)) [] (item.Trim ∷ []) stopped)
     × (EndsBy {T = ℕ} (Err refusal.NoGap) [] [] two_steps → ⊥)
 ends_by_examples = ((refl, refl), (refl, refl), λ h. h)
 
--- all of a change is written, or memory ran out before any of it
+-- all of a change is written, or the program was out of memory before any of it
 ends_examples : (Ends {T = ℕ} (Ok 3) small (small ++ item.Trim ∷ []) (write item.Trim))
     × (Ends {T = ℕ} (Err refusal.Memory) small small (write item.Trim))
 ends_examples = ((refl, refl), record { count = 0; short = omega arith; stands = refl })
@@ -487,6 +494,6 @@ no_gap = (refl, refl)
 a_gap : Allocates (Ok 131072) small (small ++ item.Claim (frame 32) owner.Soft ∷ []) (Some 131072) 4096 owner.Soft
 a_gap = (refl, rw a_claim (refl, refl))
 
--- the place that was found is answered, and no other
+-- the place that was found is returned, and no other
 another_place : Allocates (Ok 4096) small (small ++ item.Claim (frame 32) owner.Soft ∷ []) (Some 131072) 4096 owner.Soft → ⊥
 another_place ends = let wrong : 4096 ≡ 131072 = ends.0 in omega (arith, wrong)

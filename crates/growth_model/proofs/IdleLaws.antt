@@ -1,4 +1,4 @@
--- A change whose table has room writes its item and nothing else.
+-- A change whose table has room writes only its item.
 use Rattle.std.proofs.Common.{◌≡◌, ℕ, false, List, refl}
 use Rattle.std.proofs.lemmas.List.{append-nil}
 use Rattle.bm_base.specs.Range.{RangeView}

@@ -1,4 +1,5 @@
--- A growth of the memory table, wherever a call of it ends, leaves that table where it lay, or in a new place below the limit.
+-- However a growth of the memory table ends, the table is in its old place, or in a new one that
+-- ends at or below the limit.
 use Rattle.std.proofs.Common.{◌≡◌, ◌⊎◌, ℕ, ◌+◌, ◌*◌, ◌≤◌, Option, Some, None, List, [], ◌∷◌, ◌++◌, Result, refl, sym, ◌∙◌, ap, inl, inr, arith}
 use Rattle.std.proofs.lemmas.Option.{same_Some}
 use Rattle.bm_base.specs.Range.{RangeView}
@@ -19,11 +20,11 @@ use Rattle.growth_model.proofs.FoundLaws.{found-fits}
 use Rattle.growth_model.proofs.PlacedLaws.{moves-of, rooms-of}
 use Rattle.growth_model.proofs.PlacedReservedLaws.{reserved-moves, reserved-rooms}
 
--- the memory table's newest place is that one, and its room that one
+-- the memory table's newest place and its room are these
 abbrev pub LiesAt : Option ℕ → ℕ → List Item → Type 0
 LiesAt m n t = (moved_to which.Memory t ≡ m) × (room_of which.Memory t ≡ n)
 
--- no growth of the reserved table moves the other, and so no claim and no free does
+-- a growth of the reserved table doesn't move the memory table, so neither does a claim or a free
 grew-stays : (m : Option ℕ) (n room : ℕ) (old : Option ℕ) (place : ℕ) (t : List Item) → LiesAt m n t
     → LiesAt m n (t ++ reserved_items room old place)
 grew-stays m n room old place t at =
@@ -67,7 +68,7 @@ pub leave-stays : (m : Option ℕ) (n : ℕ) (old : Option RangeView) (t : List 
 leave-stays m n None t at = at
 leave-stays m n (Some a) t at = freed-stays m n a t at
 
--- its newest place is that before the growth, or one below the limit
+-- the newest place is the one before the growth, or one that ends at or below the limit
 abbrev Limited : List Item → List Item → Type 0
 Limited items t = (moved_to which.Memory t ≡ moved_to which.Memory items)
     ⊎ ((place : ℕ) × (moved_to which.Memory t ≡ Some place) × (place + in_whole_frames (48 * room_of which.Memory items) ≤ limit_of items))

@@ -1,4 +1,4 @@
--- The items of memory decide memory and the limit, wherever the others stand.
+-- The items that change memory decide memory and the limit, whatever other items there are.
 use Rattle.std.proofs.Common.{◌≡◌, ℕ, List, [], ◌∷◌, ◌++◌, take, zero, suc, refl, sym, ap, ◌∙◌}
 use Rattle.std.specs.List.{fold}
 use Rattle.memblock_model.specs.declared.item.Item.{Item}
@@ -24,7 +24,7 @@ memory_of-decided is = fold-memory no_memory is
 pub limit_of-decided : (is : List Item) → limit_of is ≡ limit_of (memory_items is)
 limit_of-decided is = fold-limit 0 is
 
--- lists with the same items of memory say the same of it
+-- lists with the same items that change memory give the same memory
 pub memory_of-same : (is js : List Item) → memory_items is ≡ memory_items js → memory_of is ≡ memory_of js
 memory_of-same is js same = memory_of-decided is ∙ ap memory_of same ∙ sym (memory_of-decided js)
 
@@ -39,7 +39,7 @@ memory_items-append (item.Free range ∷ is) js = memory_items-append is js
 memory_items-append (item.Grown w place room ∷ is) js = memory_items-append is js
 memory_items-append (i ∷ is) js = ap (λ (t : List Item). i ∷ t) (memory_items-append is js)
 
--- quiet steps have no item of memory, and neither have some of them
+-- quiet steps have no item that changes memory, and neither have some of them
 pub quiet-joined : (ss : List (List Item)) → AreQuiet ss → memory_items (joined ss) ≡ []
 quiet-joined [] quiet = refl
 quiet-joined (s ∷ ss) quiet =

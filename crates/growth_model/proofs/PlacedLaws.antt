@@ -1,4 +1,4 @@
--- The tables keep good places throughout growths of the reserved table, claims and frees.
+-- The tables stay seated throughout growths of the reserved table, claims and frees.
 use Rattle.std.proofs.Common.{◌≡◌, ◌⊎◌, ℕ, ◌*◌, ◌%◌, Bool, true, Option, Some, None, List, [], ◌∷◌, ◌++◌, refl, sym, ◌∙◌, ap, subst, inl, inr, arith}
 use Rattle.std.specs.Prelude.{unwrap_or}
 use Rattle.std.specs.List.{fold}
@@ -17,7 +17,7 @@ use Rattle.growth_model.specs.Growth.{frames_at}
 use Rattle.growth_model.specs.Sound.{keeps, Clear, Unclaimed, Seats, Seated, IsAway}
 use Rattle.growth_model.proofs.SeatLaws.{frames, Seats-claim, Seats-clear, Seats-free, Seats-move, Seats-leave}
 
--- where a table lies, by its newest place and its room
+-- a table's bytes, from its newest place and its room
 abbrev pub live_by : Which → RangeView → Option ℕ → ℕ → RangeView
 live_by w kernel place room = record { base = unwrap_or place (built_in_place w kernel); size = 24 * room }
 
@@ -32,7 +32,7 @@ table_bytes-same w kernel items t at wide = table_bytes-is w kernel t (moved_to 
 pub Seats-same : (own now : Owners) (m n r s : RangeView) → now ≡ own → n ≡ m → s ≡ r → Seats own m r → Seats now n s
 Seats-same own now m n r s owners memory reserved known = rw (owners, memory, reserved) known
 
--- further items, and what becomes of the places
+-- further items, and the seats after them
 pub placed-more : (kernel : RangeView) (items more : List Item) (own : Owners) (m r : RangeView) → Seated kernel items
     → owner_of (items ++ more) ≡ own → table_bytes which.Memory kernel (items ++ more) ≡ m → table_bytes which.Reserved kernel (items ++ more) ≡ r
     → Seats own m r → Seated kernel (items ++ more)
@@ -43,7 +43,7 @@ placed-more kernel items more own m r placed owners memory reserved seats = reco
       (table_bytes which.Reserved kernel (items ++ more)) owners memory reserved seats;
 }
 
--- what further items make of owners, places and rooms
+-- owners, places and rooms after further items
 pub owners-of : (items more : List Item) → owner_of (items ++ more) ≡ fold owners_after (owner_of items) more
 owners-of items more = fold-append owners_after no_owners items more
 
@@ -62,7 +62,7 @@ pub stays : (w : Which) (kernel : RangeView) (items : List Item) (i : Item) → 
 stays w kernel items i at wide = table_bytes-same w kernel items (items ++ i ∷ []) (moves-of w items (i ∷ []) ∙ at)
     (rooms-of w items (i ∷ []) ∙ wide)
 
--- such an item that makes these owners of those before, among which the places are still good
+-- an item that moves no table, and after which the seats still have suitable owners
 still-placed : (kernel : RangeView) (items : List Item) (i : Item)
     → ((w : Which) → moved_after w (moved_to w items) i ≡ moved_to w items)
     → ((w : Which) → room_after w (room_of w items) i ≡ room_of w items) → Seated kernel items
@@ -74,7 +74,8 @@ still-placed kernel items i at wide placed seats =
     (stays which.Memory kernel items i (at which.Memory) (wide which.Memory))
     (stays which.Reserved kernel items i (at which.Reserved) (wide which.Reserved)) seats
 
--- a claim may be made by an owner in whose bytes a table may lie, or of bytes that meet neither table
+-- a claim may be made for an owner in whose memory a table may lie, or of bytes that overlap no
+-- table
 abbrev pub MayTake : RangeView → List Item → RangeView → Owner → Type 0
 MayTake kernel items range who = (keeps (Some who) ≡ true) ⊎ IsAway kernel range items
 
@@ -113,8 +114,8 @@ limit-placed kernel items at placed = still-placed kernel items (item.Limit at) 
 pub upward-placed : (kernel : RangeView) (items : List Item) (on : Bool) → Seated kernel items → Seated kernel (items ++ item.Upward on ∷ [])
 upward-placed kernel items on placed = still-placed kernel items (item.Upward on) (λ w. refl) (λ w. refl) placed placed.seats
 
--- from the items on the reserved table grew beside the range: the memory table and the limit are as they were, and what the range was
--- clear of it still is
+-- from the items on, the reserved table grew apart from the range: the memory table and the limit
+-- are unchanged, and a range that overlapped no table still doesn't
 pub record Aside (kernel a : RangeView) (items t : List Item) : Type 0 where
   pub place : moved_to which.Memory t ≡ moved_to which.Memory items
   pub wide : room_of which.Memory t ≡ room_of which.Memory items
@@ -138,7 +139,7 @@ pub record Going (kernel a : RangeView) (items t : List Item) : Type 0 where
   pub placed : Seated kernel t
   pub aside : Aside kernel a items t
 
--- the range is away still, and may be taken still
+-- the range still overlaps no table, and may still be claimed
 pub away-still : (kernel a : RangeView) (items t : List Item) → Aside kernel a items t → IsAway kernel a items → IsAway kernel a t
 away-still kernel a items t aside away =
     (subst (λ (e : RangeView). Clear a e) (sym (table_bytes-same which.Memory kernel items t aside.place aside.wide)) away.0, aside.clear away.1)
@@ -148,7 +149,8 @@ pub take-still : (kernel a : RangeView) (o : Owner) (items t : List Item) → As
 take-still kernel a o items t aside (inl kept) = inl kept
 take-still kernel a o items t aside (inr away) = inr (away-still kernel a items t aside away)
 
--- the new place of the reserved table, with twice the room: its frames are those that are claimed for it
+-- the new place of the reserved table, with twice the room; its frames are those that are claimed
+-- for it
 abbrev place_for_twice : ℕ → ℕ → RangeView
 place_for_twice room place = record { base = place; size = 24 * (2 * room) }
 

@@ -1,4 +1,5 @@
--- The places of both tables stay good throughout a growth of the memory table, and the changes that may need one.
+-- Both tables stay seated throughout a growth of the memory table, and throughout the changes that
+-- may need one.
 use Rattle.std.proofs.Common.{◌≡◌, ℕ, ◌*◌, ◌%◌, true, Option, Some, None, List, [], ◌∷◌, ◌++◌, Ok, refl, sym, ◌∙◌, ap, subst, inl, inr, arith}
 use Rattle.bm_base.specs.Range.{RangeView, covers}
 use Rattle.address_runs.specs.Edits.{replace_in_range}
@@ -21,12 +22,12 @@ use Rattle.growth_model.proofs.FoundLaws.{found-fits, found-unclaimed, place-unc
 use Rattle.growth_model.proofs.PlacedLaws.{live_by, table_bytes-is, stays, placed-more, owners-of, moves-of, rooms-of, claim-placed, mem-placed, node-placed, mirror-placed, for_table, move-seats}
 use Rattle.growth_model.proofs.PlacedReservedLaws.{roomy, room-going, claimed-cuts, freed-cuts, claimed-after, place-inside}
 
--- a place for the memory table, whose room is that at the items: aligned, and nobody's
+-- a place for the memory table to grow to: aligned and unclaimed
 pub record IsFree (t : List Item) (place : ℕ) : Type 0 where
   pub aligned : place % 4096 ≡ 0
   pub free : Unclaimed (owner_of t) (frames_at place (48 * room_of which.Memory t))
 
--- behind the claim of the new place, and behind the move
+-- after the claim of the new place, and after the move
 abbrev pub taken : List Item → ℕ → List Item
 taken t place = t ++ item.Claim (frames_at place (48 * room_of which.Memory t)) (for_table which.Memory) ∷ []
 
@@ -63,7 +64,7 @@ module _ (kernel : RangeView) (t : List Item) (place : ℕ) where
   pub taken-placed : Seated kernel t → Seated kernel u
   taken-placed placed = claim-placed kernel t a (for_table which.Memory) (inl refl) placed
 
-  -- the new place meets neither table yet
+  -- the new place overlaps no table yet
   taken-away : IsFree t place → Seated kernel t → IsAway kernel a u
   taken-away new placed =
       let away = unclaimed-away kernel a t placed new.free in (
@@ -80,7 +81,7 @@ module _ (kernel : RangeView) (t : List Item) (place : ℕ) where
       new.aligned new.free
       (Seats-swap (owner_of t) (table_bytes which.Memory kernel t) (table_bytes which.Reserved kernel t) placed.seats)))
 
-  -- the frames of the old place meet neither table then
+  -- after the move the frames of the old place overlap no table
   pub old-away : (q : ℕ) → moved_to which.Memory t ≡ Some q → IsFree t place → Seated kernel t
       → IsAway kernel (frames_at q (24 * room_of which.Memory t)) (moved t place)
   old-away q was new placed =
@@ -101,8 +102,8 @@ module _ (kernel : RangeView) (t : List Item) (place : ℕ) where
         subst (λ (n : RangeView). Clear (frames before) n) (sym moved-reserved) second,
       )
 
--- behind the claim of the new place of the memory table, whose room and place were these: what the move and the freeing of the old place
--- ask for
+-- after the claim of the new place of the memory table, which had this room and place: what the
+-- move and the free of the old place require
 pub record IsTaken (kernel : RangeView) (u : List Item) (room : ℕ) (old : Option ℕ) (place : ℕ) : Type 0 where
   pub placed : Seated kernel u
   pub wide : room_of which.Memory u ≡ room
@@ -145,7 +146,7 @@ claimed-taken x kernel items u place placed is ends =
     (taken-along kernel t room old place going.aside.wide going.aside.place fits.aligned
     (going.aside.free (found-unclaimed items q place is)) going.placed)
 
--- so a place that was left is freed, and the move behind the claim keeps both places
+-- freeing an old place, and the move after the claim, keep both tables seated
 left-cuts : (kernel : RangeView) (u : List Item) (room : ℕ) (old : Option ℕ) → Seated kernel u
     → ((q : ℕ) → old ≡ Some q → IsAway kernel (frames_at q (24 * room)) u)
     → EachCut (Seated kernel) u (leave (old_frames room old) u).steps
@@ -180,13 +181,13 @@ unfolding memory_growth
 memory-cuts kernel items placed =
     growth-at kernel items (best_place items (table_query (room_of which.Memory items) 0 (limit_of items))) refl placed
 
--- the items as growths of the memory table leave them
+-- the items after growths of the memory table
 grown-placed : (kernel : RangeView) (items : List Item) (more : List Item → ℕ) → Seated kernel items
     → Seated kernel (after items (grown which.Memory more memory_growth items))
 grown-placed kernel items more placed = cuts-last (Seated kernel) items (grown which.Memory more memory_growth items).steps
     (cuts-grown (Seated kernel) which.Memory more memory_growth items (memory-cuts kernel) placed)
 
--- so does each item that is written behind room for its records, and keeps the places
+-- an item that keeps the tables seated does so after growths too
 marked-cuts : (kernel : RangeView) (items : List Item) (more : List Item → ℕ) (i : Item)
     → ((t : List Item) → Seated kernel t → Seated kernel (t ++ i ∷ [])) → Seated kernel items
     → EachCut (Seated kernel) items ((grown which.Memory more memory_growth >> write i) items).steps
@@ -196,7 +197,7 @@ marked-cuts kernel items more i keeps placed =
     (cuts-grown (Seated kernel) which.Memory more memory_growth items (memory-cuts kernel) placed)
     (λ _. (here, keeps (after items (grown which.Memory more memory_growth items)) here))
 
--- throughout the changes of memory
+-- throughout the changes that add memory, give it a node or make it mirrored
 pub added-cuts : (kernel : RangeView) (items : List Item) (r : RangeView) → Seated kernel items
     → EachCut (Seated kernel) items (added r items).steps
 unfolding added
@@ -214,7 +215,7 @@ pub mirrored-cuts : (kernel : RangeView) (items : List Item) (r : RangeView) →
 unfolding mirrored
 mirrored-cuts kernel items r placed = marked-cuts kernel items two (item.Mirror r) (λ t here. mirror-placed kernel t r here) placed
 
--- throughout the claim of a place that an allocation found, whoever it is for
+-- throughout the claim of a place that an allocation found, for any owner
 pub allocated-cuts : (kernel : RangeView) (items : List Item) (r : Request) (place : ℕ) (o : Owner) → place_for r items ≡ Some place
     → Seated kernel items → EachCut (Seated kernel) items (claimed (record { base = place; size = r.size }) o items).steps
 allocated-cuts kernel items r place o found placed =

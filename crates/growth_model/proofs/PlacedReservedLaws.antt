@@ -1,4 +1,4 @@
--- The places of both tables stay good throughout a growth of the reserved table, a claim and a free.
+-- Both tables stay seated throughout a growth of the reserved table, a claim and a free.
 use Rattle.std.proofs.Common.{◌≡◌, ℕ, ◌*◌, true, Option, Some, None, List, [], ◌∷◌, ◌++◌, refl, sym, subst, inl, inr, arith}
 use Rattle.std.proofs.lemmas.Bool.{cases_Bool, false_from_ne_true}
 use Rattle.std.proofs.lemmas.Bool.Decides.{nat_tests}
@@ -18,7 +18,7 @@ use Rattle.growth_model.proofs.CutLaws.{EachCut, cuts-last, cuts-then, cuts-grow
 use Rattle.growth_model.proofs.FoundLaws.{IsNew, beside-new}
 use Rattle.growth_model.proofs.PlacedLaws.{live_by, table_bytes-is, table_bytes-same, placed-more, owners-of, moves-of, rooms-of, limits-of, MayTake, claim-placed, free-placed, Aside, aside-same, aside-on, Going, away-still, take-still, for_table, move-seats, leave-seats}
 
--- bytes without an owner stay so when others are claimed, and when any are freed
+-- unclaimed bytes stay so when others are claimed, and when any are freed
 claim-unclaimed : (own : Owners) (a r : RangeView) (o : Owner) → Clear a r → Unclaimed own a → Unclaimed (replace_in_range r o own) a
 claim-unclaimed own a r o clear free x at = rw (false_from_ne_true (covers r x) (λ in_r. clear x at in_r)) (free x at)
 
@@ -26,7 +26,7 @@ free-unclaimed : (own : Owners) (a r : RangeView) → Unclaimed own a → Unclai
 free-unclaimed own a r free x at =
     elim (cases_Bool (covers r x)) as (λ _. uncover_range r own x ≡ None) [ inl in_r ↦ rw in_r refl | inr other ↦ rw other (free x at) ]
 
--- the items of one growth of the reserved table, from its place before
+-- the items after one growth of the reserved table from its old place
 abbrev pub grew : List Item → Option ℕ → ℕ → List Item
 grew t old place = t ++ reserved_items (room_of which.Reserved t) old place
 
@@ -36,7 +36,7 @@ new_place t place = frames_at place (48 * room_of which.Reserved t)
 abbrev pub claimed_place : List Item → ℕ → Owners
 claimed_place t place = replace_in_range (new_place t place) (for_table which.Reserved) (owner_of t)
 
--- such a growth moves that table and doubles its room, and leaves the other
+-- such a growth moves the reserved table and doubles its room, and doesn't change the other table
 pub reserved-moves : (w : Which) (t : List Item) (room : ℕ) (old : Option ℕ) (place : ℕ)
     → moved_to w (t ++ reserved_items room old place) ≡ moved_after w (moved_to w t) (item.Grown which.Reserved place (2 * room))
 unfolding reserved_items
@@ -75,7 +75,7 @@ pub grew-owners-again : (t : List Item) (q place : ℕ)
 unfolding reserved_items
 grew-owners-again t q place = owners-of t (reserved_items (room_of which.Reserved t) (Some q) place)
 
--- the place itself lies in its frames
+-- the place is in its frames
 pub place-inside : (room place x : ℕ) → covers (record { base = place; size = 24 * (2 * room) }) x ≡ true
     → covers (frames_at place (48 * room)) x ≡ true
 place-inside room place x at = grind (arith, nat_tests, at)
@@ -91,7 +91,7 @@ grew-aside kernel a t old place new free = record {
       (λ x at_a at_n. new.clear x at_a (place-inside (room_of which.Reserved t) place x at_n));
 }
 
--- one growth of the reserved table beside the range, from where it lay
+-- one growth of the reserved table apart from the range, from its old place
 grew-going : (kernel a : RangeView) (t : List Item) (old : Option ℕ) (place : ℕ) → moved_to which.Reserved t ≡ old
     → IsNew t a (room_of which.Reserved t) place → Seated kernel t → Going kernel a t (grew t old place)
 grew-going kernel a t None place was new placed =
@@ -153,7 +153,7 @@ room-cuts kernel a more items placed =
     cuts-grown (Going kernel a items) which.Reserved more (reserved_growth a) items (λ t going. reserved-cuts kernel a items t going)
     (record { placed = placed; aside = aside-same kernel a items })
 
--- the items as the growths leave them
+-- the items after the growths
 abbrev pub roomy : RangeView → (List Item → ℕ) → List Item → List Item
 roomy a more items = after items (grown which.Reserved more (reserved_growth a) items)
 
@@ -190,7 +190,7 @@ freed-cuts kernel items r away placed =
     (room-placed kernel r two items placed)
     (λ _. (going.placed, free-placed kernel (roomy r two items) r (away-still kernel r items _ going.aside away) going.placed))
 
--- a claim that wasn't refused wrote its item behind growths beside its range
+-- a claim that wasn't refused wrote its item after growths apart from its range
 pub claimed-after : (items : List Item) (r : RangeView) (o : Owner) → (claimed r o items).refused ≡ None
     → after items (claimed r o items) ≡ roomy r (new_in which.Reserved r) items ++ item.Claim r o ∷ []
 unfolding claimed

@@ -1,4 +1,4 @@
--- Growth, claims and frees write no item of memory, at whatever step they end.
+-- Growth, claims and frees write no item that changes memory, at whichever step they end.
 use Rattle.std.proofs.Common.{◌≡◌, ℕ, ◌*◌, Bool, List, [], ◌∷◌, ◌++◌, Option, Some, None, refl, ap, ◌∙◌, inl, inr}
 use Rattle.std.proofs.lemmas.Bool.{cases_Bool}
 use Rattle.std.proofs.lemmas.List.{append-nil}
@@ -17,7 +17,7 @@ use Rattle.growth_model.specs.Growth.{claimed, freed, frames_at, grown, is_full,
 use Rattle.growth_model.specs.Carried.{AreQuiet, memory_items}
 use Rattle.growth_model.proofs.MemoryItemLaws.{quiet-append, quiet-joined, memory_items-append, memory_of-same, limit_of-same}
 
--- a change that writes no item of memory
+-- a change that writes no item that changes memory
 pub record IsQuiet (c : Change) : Type 0 where
   pub each : (items : List Item) → AreQuiet (c items).steps
 
@@ -87,7 +87,7 @@ memory_growth-quiet = record {
       (best_place items (table_query (room_of which.Memory items) 0 (limit_of items)))).each items;
 }
 
--- so memory and the limit stay as they are
+-- a quiet change leaves memory and the limit as they are
 pub quiet-memory_items : (items : List Item) (o : Outcome) → AreQuiet o.steps → memory_items (after items o) ≡ memory_items items
 quiet-memory_items items o quiet =
     memory_items-append items (joined o.steps) ∙ ap (λ (t : List Item). memory_items items ++ t) (quiet-joined o.steps quiet)

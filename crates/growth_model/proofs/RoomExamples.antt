@@ -1,4 +1,4 @@
--- Small lists of items, computed: whether a table doubled, and whether it has room.
+-- Examples of small lists of items, computed: whether a table doubled, and whether it has room.
 use Rattle.std.proofs.Common.{◌≡◌, ◌+◌, ◌^◌, true, false, [], ◌∷◌, refl, sym, ◌∙◌, ap, arith}
 use Rattle.std.proofs.lemmas.Bool.{true≢false}
 use Rattle.std.proofs.lemmas.Bool.Decides.{nat_tests}
@@ -24,7 +24,7 @@ doubled = record { room = refl; few = omega arith }
 other_stays : HasDoubled which.Reserved [] (item.Grown which.Memory 4096 256 ∷ []) → ⊥
 other_stays doubled = let room = doubled.room in omega (arith, room)
 
--- growths that come to nothing leave a table without room for 129 records more
+-- growths that do nothing leave a table without room for 129 more records
 past_room : is_full which.Memory (λ items. 129) [] ≡ true
 past_room = grind (arith, nat_tests)
 
@@ -37,6 +37,6 @@ no_room has =
     rw no_growth at (has (ap (λ (o : Outcome). o.refused) no_growth)) in
     true≢false (sym past_room ∙ clash)
 
--- and none is due where there is room
+-- no growth is due if there is room
 has_room : (growth : Change) → is_full which.Memory two [] ≡ false → HasRoomBehind which.Memory two growth []
 has_room growth room unrefused = rw (room, room, room) refl

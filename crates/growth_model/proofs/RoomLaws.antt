@@ -1,5 +1,5 @@
--- Two growths of a table in a row are enough: each gives it twice the room and adds two records at most, and a change wants at most two
--- records more than the table has.
+-- Two growths of a table in a row are enough: each doubles the room and adds at most two records,
+-- and a change needs at most two records more than the table has.
 use Rattle.std.proofs.Common.{◌≡◌, ℕ, ◌+◌, ◌*◌, ◌^◌, ◌<◌, ◌≤◌, false, Option, Some, None, List, [], ◌∷◌, ◌++◌, length, refl, sym, ◌∙◌, ap, subst, inl, inr, ◌⊎◌, arith}
 use Rattle.std.specs.Option.{IsSome}
 use Rattle.std.proofs.lemmas.Bool.{cases_Bool}
@@ -33,12 +33,12 @@ use Rattle.growth_model.proofs.PlacedReservedLaws.{grew, new_place, claimed_plac
 use Rattle.growth_model.proofs.QuietLaws.{memory_growth-quiet, quiet-memory, quiet-limit}
 use Rattle.growth_model.proofs.LimitLaws.{LiesAt, claimed-stays, leave-stays}
 
--- what one table and the limit say lies in the address space
+-- one table and the limit end at or below 2^64
 record Bounded (w : Which) (items : List Item) : Type 0 where
   pub ends : NothingFrom (2 ^ 64) (table_of w items)
   pub limit : limit_of items ≤ 2 ^ 64
 
--- the table doubled, and that stays so
+-- the table doubled, and still ends at or below 2^64
 record Well (w : Which) (old new : List Item) : Type 0 where
   pub doubled : HasDoubled w old new
   pub bounded : Bounded w new
@@ -49,7 +49,7 @@ module _ (w : Which) (more : List Item → ℕ) (growth : Change)
   abbrev once : Change
   once = if_due (is_full w more) growth
 
-  -- a growth that isn't due comes to nothing
+  -- a growth that isn't due does nothing
   by_due : (t : List Item) → ((is_full w more t ≡ false) × (after t (once t) ≡ t)) ⊎ (once t ≡ growth t)
   by_due t = elim (cases_Bool (is_full w more t)) as (λ _. ((is_full w more t ≡ false) × (after t (once t) ≡ t)) ⊎ (once t ≡ growth t)) [
     | inl due ↦ inr (rw due refl)
@@ -90,7 +90,8 @@ module _ (w : Which) (more : List Item → ℕ) (growth : Change)
         | inr due ↦ second-room t u fits (grew-well t bounded due parts.0) parts.1
       ])
 
--- the reserved table gets the record of its new place, and may be split where the old one is freed
+-- the reserved table gets the record of its new place, and a record may be split where the old
+-- place is freed
 module _ (avoid : RangeView) (t : List Item) (place : ℕ) (new : IsNew t avoid (room_of which.Reserved t) place)
     (bounded : Bounded which.Reserved t) where
   abbrev table : Labels
@@ -167,7 +168,7 @@ unfolding reserved_growth
 reserved-well avoid t bounded unrefused =
     reserved-at avoid t (place_beside avoid (room_of which.Reserved t) t) refl bounded unrefused
 
--- the memory table has twice the room, and says what it said
+-- the memory table has twice the room and the same records
 memory-room_at : (t : List Item) (found : Option ℕ)
     → (memory_growth_at (room_of which.Memory t) (moved_to which.Memory t) found t).refused ≡ None
     → room_of which.Memory (after t (memory_growth_at (room_of which.Memory t) (moved_to which.Memory t) found t))
@@ -212,7 +213,7 @@ memory-well t bounded unrefused =
       };
     }
 
--- by the items of a boot
+-- the bounds that hold of the items of a boot
 bounded-of : (w : Which) (items : List Item) → IsInSpace items → Bounded w items
 bounded-of w items space = record { ends = space.ends w; limit = space.limit }
 
@@ -255,7 +256,8 @@ enough-labelled items space fits =
     room-behind which.Memory two memory_growth memory-well (few-two which.Memory) items (bounded-of which.Memory items space)
     (fits which.Memory)
 
--- behind one growth beside a range of which nobody has a byte, the table has room for it, since it is one piece
+-- after one growth apart from an unclaimed range, the table has room for the range, since it is
+-- one piece
 room-for-free : (kernel range : RangeView) (items : List Item) → IsInSpace items → Fits items → Seated kernel items → 0 < range.size
     → end_of range ≤ 2 ^ 64 → Unclaimed (owner_of items) range → (reserved_growth range items).refused ≡ None
     → is_full which.Reserved (new_in which.Reserved range) (after items (reserved_growth range items)) ≡ false
@@ -278,7 +280,7 @@ unfolding reserved_growth reserved_growth_at
 found-unrefused range items None is some = cc
 found-unrefused range items (Some place) is some = rw is refl
 
--- so it is claimed, unless the table is full for it and finds no place
+-- so the range is claimed, unless the table is full and finds no place
 pub free-claimed : (kernel range : RangeView) (who : Owner) (items : List Item) → IsInSpace items → Fits items → Seated kernel items
     → 0 < range.size → end_of range ≤ 2 ^ 64 → Unclaimed (owner_of items) range
     → (is_full which.Reserved (new_in which.Reserved range) items ≡ false)

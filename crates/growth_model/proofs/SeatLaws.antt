@@ -1,4 +1,4 @@
--- Places of tables, by ranges and owners alone: what a claim, a free and a move leave of them.
+-- Seats of tables, by ranges and owners alone: how a claim, a free and a move change them.
 use Rattle.std.proofs.Common.{◌≡◌, ℕ, ◌+◌, ◌*◌, ◌/◌, ◌%◌, ◌<◌, ◌≤◌, Bool, true, false, if◌then◌else◌, Option, Some, None, sym, ◌∙◌, ap, arith}
 use Rattle.std.proofs.lemmas.Bool.{true≢false, false_from_ne_true}
 use Rattle.std.proofs.lemmas.Bool.Decides.{nat_tests}
@@ -9,7 +9,7 @@ use Rattle.memblock_model.specs.Items.{Owners}
 use Rattle.growth_model.specs.Growth.{frames_at}
 use Rattle.growth_model.specs.Sound.{keeps, Seat, ShareNoFrame, Clear, Unclaimed, Seats}
 
--- the frames of a range that begins with one
+-- the frames of a range that begins with a frame
 abbrev pub frames : RangeView → RangeView
 frames a = frames_at a.base a.size
 
@@ -19,11 +19,11 @@ covers-from a x h = grind (arith, nat_tests, h)
 pub covers-to : (a : RangeView) (x : ℕ) → a.base ≤ x → x < a.base + a.size → covers a x ≡ true
 covers-to a x le lt = grind (arith, nat_tests)
 
--- the first byte of a frame of theirs is a byte of the range
+-- the first byte of each of these frames is a byte of the range
 frame-first : (a : RangeView) (x : ℕ) → a.base % 4096 ≡ 0 → covers (frames a) x ≡ true → covers a (4096 * (x / 4096)) ≡ true
 frame-first a x aligned h = grind (arith, nat_tests, aligned, h)
 
--- with a byte they have its whole frame
+-- they have the whole frame of each of their bytes
 frame-whole : (a : RangeView) (x y : ℕ) → a.base % 4096 ≡ 0 → covers (frames a) x ≡ true → y / 4096 ≡ x / 4096 → covers (frames a) y ≡ true
 frame-whole a x y aligned h same = grind (arith, nat_tests, aligned, h, same)
 
@@ -37,18 +37,18 @@ first-frame x = omega arith
 pub Apart-swap : (a b : RangeView) → ShareNoFrame a b → ShareNoFrame b a
 Apart-swap a b apart x y at_x at_y same = apart y x at_y at_x (sym same)
 
--- the frames of a place miss the other place
+-- the frames of one place don't overlap the other place, if the two share no frame
 pub apart-clear : (a b : RangeView) → a.base % 4096 ≡ 0 → ShareNoFrame a b → Clear (frames a) b
 apart-clear a b aligned apart x at_a at_b = apart (4096 * (x / 4096)) x (frame-first a x aligned at_a) at_b (first-frame x)
 
--- a byte without an owner lies in no place of a table
+-- an unclaimed byte is in no seat
 unkept : (own : Owners) (x : ℕ) → own x ≡ None → keeps (own x) ≡ true → ⊥
 unkept own x none kept = true≢false (sym kept ∙ ap keeps none)
 
 pub unclaimed-clear : (own : Owners) (a b : RangeView) → Unclaimed own a → Seat own b → Clear a b
 unclaimed-clear own a b free seat x at_a at_b = unkept own x (free x at_a) (seat.kept x at_b)
 
--- a new place among bytes without an owner has no frame in common with an old one, and neither have their frames
+-- a new place among unclaimed bytes shares no frame with an old one, and neither do their frames
 pub new-apart : (own : Owners) (n b : RangeView) → n.base % 4096 ≡ 0 → Unclaimed own (frames n) → Seat own b → ShareNoFrame n b
 new-apart own n b aligned free seat x y at_n at_b same =
     unkept own y (free y (frame-whole n x y aligned (frames-more n x at_n) (sym same))) (seat.kept y at_b)
@@ -59,7 +59,7 @@ old-clear own a n aligned free seat x at_a at_n =
     (free (4096 * (x / 4096)) (frame-whole n x (4096 * (x / 4096)) aligned at_n (first-frame x)))
     (seat.kept (4096 * (x / 4096)) (frame-first a x seat.aligned at_a))
 
--- a claim by an owner in whose bytes a table may lie
+-- a claim for an owner in whose memory a table may lie
 kept-claim : (b : Bool) (o : Owner) (old : Option Owner) → keeps (Some o) ≡ true → keeps old ≡ true
     → keeps (if b then Some o else old) ≡ true
 kept-claim true o old new was = new
@@ -71,7 +71,7 @@ Seat-claim own a r o new seat = record {
   kept = λ x at. kept-claim (covers r x) o (own x) new (seat.kept x at);
 }
 
--- a claim by anyone, and a free, of other bytes
+-- a claim of other bytes for anyone, and a free of other bytes
 pub Seat-clear : (own : Owners) (a r : RangeView) (o : Owner) → Clear r a → Seat own a → Seat (replace_in_range r o own) a
 Seat-clear own a r o clear seat = record {
   aligned = seat.aligned;
@@ -84,7 +84,7 @@ Seat-free own a r clear seat = record {
   kept = λ x at. rw (false_from_ne_true (covers r x) (λ in_r. clear x in_r at)) (seat.kept x at);
 }
 
--- a claim makes a place
+-- a claim makes a seat
 pub Seat-new : (own : Owners) (n r : RangeView) (o : Owner) → n.base % 4096 ≡ 0 → keeps (Some o) ≡ true
     → ((x : ℕ) → covers n x ≡ true → covers r x ≡ true) → Seat (replace_in_range r o own) n
 Seat-new own n r o aligned new inside = record {

@@ -1,4 +1,5 @@
--- Small places and owners, computed: where a table may lie, what meets it, and what may be claimed.
+-- Examples of small places and owners, computed: where a table may lie, what overlaps it, and what
+-- may be claimed.
 use Rattle.std.proofs.Common.{◌≡◌, ℕ, ◌%◌, ◌≤◌, true, false, nat_lt, if◌then◌else◌, Some, None, List, [], ◌∷◌, ◌++◌, length, refl, sym, ap, inl, inr, arith}
 use Rattle.std.proofs.lemmas.Bool.Decides.{nat_tests}
 use Rattle.memblock_model.specs.declared.owner.Which.TheVariants as which
@@ -15,23 +16,24 @@ use Rattle.growth_model.specs.Sound.{keeps, Seat, ShareNoFrame, Clear, Unclaimed
 use Rattle.growth_model.proofs.FirstLaws.{no_table_full, first-placed}
 use Rattle.growth_model.proofs.GrowthExamples.{image, frame}
 
--- a table may lie in the kernel's bytes and in a table's, not in nobody's
+-- a table may lie in bytes of the kernel and of a table, and not in unclaimed ones
 keeps_examples : (keeps (Some owner.Kernel) ≡ true) × (keeps (Some (owner.Table which.Reserved)) ≡ true) × (keeps None ≡ false)
 keeps_examples = (refl, refl, refl)
 
--- the first four frames are the kernel's, but for one byte of the script in the third
+-- the first four frames are the kernel's, except one byte of the script in the third
 abbrev claims : Owners
 claims x = if nat_lt x 9000 then Some owner.Kernel else (if nat_lt x 9001 then Some (owner.Script 1) else
     (if nat_lt x 16384 then Some owner.Kernel else None))
 
--- a table may lie in its first two frames
+-- a table may lie in the first two frames
 a_spot : (base : ℕ) → base % 4096 ≡ 0 → base ≤ 4096 → Seat claims (record { base = base; size = 3072 })
 a_spot base aligned below = record {
   aligned = aligned;
   kept = λ x at. let low : nat_lt x 9000 ≡ true = grind (arith, nat_tests, below, at) in rw low refl;
 }
 
--- not where it isn't aligned, not amid a frame, and not over the script's byte
+-- no seat: a range that isn't aligned, one that begins inside a frame, and one with the script's
+-- byte
 no_spots : (Seat claims (record { base = 4097; size = 16 }) → ⊥) × (Seat claims (record { base = 2048; size = 16 }) → ⊥)
     × (Seat claims (record { base = 8192; size = 3072 }) → ⊥)
 no_spots = (
@@ -44,12 +46,12 @@ no_spots = (
 two_frames_apart : ShareNoFrame (record { base = 0; size = 3072 }) (record { base = 4096; size = 3072 })
 two_frames_apart x y at_x at_y same = grind (arith, nat_tests, at_x, at_y, same)
 
--- one frame twice isn't, and neither are both halves of one
+-- the same frame twice isn't, and neither are both halves of one frame
 sharing_examples : (ShareNoFrame (record { base = 0; size = 16 }) (record { base = 32; size = 16 }) → ⊥)
     × (ShareNoFrame (record { base = 0; size = 16 }) (record { base = 2048; size = 16 }) → ⊥)
 sharing_examples = (λ apart. apart 0 32 refl refl refl, λ apart. apart 0 2048 refl refl refl)
 
--- which is enough to be clear
+-- both ranges are in one frame, but have no byte in common
 one_frame_clear : Clear (record { base = 0; size = 16 }) (record { base = 32; size = 16 })
 one_frame_clear x at_a at_b = grind (arith, nat_tests, at_a, at_b)
 
@@ -76,7 +78,7 @@ not_one_spot_twice seats = seats.apart 0 0 refl refl refl
 is_image : IsImage image
 is_image = record { whole = refl; large = omega arith }
 
--- one frame is too small, and an image doesn't end amid a frame
+-- one frame is too small, and an image doesn't end inside a frame
 no_images : (IsImage (frame 16) → ⊥) × (IsImage (record { base = 65536; size = 16000 }) → ⊥)
 no_images = (λ known. let large = known.large in omega arith, λ known. let whole = known.whole in cc)
 
@@ -109,11 +111,11 @@ sound_at_first = record { placed = placed_at_first; fits = image_fits }
 nothing_is_sound : Sound image [] → ⊥
 nothing_is_sound sound = nothing_placed sound.placed
 
--- one claim is a beginning, and no item is none
+-- one claim is a beginning, and no item isn't
 begun_examples : (HasBegun begun) × (HasBegun [] → ⊥)
 begun_examples = (tt, λ h. h)
 
--- where the script claimed a frame of the image no table may lie any more, and in the next frame one may
+-- after the script claimed a frame of the image no table may lie there; in the next frame one may
 abbrev scripted : Owners
 scripted = owner_of (begun ++ item.Claim (frame 16) (owner.Script 1) ∷ [])
 
@@ -127,14 +129,15 @@ beside_the_scripts_frame = record {
       let among : covers image x ≡ true = grind (arith, nat_tests, at) in rw (behind, among) refl;
 }
 
--- the first frames of the image meet neither table, its last two do
+-- the first frames of the image overlap no table, and its last two do
 away : IsAway image (frame 16) begun
 away = (λ x at_a at_t. grind (arith, nat_tests, at_a, at_t), λ x at_a at_t. grind (arith, nat_tests, at_a, at_t))
 
 not_away : IsAway image (frame 18) begun → ⊥
 not_away known = known.0 73728 refl refl
 
--- the image is claimed first, for the kernel and nobody else; then others may have the tables' bytes, and the script bytes beside them
+-- the image is claimed first, only for the kernel; then others may claim the tables' bytes, and
+-- the script bytes outside them
 may_claim_examples : (MayClaim image [] image owner.Kernel) × (MayClaim image [] image owner.Soft → ⊥)
     × (MayClaim image begun (frame 18) owner.Soft) × (MayClaim image begun (frame 16) (owner.Script 1))
 may_claim_examples = ((refl, refl), λ may. let who = may.1 in cc, inl refl, inr away)

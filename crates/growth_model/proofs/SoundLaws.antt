@@ -1,4 +1,4 @@
--- However a call of memblock ends, both tables lie in good places from the first claim on.
+-- However a call of memblock ends, both tables are seated from the first claim on.
 use Rattle.std.proofs.Common.{◌≡◌, ℕ, ◌^◌, ◌≤◌, Option, Some, None, List, [], ◌∷◌, ◌++◌, take, Bool, true, false, Result, Ok, Err, refl, sym, ◌∙◌, subst, inl, inr}
 use Rattle.std.proofs.lemmas.Bool.{cases_Bool, true≢false}
 use Rattle.bm_base.specs.Range.{RangeView, end_of}
@@ -20,11 +20,11 @@ use Rattle.growth_model.proofs.PlacedReservedLaws.{reserved-cuts, claimed-cuts, 
 use Rattle.growth_model.proofs.PlacedMemoryLaws.{memory-cuts, added-cuts, noded-cuts, mirrored-cuts, allocated-cuts}
 use Rattle.growth_model.proofs.FirstLaws.{first-full, first-claimed, first-placed}
 
--- from the first claim on
+-- once there is an item, the tables are seated
 abbrev pub Stands : RangeView → List Item → Type 0
 Stands kernel items = HasBegun items → Seated kernel items
 
--- a change that keeps the places throughout, with something claimed already
+-- a change that keeps the tables seated throughout, after the first claim
 stands-by : {T : Type 0} (kernel : RangeView) (r : Result T Refusal) (old new : List Item) (o : Outcome)
     → (Seated kernel old → EachCut (Seated kernel) old o.steps) → Stands kernel old → HasBegun old → EndsBy r old new o → Stands kernel new
 stands-by kernel r old new o keeps stands begun ends = λ _. cuts-ends (Seated kernel) r old new o (keeps (stands begun)) ends
@@ -65,7 +65,7 @@ pub mirror-stands : {T : Type 0} (kernel : RangeView) (r : Result T Refusal) (ol
 mirror-stands kernel r old new range stands begun ends =
     stands-by kernel r old new (mirrored range old) (mirrored-cuts kernel old range) stands begun ends
 
--- an allocation, whoever it is for
+-- an allocation, for any owner
 pub alloc-placed : (kernel : RangeView) (r : Result ℕ Refusal) (old new : List Item) (q : Request) (who : Owner)
     → Seated kernel old → (found : Option ℕ) → place_for q old ≡ found → Allocates r old new found q.size who → Seated kernel new
 alloc-placed kernel r old new q who placed None is ends = subst (Seated kernel) (sym ends.1) placed
@@ -79,7 +79,7 @@ pub alloc-stands : (kernel : RangeView) (r : Result ℕ Refusal) (old new : List
 alloc-stands kernel r old new q who stands begun found is ends =
     λ _. alloc-placed kernel r old new q who (stands begun) found is ends
 
--- items that are written alone
+-- items that are written without growth
 pub trim-stands : (kernel : RangeView) (old new : List Item) → Stands kernel old → HasBegun old → new ≡ old ++ item.Trim ∷ []
     → Stands kernel new
 trim-stands kernel old new stands begun is = λ _. subst (Seated kernel) (sym is) (trim-placed kernel old (stands begun))
@@ -92,7 +92,7 @@ pub upward-stands : (kernel : RangeView) (old new : List Item) (on : Bool) → S
     → new ≡ old ++ item.Upward on ∷ [] → Stands kernel new
 upward-stands kernel old new on stands begun is = λ _. subst (Seated kernel) (sym is) (upward-placed kernel old on (stands begun))
 
--- what has begun goes on
+-- a list that has begun has begun with more items too
 pub more-begun : (items more : List Item) → HasBegun items → HasBegun (items ++ more)
 more-begun [] more begun = absurd begun
 more-begun (i ∷ is) more begun = tt
@@ -110,7 +110,7 @@ pub ends-begun : {T : Type 0} (r : Result T Refusal) (old new : List Item) (chan
 ends-begun r old new change begun ends =
     let more = ends-more r old new (change old) ends in subst HasBegun (sym more.1) (more-begun old more.0 begun)
 
--- what may be claimed once something was
+-- what may be claimed after the first claim
 pub may-keep : (kernel : RangeView) (items : List Item) (range : RangeView) (who : Owner) → HasBegun items → keeps (Some who) ≡ true
     → MayClaim kernel items range who
 may-keep kernel [] range who begun kept = absurd begun
@@ -121,13 +121,13 @@ pub may-away : (kernel : RangeView) (items : List Item) (range : RangeView) (who
 may-away kernel [] range who begun away = absurd begun
 may-away kernel (i ∷ is) range who begun away = inr away
 
--- a table is full only once something was claimed
+-- a table is full only after the first claim
 pub full-begun : (items : List Item) (range : RangeView) → end_of range ≤ 2 ^ 64
     → is_full which.Reserved (new_in which.Reserved range) items ≡ true → HasBegun items
 full-begun [] range small full = absurd (true≢false (sym full ∙ first-full range small))
 full-begun (i ∷ is) range small full = tt
 
--- growths where they are due
+-- growths that are due
 pub once-cuts : (kernel range : RangeView) (more : List Item → ℕ) (items : List Item) → Seated kernel items
     → EachCut (Going kernel range items) items (if_due (is_full which.Reserved more) (reserved_growth range) items).steps
 once-cuts kernel range more items placed =
@@ -141,7 +141,7 @@ once-going kernel range r old new more placed ends =
     cuts-ends (Going kernel range old) r old new (if_due (is_full which.Reserved more) (reserved_growth range) old)
     (once-cuts kernel range more old placed) ends
 
--- from nothing nothing grows
+-- a growth that isn't due writes nothing
 idle-stands : {T : Type 0} (kernel : RangeView) (r : Result T Refusal) (items new : List Item) (due : List Item → Bool) (change : Change)
     → Stands kernel items → due items ≡ false → Ends r items new (if_due due change) → Stands kernel new
 idle-stands kernel r items new due change stands idle ends =

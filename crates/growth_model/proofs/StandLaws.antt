@@ -1,4 +1,4 @@
--- Where both tables lie apart, the bytes at the place of each are those of its records.
+-- If both tables are apart, the bytes at the place of each are those of its records.
 use Rattle.std.proofs.Common.{◌≡◌, ℕ, zero, suc, ◌+◌, ◌-◌, ◌*◌, ◌<◌, ◌≤◌, true, false, List, [], ◌∷◌, ◌++◌, length, get_or, refl, sym, ◌∙◌, ap, arith, length-append}
 use Rattle.std.proofs.lemmas.Bool.{false_from_ne_true}
 use Rattle.std.proofs.lemmas.Bool.Decides.{nat_tests}
@@ -18,12 +18,12 @@ use Rattle.growth_model.specs.Sound.{Seated, Fits, Clear}
 use Rattle.growth_model.proofs.ToldLaws.{listed-told, chosen}
 use Rattle.growth_model.specs.Bytes.{table_for, spelled_at, AreSpelled}
 
--- no byte lies in both tables
+-- no byte is in both tables
 pub table_bytes-clear : (kernel : RangeView) (items : List Item) → Seated kernel items →
     Clear (table_bytes which.Memory kernel items) (table_bytes which.Reserved kernel items)
 table_bytes-clear kernel items placed = λ x here too. placed.seats.apart x x here too refl
 
--- the byte at an address of a table's place is that of the spelling
+-- the byte at an address of a table is that of its encoding
 pub journal-stands : (w : Which) (kernel : RangeView) (items : List Item) (f : ℕ → ℕ) (x : ℕ) → Seated kernel items →
     AreSpelled (table_for which.Memory kernel items) (table_for which.Reserved kernel items) f → covers (table_bytes w kernel items) x ≡ true →
     f x ≡ spelled_at (table_for w kernel items) x
@@ -33,7 +33,8 @@ journal-stands which.Reserved kernel items f x placed spelled here =
     false_from_ne_true _ (λ too. table_bytes-clear kernel items placed x too here) in
     spelled x ∙ rw (beside, here) refl
 
--- and the other way round: where the bytes at both places are those of the spellings, the tables lie in their bytes
+-- conversely, if the bytes at both places are those of the encodings, both tables are in their
+-- bytes
 pub spelled-from : (kernel : RangeView) (items : List Item) (f : ℕ → ℕ) →
     ((w : Which) (x : ℕ) → covers (table_bytes w kernel items) x ≡ true → f x ≡ spelled_at (table_for w kernel items) x) →
     AreSpelled (table_for which.Memory kernel items) (table_for which.Reserved kernel items) f
@@ -42,7 +43,7 @@ spelled-from kernel items f each = λ x.
     (spelled_at (table_for which.Memory kernel items) x) (spelled_at (table_for which.Reserved kernel items) x) (f x)
     (each which.Memory x) (each which.Reserved x) (λ out too. refl)
 
--- as lists too
+-- the same statement for lists of bytes
 pub spelled-lists : (kernel : RangeView) (items : List Item) (f : ℕ → ℕ) →
     ((w : Which) → bytes_at f (table_place w kernel items) (24 * room_of w items) ≡ spelled_table (records_of w items) (room_of w items)) →
     AreSpelled (table_for which.Memory kernel items) (table_for which.Reserved kernel items) f
@@ -70,7 +71,7 @@ spelled_here w kernel items f k placed spelled below =
     sym (journal-stands w kernel items f (place + k) placed spelled (grind (arith, nat_tests, below))
     ∙ ap (λ (i : ℕ). get_or (spelled_table (records_of w items) (room_of w items)) i 0) back)
 
--- the same as one list: the bytes at the place of a table are the spelling of its records
+-- as one list: the bytes at the place of a table are the encoding of its records
 pub list-stands : (w : Which) (kernel : RangeView) (items : List Item) (f : ℕ → ℕ) → Seated kernel items → Fits items →
     AreSpelled (table_for which.Memory kernel items) (table_for which.Reserved kernel items) f →
     bytes_at f (table_place w kernel items) (24 * room_of w items) ≡ spelled_table (records_of w items) (room_of w items)

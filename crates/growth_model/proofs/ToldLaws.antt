@@ -1,4 +1,4 @@
--- What the edits of the two tables make of each byte, as one equation for all addresses.
+-- One equation for each byte after an edit of one table's records or a move of one table.
 use Rattle.std.proofs.Common.{◌≡◌, ℕ, ◌+◌, ◌-◌, ◌*◌, Bool, true, false, if◌then◌else◌, List, get_or, sym, ◌∙◌, ap, arith}
 use Rattle.std.proofs.lemmas.Bool.{cond_both}
 use Rattle.std.proofs.lemmas.Bool.Decides.{nat_tests}
@@ -13,7 +13,7 @@ use Rattle.memblock_ranges.specs.Spelling.{spelled_table}
 use Rattle.memblock_ranges.specs.Tables.{Table, Contents, table_in, bytes_of, bytes_in, StandsIn}
 use Rattle.growth_model.specs.Bytes.{spelled_at, shown_by, left_by}
 
--- where the bytes at a table's place are its spelling, so is each of them
+-- if the bytes at a table's place are its encoding, so is each of them
 pub listed-told : (t : Table) (f : ℕ → ℕ) (x : ℕ) → bytes_at f t.place (24 * t.room) ≡ spelled_table t.records t.room →
     covers (bytes_of t) x ≡ true → f x ≡ spelled_at t x
 listed-told t f x spelled here =
@@ -21,7 +21,7 @@ listed-told t f x spelled here =
     sym (ap (λ (bs : List ℕ). get_or bs (x - t.place) 0) (sym spelled)
     ∙ get-bytes_at f t.place (24 * t.room) (x - t.place) (grind (arith, nat_tests, here)) ∙ ap f back)
 
--- a byte of a table that stands in the store is that of the table's spelling
+-- a byte of a table in the store is that of the table's encoding
 pub table-told : (t : Table) (s : List Stored) (x : ℕ) → StandsIn t s → covers (bytes_of t) x ≡ true → byte_of s x ≡ spelled_at t x
 table-told t s x stands here = listed-told t (byte_of s) x stands.bytes here
 
@@ -30,7 +30,7 @@ pub chosen : (m r : Bool) (y a b c : ℕ) → (m ≡ true → y ≡ a) → (r �
 chosen m r y a b c first second neither =
     cond_both m a (if r then b else c) (λ (n : ℕ). y ≡ n) first (λ out. cond_both r b c (λ (n : ℕ). y ≡ n) second (neither out))
 
--- every byte of a store in which both tables stand, from those beside them
+-- every byte of a store that has both tables, from those outside them
 pub all-told : (m r : Table) (s : List Stored) (g : ℕ → ℕ) → StandsIn m s → StandsIn r s →
     ((x : ℕ) → covers (bytes_of m) x ≡ false → covers (bytes_of r) x ≡ false → byte_of s x ≡ g x) → (x : ℕ) →
     byte_of s x ≡ shown_by m r x (g x)
@@ -38,7 +38,7 @@ all-told m r s g first second beside x =
     chosen (covers (bytes_of m) x) (covers (bytes_of r) x) (byte_of s x) (spelled_at m x) (spelled_at r x) (g x)
     (table-told m s x first) (table-told r s x second) (beside x)
 
--- beside both tables no byte lies in either
+-- outside both tables an address is in neither
 beside-one : (w : Which) (t : Contents) (x : ℕ) → covers (bytes_of t.memory) x ≡ false → covers (bytes_of t.reserved) x ≡ false →
     covers (bytes_in w t) x ≡ false
 beside-one which.Memory t x first second = first

@@ -1,5 +1,6 @@
--- The byte at each address: both tables lie in the memory that they describe, what a table leaves becomes 0, a fill writes its byte, and
--- nothing else is written. And what stands at an address after further items, whatever stood there before.
+-- The byte at each address. Both tables lie in the memory that they describe; the old bytes of a
+-- table that moves become 0; a fill writes its byte; nothing else is written. And how further
+-- items change a byte, whatever it was before.
 use Rattle.std.specs.Prelude.{◌≡◌, ℕ, ◌+◌, ◌-◌, ◌≤◌, ◌==◌, Bool, false, ◌&&◌, ◌||◌, if◌then◌else◌, List, [], ◌∷◌, ◌++◌, drop, length, get_or}
 use Rattle.bm_base.specs.Range.{RangeView, covers}
 use Rattle.memblock_model.specs.declared.owner.Which.{Which}
@@ -10,32 +11,32 @@ use Rattle.memblock_model.specs.Tables.{records_of, room_of, table_place, table_
 use Rattle.memblock_ranges.specs.Spelling.{spelled_table}
 use Rattle.memblock_ranges.specs.Tables.{Table, bytes_of}
 
--- the table that the items stand for
+-- the table that the items define
 abbrev pub table_for : Which → RangeView → List Item → Table
 table_for w kernel items = record { records = records_of w items; place = table_place w kernel items; room = room_of w items }
 
--- the byte at an address inside a table: of its records, and behind them 0
+-- the byte at an address inside a table: of its records, and 0 after them
 abbrev pub spelled_at : Table → ℕ → ℕ
 spelled_at t x = get_or (spelled_table t.records t.room) (x - t.place) 0
 
--- the byte at an address: that of a table that lies there, and outside both tables the given one
+-- the byte at an address: that of the table that has the address, and b outside both tables
 abbrev pub shown_by : Table → Table → ℕ → ℕ → ℕ
 shown_by memory reserved x b =
     if covers (bytes_of memory) x then spelled_at memory x else (if covers (bytes_of reserved) x then spelled_at reserved x else b)
 
--- the bytes in which both tables lie
+-- the bytes have both tables in them
 abbrev pub AreSpelled : Table → Table → (ℕ → ℕ) → Type 0
 AreSpelled memory reserved f = (x : ℕ) → f x ≡ shown_by memory reserved x (f x)
 
--- the byte that a table leaves behind when it moves away
+-- the byte after the table has moved away: 0 where it was, else b
 abbrev pub left_by : Table → ℕ → ℕ → ℕ
 left_by t x b = if covers (bytes_of t) x then 0 else b
 
--- the byte at an address, of the tables that the items stand for
+-- the byte at an address, with the tables that the items define
 abbrev pub shown : RangeView → List Item → ℕ → ℕ → ℕ
 shown kernel items x b = shown_by (table_for which.Memory kernel items) (table_for which.Reserved kernel items) x b
 
--- whether the item, behind these items, moves a table away from the address
+-- whether the item, written after these items, moves a table away from the address
 abbrev pub leaves : RangeView → List Item → Item → ℕ → Bool
 leaves kernel items (item.Grown w place room) x = covers (table_bytes w kernel items) x
 leaves kernel items i x = false
@@ -45,46 +46,48 @@ abbrev pub is_left : RangeView → List Item → List Item → ℕ → Bool
 is_left kernel items [] x = false
 is_left kernel items (i ∷ is) x = leaves kernel items i x || is_left kernel (items ++ i ∷ []) is x
 
--- the items that the longer list has beyond the shorter one
+-- the items that the longer list has after the shorter one
 abbrev pub beyond : List Item → List Item → List Item
 beyond items longer = drop (length items) longer
 
--- what stands at the address when the items have become these, where the byte stood before: the byte of a table, else 0 where a table
--- went away, else that byte
+-- the byte at the address after the items have become the longer list, if it was b before: a
+-- table's byte, else 0 if a table moved away, else b
 unfoldable pub byte_after : RangeView → List Item → List Item → ℕ → ℕ → ℕ
 byte_after kernel items longer x b = shown kernel longer x (if is_left kernel items (beyond items longer) x then 0 else b)
 
--- a fill: its range, its byte, and how many items there were when it was made
+-- a fill: its range, its byte, and the number of items when it was made
 pub record Filled : Type 0 where
   pub range : RangeView
   pub byte : ℕ
   pub at : ℕ
 
--- what a fill makes of a byte
+-- a byte after a fill
 abbrev pub put : Filled → ℕ → ℕ → ℕ
 put f x b = if covers f.range x then f.byte else b
 
--- what the fills that were made when there were n items make of a byte, the newest last
+-- a byte after the fills that were made when there were n items, in their order
 abbrev pub filled : ℕ → List Filled → ℕ → ℕ → ℕ
 filled n [] x b = b
 filled n (f ∷ fs) x b = filled n fs x (if (f.at == n) && covers f.range x then f.byte else b)
 
--- what the further items, each with the fills made next, make of a byte outside the tables
+-- a byte outside the tables after the further items, each followed by the fills that were made
+-- next
 abbrev pub written : RangeView → List Filled → List Item → List Item → ℕ → ℕ → ℕ
 written kernel fills items [] x b = b
 written kernel fills items (i ∷ is) x b =
     written kernel fills (items ++ i ∷ []) is x (filled (length items + 1) fills x (if leaves kernel items i x then 0 else b))
 
--- the byte at an address, of the items and the fills: that of a table which lies there; else what the newest fill or move wrote; else 0
+-- the byte at an address: that of the table that has the address, else what the newest fill or
+-- move wrote, else 0
 unfoldable pub byte : RangeView → List Item → List Filled → ℕ → ℕ
 byte kernel items fills x = shown kernel items x (written kernel fills [] items x (filled 0 fills x 0))
 
--- each fill was made when there were so many items at most
+-- each fill was made when there were at most n items
 abbrev pub AreMadeBy : ℕ → List Filled → Type 0
 AreMadeBy n [] = Unit {0}
 AreMadeBy n (f ∷ fs) = (f.at ≤ n) × AreMadeBy n fs
 
--- the items went on, and each byte is what they made of it
+-- the items became the longer list, and each byte is what they made of it
 pub record Follows (kernel : RangeView) (items longer : List Item) (f g : ℕ → ℕ) : Type 0 where
   pub more : List Item
   pub goes_on : longer ≡ items ++ more

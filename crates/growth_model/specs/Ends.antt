@@ -1,4 +1,5 @@
--- How a call ends that carries a change out: as the change says, or, where the program's own memory ran out, before one of its steps.
+-- How a call that makes a change ends: as the change defines, or before one of its steps because
+-- this program is out of memory.
 use Rattle.std.specs.Prelude.{◌≡◌, ℕ, ◌<◌, ◌≤◌, Option, Some, None, List, ◌++◌, length, take, Result, Ok, Err, IfOk}
 use Rattle.memblock_model.specs.declared.item.Item.{Item}
 use Rattle.memblock_model.specs.declared.owner.Owner.{Owner}
@@ -7,20 +8,21 @@ use Rattle.growth_model.specs.declared.refusal.Refusal.TheVariants as refusal
 use Rattle.growth_model.specs.Outcome.{Outcome, Change, joined, after}
 use Rattle.growth_model.specs.Growth.{claimed}
 
--- the new items are the old ones and some of the steps, from the first on
+-- the new items are the old ones and those of the first steps, `count` of them
 pub record IsCut (old new : List Item) (steps : List (List Item)) : Type 0 where
   pub count : ℕ
   pub within : count ≤ length steps
   pub stands : new ≡ old ++ joined (take count steps)
 
--- and a step is still to be taken
+-- and at least one step is missing
 pub record IsCutShort (old new : List Item) (steps : List (List Item)) : Type 0 where
   pub count : ℕ
   pub short : count < length steps
   pub stands : new ≡ old ++ joined (take count steps)
 
--- Ok where no growth was refused, and that refusal where one was: the items are those of the change either way. Memory is wanted only for a
--- step that is still to be taken. A change by itself looks for no gap, so it never lacks one
+-- Ok if no growth was refused, and NoGapForTable with the growth that was refused; all items of
+-- the change are written in both cases. Memory is returned only before a step that is then
+-- missing. NoGap is never returned, since a change searches for no gap of its own.
 abbrev pub EndsBy : {T : Type 0} → Result T Refusal → List Item → List Item → Outcome → Type 0
 EndsBy (Ok x) old new o = (o.refused ≡ None) × (new ≡ after old o)
 EndsBy (Err refusal.NoGap) old new o = ⊥
@@ -30,7 +32,8 @@ EndsBy (Err refusal.Memory) old new o = IsCutShort old new o.steps
 abbrev pub Ends : {T : Type 0} → Result T Refusal → List Item → List Item → Change → Type 0
 Ends result old new change = EndsBy result old new (change old)
 
--- an allocation ends with the place that was found and its claim; without a place there is no gap, and nothing is written
+-- an allocation claims the place that was found and returns it; if there is none, it returns NoGap
+-- and writes nothing
 abbrev pub Allocates : Result ℕ Refusal → List Item → List Item → Option ℕ → ℕ → Owner → Type 0
 Allocates result old new None size who = (result ≡ Err refusal.NoGap) × (new ≡ old)
 Allocates result old new (Some place) size who =

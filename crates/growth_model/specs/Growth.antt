@@ -1,5 +1,6 @@
--- The growth of the two tables (`memblock_double_array`), and the changes that may need it. A table that grows claims its new place before
--- it frees its old one, and the bytes that it leaves become 0: that order is this project's own.
+-- The growth of the two tables (`memblock_double_array`), and the changes that may need it. A
+-- table that grows claims its new place before it frees its old one, and its old bytes become 0.
+-- This order is the project's own.
 use Rattle.std.specs.Prelude.{ℕ, ◌+◌, ◌-◌, ◌*◌, ◌/◌, Bool, nat_lt, min, Option, Some, None, List, [], ◌∷◌, length}
 use Rattle.std.specs.Option.{option_map, option_or}
 use Rattle.bm_base.specs.Range.{RangeView, end_of}
@@ -16,11 +17,11 @@ use Rattle.memblock_model.specs.Tables.{table_of, records_of, room_of, moved_to,
 use Rattle.memblock_model.specs.Search.{best_place}
 use Rattle.growth_model.specs.Outcome.{Change, ◌>>◌, nothing, step, write, refuse, if_due, whatever_refused}
 
--- that many bytes, rounded up to frames
+-- n bytes, rounded up to frames
 abbrev pub in_whole_frames : ℕ → ℕ
 in_whole_frames n = (n + (FRAME_SIZE - 1)) / FRAME_SIZE * FRAME_SIZE
 
--- the frames from the address on that hold so many bytes
+-- the frames from the address on that have n bytes
 abbrev pub frames_at : ℕ → ℕ → RangeView
 frames_at place n = record { base = place; size = in_whole_frames n }
 
@@ -28,23 +29,25 @@ frames_at place n = record { base = place; size = in_whole_frames n }
 abbrev pub count : Which → List Item → ℕ
 count w items = length (records_of w items)
 
--- what a table with that room looks for: the frames of twice as many records of 24 bytes, in the window, of any node
+-- the query of a table that has this room: the frames of twice as many records of 24 bytes, in the
+-- window, on any node
 abbrev pub table_query : ℕ → ℕ → ℕ → Query
 table_query room lo hi = record { lo = lo; hi = hi; size = in_whole_frames (48 * room); align = FRAME_SIZE; node = None }
 
--- the new place of the reserved table: the best one above the range that is being claimed or freed, else the best one below it; and
--- below the limit both times
+-- the new place of the reserved table: the best one above the range that is claimed or freed, else
+-- the best one below it; in both cases below the limit
 abbrev pub place_beside : RangeView → ℕ → List Item → Option ℕ
 place_beside avoid room items = option_or
     (best_place items (table_query room (end_of avoid) (limit_of items)))
     (best_place items (table_query room 0 (min avoid.base (limit_of items))))
 
--- the frames of a table's old place are freed, where it isn't the built-in one
+-- the frames of a table's old place are freed, unless that is the built-in one
 abbrev pub left : ℕ → Option ℕ → List Item
 left room None = []
 left room (Some place) = item.Free (frames_at place (24 * room)) ∷ []
 
--- what the reserved table writes when it goes from its old place, if it ever moved, to the new one: all as one step
+-- what the reserved table writes when it moves from its old place, if it has moved before, to the
+-- new one: all in one step
 unfoldable pub reserved_items : ℕ → Option ℕ → ℕ → List Item
 reserved_items room old place =
     item.Grown which.Reserved place (2 * room)
@@ -61,11 +64,11 @@ reserved_growth avoid items =
     reserved_growth_at (room_of which.Reserved items) (moved_to which.Reserved items)
     (place_beside avoid (room_of which.Reserved items) items) items
 
--- whether the table's records, and so many more, exceed its room
+-- whether the table's records and `more` further ones exceed its room
 abbrev pub is_full : Which → (List Item → ℕ) → List Item → Bool
 is_full w more items = nat_lt (room_of w items) (count w items + more items)
 
--- how many runs of the range's bytes the table doesn't cover yet
+-- the number of runs of the range's bytes that the table doesn't cover
 abbrev pub new_in : Which → RangeView → List Item → ℕ
 new_in w range items = pieces range (table_of w items)
 
@@ -73,28 +76,30 @@ new_in w range items = pieces range (table_of w items)
 abbrev pub two : List Item → ℕ
 two items = 2
 
--- the table grows while it is full. Two growths are always enough
+-- the table grows if it is full, and once more if it still is; two growths are always enough
 abbrev pub grown : Which → (List Item → ℕ) → Change → Change
 grown w more growth = if_due (is_full w more) growth >> if_due (is_full w more) growth
 
--- a range is claimed (`memblock_reserve`)
+-- the claim of a range (`memblock_reserve`)
 unfoldable pub claimed : RangeView → Owner → Change
 claimed range who = grown which.Reserved (new_in which.Reserved range) (reserved_growth range) >> write (item.Claim range who)
 
--- a range is freed (`memblock_phys_free`)
+-- the free of a range (`memblock_phys_free`)
 unfoldable pub freed : RangeView → Change
 freed range = grown which.Reserved two (reserved_growth range) >> write (item.Free range)
 
--- the frames of a table's old place, where it isn't the built-in one
+-- the frames of a table's old place, unless that is the built-in one
 abbrev pub old_frames : ℕ → Option ℕ → Option RangeView
 old_frames room old = option_map (λ place. frames_at place (24 * room)) old
 
--- the old place is freed. Where that needs a growth which is refused, the old place stays claimed, and that is all
+-- the old place is freed; if that needs a growth that is refused, the old place stays claimed, and
+-- the change isn't refused
 abbrev pub leave : Option RangeView → Change
 leave None = nothing
 leave (Some frames) = whatever_refused (freed frames)
 
--- the memory table goes to the new place: its claim, which may make the reserved table grow, then the move
+-- the memory table moves to the new place: its claim, which may make the reserved table grow, then
+-- the move
 unfoldable pub memory_growth_at : ℕ → Option ℕ → Option ℕ → Change
 memory_growth_at room old None = refuse which.Memory room
 memory_growth_at room old (Some place) =
@@ -108,14 +113,14 @@ memory_growth items =
     memory_growth_at (room_of which.Memory items) (moved_to which.Memory items)
     (best_place items (table_query (room_of which.Memory items) 0 (limit_of items))) items
 
--- a range becomes memory (`memblock_add`)
+-- the range becomes memory (`memblock_add`)
 unfoldable pub added : RangeView → Change
 added range = grown which.Memory (new_in which.Memory range) memory_growth >> write (item.Mem range)
 
--- the memory of a range gets the node (`memblock_set_node`)
+-- the memory of the range gets the node (`memblock_set_node`)
 unfoldable pub noded : RangeView → ℕ → Change
 noded range node = grown which.Memory two memory_growth >> write (item.Node range node)
 
--- the memory of a range becomes mirrored (`memblock_mark_mirror`)
+-- the memory of the range becomes mirrored (`memblock_mark_mirror`)
 unfoldable pub mirrored : RangeView → Change
 mirrored range = grown which.Memory two memory_growth >> write (item.Mirror range)

@@ -1,5 +1,6 @@
--- What holds of the items of a boot after each call: both tables lie in frames that are claimed and that nobody else may have, and each
--- has room for its records.
+-- What holds of the items of a boot after each call: both tables are seated (they lie in claimed
+-- memory that no allocation of the script can have, and share no frame), and each has room for its
+-- records.
 use Rattle.std.specs.Prelude.{◌≡◌, ◌≢◌, ◌⊎◌, ℕ, ◌*◌, ◌/◌, ◌%◌, ◌≤◌, Bool, true, false, Option, Some, None, List, [], ◌∷◌}
 use Rattle.bm_base.specs.Range.{RangeView, end_of, covers}
 use Rattle.bm_base.specs.declared.range.TheConstants.{FRAME_SIZE}
@@ -13,13 +14,13 @@ use Rattle.memblock_model.specs.Items.{Owners, owner_of}
 use Rattle.memblock_model.specs.Tables.{room_of, table_bytes}
 use Rattle.growth_model.specs.Growth.{count}
 
--- an owner in whose bytes a table may lie: any but an allocation of the early script
+-- whether a table may lie in memory of this owner: any except an allocation of the early script
 abbrev pub keeps : Option Owner → Bool
 keeps None = false
 keeps (Some (owner.Script id)) = false
 keeps (Some o) = true
 
--- a seat of a table: a place that begins with a frame, and each of whose bytes has such an owner
+-- a seat of a table: a range that begins with a frame, all of whose bytes have such an owner
 pub record Seat (own : Owners) (a : RangeView) : Type 0 where
   pub aligned : a.base % FRAME_SIZE ≡ 0
   pub kept : (x : ℕ) → covers a x ≡ true → keeps (own x) ≡ true
@@ -28,7 +29,7 @@ pub record Seat (own : Owners) (a : RangeView) : Type 0 where
 abbrev pub ShareNoFrame : RangeView → RangeView → Type 0
 ShareNoFrame a b = (x y : ℕ) → covers a x ≡ true → covers b y ≡ true → x / FRAME_SIZE ≢ y / FRAME_SIZE
 
--- no byte lies in both ranges
+-- no byte is in both ranges
 abbrev pub Clear : RangeView → RangeView → Type 0
 Clear a b = (x : ℕ) → covers a x ≡ true → covers b x ≡ true → ⊥
 
@@ -36,13 +37,13 @@ Clear a b = (x : ℕ) → covers a x ≡ true → covers b x ≡ true → ⊥
 abbrev pub Unclaimed : Owners → RangeView → Type 0
 Unclaimed own a = (x : ℕ) → covers a x ≡ true → own x ≡ None
 
--- the seats of both tables
+-- both tables have seats, and share no frame
 pub record Seats (own : Owners) (memory reserved : RangeView) : Type 0 where
   pub first : Seat own memory
   pub second : Seat own reserved
   pub apart : ShareNoFrame memory reserved
 
--- the kernel's image is claimed first, and both tables lie in seats of theirs
+-- the first item claims the kernel's image, and both tables have seats
 pub record Seated (kernel : RangeView) (items : List Item) : Type 0 where
   pub rest : List Item
   pub first : items ≡ item.Claim kernel owner.Kernel ∷ rest
@@ -52,26 +53,27 @@ pub record Seated (kernel : RangeView) (items : List Item) : Type 0 where
 abbrev pub Fits : List Item → Type 0
 Fits items = (w : Which) → count w items ≤ room_of w items
 
--- both of these hold
+-- the tables are seated and have room for their records
 pub record Sound (kernel : RangeView) (items : List Item) : Type 0 where
   pub placed : Seated kernel items
   pub fits : Fits items
 
--- the image holds both built-in places: it ends with a frame, and has two frames at least
+-- the image has both built-in places: it ends with a frame, and is at least two frames long
 pub record IsImage (kernel : RangeView) : Type 0 where
   pub whole : end_of kernel % FRAME_SIZE ≡ 0
   pub large : 2 * FRAME_SIZE ≤ kernel.size
 
--- something happened already: the kernel's image was claimed
+-- there is at least one item; the first is always the claim of the kernel's image
 abbrev pub HasBegun : List Item → Type 0
 HasBegun [] = ⊥
 HasBegun (i ∷ is) = Unit {0}
 
--- the range meets neither table
+-- the range overlaps no table
 abbrev pub IsAway : RangeView → RangeView → List Item → Type 0
 IsAway kernel range items = Clear range (table_bytes which.Memory kernel items) × Clear range (table_bytes which.Reserved kernel items)
 
--- what may be claimed: first the kernel's image for the kernel; then any range, but for the script one that meets neither table
+-- what may be claimed: first the kernel's image, for the kernel; then any range, which for the
+-- script must overlap no table
 abbrev pub MayClaim : RangeView → List Item → RangeView → Owner → Type 0
 MayClaim kernel [] range who = (range ≡ kernel) × (who ≡ owner.Kernel)
 MayClaim kernel (i ∷ is) range who = (keeps (Some who) ≡ true) ⊎ IsAway kernel range (i ∷ is)

@@ -1,12 +1,12 @@
-//! Laws on the byte at each address.
+//! Laws about the byte at each address.
 //!
-//! `byte` tells it from nothing: the items and the fills. `byte_after` tells what a call makes of a byte, whatever
-//! stood there: contracts of calls say that. The first law is that calls may follow one another, the second that
-//! both words agree; so a caller may carry `Holds` along, from call to call and fill to fill.
+//! `byte` computes it from the items and the fills. `byte_after` says how a call changes a byte,
+//! whatever it was before; contracts of calls use it. One law says that calls can follow one
+//! another, another that both definitions agree. So a caller can keep `Holds` true from call to
+//! call and from fill to fill.
 //!
-//! That the byte of a table hides what stood below it needs no more than that a live range stays where it is
-//! until an item moves it. Only where a byte is asked to be that of one table's spelling it counts that the two
-//! live ranges have none in common.
+//! A table hides the bytes below it until an item moves the table away. Only the laws about one
+//! table's own bytes need that the two tables are apart.
 ghost use Rattle.std.specs.Prelude.{◌≡◌, ℕ, ◌*◌, true, false, List, [], ◌∷◌, ◌++◌, length};
 ghost use Rattle.bm_base.specs.Range.{RangeView, covers};
 ghost use Rattle.phys_store.specs.Bytes.{byte_of, bytes_at};
@@ -21,8 +21,9 @@ ghost use Rattle.memblock_ranges.specs.Tables.{Contents, table_in, bytes_in, Sta
 ghost use Rattle.growth_model.specs.Sound.{Seated, Fits, IsAway};
 ghost use Rattle.growth_model.specs.Bytes.{table_for, spelled_at, shown_by, AreSpelled, left_by, byte_after, byte, Filled, put, AreMadeBy, Follows, Holds};
 
-/// A law: what items and further ones make of a byte is what the further ones make of what the first made;
-/// and what further items make of the byte of the items and fills is the byte of all items and the fills.
+/// Law: the effect of items on a byte can be computed in two parts. Further items applied to the
+/// byte after the first ones give the byte after all of them. Further items applied to the byte of
+/// the items and fills give the byte of all items and the fills.
 pub fn bytes_go_by_parts()
     ensures after { (kernel : RangeView) (items more further : List Item) (x b : ℕ) →
         byte_after kernel (items ++ more) ((items ++ more) ++ further) x (byte_after kernel items (items ++ more) x b)
@@ -31,15 +32,17 @@ pub fn bytes_go_by_parts()
         byte_after kernel items (items ++ more) x (byte kernel items fills x) ≡ byte kernel (items ++ more) fills x }
 {}
 
-/// A law: a fill that meets no table decides the bytes of its range, whatever was written there before.
+/// Law: a fill that overlaps no table decides the bytes of its range, whatever was written there
+/// before.
 pub fn newest_fill_decides()
     ensures { (kernel : RangeView) (items : List Item) (fills : List Filled) (f : Filled) (x : ℕ) →
         f.at ≡ length items → IsAway kernel f.range items →
         byte kernel items (fills ++ f ∷ []) x ≡ put f x (byte kernel items fills x) }
 {}
 
-/// A law: calls may follow one another; behind each the tables lie in their bytes; and bytes that are those
-/// of items and fills stay so behind a call and behind a fill.
+/// Law: calls and fills can follow one another. Two calls in turn change the bytes as one call
+/// with the items of both. After each call both tables are in their bytes. Bytes that are those of
+/// items and fills are so after a further call, and after a further fill.
 pub fn bytes_follow_calls()
     ensures then { (kernel : RangeView) (items mid last : List Item) (f g h : ℕ → ℕ) →
         Follows kernel items mid f g → Follows kernel mid last g h → Follows kernel items last f h }
@@ -52,7 +55,8 @@ pub fn bytes_follow_calls()
         ((x : ℕ) → g x ≡ put fill x (f x)) → Holds kernel items (fills ++ fill ∷ []) g }
 {}
 
-/// A law: the bytes at the place of each table are the spelling of its records, one by one and as a list.
+/// Law: the bytes at the place of each table are the encoding of its records, byte by byte and as
+/// a list.
 pub fn tables_are_spelled()
     ensures each { (w : Which) (kernel : RangeView) (items : List Item) (f : ℕ → ℕ) (x : ℕ) → Seated kernel items →
         AreSpelled (table_for which.Memory kernel items) (table_for which.Reserved kernel items) f →
@@ -62,8 +66,8 @@ pub fn tables_are_spelled()
         bytes_at f (table_place w kernel items) (24 * room_of w items) ≡ spelled_table (records_of w items) (room_of w items) }
 {}
 
-/// A law: what an edit of one table's records, and a move of one table, make of every byte, where both tables
-/// stand in the store behind it.
+/// Law: if both tables are in the store afterwards, one equation gives each byte after an edit of
+/// one table's records, and one after a move of one table.
 pub fn edits_are_told()
     ensures edited { (w : Which) (old new : Contents) (records : List (RunOf LabelView)) →
         table_in w new ≡ record (table_in w old) { records = records } →

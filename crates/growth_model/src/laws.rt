@@ -1,7 +1,8 @@
-//! The laws of growth, as functions that do nothing: what the layers above may rest on.
+//! Laws of growth.
 //!
-//! Each change keeps both tables in good places wherever a call of it ends: at its end, at a refusal, and before a step
-//! for which memory ran out. Nothing is asked of the tables' bytes or records for that, nor of the addresses.
+//! Each change keeps both tables seated wherever a call that makes it ends: after its last step,
+//! at a refusal, or before a step because this program is out of memory. These laws need neither
+//! the tables' bytes nor their records.
 
 ghost use Rattle.std.specs.Prelude.{◌≡◌, ◌⊎◌, ℕ, ◌+◌, ◌*◌, ◌%◌, ◌^◌, ◌<◌, ◌≤◌, Bool, false, Option, Some, None, IsSome, List, [], ◌∷◌, ◌++◌, Result, Ok, Err};
 ghost use Rattle.bm_base.specs.Range.{RangeView, end_of};
@@ -24,8 +25,8 @@ ghost use Rattle.growth_model.specs.Ends.{Ends, Allocates};
 ghost use Rattle.growth_model.specs.Sound.{Clear, Unclaimed, Seated, Fits, IsImage, HasBegun, IsAway, MayClaim};
 ghost use Rattle.growth_model.specs.Room.{IsInSpace, HasDoubled, HasRoomBehind};
 
-/// A law: one call after another ends as the one change behind the other does, by the end of the second,
-/// and by an error of the first.
+/// Law: two calls in turn end as the two changes in turn: like the second if the first succeeds,
+/// else with the error of the first.
 pub fn ends_add_up()
     ensures second { (result : Result (Unit {0}) Refusal) (old mid new : List Item) (first second : Change) →
         Ends {T = Unit {0}} (Ok tt) old mid first → Ends result mid new second → Ends result old new (in_turn first second) }
@@ -33,15 +34,15 @@ pub fn ends_add_up()
         Ends {T = Unit {0}} (Err error) old new first → Ends {T = Unit {0}} (Err error) old new (in_turn first second) }
 {}
 
-/// A law: the first claim, of the kernel's image for the kernel, needs no growth, and both tables lie in
-/// good places behind it.
+/// Law: the first claim, of the kernel's image for the kernel, needs no growth, and both tables
+/// are seated after it.
 pub fn first_claim_places_tables()
     ensures alone { (kernel : RangeView) → end_of kernel ≤ 2 ^ 64 →
         claimed kernel owner.Kernel [] ≡ write (item.Claim kernel owner.Kernel) [] }
     ensures placed { (kernel : RangeView) → IsImage kernel → Seated kernel (item.Claim kernel owner.Kernel ∷ []) }
 {}
 
-/// A law: however a claim or a free ends, both tables lie in good places from the first claim on.
+/// Law: from the first claim on, both tables are seated however a claim or a free ends.
 pub fn claims_keep_places()
     ensures claimed { (kernel : RangeView) (result : Result (Unit {0}) Refusal) (old new : List Item) (range : RangeView) (who : Owner) →
         IsImage kernel → end_of range ≤ 2 ^ 64 → (HasBegun old → Seated kernel old) → MayClaim kernel old range who →
@@ -50,7 +51,8 @@ pub fn claims_keep_places()
         Seated kernel old → IsAway kernel range old → Ends result old new (freed range) → Seated kernel new }
 {}
 
-/// A law: so they do however memory is added to, given a node or mirrored, and behind a trim, a new limit and a new direction.
+/// Law: both tables stay seated however the call ends that adds memory, gives it a node or makes
+/// it mirrored, and after a trim, a new limit and a new search direction.
 pub fn memory_keeps_places()
     ensures added { (kernel : RangeView) (result : Result (Unit {0}) Refusal) (old new : List Item) (range : RangeView) →
         Seated kernel old → Ends result old new (added range) → Seated kernel new }
@@ -64,15 +66,17 @@ pub fn memory_keeps_places()
         Seated kernel (items ++ item.Upward on ∷ []) }
 {}
 
-/// A law: so they do however an allocation ends, whoever it is for.
+/// Law: both tables stay seated however an allocation ends, for any owner.
 pub fn allocations_keep_places()
     ensures { (kernel : RangeView) (result : Result ℕ Refusal) (old new : List Item) (request : Request) (who : Owner) →
         Seated kernel old → Allocates result old new (place_for request old) request.size who → Seated kernel new }
 {}
 
-/// A law: nobody has a byte of a place that a search finds, so it meets neither table. A new place for the
-/// reserved table lies beside the range that is avoided, and below the limit. However a growth of the
-/// memory table ends, that table lies where it did, or in a new place below the limit.
+/// Law: the place that a search finds is unclaimed, overlaps no table, and keeps to its bounds.
+/// The place of an allocation ends at or below the limit. A new place for the reserved table
+/// begins with a frame, is apart from the avoided range, and ends at or below the limit. However a
+/// growth of the memory table ends, that table is in its old place, or in a new one that ends at
+/// or below the limit.
 pub fn found_places_are_free()
     ensures unclaimed { (items : List Item) (query : Query) (place : ℕ) → best_place items query ≡ Some place →
         Unclaimed (owner_of items) (record { base = place; size = query.size }) }
@@ -93,8 +97,8 @@ pub fn found_places_are_free()
         (moved_to which.Memory old ≡ Some place) ⊎ (place + in_whole_frames (48 * room_of which.Memory old) ≤ limit_of old) }
 {}
 
-/// A law: a growth that isn't refused gives its table twice the room and two records at most: for the claim of the new
-/// place, and where the old one is freed.
+/// Law: a growth that isn't refused doubles its table's room, and adds at most two records: one
+/// for the claim of the new place, and one where the old place is freed.
 pub fn growth_doubles_room()
     ensures reserved { (avoid : RangeView) (items : List Item) → IsInSpace items → (reserved_growth avoid items).refused ≡ None →
         HasDoubled which.Reserved items (after items (reserved_growth avoid items)) }
@@ -102,10 +106,11 @@ pub fn growth_doubles_room()
         HasDoubled which.Memory items (after items (memory_growth items)) }
 {}
 
-/// A law: two growths of a table in a row are always enough, before a claim, a free, an added range, and a range that gets a
-/// node or becomes mirrored. A range has at most one piece more than the table has records, so one growth makes room for the
-/// edit or nearly so, and one more for that and for what the first one claimed. Before a claim of bytes that nobody has, which are
-/// one piece, one is enough: it is refused only where the table is full for them and finds no place.
+/// Law: two growths of a table in a row are always enough for a claim, a free, an added range, and
+/// a range that gets a node or becomes mirrored. A range has at most one piece more than the table
+/// has records, so one growth almost makes room for the edit. The second growth makes room for it
+/// and for the records of the first. The claim of an unclaimed range isn't refused if the reserved
+/// table has room, or finds a place apart from the range.
 pub fn two_growths_are_enough()
     ensures claimed { (range : RangeView) (items : List Item) → IsInSpace items → Fits items → end_of range ≤ 2 ^ 64 →
         HasRoomBehind which.Reserved (new_in which.Reserved range) (reserved_growth range) items }

@@ -1,24 +1,30 @@
-//! How memblock's tables change and grow: the words in which growth, claims and allocations are spoken of.
+//! Defines how memblock's tables change and grow: what a claim, a free, an allocation and the
+//! growth of a table (`memblock_double_array`) write to the journal.
 //!
-//! A table of memblock has room for so many records. When a change may need more, the table first doubles
-//! (`memblock_double_array`): it finds a new place by the search that serves everyone, claims that place like
-//! any other, and frees the place that it leaves. So a claim may write several items, a growth may set off a growth
-//! of the other table, and a place may be wanting. Here each change is a function of the items so far
-//! (`specs/Outcome.antt`): the items that it writes, step by step, and the growth that was refused, if one was.
+//! Each table of memblock has room for a number of records. If a change may need more, the table
+//! first grows to twice its room. It finds a new place by the same search as any allocation,
+//! claims that place, and frees its old one. So a claim may write several items, the growth of one
+//! table may need the growth of the other, and there may be no place for the table. Each change is
+//! therefore a function of the items so far. Its value (`Outcome`) lists the items that it writes,
+//! step by step, and the growth that was refused, if one was.
 //!
-//! - `specs/Growth.antt`: the growths of both tables, and the five changes that may need them: a claim, a free,
-//!   an added range, a range that gets a node, a range that becomes mirrored.
-//! - `specs/Request.antt`: what an allocation tries, in its order.
-//! - `specs/Ends.antt`: how a call may end that carries a change out: as the definition says, or, for want of the
-//!   program's own memory, before one of its steps.
-//! - `specs/Sound.antt`: what holds of the items of each boot: both tables lie in claimed frames, apart from each
-//!   other, and each has room for its records.
-//! - `specs/Room.antt`: what a growth makes of a table's room, and when the room is enough. Two growths in a row always do.
-//! - `specs/Bytes.antt`: the byte at each address, from the items and the fills, and what a call makes of it.
-//! - `specs/Carried.antt`: items that are wanted, carried out one after another; and which items speak of memory.
+//! - `specs/Growth.antt`: the growth of both tables, and the five changes that may need it: a
+//!   claim, a free, an added range, a node for a range, and a range that becomes mirrored.
+//! - `specs/Request.antt`: the searches that an allocation tries, in order.
+//! - `specs/Ends.antt`: how a call that makes a change may end: as defined, or before one of its
+//!   steps because this program is out of memory.
+//! - `specs/Sound.antt`: what holds of the items after each call: both tables lie in claimed
+//!   memory, share no frame, and have room for their records.
+//! - `specs/Room.antt`: how much room a growth gives. Two growths in a row are always enough.
+//! - `specs/Bytes.antt`: the byte at each address, computed from the items and the fills, and how
+//!   a call changes it.
+//! - `specs/Carried.antt`: lists of items that are to be written, each with the growth that it
+//!   needs; and the items that change memory.
 //!
-//! [`Refusal`] is plain data. It stands here, below the crates that answer it, because the definitions speak of it.
-//! The functions are laws over the definitions: they do nothing, and their contracts are proved.
+//! [`Refusal`] is in this crate, below the calls that return it, because the definitions cite it.
+//! The functions are laws. A law is an empty function whose contract is a proven fact. In
+//! contracts, a name means the definition in `specs/`. The layers above may rest on the
+//! definitions and the laws.
 #![tactic(auto)]
 
 mod byte_laws;

@@ -1,6 +1,7 @@
-//! What growth leaves alone. A boot is told by the items that it wants; between them stand those of growth, which
-//! depend on all that happened before. These laws say that of memory, its labels and the limit the wanted items
-//! decide alone: so whatever is said of memory is said without growth.
+//! Laws about what growth doesn't change. A boot is described by the items that it is to write.
+//! Between them are items of growth, which depend on everything that happened before. These laws
+//! say that growth affects neither memory, nor its labels, nor the limit. So statements about
+//! memory don't mention growth.
 
 ghost use Rattle.std.specs.Prelude.{◌≡◌, ℕ, List, ◌++◌, take, Ok};
 ghost use Rattle.bm_base.specs.Range.{RangeView as AnyExtent};
@@ -11,14 +12,14 @@ ghost use Rattle.growth_model.specs.Outcome.{after};
 ghost use Rattle.growth_model.specs.Growth.{claimed, freed, memory_growth, reserved_growth};
 ghost use Rattle.growth_model.specs.Carried.{AreQuiet, carried_out, memory_items};
 
-/// A law: what the items say of memory and of the limit is decided by those of memory alone.
+/// Law: memory and the limit depend only on the items that change memory.
 pub fn memory_items_decide()
     ensures memory { (items : List AnyItem) → memory_of items ≡ memory_of (memory_items items) }
     ensures limit { (items : List AnyItem) → limit_of items ≡ limit_of (memory_items items) }
 {}
 
-/// A law: growth, claims and frees write no item of memory, at whatever step they end; so behind them memory and
-/// the limit are what they were.
+/// Law: growth, claims and frees write no item that changes memory, at whichever step they end. So
+/// memory and the limit are the same after them.
 pub fn claims_leave_memory()
     ensures reserved { (avoid : AnyExtent) (items : List AnyItem) →
         AreQuiet (reserved_growth avoid items).steps }
@@ -32,7 +33,7 @@ pub fn claims_leave_memory()
         memory_of (after items (freed range items)) ≡ memory_of items }
 {}
 
-/// A law: of memory nothing is written but what is wanted, in its order.
+/// Law: the items that change memory are written exactly as requested, in their order.
 pub fn wanted_items_make_memory()
     ensures { (wanted items last : List AnyItem) → carried_out wanted items ≡ Ok last →
         memory_items last ≡ memory_items items ++ memory_items wanted }

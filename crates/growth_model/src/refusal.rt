@@ -1,18 +1,19 @@
-//! Why a call that changes memory was refused. It stands below the calls, since how one may end is defined with
-//! it (`specs/Ends.antt`); of it the stages above make stops, and the early script makes answers.
+//! The errors of calls that change memory. They are defined below the calls, since
+//! `specs/Ends.antt` cites them. The stages above turn them into stops, and the early script into
+//! results.
 
 use bm_base::Memory;
 use memblock_model::Which;
 
-/// Why a call that may need a place gave up.
+/// Why a call that may need memory failed.
 #[derive(Clone, Copy, Debug, PartialEq, Eq)]
 pub enum Refusal {
-    /// No address fits the request, by any of its attempts.
+    /// No address fits the request, in any of its attempts.
     NoGap,
-    /// The table had to grow and no place was found for it; `room` is the number of records that was too small
-    /// (`memblock_double_array`).
+    /// The table had to grow and no place was found for it (`memblock_double_array`); `room` is
+    /// the number of records that was too small.
     NoGapForTable { which: Which, room: u64 },
-    /// The program's own memory ran out.
+    /// This program is out of memory.
     Memory,
 }
 

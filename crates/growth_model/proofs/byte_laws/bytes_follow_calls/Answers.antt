@@ -1,4 +1,4 @@
--- Each clause is one lemma over plain bytes.
+-- Each clause is one lemma about plain bytes.
 use Rattle.growth_model.proofs.FollowLaws.{follows-then, follows-spelled}
 use Rattle.growth_model.proofs.FillLaws.{holds-call, holds-fill}
 use Rattle.growth_model.proofs.byte_laws.bytes_follow_calls.Goals as goal

@@ -1,4 +1,4 @@
--- Two items' worth of bytes are told one behind the other.
+-- The bytes of two parts of the items, one after the other.
 use Rattle.growth_model.proofs.BytesLaws.{after-after, after-byte}
 use Rattle.growth_model.proofs.byte_laws.bytes_go_by_parts.Goals as goal
 

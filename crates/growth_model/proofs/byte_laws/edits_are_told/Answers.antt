@@ -1,4 +1,4 @@
--- In a table the byte is its spelling's, and beside both the edit says it.
+-- Inside a table the byte is that of its encoding; outside both tables the edit's clauses give it.
 use Rattle.growth_model.proofs.ToldLaws.{edit-told, move-told}
 use Rattle.growth_model.proofs.byte_laws.edits_are_told.Goals as goal
 

@@ -1,4 +1,4 @@
--- The live ranges have no byte in common, so each shows its own spelling.
+-- The two tables have no byte in common, so each shows its own encoding.
 use Rattle.growth_model.proofs.StandLaws.{list-stands}
 use Rattle.growth_model.proofs.byte_laws.tables_are_spelled.Goals as goal
 

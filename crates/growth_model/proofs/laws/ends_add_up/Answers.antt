@@ -1,4 +1,4 @@
--- The algebra of ends.
+-- The ends of two calls in turn.
 use Rattle.growth_model.proofs.EndLaws.{Ends-second}
 use Rattle.growth_model.proofs.laws.ends_add_up.Goals as goal
 
