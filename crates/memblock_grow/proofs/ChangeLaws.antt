@@ -1,4 +1,4 @@
--- A change that makes room and then writes one item: how it ends, wherever it ends.
+-- A change that makes room and then writes one item: how a call that makes it ends.
 use Rattle.std.proofs.Common.{◌≡◌, ℕ, false, List, [], ◌∷◌, ◌++◌, Result, Ok, Err, IsErrAnd, ap, subst, arith}
 use Rattle.bm_base.specs.Range.{RangeView}
 use Rattle.memblock_model.specs.declared.item.Item.{Item}
@@ -13,7 +13,7 @@ use Rattle.growth_model.proofs.FollowLaws.{follows-item, follows-then}
 use Rattle.memblock_grow.specs.declared.aim.Aim.{Aim}
 use Rattle.memblock_grow.specs.Kept.{AreKept, AreTold, Keeps, KeepsBytes}
 
--- an error that is handed on
+-- an error that is passed on
 pub handed : {T : Type 0} (r : Result T Refusal) (e : Refusal) → IsErrAnd r (λ (n : Refusal). n ≡ e) → r ≡ Err e
 handed (Ok x) e h = absurd h
 handed (Err n) e h = ap (λ (m : Refusal). Err m) h
@@ -35,7 +35,7 @@ change-done growths i old mid new h is =
     rw is (Ends-second {T = Unit {0}} {U = Unit {0}} tt (Ok tt) old mid (mid ++ i ∷ []) growths (write i) h
     (Ends-step {T = Unit {0}} tt mid (i ∷ [])))
 
--- and what it makes of each byte, by an item that leaves no place
+-- how the change affects each byte, if its item moves no table
 pub change-bytes : (i : Item) {old mid new : List Item} {t : Contents} (u : Contents) {v : Contents} {at : Aim} → new ≡ mid ++ i ∷ []
     → ((kernel : RangeView) (x : ℕ) → leaves kernel mid i x ≡ false) → Keeps old t new v at → AreTold u v → KeepsBytes old t mid u at
     → KeepsBytes old t new v at

@@ -1,4 +1,5 @@
--- A claim that is refused at once, and one that isn't refused: what it prepares, with a place that was prepared before it.
+-- A claim that is refused at once, and one that isn't refused: what it prepares, together with a
+-- place that was prepared before it.
 use Rattle.std.proofs.Common.{◌≡◌, ◌<◌, true, None, List, length, Result, Ok, Err, OnErr, sym, ◌∙◌, arith}
 use Rattle.std.proofs.lemmas.List.{length-append}
 use Rattle.bm_base.specs.Range.{RangeView}

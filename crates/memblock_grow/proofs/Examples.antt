@@ -1,4 +1,5 @@
--- Small tables, computed: what is kept, where a table may go, and whether it is full.
+-- Examples with small tables, computed: what is kept, where a table may move, and whether it is
+-- full.
 use Rattle.std.proofs.Common.{◌≡◌, ℕ, ◌+◌, ◌^◌, ◌<◌, ◌≤◌, ◌%◌, true, false, ◌||◌, Some, None, List, [], ◌∷◌, length, Err, refl, sym, ◌∙◌, ap, arith}
 use Rattle.std.proofs.lemmas.Bool.{false_from_ne_true, true≢false}
 use Rattle.std.proofs.Math.Bool.{or-false}
@@ -53,14 +54,14 @@ kept_at_first = record {
   far = λ w place moved. cc;
 }
 
--- the limit is that of the items, and so is the direction of searches
+-- the limit is that of the items, and so is the search direction
 kept_examples : (AreKept image [] at_first (aimed 1 false) → ⊥) × (AreKept image [] at_first (aimed 0 true) → ⊥)
 kept_examples = (λ kept. let limit = kept.limit in cc, λ kept. let upward = kept.upward in cc)
 
 its_parts : ((aimed 5 true).limit ≡ 5) × ((aimed 5 true).upward ≡ true)
 its_parts = (refl, refl)
 
--- an image of one frame holds no two tables
+-- an image of one frame is too small for two tables
 memblock_examples : ((t : Contents) (at : Aim) → IsMemblock (record { base = 65536; size = 4096 }) [] t at → ⊥)
     × (IsMemblock image [] at_first (aimed 1 false) → ⊥)
 memblock_examples = (λ t at whole. let large = whole.image.large in omega arith, λ whole. kept_examples.0 whole.kept)
@@ -73,7 +74,7 @@ first_claim : (IsMemblock image [] at_first (aimed 0 false) → AllowsClaim [] a
     × (AllowsClaim [] at_first (aimed 0 false) image owner.Crash → ⊥)
 first_claim = (λ whole. (image, whole, (refl, refl)), λ allowed. let who = allowed.2.1 in cc)
 
--- what meets a table isn't freed
+-- a range that overlaps a table may not be freed
 away_from_both : (range : RangeView) (whole : IsMemblock image [] at_first (aimed 0 false))
     → range.size ≡ 0 → AllowsFree [] at_first (aimed 0 false) range
 away_from_both range whole none = (
@@ -89,7 +90,7 @@ keeps_examples = (
   λ keeps. let rooms : ◌≡◌ {A = ℕ} 256 128 = ap (λ (t : Table). t.room) (keeps image kept_at_first).memory in omega (arith, rooms),
 )
 
--- two tables of no bytes: every byte lies beside them
+-- two tables without bytes: every byte is outside them
 abbrev no_table : Table
 no_table = record { records = []; place = 0; room = 0 }
 
@@ -108,7 +109,8 @@ told_examples = (
 ready_examples : StayReady [] a_byte × (StayReady a_byte [] → ⊥)
 ready_examples = (λ x ready. cc, λ stays. let ready = stays 5 refl in cc)
 
--- a growth to room for 256 records prepares two whole frames, and no byte beside them; a claim alone prepares nothing
+-- a growth to room for 256 records prepares two whole frames and no other address; a claim without
+-- growth prepares nothing
 abbrev a_growth : List Item
 a_growth = item.Grown which.Reserved 8192 256 ∷ []
 
@@ -121,7 +123,7 @@ prepares_examples = (
   λ s t x p. p.each x ∙ ap (λ (is : List Item). is_grown_over is x || is_ready s x) (sym p.goes_on),
 )
 
--- where memory was wanted, one place may be prepared that no item tells of; behind a refusal there is none
+-- after the error Memory, one place may be prepared that is in no item; after a refusal none is
 by_examples : ((bytes : List ℕ) → length bytes ≡ 8192
     → PreparesBy {T = Unit {0}} (Err refusal.Memory) [] [] [] (record { base = 8192; bytes = bytes } ∷ []))
     × ((t : List Stored) → PreparesBy {T = Unit {0}} (Err (refusal.NoGapForTable which.Reserved 128)) [] [] [] t
@@ -145,11 +147,11 @@ memory = value_at plain.memory.records
 abbrev reserved : Labels
 reserved = value_at plain.reserved.records
 
--- none of it is mirrored
+-- no memory of it is mirrored
 none_mirrored : (x : ℕ) → suits true (value_at plain.memory.records x) ≡ false
 none_mirrored x = plain_or_none (covers (record { base = 0; size = 65536 }) x)
 
--- a table with mirrored memory asks for an item that made it so
+-- a table with mirrored memory needs an item that mirrors memory
 abbrev mirrored : Contents
 mirrored = record plain {
   memory = record plain.memory { records = record { base = 0; size = 65536; value = with_mirror plain_label } ∷ [] };
@@ -159,7 +161,8 @@ mirror_examples : ((items : List Item) → KnowsMirrors items plain) × (KnowsMi
     × KnowsMirrors (item.Mirror (record { base = 0; size = 65536 }) ∷ []) mirrored
 mirror_examples = (λ items none. none_mirrored, λ knows. true≢false (knows refl 5), λ none. absurd (true≢false none))
 
--- the best place is the highest one that is aligned and in the window, and so is the top one of any memory
+-- the best place is the highest one that is aligned and in the window, and so is the top one in
+-- any memory
 last_at : (q : Query) (a : ℕ) → a % q.align ≡ 0 → q.lo ≤ a → 4096 ≤ a → a + q.size ≤ q.hi → a + q.size ≤ 65536 → 0 < q.size
     → q.node ≡ None → ((b : ℕ) → b % q.align ≡ 0 → b + q.size ≤ q.hi → b ≤ a)
     → IsLastBelow (fits_in false memory reserved q) (2 ^ 64) a
@@ -216,14 +219,14 @@ between_examples : (frames_between plain false 128 0 61440 ≡ Some (record { ba
 between_examples =
     (rw best_frames refl, rw (best_place_in-large false memory reserved (table_query 128 0 8191) (omega arith)) refl)
 
--- above the last frame of the memory there is none, so below it
+-- above the last frame of memory there is no place, so it is below
 none_above : best_of plain false (table_query 128 65536 65536) ≡ None
 none_above = best_place_in-fails false memory reserved (table_query 128 65536 65536) (λ b lt.
     false_from_ne_true (fits_in false memory reserved (table_query 128 65536 65536) b) (λ fits.
     let known = fits_in-parts false memory reserved (table_query 128 65536 65536) b fits in
     let low = known.low in let high = known.high in omega (arith, low, high)))
 
--- and below the limit
+-- the place is below the limit too
 beside_examples : (frames_beside plain (aimed 65536 false) 128 (record { base = 61440; size = 4096 })
     ≡ Some (record { base = 53248; size = 8192 }))
     × (frames_beside plain (aimed 8191 false) 128 (record { base = 61440; size = 4096 }) ≡ None)
@@ -238,7 +241,7 @@ beside_examples = (
 left_examples : (left_frames 73728 128 ≡ None) × (left_frames 53248 256 ≡ Some (record { base = 53248; size = 8192 }))
 left_examples = (refl, refl)
 
--- how many records more
+-- the number of records that an edit may add
 more_by_examples : (more_by which.Memory more.Two [] ≡ 2) × (more_by which.Reserved (more.PiecesOf (record { base = 5; size = 1 })) [] ≡ 1)
 more_by_examples =
     (refl, one-piece (record { base = 5; size = 1 }) (table_of which.Reserved []) (omega arith) (omega arith) (λ x low high. refl))

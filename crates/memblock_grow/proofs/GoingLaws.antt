@@ -1,5 +1,5 @@
--- A memblock that went on twice went on, and so did one that was only looked at. What a search found, and what was claimed there, is away
--- from the tables.
+-- `GoesOn` from call to call, and after a call that only reads. The place that a search found, and
+-- a range that was claimed, overlap no table.
 use Rattle.std.proofs.Common.{◌≡◌, ℕ, Option, Some, None, List, [], ◌∷◌, ◌++◌, Result, Ok, Err, IfSome, OnOk, refl, sym, ◌∙◌, subst}
 use Rattle.bm_base.specs.Range.{RangeView}
 use Rattle.phys_store.specs.Bytes.{byte_of}
@@ -45,7 +45,8 @@ pub place-away : (kernel : RangeView) (items : List Item) (query : Query) (place
 place-away kernel items query None seated same = tt
 place-away kernel items query (Some base) seated same = found-away kernel items query base seated (sym same)
 
--- a range that met no table meets none once it is claimed: what grew for the claim keeps beside it
+-- a range that overlapped no table overlaps none after its claim, since the growth for the claim
+-- avoids it
 claimed-away : (kernel r : RangeView) (items new : List Item) (who : Owner) → Seated kernel items → IsAway kernel r items
     → Ends {T = Unit {0}} (Ok tt) items new (claimed r who) → IsAway kernel r new
 claimed-away kernel r items new who placed away ends =

@@ -24,7 +24,7 @@ use Rattle.growth_model.specs.Bytes.{table_for}
 use Rattle.memblock_grow.specs.declared.aim.Aim.{Aim}
 use Rattle.memblock_grow.specs.Kept.{AreKept, aimed}
 
--- each has room for its records, as the tables see it
+-- each table has room for its records
 fits-by : (kernel : RangeView) (items : List Item) (m r : Table) → m ≡ table_for which.Memory kernel items
     → r ≡ table_for which.Reserved kernel items → length m.records ≤ m.room → length r.records ≤ r.room → Fits items
 fits-by kernel items m r first second few too which.Memory = subst (λ (t : Table). length t.records ≤ t.room) first few
@@ -35,7 +35,7 @@ abbrev IsQuiet : Item → Type 0
 IsQuiet i = ((w : Which) (n : ℕ) → room_after w n i ≡ n) × ((w : Which) (o : Option ℕ) → moved_after w o i ≡ o)
 
 module _ {kernel : RangeView} {items : List Item} {t : Contents} {at : Aim} (kept : AreKept kernel items t at) where
-  -- each table by its word
+  -- each of the two tables is that of the items
   pub table-is : (w : Which) → table_in w t ≡ table_for w kernel items
   table-is which.Memory = kept.memory
   table-is which.Reserved = kept.reserved
@@ -49,7 +49,7 @@ module _ {kernel : RangeView} {items : List Item} {t : Contents} {at : Aim} (kep
   pub place-is : (w : Which) → place_in w t ≡ table_place w kernel items
   place-is w = ap (λ (s : Table). s.place) (table-is w)
 
-  -- what a table says
+  -- the labels that a table gives are those of the items
   pub values-are : (w : Which) → value_at (records_in w t) ≡ table_of w items
   unfolding records_of
   values-are w = ap (λ (rs : List (RunOf LabelView)). value_at rs) (records-are w) ∙ value_at-records (table_of w items) (kept.ends w)
@@ -57,7 +57,7 @@ module _ {kernel : RangeView} {items : List Item} {t : Contents} {at : Aim} (kep
   values-end : (w : Which) → NothingFrom (2 ^ 64) (value_at (records_in w t))
   values-end w = subst (λ (f : Labels). NothingFrom (2 ^ 64) f) (sym (values-are w)) (kept.ends w)
 
-  -- its records are those of what it says
+  -- a table's records are those of the labels that it gives
   records-again : (w : Which) → records_for (value_at (records_in w t)) ≡ records_in w t
   unfolding records_of
   records-again w = ap records_for (values-are w) ∙ sym (records-are w)
@@ -84,7 +84,8 @@ module _ {kernel : RangeView} {items : List Item} {t : Contents} {at : Aim} (kep
       let few = length-relabelled range change (value_at t.memory.records) (values-end which.Memory) in
       omega (arith, few, ap length (records-again which.Memory))
 
-  -- the frames of a table's place end in the address space, behind a quiet item and behind a growth
+  -- the frames of a table's place end below 2^64, after an item that moves no table and after a
+  -- growth
   far-quiet : (i : Item) → IsQuiet i → (w : Which) (place : ℕ) → moved_after w (moved_to w items) i ≡ Some place
       → place + in_whole_frames (24 * room_after w (room_of w items) i) < 2 ^ 64
   far-quiet i quiet w place moved =
@@ -99,7 +100,7 @@ module _ {kernel : RangeView} {items : List Item} {t : Contents} {at : Aim} (kep
   far-grown which.Reserved which.Reserved base room small place is = let here = same_Some base place is in omega (arith, here, small)
 
 module _ {kernel : RangeView} {items : List Item} {t : Contents} {at : Aim} (kept : AreKept kernel items t at) (u : Contents) where
-  -- the same tables
+  -- the tables are unchanged
   pub kept-same : u.memory ≡ t.memory → u.reserved ≡ t.reserved → AreKept kernel items u at
   kept-same first second = record {
     memory = first ∙ kept.memory;
@@ -111,7 +112,7 @@ module _ {kernel : RangeView} {items : List Item} {t : Contents} {at : Aim} (kep
     far = kept.far;
   }
 
-  -- a table that an item leaves, one that it edits, and one that moves
+  -- a table that an item doesn't change, one that it edits, and one that it moves
   table-stays : (w : Which) (i : Item) → table_after w (table_of w items) i ≡ table_of w items
       → room_after w (room_of w items) i ≡ room_of w items → moved_after w (moved_to w items) i ≡ moved_to w items
       → table_in w u ≡ table_in w t → table_in w u ≡ table_for w kernel (items ++ i ∷ [])
@@ -147,7 +148,7 @@ module _ {kernel : RangeView} {items : List Item} {t : Contents} {at : Aim} (kep
   few-moved w place is =
       let few = few-kept kept w in subst (λ (s : Table). length s.records ≤ s.room) (sym is) (omega (arith, few))
 
-  -- one item more
+  -- one more item
   kept-by : (i : Item) (to : Aim) → EndsInSpace i → limit_after at.limit i ≡ to.limit → upward_after at.upward i ≡ to.upward
       → u.memory ≡ table_for which.Memory kernel (items ++ i ∷ []) → u.reserved ≡ table_for which.Reserved kernel (items ++ i ∷ [])
       → length u.memory.records ≤ u.memory.room → length u.reserved.records ≤ u.reserved.room
@@ -206,7 +207,7 @@ module _ {kernel : RangeView} {items : List Item} {t : Contents} {at : Aim} (kep
       let few = few-covered kept which.Memory range ends in
       kept-memory (item.Mem range) (λ w n. refl, λ w o. refl) (omega arith) refl refl (λ f. refl) is same (omega (arith, few, room))
 
-  -- a label that changes
+  -- an edit that changes labels
   pub kept-node : (range : RangeView) (node : ℕ) → end_of range < 2 ^ 64 → length t.memory.records + 2 ≤ t.memory.room
       → u.memory ≡ record t.memory { records = records_for (relabel_range range (with_node (Some node)) (value_at t.memory.records)) }
       → u.reserved ≡ t.reserved → AreKept kernel (items ++ item.Node range node ∷ []) u at
@@ -243,7 +244,7 @@ module _ {kernel : RangeView} {items : List Item} {t : Contents} {at : Aim} (kep
       (table-moved which.Reserved place room refl refl refl is) (few-stays which.Memory same) (few-moved which.Reserved place is)
       (λ v. far-grown kept v which.Reserved place room small)
 
--- the limit and the direction are values of their own
+-- items that change only the limit or the search direction
 module _ {kernel : RangeView} {items : List Item} {t : Contents} {at : Aim} (kept : AreKept kernel items t at) where
   kept-aimed : (i : Item) (to : Aim) → IsQuiet i → EndsInSpace i → limit_after at.limit i ≡ to.limit
       → upward_after at.upward i ≡ to.upward → ((f : Labels) → table_after which.Memory f i ≡ f)

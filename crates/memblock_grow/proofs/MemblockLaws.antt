@@ -1,4 +1,4 @@
--- What holds of a memblock holds at first, and behind each item and each fill.
+-- The invariant of a memblock holds at first, after each item, and after each fill.
 use Rattle.std.proofs.Common.{◌≡◌, ℕ, ◌-◌, ◌*◌, false, List, [], ◌∷◌, ◌++◌, replicate, get_or, refl, sym, ◌∙◌, subst, arith}
 use Rattle.std.proofs.lemmas.Bool.Decides.{nat_tests}
 use Rattle.std.proofs.lemmas.List.{get_or-replicate, get_or_past, length-replicate}
@@ -21,7 +21,7 @@ use Rattle.memblock_grow.specs.declared.aim.Aim.{Aim}
 use Rattle.memblock_grow.specs.Kept.{AreKept, IsMemblock, AreTold, aimed}
 use Rattle.memblock_grow.proofs.KeptLaws.{kept-same}
 
--- a table without records is zeros
+-- a table without records is all zeros
 zeros_at : (n k : ℕ) → ◌≡◌ {A = ℕ} (get_or (replicate n 0) k 0) 0
 zeros_at n k =
     let inside = get_or-replicate {A = ℕ} n k 0 0 in
@@ -35,7 +35,7 @@ empty_at t x none = rw none (zeros_at (24 * t.room) (x - t.place))
 shown-empty : (m r : Table) (x : ℕ) → m.records ≡ [] → r.records ≡ [] → shown_by m r x 0 ≡ 0
 shown-empty m r x first second = let a = empty_at m x first in let b = empty_at r x second in grind (arith, a, b)
 
--- at first
+-- both tables at first
 abbrev pub first_table : Which → RangeView → Table
 first_table w kernel = record { records = []; place = built_in_place w kernel; room = 128 }
 
@@ -70,7 +70,7 @@ unfolding byte
 bytes-new kernel x = shown-empty (table_for which.Memory kernel []) (table_for which.Reserved kernel []) x
     (no_records_at_first which.Memory) (no_records_at_first which.Reserved)
 
--- behind one item that leaves no place
+-- after one item that moves no table
 module _ (i : Item) {kernel : RangeView} {items longer : List Item} {t u : Contents} {at to : Aim} (m : IsMemblock kernel items t at)
     (more : longer ≡ items ++ i ∷ []) (now : AreKept kernel (items ++ i ∷ []) u to) (stays : (x : ℕ) → leaves kernel items i x ≡ false)
     (told : AreTold t u) where

@@ -1,4 +1,5 @@
--- The growth of the memory table: where it goes, what it writes, and what it makes of the tables and of each byte.
+-- The growth of the memory table: its new place, its items, and its effect on the tables and on
+-- each byte.
 use Rattle.std.proofs.Common.{◌≡◌, ℕ, ◌*◌, ◌^◌, ◌<◌, Option, Some, None, List, [], ◌∷◌, ◌++◌, Result, Ok, Err, IsErrAnd, refl, sym, ◌∙◌, ap, subst, arith}
 use Rattle.std.specs.Option.{option_map, IfSome}
 use Rattle.bm_base.specs.Range.{RangeView, end_of}
@@ -112,7 +113,7 @@ module _ {items : List Item} {place : RangeView} (known : IsBest items place) wh
       (Ends-second {T = Unit {0}} tt r mid (mid ++ i ∷ []) new (moving items place) (leaving items)
       (Ends-step {T = Unit {0}} tt mid (i ∷ [])) last))
 
-  -- behind the claim of the new place
+  -- after the claim of the new place
   pub best_place-taken : (kernel : RangeView) (mid : List Item) → Seated kernel items
       → Ends {T = Unit {0}} (Ok tt) items mid (claimed place (owner.Table which.Memory))
       → IsTaken kernel mid (room_of which.Memory items) (moved_to which.Memory items) place.base
@@ -120,7 +121,7 @@ module _ {items : List Item} {place : RangeView} (known : IsBest items place) wh
       claimed-taken {T = Unit {0}} tt kernel items mid place.base placed known.found
       (subst (λ (e : RangeView). Ends {T = Unit {0}} (Ok tt) items mid (claimed e (owner.Table which.Memory))) known.is was)
 
--- the tables behind the claim of the place, and behind the move
+-- the tables after the claim of the place, and after the move
 pub record MovedMemory (items : List Item) (t k r : Contents) (base : ℕ) (place : RangeView) : Type 0 where
   pub claimed : k.memory ≡ t.memory
   pub table : r.memory ≡ record k.memory { place = base; room = 2 * k.memory.room }
@@ -160,14 +161,14 @@ module _ {kernel : RangeView} {items mid : List Item} {t k r : Contents} {at : A
       (follows-grown kernel mid which.Memory base room k.memory r.memory r.reserved _ _ (keeps kernel kept).memory memory-kept.memory
       memory-kept.reserved m.told)
 
--- what a table leaves may be freed, where it is away from both tables
+-- a table's old place may be freed if it overlaps neither table
 free-by : {kernel : RangeView} {is : List Item} {t : Contents} {at : Aim} (n : ℕ) (o : Option ℕ) {left : Option RangeView}
     → IsMemblock kernel is t at → ((q : ℕ) → o ≡ Some q → IsAway kernel (frames_at q (24 * n)) is) → left ≡ old_frames n o
     → IfSome left (λ range. AllowsFree is t at range)
 free-by n None whole away h = rw h tt
 free-by {kernel} n (Some q) whole away h = rw h (kernel, whole, away q refl)
 
--- the same where the items are told by an equation
+-- the tables after the claim and the move, with the items given by an equation
 module _ (base room : ℕ) {items mid next : List Item} {t k r : Contents} {at : Aim} {place : RangeView}
     (m : MovedMemory items t k r base place) (keeps : Keeps items t mid k at)
     (is : next ≡ mid ++ item.Grown which.Memory base room ∷ []) where
@@ -177,7 +178,7 @@ module _ (base room : ℕ) {items mid next : List Item} {t k r : Contents} {at :
   pub memory-tells : KeepsBytes items t mid k at → KeepsBytes items t next r at
   memory-tells bytes = λ kernel kept spelled. rw is (memory-bytes kept m keeps room spelled bytes)
 
-  -- what stands before the old place is freed
+  -- the invariant before the old place is freed
   module _ (bytes : KeepsBytes items t mid k at) (twice : room ≡ 2 * room_of which.Memory items) {kernel : RangeView}
       (whole : IsMemblock kernel items t at)
       (taken : IsTaken kernel mid (room_of which.Memory items) (moved_to which.Memory items) place.base) where

@@ -1,4 +1,4 @@
--- Whether a table is full, by the tables and by the items; and two growths are enough.
+-- Whether a table is full, from the tables and from the items; and two growths are enough.
 use Rattle.std.proofs.Common.{◌≡◌, ℕ, ◌+◌, ◌^◌, ◌<◌, ◌≤◌, true, false, nat_lt, List, [], ◌∷◌, length, Result, Ok, Err, OnOk, refl, sym, ◌∙◌, ap, subst, arith}
 use Rattle.std.proofs.lemmas.Bool.Decides.{nat_tests}
 use Rattle.bm_base.specs.Range.{RangeView}
@@ -29,16 +29,16 @@ module _ {kernel : RangeView} {items : List Item} {t : Contents} {at : Aim} (kep
   more-is w (more.PiecesOf range) = ap (λ (f : Labels). pieces range f) (values-are kept w)
   more-is w more.Two = refl
 
-  -- full by the tables is full by the items
+  -- full by the tables means full by the items
   pub full-is : (w : Which) (m : More)
       → nat_lt (room_in w t) (length (records_in w t) + more_in m (table_in w t)) ≡ is_full w (more_by w m) items
   full-is w m = rw (room-is kept w, records-are kept w, more-is w m) refl
 
-  -- the table has room, as the items have it
+  -- if the table isn't full by the items, it has room
   pub room-of : (w : Which) (m : More) → is_full w (more_by w m) items ≡ false → HasRoom m (table_in w t)
   room-of w m h = let full = full-is w m ∙ h in grind (arith, nat_tests, full)
 
--- at the beginning nothing is full
+-- before the first item no table is full
 few-more : (m : More) → EndsInSpace m → more_by which.Reserved m [] ≤ 2
 unfolding records_of
 few-more (more.PiecesOf range) ends =
@@ -57,7 +57,7 @@ full-begun m [] ends h =
     absurd (omega (arith, none, few, full))
 full-begun m (i ∷ is) ends h = tt
 
--- two growths are enough, as the law over items has it
+-- two growths are enough, by the law about items
 module _ {kernel : RangeView} {items : List Item} {t : Contents} {at : Aim} (kept : AreKept kernel items t at) (low : at.limit ≤ 2 ^ 64) where
   pub space-of : IsInSpace items
   space-of = record { ends = kept.ends; limit = subst (λ (n : ℕ). n ≤ 2 ^ 64) (sym kept.limit) low }

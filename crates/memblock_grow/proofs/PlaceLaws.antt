@@ -1,4 +1,5 @@
--- The places that the tables' own search finds are those of the items, and what a table leaves is what the items say.
+-- The places that a search in the tables finds are those of the items, and so is the old place of
+-- a table.
 use Rattle.std.proofs.Common.{◌≡◌, ◌≢◌, ℕ, ◌+◌, ◌*◌, ◌^◌, ◌<◌, ◌≤◌, ◌==◌, Bool, true, false, if◌then◌else◌, Option, Some, None, List, [], ◌∷◌, refl, sym, ◌∙◌, ap, fold, arith}
 use Rattle.std.proofs.lemmas.Bool.{false_from_ne_true, eq-eqb}
 use Rattle.std.proofs.lemmas.Bool.Decides.{nat_tests}
@@ -32,24 +33,24 @@ best_place_in-large up memory reserved q small =
     best_place_in-fails up memory reserved q (λ b lt. false_from_ne_true (fits_in false memory reserved q b) (λ fits.
     let high = (fits_in-parts false memory reserved q b fits).high in omega (arith, high, small)))
 
--- what is found ends in the window
+-- the place that is found ends in the window
 pub best_place_in-high : (up : Bool) (memory reserved : Labels) (q : Query) (place : ℕ) → best_place_in up memory reserved q ≡ Some place
     → place + q.size ≤ q.hi
 best_place_in-high up memory reserved q place found =
     (fits_in-parts false memory reserved q place (best_place_in-fits up memory reserved q place found)).high
 
--- without a mirror no search finds mirrored memory
+-- without an item that mirrors memory no search finds mirrored memory
 pub top_place-mirrorless : (items : List Item) (t : Contents) (up : Bool) (q : Query) → KnowsMirrors items t → mirrors_in items ≡ false
     → mirrored_of t up q ≡ None
 top_place-mirrorless items t up q knows none =
     top_place_in-mirrorless up (value_at t.memory.records) (value_at t.reserved.records) q (knows none)
 
 module _ {kernel : RangeView} {items : List Item} {t : Contents} {at : Aim} (kept : AreKept kernel items t at) where
-  -- the tables know of each mirror
+  -- the memory table has mirrored memory only if an item mirrors memory
   pub knows-mirrors : KnowsMirrors items t
   knows-mirrors none x = ap (λ (f : Labels). suits true (f x)) (values-are kept which.Memory) ∙ unmirrored items none x
 
-  -- the top and the best place by the tables are those by the items
+  -- the top and the best place in the tables are those of the items
   pub top_place-is : (a : Attempt) → top_of t at.upward a ≡ top_place items a.query a.mirror
   unfolding top_place
   top_place-is a = rw (values-are kept which.Memory, values-are kept which.Reserved, kept.upward) refl
@@ -68,7 +69,7 @@ module _ {kernel : RangeView} {items : List Item} {t : Contents} {at : Aim} (kep
       (place_beside avoid (room_of which.Reserved items) items)
   beside-is avoid = rw (room-is kept which.Reserved, best_place-is, best_place-is, kept.limit) refl
 
--- what is found among frames is found
+-- frames at a place that was found
 pub record IsPlaceOf (o : Option ℕ) (n : ℕ) (place : RangeView) : Type 0 where
   pub found : o ≡ Some place.base
   pub is : place ≡ frames_at place.base n
@@ -87,7 +88,7 @@ pub mapped-none : (o : Option ℕ) (n : ℕ) → option_map (λ (p : ℕ). frame
 mapped-none None n h = refl
 mapped-none (Some p) n h = cc
 
--- a table has moved exactly where its room isn't the first
+-- a table has moved exactly if its room isn't the first
 Moved : ℕ → Option ℕ → Type 0
 Moved n None = n ≡ 128
 Moved n (Some p) = 256 ≤ n
@@ -123,7 +124,7 @@ far-by n built None h other far = absurd (other h)
 far-by n built (Some p) h other far = far p refl
 
 module _ {kernel : RangeView} {items : List Item} {t : Contents} {at : Aim} (kept : AreKept kernel items t at) where
-  -- what a table leaves is what the items say of its old place
+  -- the frames that a table leaves are those of its old place by the items
   pub left-is : (w : Which) → left_frames (place_in w t) (room_in w t) ≡ old_frames (room_of w items) (moved_to w items)
   left-is w =
       rw (place-is kept w, room-is kept w) (left-by (room_of w items) (built_in_place w kernel) (moved_to w items) (moved-is w items))
@@ -134,7 +135,7 @@ module _ {kernel : RangeView} {items : List Item} {t : Contents} {at : Aim} (kep
       (kept.far w) in
       rw (place-is kept w, room-is kept w) here
 
--- the answers of the search among frames
+-- the results of the search for frames
 pub between-none : (t : Contents) (up : Bool) (room lo hi : ℕ) → hi < 2 ^ 64 → ¬ (in_whole_frames (48 * room) < 2 ^ 64)
     → None ≡ frames_between t up room lo hi
 between-none t up room lo hi small large =

@@ -1,4 +1,5 @@
--- What is prepared behind one call after another, behind an item that is no growth, behind a growth, and by the end of a call.
+-- Which addresses are prepared after one call and another, after an item that is no growth, after
+-- a growth, and at the end of a call.
 use Rattle.std.proofs.Common.{◌≡◌, ℕ, ◌*◌, Bool, false, ◌||◌, List, [], ◌∷◌, ◌++◌, Result, Ok, Err, OnErr, refl, sym, ◌∙◌, ap, subst, append_assoc, arith}
 use Rattle.std.proofs.lemmas.Bool.Decides.{nat_tests}
 use Rattle.std.proofs.lemmas.List.{append-nil}
@@ -17,11 +18,11 @@ grown-append : (a b : List Item) (x : ℕ) → is_grown_over (a ++ b) x ≡ (is_
 grown-append [] b x = refl
 grown-append (i ∷ is) b x = rw (grown-append is b x) (sym (or_assoc (grows_over i x) (is_grown_over is x) (is_grown_over b x)))
 
--- what further items and a place prepare, in another order
+-- the addresses that further items and a place prepare, in another order
 swap : (g h c s : Bool) → (h || (c || (g || s))) ≡ ((g || h) || (c || s))
 swap g h c s = grind arith
 
--- one call behind another
+-- one call after another
 pub prepares-then : {items mid last : List Item} {s t u : List Stored} → Prepares items mid s t → Prepares mid last t u
     → Prepares items last s u
 prepares-then {s} first second = record {
@@ -31,13 +32,13 @@ prepares-then {s} first second = record {
       (swap (is_grown_over first.more x) (is_grown_over second.more x) false (is_ready s x));
 }
 
--- an item that is no growth prepares nothing more
+-- an item that is no growth prepares nothing
 pub prepares-item : (i : Item) {old mid new : List Item} {s t u : List Stored} → Prepares old mid s t → new ≡ mid ++ i ∷ []
     → ((x : ℕ) → grows_over i x ≡ false) → ((x : ℕ) → is_ready u x ≡ is_ready t x) → Prepares old new s u
 prepares-item i first is none same =
     prepares-then first (record { more = i ∷ []; goes_on = is; each = λ x. rw (none x) (same x) })
 
--- and with one place more
+-- a call after a place was prepared
 pub prepares-with : {place : RangeView} {items longer : List Item} {s p t : List Stored}
     → ((x : ℕ) → is_ready p x ≡ (covers place x || is_ready s x)) → Prepares items longer p t → PreparesWith place items longer s t
 prepares-with first h = record {
@@ -55,7 +56,7 @@ with-then {place} {s} first second = record {
       (swap (is_grown_over first.more x) (is_grown_over second.more x) (covers place x) (is_ready s x));
 }
 
--- a table grew into that place, to twice the room
+-- a table grew into that place, with twice the room
 join : (g c s : Bool) → (g || (c || s)) ≡ ((g || (c || false)) || s)
 join g c s = grind arith
 
@@ -81,7 +82,7 @@ prepares-growth w n {items} {t} is here twice frames each =
     with-growth w n {mid = items} {t = t} (record { more = []; goes_on = sym (append-nil items); each = each }) is here twice frames
     (λ x. refl)
 
--- by the end of a call: what is exact is so at each end
+-- the end of a call: whatever its result, what holds exactly holds there
 abbrev nowhere : RangeView
 nowhere = record { base = 0; size = 0 }
 
@@ -99,7 +100,7 @@ by-exact (Err refusal.Memory) {s} h = (
   },
 )
 
--- where nothing more was written, and where nothing was
+-- no further item was written, and no item at all was written
 pub by-item : {T : Type 0} (r : Result T Refusal) {items mid longer : List Item} {s t : List Stored} → longer ≡ mid
     → Prepares items mid s t → PreparesBy r items longer s t
 by-item r {items} {s} {t} same h = by-exact r (subst (λ (l : List Item). Prepares items l s t) (sym same) h)
@@ -110,7 +111,7 @@ none-on-err (Ok x) items same = tt
 none-on-err {T} (Err e) items same = by-exact {T = T} (Err e)
     (record { more = []; goes_on = sym (append-nil items); each = λ x. ap (λ (u : List Stored). is_ready u x) same })
 
--- a call behind others, and an error that is handed on
+-- a call after others, and an error that is passed on
 pub by-then : {T : Type 0} (r : Result T Refusal) {items mid : List Item} (last : List Item) {s t : List Stored} (u : List Stored)
     → Prepares items mid s t → PreparesBy r mid last t u → PreparesBy r items last s u
 by-then (Ok x) last u first second = prepares-then first second

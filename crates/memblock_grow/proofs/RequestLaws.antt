@@ -1,4 +1,4 @@
--- The place that an allocation finds by the tables is the one that the items say, and how the claim of it ends.
+-- The place that an allocation finds in the tables is that of the items, and how its claim ends.
 use Rattle.std.proofs.Common.{◌≡◌, ℕ, ◌+◌, ◌^◌, ◌<◌, Bool, true, false, Option, Some, None, List, [], ◌∷◌, Result, Ok, Err, IsErrAnd, refl, sym, ◌∙◌, ap, arith}
 use Rattle.bm_base.specs.Range.{RangeView}
 use Rattle.memblock_model.specs.declared.owner.Owner.{Owner}
@@ -22,7 +22,7 @@ use Rattle.memblock_grow.specs.Places.{KnowsMirrors, first_of}
 use Rattle.memblock_grow.proofs.PlaceLaws.{top_place-is, top_place-mirrorless}
 use Rattle.memblock_grow.proofs.ChangeLaws.{handed}
 
--- where nothing is mirrored no search of mirrored memory finds a place
+-- if nothing is mirrored, no search in mirrored memory finds a place
 anywhere-mirrorless : (items : List Item) (t : Contents) (up : Bool) (r : Request) (limit lo : ℕ) (wanted : Option ℕ) → KnowsMirrors items t
     → mirrors_in items ≡ false → first_of t up (anywhere r limit lo true wanted) ≡ None
 anywhere-mirrorless items t up r limit lo None knows none = refl

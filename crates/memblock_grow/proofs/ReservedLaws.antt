@@ -1,4 +1,5 @@
--- The growth of the reserved table: where it goes, what it writes, and what it makes of the tables and of each byte.
+-- The growth of the reserved table: its new place, its items, and its effect on the tables and on
+-- each byte.
 use Rattle.std.proofs.Common.{◌≡◌, ℕ, ◌+◌, ◌*◌, ◌^◌, ◌<◌, ◌≤◌, ◌||◌, Option, Some, None, List, [], ◌∷◌, ◌++◌, length, Result, Ok, Err, IsErrAnd, refl, sym, ◌∙◌, ap, subst, append_assoc, arith}
 use Rattle.std.specs.Option.{option_map}
 use Rattle.bm_base.specs.Range.{RangeView, end_of, covers}
@@ -37,14 +38,14 @@ use Rattle.memblock_grow.proofs.PlaceLaws.{mapped-some, mapped-none, beside-is, 
 use Rattle.memblock_grow.proofs.ChangeLaws.{handed}
 use Rattle.memblock_grow.proofs.PreparedLaws.{prepares-growth, prepares-item}
 
--- frames of a table aren't empty
+-- the frames of a table aren't empty
 pub frames-some : (w : Which) (items : List Item) {place : RangeView} → place ≡ frames_at place.base (48 * room_of w items) → 0 < place.size
 frames-some w items {place} is =
     let least = room_of-least w items in
     let size : place.size ≡ in_whole_frames (48 * room_of w items) = ap (λ (e : RangeView). e.size) is in
     omega (arith, least, size)
 
--- what a table leaves, where it leaves anything
+-- the frames that a table leaves, if any, aren't empty
 pub left-size : (w : Which) (items : List Item) (o : Option ℕ) (range : RangeView) → old_frames (room_of w items) o ≡ Some range
     → 0 < range.size
 left-size w items None range h = cc
@@ -54,7 +55,7 @@ left-size w items (Some p) range h =
     let least = room_of-least w items in
     omega (arith, size, least)
 
--- the place that the search found beside the range
+-- the place that the search found apart from the range
 pub record IsBeside (items : List Item) (avoid place : RangeView) : Type 0 where
   pub found : place_beside avoid (room_of which.Reserved items) items ≡ Some place.base
   pub is : place ≡ frames_at place.base (48 * room_of which.Reserved items)
@@ -73,14 +74,14 @@ module _ {kernel : RangeView} {items : List Item} {t : Contents} {at : Aim} (kep
       → o ≡ old_frames (room_of w items) (moved_to w items)
   left-found w said is = is ∙ ap (λ (h : Head). left_frames h.place h.room) said ∙ left-is kept w
 
-  -- a place that nobody has is one piece
+  -- an unclaimed place is one piece
   place-one : (place : RangeView) → Unclaimed (owner_of items) place → 0 < place.size → end_of place < 2 ^ 64
       → pieces place (value_at t.reserved.records) ≡ 1
   place-one place free some ends =
       one-piece place (value_at t.reserved.records) (omega arith) some
       (λ x low high. ap (λ (f : Labels). f x) (values-are kept which.Reserved) ∙ ap without_owner (free x (covers-to place x low high)))
 
-  -- there is room for the claim of such a place, and for two records more
+  -- there is room for the claim of such a place, and for two more records
   pub claim-room : (p r : Contents) {base : ℕ} (place : RangeView) → p.reserved ≡ t.reserved
       → r.reserved ≡ record p.reserved { place = base; room = 2 * p.reserved.room } → Unclaimed (owner_of items) place → 0 < place.size
       → end_of place < 2 ^ 64 → length r.reserved.records + pieces place (value_at r.reserved.records) + 2 ≤ r.reserved.room
@@ -90,7 +91,7 @@ module _ {kernel : RangeView} {items : List Item} {t : Contents} {at : Aim} (kep
       let least = room-least which.Reserved in
       rw (table, second) (omega (arith, one, few, least))
 
-  -- the place beside the range, by the tables and by the items
+  -- the place apart from the range, by the tables and by the items
   beside-along : (avoid : RangeView) {head : Head} {o : Option RangeView} → head ≡ head_of t.reserved → o ≡ frames_beside t at head.room avoid
       → o ≡ option_map (λ place. frames_at place (48 * room_of which.Reserved items))
       (place_beside avoid (room_of which.Reserved items) items)
@@ -103,7 +104,7 @@ module _ {kernel : RangeView} {items : List Item} {t : Contents} {at : Aim} (kep
       let known = mapped-some (place_beside avoid n items) (48 * n) place (sym (beside-along avoid said is) ∙ some) in
       record { found = known.found; is = known.is }
 
-  -- where no place was found
+  -- no place was found
   pub growth-none : (avoid : RangeView) {head : Head} {o : Option RangeView} → head ≡ head_of t.reserved
       → o ≡ frames_beside t at head.room avoid → o ≡ None
       → Ends {T = Unit {0}} (Err (refusal.NoGapForTable which.Reserved head.room)) items items (reserved_growth avoid)
@@ -114,7 +115,7 @@ module _ {kernel : RangeView} {items : List Item} {t : Contents} {at : Aim} (kep
       mapped-none (place_beside avoid m items) (48 * m) (sym (beside-along avoid said is) ∙ none) in
       rw (ap (λ (h : Head). h.room) said ∙ room-is kept which.Reserved, nowhere) (Ends-refused (Unit {0}) which.Reserved m items)
 
--- where one was: the items of the growth
+-- a place was found: the items of the growth before the free
 abbrev pub moved_items : List Item → ℕ → ℕ → RangeView → List Item
 moved_items items base room place =
     (items ++ item.Grown which.Reserved base room ∷ []) ++ item.Claim place (owner.Table which.Reserved) ∷ []
@@ -131,7 +132,7 @@ module _ {items : List Item} {avoid place : RangeView} (known : IsBeside items a
   pub beside-free : Unclaimed (owner_of items) place
   beside-free = rw known.is (beside-new items avoid (room_of which.Reserved items) place.base known.found).free
 
-  -- it may be moved to
+  -- the table may move there
   pub beside-apart : {kernel : RangeView} {t : Contents} {at : Aim} (p : Contents) {base : ℕ} → AreKept kernel items t at
       → Seated kernel items → base ≡ place.base → p.memory ≡ t.memory → p.reserved ≡ t.reserved
       → ¬ Overlaps p (record { base = base; size = 48 * room_in which.Reserved p })
@@ -148,7 +149,7 @@ module _ {items : List Item} {avoid place : RangeView} (known : IsBeside items a
   growth-some =
       ap (λ (o : Option ℕ). reserved_growth_at (room_of which.Reserved items) (moved_to which.Reserved items) o items) known.found
 
-  -- how it ends where memory ran out before it, and where it did not
+  -- the end of a growth that ran out of memory before it, and of one that didn't
   pub growth-wants : (new : List Item) (r : Result (Unit {0}) Refusal) → IsErrAnd r (λ (n : Refusal). n ≡ refusal.Memory) → new ≡ items
       → Ends r items new (reserved_growth avoid)
   growth-wants new r is same =
@@ -214,7 +215,7 @@ module _ {kernel : RangeView} {items : List Item} {t p r v : Contents} {at : Aim
       (follows-item kernel _ (item.Claim place (owner.Table which.Reserved)) v.memory v.reserved _ _ (λ x. refl) claimed-kept.memory
       claimed-kept.reserved m.after)
 
--- what stands once the new place is claimed
+-- the state after the claim of the new place
 pub record Claimed (items longer : List Item) (t v : Contents) (at : Aim) : Type 0 where
   pub kept : Keeps items t longer v at
   pub bytes : KeepsBytes items t longer v at
@@ -229,7 +230,7 @@ claimed room is m free = record {
   room = λ kernel kept. claimed-room kept m free room;
 }
 
--- what stands once the old place is freed, too
+-- the state after the old place is freed
 module _ (range : RangeView) {items longer new : List Item} {t v : Contents} (u : Contents) {at : Aim}
     (is : new ≡ longer ++ item.Free range ∷ []) (c : Claimed items longer t v at)
     (table : u.reserved ≡ record v.reserved { records = records_for (uncover_range range (value_at v.reserved.records)) })
@@ -246,12 +247,12 @@ module _ (range : RangeView) {items longer new : List Item} {t v : Contents} (u 
       rw is (follows-then _ _ _ _ _ _ _ (c.bytes kernel kept spelled)
       (follows-item kernel longer (item.Free range) u.memory u.reserved _ _ (λ x. refl) after.memory after.reserved told))
 
--- where nothing was written
+-- no item was written
 pub still-bytes : {items longer : List Item} {t : Contents} (p : Contents) {at : Aim} → longer ≡ items
     → ((x : ℕ) → byte_of p.store x ≡ byte_of t.store x) → KeepsBytes items t longer p at
 still-bytes p none same = λ kernel kept spelled. rw none (follows-still _ _ _ _ _ _ kept.memory kept.reserved spelled same)
 
--- the move prepares the frames of the place, and the claim of them nothing
+-- the move prepares the frames of the place, and their claim prepares nothing
 pub prepares-moved : (base room : ℕ) {items longer : List Item} {place : RangeView} {s t : List Stored}
     → longer ≡ moved_items items base room place → base ≡ place.base → room ≡ 2 * room_of which.Reserved items
     → place ≡ frames_at place.base (48 * room_of which.Reserved items)

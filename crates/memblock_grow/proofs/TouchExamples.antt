@@ -1,4 +1,4 @@
--- Small ranges over the built-in places and beside them, computed.
+-- Examples of small ranges that overlap the built-in tables, or don't, computed.
 use Rattle.std.proofs.Common.{List, [], ◌∷◌, refl, arith}
 use Rattle.std.proofs.lemmas.Bool.Decides.{nat_tests}
 use Rattle.bm_base.specs.Range.{RangeView}
@@ -8,7 +8,7 @@ use Rattle.memblock_model.specs.declared.item.Item.{Item}
 use Rattle.memblock_model.specs.declared.item.Item.TheVariants as item
 use Rattle.memblock_grow.specs.Touch.{TouchesTable}
 
--- four frames from 64 KiB on, of which the tables have the last two
+-- four frames from 64 KiB on, with the tables in the last two
 abbrev image : RangeView
 image = record { base = 65536; size = 16384 }
 

@@ -1,4 +1,4 @@
--- What holds between calls holds behind each.
+-- What holds between calls holds after each call.
 use Rattle.std.proofs.Common.{List}
 use Rattle.bm_base.specs.Range.{RangeView}
 use Rattle.memblock_model.specs.declared.item.Item.{Item}
@@ -19,7 +19,7 @@ whole-on {kernel} m keeps bytes stands =
       spelled = follows-stands _ _ _ _ _ _ _ kept.memory kept.reserved (bytes kernel m.kept m.spelled);
     }
 
--- one call behind another
+-- one call after another
 pub keeps-then : {items mid last : List Item} {t u v : Contents} {at : Aim} → Keeps items t mid u at → Keeps mid u last v at
     → Keeps items t last v at
 keeps-then first second = λ kernel kept. second kernel (first kernel kept)

@@ -1,4 +1,4 @@
--- The searches of an allocation and of a table that grows, said of the tables themselves.
+-- The searches of an allocation and of a table that grows, as functions of the tables.
 use Rattle.std.specs.Prelude.{◌≡◌, ℕ, ◌*◌, ◌==◌, Bool, true, false, min, if◌then◌else◌, Option, Some, None, List, [], ◌∷◌}
 use Rattle.std.specs.Option.{option_map, option_or}
 use Rattle.bm_base.specs.Range.{RangeView, end_of}
@@ -12,11 +12,11 @@ use Rattle.growth_model.specs.Growth.{frames_at, table_query}
 use Rattle.growth_model.specs.Request.{Attempt}
 use Rattle.memblock_grow.specs.declared.aim.Aim.{Aim}
 
--- the table has no mirrored memory where the items make none
+-- if no item mirrors memory, the table has no mirrored memory
 abbrev pub KnowsMirrors : List Item → Contents → Type 0
 KnowsMirrors items t = mirrors_in items ≡ false → (x : ℕ) → suits true (value_at t.memory.records x) ≡ false
 
--- the top place by what both tables say, of one search, and of a query in mirrored memory
+-- the top place of a search in both tables, and of a query in mirrored memory
 abbrev pub top_of : Contents → Bool → Attempt → Option ℕ
 top_of t up a = top_place_in (record { mirror = a.mirror; up = up }) (value_at t.memory.records) (value_at t.reserved.records) a.query
 
@@ -27,21 +27,21 @@ mirrored_of t up q = top_of t up (record { query = q; mirror = true })
 abbrev pub best_of : Contents → Bool → Query → Option ℕ
 best_of t up q = best_place_in up (value_at t.memory.records) (value_at t.reserved.records) q
 
--- the frames of twice as many records at the best place in a window
+-- the frames for twice as many records, at the best place in a window
 abbrev pub frames_between : Contents → Bool → ℕ → ℕ → ℕ → Option RangeView
 frames_between t up room lo hi = option_map (λ place. frames_at place (48 * room)) (best_of t up (table_query room lo hi))
 
--- above the range, else below it
+-- these frames above the range, else below it
 abbrev pub frames_beside : Contents → Aim → ℕ → RangeView → Option RangeView
 frames_beside t aim room avoid = option_map (λ place. frames_at place (48 * room)) (option_or
     (best_of t aim.upward (table_query room (end_of avoid) aim.limit))
     (best_of t aim.upward (table_query room 0 (min avoid.base aim.limit))))
 
--- the frames that a table leaves when it moves. A table with room for 128 records never moved
+-- the frames of a table's old place; a table with room for 128 records has never moved
 abbrev pub left_frames : ℕ → ℕ → Option RangeView
 left_frames place room = if room == 128 then None else Some (frames_at place (24 * room))
 
--- the place of the first search that has one
+-- the place that the first successful search finds
 abbrev pub first_of : Contents → Bool → List Attempt → Option ℕ
 first_of t up [] = None
 first_of t up (a ∷ rest) = option_or (top_of t up a) (first_of t up rest)

@@ -1,4 +1,5 @@
--- Which addresses are prepared behind a call, to be written without wanting memory: those that were, and the frames that tables grew into.
+-- Which addresses are prepared after a call, so that writing them can't fail: those that were, and
+-- the frames that tables grew into.
 use Rattle.std.specs.Prelude.{◌≡◌, ℕ, ◌*◌, Bool, false, ◌||◌, List, [], ◌∷◌, ◌++◌, Result, Ok, Err}
 use Rattle.bm_base.specs.Range.{RangeView, covers}
 use Rattle.phys_store.specs.Bytes.{Stored, is_ready}
@@ -8,30 +9,31 @@ use Rattle.growth_model.specs.declared.refusal.Refusal.{Refusal}
 use Rattle.growth_model.specs.declared.refusal.Refusal.TheVariants as refusal
 use Rattle.growth_model.specs.Growth.{frames_at}
 
--- whether a table grew, by the item, into whole frames that hold the address
+-- whether the item moves a table into frames that have the address
 abbrev pub grows_over : Item → ℕ → Bool
 grows_over (item.Grown w place room) x = covers (frames_at place (24 * room)) x
 grows_over i x = false
 
--- whether one did by some of the items
+-- whether one of the items does
 abbrev pub is_grown_over : List Item → ℕ → Bool
 is_grown_over [] x = false
 is_grown_over (i ∷ is) x = grows_over i x || is_grown_over is x
 
--- the items went on, and what is prepared is what was, and what tables grew into by the further items
+-- the items became the longer list, and the prepared addresses are those from before and the
+-- frames that tables grew into by the further items
 pub record Prepares (items longer : List Item) (s t : List Stored) : Type 0 where
   pub more : List Item
   pub goes_on : longer ≡ items ++ more
   pub each : (x : ℕ) → is_ready t x ≡ (is_grown_over more x || is_ready s x)
 
--- the same, and one place more
+-- the same addresses and one place more are prepared
 pub record PreparesWith (place : RangeView) (items longer : List Item) (s t : List Stored) : Type 0 where
   pub more : List Item
   pub goes_on : longer ≡ items ++ more
   pub each : (x : ℕ) → is_ready t x ≡ (is_grown_over more x || (covers place x || is_ready s x))
 
--- by the end of a call that may grow the memory table, whose place is prepared before the growth's first item: where memory was wanted, one
--- place may be prepared that no item tells of
+-- what is prepared after a call that may grow the memory table, whose place is prepared before the
+-- growth's first item: after the error Memory, one place may be prepared that is in no item
 abbrev pub PreparesBy : {T : Type 0} → Result T Refusal → List Item → List Item → List Stored → List Stored → Type 0
 PreparesBy (Ok x) items longer s t = Prepares items longer s t
 PreparesBy (Err refusal.NoGap) items longer s t = Prepares items longer s t

@@ -1,10 +1,10 @@
--- Ranges that meet a table.
+-- Ranges that overlap a table.
 use Rattle.std.specs.Prelude.{List}
 use Rattle.bm_base.specs.Range.{RangeView, Meet}
 use Rattle.memblock_model.specs.declared.owner.Which.{Which}
 use Rattle.memblock_model.specs.declared.item.Item.{Item}
 use Rattle.memblock_model.specs.Tables.{table_bytes}
 
--- some address of the range is a byte of a table, as the items have them
+-- some address of the range is a byte of a table of the items
 abbrev pub TouchesTable : RangeView → RangeView → List Item → Type 0
 TouchesTable kernel range items = (w : Which) × Meet (table_bytes w kernel items) range

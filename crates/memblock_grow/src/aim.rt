@@ -1,10 +1,11 @@
-//! What a search for a place goes by, beside what it asks for.
+//! The settings of a search that don't depend on its query.
 
-/// Where what is found must end, and from which end a search begins (`memblock.current_limit`, `memblock.bottom_up`).
+/// The limit of allocations, and the direction of searches (`memblock.current_limit`,
+/// `memblock.bottom_up`).
 #[derive(Clone, Copy, Debug, PartialEq, Eq)]
 pub struct Aim {
-    /// The limit of allocations, an address.
+    /// The address at or below which each allocation ends.
     pub limit: u64,
-    /// From the lowest address up, in place of from the highest down.
+    /// Whether searches go from the lowest address up, instead of from the highest down.
     pub upward: bool,
 }

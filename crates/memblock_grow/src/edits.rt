@@ -1,4 +1,5 @@
-//! The edits of the tables as growth needs them: beside what becomes of the records, what becomes of each byte, as one equation.
+//! The edits of the tables as growth needs them. Besides the new records, each promises one
+//! equation for every byte.
 ghost use Rattle.std.specs.Prelude.{◌≡◌, ℕ, ◌+◌, ◌*◌, ◌^◌, ◌<◌, ◌≤◌, Some, length};
 ghost use Rattle.address_runs.specs.Runs.{value_at};
 ghost use Rattle.address_runs.specs.Edits.{cover_range, uncover_range, relabel_range};
@@ -16,7 +17,7 @@ use memblock_model::Which;
 use memblock_ranges::{NO_NODE, Tables};
 use run_edits::range_end_fits;
 
-/// Law: the bytes of both tables are their records.
+/// Law: the bytes of both tables are the encoding of their records.
 pub fn tables_stand(tables: &Tables)
     ensures memory { StandsIn tables.now.memory tables.now.store }
     ensures reserved { StandsIn tables.now.reserved tables.now.store }
@@ -25,7 +26,8 @@ pub fn tables_stand(tables: &Tables)
     tables.head(Which::Reserved);
 }
 
-/// The table covers the range: what it didn't cover yet has no node.
+/// Adds the range to the table. The bytes that it didn't cover get no node. The range must not be
+/// empty, and the table must have room.
 pub fn cover(tables: &mut Tables, which: Which, range: Range)
     requires some { 0 < range.size }
     requires room { length (records_in which tables.old) + pieces range (value_at (records_in which tables.old))
@@ -43,7 +45,7 @@ pub fn cover(tables: &mut Tables, which: Which, range: Range)
     tables_stand(tables);
 }
 
-/// The reserved table doesn't cover the range any more.
+/// Removes the range from the reserved table, which must have room for two more records.
 pub fn uncover(tables: &mut Tables, range: Range)
     requires { length tables.old.reserved.records + 2 ≤ tables.old.reserved.room }
     ensures reserved { tables.new.reserved ≡ record tables.old.reserved {
@@ -59,7 +61,8 @@ pub fn uncover(tables: &mut Tables, range: Range)
     tables_stand(tables);
 }
 
-/// The memory of the range gets the node.
+/// Gives the node to the memory of the range. The memory table must have room for two more
+/// records.
 pub fn relabel(tables: &mut Tables, range: Range, node: u32)
     requires node { node < 1024 }
     requires room { length tables.old.memory.records + 2 ≤ tables.old.memory.room }
@@ -76,7 +79,7 @@ pub fn relabel(tables: &mut Tables, range: Range, node: u32)
     tables_stand(tables);
 }
 
-/// The memory of the range becomes mirrored.
+/// Makes the memory of the range mirrored. The memory table must have room for two more records.
 pub fn mirror(tables: &mut Tables, range: Range)
     requires { length tables.old.memory.records + 2 ≤ tables.old.memory.room }
     ensures memory { tables.new.memory ≡ record tables.old.memory {
@@ -92,7 +95,7 @@ pub fn mirror(tables: &mut Tables, range: Range)
     tables_stand(tables);
 }
 
-/// Memory is cut to whole frames.
+/// Cuts memory to whole frames.
 pub fn trim(tables: &mut Tables)
     ensures memory { tables.new.memory ≡ record tables.old.memory { records = records_for (trim_frames (value_at tables.old.memory.records)) } }
     ensures reserved { tables.new.reserved ≡ tables.old.reserved }
@@ -103,7 +106,8 @@ pub fn trim(tables: &mut Tables)
     tables_stand(tables);
 }
 
-/// The table moves to the place, which is prepared and meets no table, and has twice the room.
+/// Moves the table to address `place`, with twice the room. The new bytes must be prepared, and
+/// must not overlap a table.
 pub fn relocate(tables: &mut Tables, which: Which, place: u64)
     requires small { place + 48 * room_in which tables.old < 2 ^ 64 }
     requires prepared { AreReady tables.old.store place (48 * room_in which tables.old) }

@@ -1,9 +1,9 @@
-//! A law of memblock, as a function that does nothing: loops of the layers above begin with it.
+//! A law of memblock, with which loops of the layers above begin.
 ghost use Rattle.memblock_grow.specs.Going.{GoesOn};
 
 use crate::memblock::Memblock;
 
-/// Law: a memblock goes on from itself, since no item changes no byte.
+/// Law: `GoesOn` holds from a memblock to itself, since without new items no byte changes.
 pub fn no_items_no_change(memblock: &Memblock)
     ensures { GoesOn memblock.now memblock.now }
 {

@@ -1,11 +1,13 @@
-//! memblock as one value: the kernel's image, the journal, both tables, and what searches go by: the limit of allocations and the end to begin at.
+//! memblock as one value: the range of the kernel's image, the journal, both tables, and the aim
+//! of searches.
 //!
-//! Each call that changes memory is one call of the function that does it over the parts. What is argued here is that the
-//! parts still belong together wherever that call ends: the tables are those of the items, they lie in the bytes that spell
-//! them, and each lies in claimed frames of its own. So whoever has a `Memblock` has that, and asks for nothing.
+//! Each call that changes memory calls the function that does it on the parts. What is proved here
+//! is that the parts still fit together wherever that call ends: the tables are those of the
+//! items, are encoded in their bytes, and lie in claimed memory, apart from each other. This is
+//! the invariant of a `Memblock`, so callers don't have to ensure it.
 //!
-//! A call that takes memory of the program's own may want it for any of its steps. It ends then before that step, with all of
-//! that true.
+//! A call that allocates memory of this program may run out of memory at any step. It then stops
+//! before that step, with the invariant intact.
 ghost use Rattle.std.specs.Prelude.{◌≡◌, ℕ, ◌+◌, ◌-◌, ◌*◌, ◌^◌, ◌<◌, ◌≤◌, ◌↔◌, ◌||◌, Bool, false, max, Some, [], ◌++◌, length, OnOk, OnErr, IfOk, IfSome, IsOk, IsTrue};
 ghost use Rattle.bm_base.specs.Range.{covers};
 ghost use Rattle.address_runs.specs.Edits.{NothingFrom};
@@ -40,8 +42,8 @@ use run_edits::range_end_fits;
 use std::alloc::Global;
 use std::marker::Model;
 
-/// The memory of a machine at boot: what happened to it, and the two tables that tell what of it is memory and what is
-/// claimed, in the bytes of that memory (`struct memblock`).
+/// The memory of a machine at boot: the journal of what happened to it, and two tables that
+/// describe what is memory and what is claimed, in the bytes of that memory (`struct memblock`).
 #[derive(Debug, Drop)]
 pub struct Memblock {
     kernel: Range,
@@ -62,8 +64,13 @@ impl Model for Memblock {
 }
 
 impl Memblock {
-    /// A machine of which nothing is known yet but where the kernel's image lies: both tables are empty, in the image's last
-    /// two frames, and no byte beside theirs is prepared; the limit is 0, and a search goes from the highest address down.
+    /// Creates a memblock for a machine of which only the range of the kernel's image is known.
+    /// Both tables are empty, in the last two frames of the image, and only their bytes are
+    /// prepared. The limit is 0, and searches go from the highest address down.
+    ///
+    /// # Errors
+    ///
+    /// `Memory` if this program is out of memory.
     pub fn new(alloc: Global, kernel: Range) -> Result<Memblock, Memory>
         requires { IsImage kernel }
         ensures kernel { IfOk result (λ m. m.kernel ≡ kernel) }
@@ -85,7 +92,13 @@ impl Memblock {
         })
     }
 
-    /// Takes the memory for `n` more items, so that as many calls that need no growth want none.
+    /// Allocates room in the journal for `n` more items. That many calls that need no growth then
+    /// can't run out of memory.
+    ///
+    /// # Errors
+    ///
+    /// `Memory` if this program is out of memory. Nothing is then changed, and the room was less
+    /// than `n` items.
     pub fn ready(&mut self, n: u64) -> Result<(), Memory>
         ensures kernel { self.new.kernel ≡ self.old.kernel }
         ensures items { self.new.journal.items ≡ self.old.journal.items }
@@ -98,10 +111,16 @@ impl Memblock {
         self.journal.ready(n)
     }
 
-    /// Claims the range for the owner (`memblock_reserve`). The reserved table may have to grow for it. If it has room and an item can be
-    /// appended, the claim takes no memory.
+    /// Claims the range for the owner (`memblock_reserve`). The reserved table may have to grow.
+    /// If it has room, and the journal has room for an item, the call can't fail.
     ///
-    /// The first call claims the kernel's image for [`Owner::Kernel`]. A claim for a script ([`Owner::Script`]) keeps away from both tables.
+    /// The range must not be empty. The first call must claim the kernel's image for
+    /// [`Owner::Kernel`]. A claim for the script ([`Owner::Script`]) must not overlap a table.
+    ///
+    /// # Errors
+    ///
+    /// - `NoGapForTable` if the reserved table has to grow and finds no place.
+    /// - `Memory` if this program is out of memory.
     pub fn claim(&mut self, range: Range, owner: Owner) -> Result<(), Refusal>
         requires some { 0 < range.size }
         requires may { MayClaim self.old.kernel self.old.journal.items range owner }
@@ -118,8 +137,14 @@ impl Memblock {
         reserved::claim(&mut self.journal, &mut self.tables, self.aim, range, owner)
     }
 
-    /// Frees the range, which meets no table (`memblock_phys_free`). It may split a record in two, so the reserved table may have
-    /// to grow. Where there is room and an item can be appended, it takes no memory.
+    /// Frees the range (`memblock_phys_free`). This may split a record in two, so the reserved
+    /// table may have to grow. If it has room for two more records, and the journal for an item,
+    /// the call can't fail. The range must not be empty, and must not overlap a table.
+    ///
+    /// # Errors
+    ///
+    /// - `NoGapForTable` if the reserved table has to grow and finds no place.
+    /// - `Memory` if this program is out of memory.
     pub fn free(&mut self, range: Range) -> Result<(), Refusal>
         requires some { 0 < range.size }
         requires begun { HasBegun self.old.journal.items }
@@ -133,8 +158,15 @@ impl Memblock {
         reserved::free(&mut self.journal, &mut self.tables, self.aim, range)
     }
 
-    /// The range becomes memory; what of it is memory already keeps its node (`memblock_add`). The memory table may have to grow
-    /// for it, and then the reserved table for the claim of its new place.
+    /// Adds the range to memory, without a node; what is memory already keeps its node
+    /// (`memblock_add`). The memory table may have to grow, and then the reserved table for the
+    /// claim of its new place. If the memory table has room, and the journal has room for an item,
+    /// the call can't fail. The range must not be empty.
+    ///
+    /// # Errors
+    ///
+    /// - `NoGapForTable` if a table has to grow and finds no place.
+    /// - `Memory` if this program is out of memory.
     pub fn add_memory(&mut self, range: Range) -> Result<(), Refusal>
         requires some { 0 < range.size }
         requires begun { HasBegun self.old.journal.items }
@@ -148,8 +180,15 @@ impl Memblock {
         memory::add(&mut self.journal, &mut self.tables, self.aim, range)
     }
 
-    /// Gives the node to the memory of the range (`memblock_set_node`). It may split a record at both ends of the range, so the
-    /// memory table may have to grow.
+    /// Gives the node, which is below 1,024, to the memory of the range (`memblock_set_node`).
+    /// This may split a record at both ends of the range, so the memory table may have to grow. If
+    /// it has room for two more records, and the journal for an item, the call can't fail. The
+    /// range must not be empty.
+    ///
+    /// # Errors
+    ///
+    /// - `NoGapForTable` if a table has to grow and finds no place.
+    /// - `Memory` if this program is out of memory.
     pub fn set_node(&mut self, range: Range, node: u32) -> Result<(), Refusal>
         requires some { 0 < range.size }
         requires node { node < 1024 }
@@ -163,8 +202,15 @@ impl Memblock {
         memory::set_node(&mut self.journal, &mut self.tables, self.aim, range, node)
     }
 
-    /// Makes the memory of the range mirrored (`memblock_mark_mirror`); it keeps its nodes. It may split a record at both ends of the
-    /// range, so the memory table may have to grow.
+    /// Makes the memory of the range mirrored; it keeps its nodes (`memblock_mark_mirror`). This
+    /// may split a record at both ends of the range, so the memory table may have to grow. If it
+    /// has room for two more records, and the journal for an item, the call can't fail. The range
+    /// must not be empty.
+    ///
+    /// # Errors
+    ///
+    /// - `NoGapForTable` if a table has to grow and finds no place.
+    /// - `Memory` if this program is out of memory.
     pub fn set_mirror(&mut self, range: Range) -> Result<(), Refusal>
         requires some { 0 < range.size }
         requires begun { HasBegun self.old.journal.items }
@@ -178,6 +224,10 @@ impl Memblock {
     }
 
     /// Cuts memory to whole frames (`memblock_trim_memory`).
+    ///
+    /// # Errors
+    ///
+    /// `Memory` if this program is out of memory. Nothing is then changed.
     pub fn trim(&mut self) -> Result<(), Memory>
         requires { HasBegun self.old.journal.items }
         ensures appends { AppendsItem result item.Trim self.old self.new }
@@ -189,7 +239,12 @@ impl Memblock {
         Ok(())
     }
 
-    /// Allocations end at the address or below it from now on (`memblock_set_current_limit`).
+    /// Sets the limit: from now on each allocation ends at or below this address
+    /// (`memblock_set_current_limit`).
+    ///
+    /// # Errors
+    ///
+    /// `Memory` if this program is out of memory. Nothing is then changed.
     pub fn set_limit(&mut self, at: u64) -> Result<(), Memory>
         requires { HasBegun self.old.journal.items }
         ensures appends { AppendsItem result (item.Limit at) self.old self.new }
@@ -201,7 +256,12 @@ impl Memblock {
         Ok(())
     }
 
-    /// From now on a search begins at the lowest address, or again at the highest (`memblock_set_bottom_up`). At first it is the highest.
+    /// Sets the direction of searches: from the lowest address up if `on` is set, else from the
+    /// highest down, as at first (`memblock_set_bottom_up`).
+    ///
+    /// # Errors
+    ///
+    /// `Memory` if this program is out of memory. Nothing is then changed.
     pub fn set_upward(&mut self, on: bool) -> Result<(), Memory>
         requires { HasBegun self.old.journal.items }
         ensures appends { AppendsItem result (item.Upward on) self.old self.new }
@@ -213,9 +273,10 @@ impl Memblock {
         Ok(())
     }
 
-    /// The greatest address of a place that fits: unclaimed memory of one label that the query allows, aligned and in the window; the least
-    /// one where searches go up ([`Memblock::set_upward`]). It lies in mirrored memory where a place fits there. `None` exactly where no
-    /// place fits. The size is at least 1 and the alignment a power of two.
+    /// Returns the greatest address of a place that fits the query, or the least if searches go
+    /// upward ([`Memblock::set_upward`]). A place is unclaimed memory of one label that the query
+    /// allows, aligned and in the window. It is in mirrored memory if one fits there. `None` means
+    /// that no place fits. The size must be at least 1, and the alignment a power of two.
     pub fn find(&self, query: &Query) -> Option<u64>
         requires some { 1 ≤ query.now.size }
         requires aligned { (k : ℕ) × (query.now.align ≡ 2 ^ k) }
@@ -226,9 +287,15 @@ impl Memblock {
         places::best(&self.journal, &self.tables, self.aim.upward, query)
     }
 
-    /// Finds a place for the request and claims it for the owner; its address is the answer (`memblock_alloc_range_nid`). `NoGap` comes
-    /// exactly where no attempt finds a place, and nothing is written then. The size is at least 1 and the alignment a power
-    /// of two.
+    /// Finds a place for the request, claims it for the owner, and returns its address
+    /// (`memblock_alloc_range_nid`). The size must be at least 1, and the alignment a power of
+    /// two.
+    ///
+    /// # Errors
+    ///
+    /// - `NoGap` if no attempt finds a place. Nothing is then written.
+    /// - `NoGapForTable` if the reserved table has to grow and finds no place.
+    /// - `Memory` if this program is out of memory.
     pub fn alloc(&mut self, request: &Request, owner: Owner) -> Result<u64, Refusal>
         requires some { 1 ≤ request.now.size }
         requires aligned { (k : ℕ) × (request.now.align ≡ 2 ^ k) }
@@ -251,8 +318,12 @@ impl Memblock {
         )
     }
 
-    /// Writes the byte to each address of the range, which meets no table. After `Memory` all is as before, and some
-    /// address of the range wasn't prepared.
+    /// Writes the byte to each address of the range, which must not overlap a table.
+    ///
+    /// # Errors
+    ///
+    /// `Memory` if this program is out of memory. Nothing is then changed, and some address of the
+    /// range wasn't prepared.
     pub fn fill(&mut self, range: Range, byte: u8) -> Result<(), Memory>
         requires { IsAway self.old.kernel range self.old.journal.items }
         ensures kernel { self.new.kernel ≡ self.old.kernel }
@@ -269,7 +340,7 @@ impl Memblock {
         Ok(())
     }
 
-    /// Reads the bytes from the address on, the tables' own too.
+    /// Reads the bytes from address `at` on. They may be a table's own.
     pub fn peek(&self, at: u64, into: &mut [u8])
         requires { at + length into.old < 2 ^ 64 }
         ensures { into.new ≡ bytes_at (byte_of self.now.tables.store) at (length into.old) }
@@ -277,7 +348,7 @@ impl Memblock {
         self.tables.read(at, into);
     }
 
-    /// Whether some address of the range belongs to a table.
+    /// Tests whether an address of the range belongs to a table.
     pub fn touches_table(&self, range: Range) -> bool
         ensures touches { IsTrue result ↔ TouchesTable self.now.kernel range self.now.journal.items }
         ensures away { result ≡ false → IsAway self.now.kernel range self.now.journal.items }
@@ -285,7 +356,7 @@ impl Memblock {
         self.tables.overlaps_table(range)
     }
 
-    /// What happened to memory.
+    /// Returns the journal of what happened to memory.
     pub fn journal(&self) -> &Journal
         ensures journal { result.now ≡ self.now.journal }
         ensures sound { HasBegun self.now.journal.items → Sound self.now.kernel self.now.journal.items }
@@ -293,7 +364,7 @@ impl Memblock {
         &self.journal
     }
 
-    /// Both tables. No memory and no claim passes the end of addresses.
+    /// Returns both tables, which are those of the items. All memory ends at or below 2^64.
     pub fn tables(&self) -> &Tables
         ensures tables { result.now ≡ self.now.tables }
         ensures memory { result.now.memory ≡ table_for tables_of.Memory self.now.kernel self.now.journal.items }
@@ -309,7 +380,7 @@ impl Memblock {
         &self.tables
     }
 
-    /// The bytes, where the tables lie in them, and the journal: whoever has these has it all.
+    /// Takes the memblock apart into the bytes, the heads of the tables in them, and the journal.
     pub fn into_parts(self) -> (Store, Heads, Journal)
         ensures store { result.0 ≡ self.tables.store }
         ensures heads { result.1 ≡ record { memory = head_of self.tables.memory; reserved = head_of self.tables.reserved } }
@@ -330,7 +401,8 @@ impl Memblock {
     }
 }
 
-// Memblock is the kernel's place, the journal, the tables, and what searches go by: it keeps nothing else about memory.
+// A memblock is the range of the kernel's image, the journal, the tables and the aim of searches.
+// It keeps nothing else about memory.
 #[test]
 fn memblock_is_four_parts(rt: HostRuntime) -> Result<(), std::test::Fail> {
     let image = Range {

@@ -1,7 +1,8 @@
-//! The memory table: its growth, added ranges, nodes and mirrors.
+//! The memory table: its growth, added ranges, nodes and mirrored ranges.
 //!
-//! Its new place is claimed as anything is, so the reserved table may grow first; and so it may when the old place is freed.
-//! Where that last growth is refused the old place stays claimed, and the call goes on (`memblock_double_array` ignores it).
+//! The new place is claimed like any other range, so the reserved table may have to grow first. It
+//! may also have to grow when the old place is freed. If that growth is refused, the old place
+//! stays claimed and the call continues (`memblock_double_array` ignores it).
 ghost use Rattle.std.specs.Prelude.{◌≡◌, ◌⊎◌, ◌+◌, ◌-◌, ◌<◌, ◌≤◌, false, OnOk, OnErr, IsOk, IfSome, length};
 ghost use Rattle.phys_store.specs.Bytes.{AreReady};
 ghost use Rattle.memblock_model.specs.declared.owner.Which.TheVariants as tables_of;
@@ -25,7 +26,7 @@ use boot_journal::{Item, Journal, Owner, Which};
 use growth_model::Refusal;
 use memblock_ranges::Tables;
 
-/// The old place is freed, if there is one. A refusal doesn't count.
+/// Frees the old place, if there is one. A refused growth is ignored; the only error is `Memory`.
 fn leave(
     journal: &mut Journal,
     tables: &mut Tables,
@@ -48,8 +49,9 @@ fn leave(
     }
 }
 
-/// The new place is prepared, and claimed for the table. What refuses the claim is looked for first, so that no memory is taken for one
-/// that is refused. Nothing is written before the place is prepared.
+/// Prepares the new place and claims it for the memory table. It first tests whether the claim
+/// would be refused, so that nothing is prepared for a claim that is refused. No item is written
+/// before the place is prepared.
 fn take_place(
     journal: &mut Journal,
     tables: &mut Tables,
@@ -73,7 +75,7 @@ fn take_place(
     claim(journal, tables, aim, place, Owner::Table(Which::Memory))
 }
 
-/// The table doubles, at the best place below the limit (`memblock_double_array`).
+/// Doubles the memory table's room, at the best place below the limit (`memblock_double_array`).
 fn grow_memory(journal: &mut Journal, tables: &mut Tables, aim: Aim) -> Result<(), Refusal>
     requires kept { IsKept journal.old.items tables.old aim }
     requires begun { HasBegun journal.old.items }
@@ -100,7 +102,7 @@ fn grow_memory(journal: &mut Journal, tables: &mut Tables, aim: Aim) -> Result<(
     leave(journal, tables, aim, old)
 }
 
-/// The table doubles if it is full.
+/// Doubles the memory table's room if it is full.
 fn grow_memory_once(
     journal: &mut Journal,
     tables: &mut Tables,
@@ -125,7 +127,8 @@ fn grow_memory_once(
     }
 }
 
-/// The table has room for so many more records: it doubles while it is full, twice at most.
+/// Makes room in the memory table for `more` records: doubles the room as long as the table is
+/// full, at most twice.
 fn make_memory_room(
     journal: &mut Journal,
     tables: &mut Tables,
@@ -147,8 +150,9 @@ fn make_memory_room(
     grow_memory_once(journal, tables, aim, more)
 }
 
-/// The range becomes memory without a node; what is memory already keeps its node (`memblock_add`). Where an item can be
-/// appended without wanting memory and the table has room, the call takes none.
+/// Adds the range to memory, without a node; what is memory already keeps its node
+/// (`memblock_add`). If the table has room, and the journal has room for an item, the call can't
+/// fail.
 pub fn add(
     journal: &mut Journal,
     tables: &mut Tables,
@@ -171,7 +175,8 @@ pub fn add(
     Ok(())
 }
 
-/// The memory of the range gets the node (`memblock_set_node`). It takes no memory where [`add`] wouldn't.
+/// Gives the node to the memory of the range (`memblock_set_node`). If the table has room for two
+/// more records, and the journal for an item, the call can't fail.
 pub fn set_node(
     journal: &mut Journal,
     tables: &mut Tables,
@@ -196,7 +201,8 @@ pub fn set_node(
     Ok(())
 }
 
-/// The memory of the range becomes mirrored (`memblock_mark_mirror`). It takes no memory where [`add`] wouldn't.
+/// Makes the memory of the range mirrored (`memblock_mark_mirror`). If the table has room for two
+/// more records, and the journal for an item, the call can't fail.
 pub fn set_mirror(
     journal: &mut Journal,
     tables: &mut Tables,

@@ -1,5 +1,6 @@
-//! Whether a table has room for an edit. An edit inside a table may split a record at both ends of its range, so it adds two at most;
-//! one that covers a range adds a record for each piece of it that isn't covered yet (`memblock_add_range`, its count).
+//! Whether a table has room for an edit. An edit inside a table may split a record at both ends of
+//! its range, so it adds at most two. An edit that covers a range adds at most one record for each
+//! piece that isn't covered yet (the count in `memblock_add_range`).
 ghost use Rattle.std.specs.Prelude.{◌≡◌, ◌+◌, nat_lt, length};
 ghost use Rattle.memblock_ranges.specs.Tables.{table_in, records_in, room_in};
 ghost use Rattle.memblock_grow.specs.More.{more_in, EndsInSpace};
@@ -9,7 +10,7 @@ use memblock_model::Which;
 use memblock_ranges::Tables;
 use run_edits::range_end_fits;
 
-/// How many records an edit may add to a table.
+/// The greatest number of records that an edit may add to a table.
 #[derive(Clone, Copy, Debug, PartialEq, Eq)]
 pub enum More {
     /// One for each run of the range's bytes that the table doesn't cover.
@@ -18,7 +19,7 @@ pub enum More {
     Two,
 }
 
-/// Whether the table's records, and so many more, exceed its room.
+/// Tests whether the table's records and `more` further ones exceed its room.
 pub fn is_full(tables: &Tables, which: Which, more: &More) -> bool
     ensures full { result ≡
         nat_lt (room_in which tables.now) (length (records_in which tables.now) + more_in more.now (table_in which tables.now)) }

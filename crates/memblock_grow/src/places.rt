@@ -1,5 +1,5 @@
-//! The searches: in mirrored memory first (`choose_memblock_flags`); where a table that grows may go to (`memblock_double_array`), and what
-//! it leaves.
+//! The searches: first in mirrored memory (`choose_memblock_flags`); for the new place of a table
+//! that grows (`memblock_double_array`); and the frames of its old place.
 ghost use Rattle.std.specs.Prelude.{◌≡◌, ◌≢◌, ℕ, ◌+◌, ◌*◌, ◌^◌, ◌<◌, ◌≤◌, SomeIff};
 ghost use Rattle.growth_model.specs.Growth.{in_whole_frames};
 ghost use Rattle.memblock_grow.specs.Places.{KnowsMirrors, best_of, mirrored_of, frames_between, frames_beside, left_frames};
@@ -10,7 +10,8 @@ use boot_journal::Journal;
 use memblock_find::{Mode, Query, find};
 use memblock_ranges::{FIRST_ROOM, Head, Tables};
 
-/// The bytes of the frames that so many bytes take; `None` where they exceed 2^64 - 1.
+/// Returns the size in bytes of the frames that have this many bytes, or `None` if it would exceed
+/// 2^64 - 1.
 fn frames(bytes: u64) -> Option<u64>
     ensures { SomeIff result (in_whole_frames bytes < 2 ^ 64) (in_whole_frames bytes) }
 {
@@ -18,7 +19,8 @@ fn frames(bytes: u64) -> Option<u64>
     Some(behind / FRAME_SIZE * FRAME_SIZE)
 }
 
-/// The top place in mirrored memory. Nothing is searched where the journal has no mirror.
+/// Returns the top place in mirrored memory. It doesn't search if the journal has no item that
+/// mirrors memory.
 fn mirrored_place(journal: &Journal, tables: &Tables, upward: bool, query: &Query) -> Option<u64>
     requires some { 1 ≤ query.now.size }
     requires aligned { (k : ℕ) × (query.now.align ≡ 2 ^ k) }
@@ -35,7 +37,7 @@ fn mirrored_place(journal: &Journal, tables: &Tables, upward: bool, query: &Quer
     find(tables, query, mode)
 }
 
-/// The best place: the top one in mirrored memory, or in any where none fits there.
+/// Returns the best place: the top one in mirrored memory, or in any memory if none fits there.
 pub fn best(journal: &Journal, tables: &Tables, upward: bool, query: &Query) -> Option<u64>
     requires some { 1 ≤ query.now.size }
     requires aligned { (k : ℕ) × (query.now.align ≡ 2 ^ k) }
@@ -52,7 +54,8 @@ pub fn best(journal: &Journal, tables: &Tables, upward: bool, query: &Query) -> 
     find(tables, query, mode)
 }
 
-/// The frames for twice the room, at the best place of the window. A size that is no `u64` has no place.
+/// Returns the frames for a table of twice the room, at the best place in the window. If their
+/// size would exceed 2^64 - 1, there is no place.
 pub fn place_between(
     journal: &Journal,
     tables: &Tables,
@@ -77,7 +80,8 @@ pub fn place_between(
     Range::new(base, size)
 }
 
-/// The same above the range that is avoided, else below it; below the limit both times.
+/// Returns the frames for a table of twice the room: above the range to avoid, else below it. In
+/// both cases they end at or below the limit.
 pub fn place_beside(
     journal: &Journal,
     tables: &Tables,
@@ -96,8 +100,8 @@ pub fn place_beside(
     place_between(journal, tables, upward, room, 0, avoid.base.min(limit))
 }
 
-/// The frames that a table leaves when it moves; `None` as long as it lies where it did at first. They end in the
-/// address space.
+/// Returns the frames of a table's old place, or `None` as long as the table is in its first
+/// place. They end below 2^64.
 pub fn left_place(head: Head) -> Option<Range>
     requires far { head.room ≢ 128 → head.place + in_whole_frames (24 * head.room) < 2 ^ 64 }
     ensures { result ≡ left_frames head.place head.room }

@@ -1,8 +1,11 @@
-//! What an allocation tries, and the claim of what it finds.
+//! The searches of an allocation, and the claim of the place that they find.
 //!
-//! The addresses from the request's minimum on, below its maximum and the limit, are searched for memory of the node that is wanted,
-//! then, unless no other node will do, of any: first in mirrored memory, where some is, and then in any (`choose_memblock_flags`). Behind
-//! that comes, where there is a minimum, the same without it (`memblock_alloc_range_nid`).
+//! A round searches from an address up to the request's maximum or the limit, whichever is
+//! smaller. It first searches memory of the request's node and then, unless only that node is
+//! allowed, memory of any. It does so in mirrored memory, if there is any, and then in all memory
+//! (`choose_memblock_flags`). The first round begins at the request's minimum. If it finds no
+//! place and there is a minimum, a second round begins at 0 (`memblock_alloc_range_nid`,
+//! `memblock_alloc_internal`).
 ghost use Rattle.std.specs.Prelude.{◌≡◌, ℕ, ◌+◌, ◌-◌, ◌^◌, ◌<◌, ◌≤◌, true, false, Some, IsOk, IfOk};
 ghost use Rattle.memblock_model.specs.declared.owner.Which.TheVariants as tables_of;
 ghost use Rattle.growth_model.specs.Growth.{new_in, is_full as is_full_by};
@@ -21,7 +24,7 @@ use growth_model::{Refusal, Request};
 use memblock_find::{Mode, Query, find};
 use memblock_ranges::Tables;
 
-/// The top place from `lo` on, of the node or of any, in mirrored memory or in any.
+/// Returns the top place from `lo` on, on the node or on any, in mirrored memory or in any.
 fn attempt(
     tables: &Tables,
     request: &Request,
@@ -46,7 +49,8 @@ fn attempt(
     find(tables, &query, mode)
 }
 
-/// The same of the node that is wanted, and then, unless no other will do, of any.
+/// Returns the top place from `lo` on, on the request's node and then, unless only that one is
+/// allowed, on any.
 fn place_in(tables: &Tables, request: &Request, aim: Aim, lo: u64, mirror: bool) -> Option<u64>
     requires some { 1 ≤ request.now.size }
     requires aligned { (k : ℕ) × (request.now.align ≡ 2 ^ k) }
@@ -59,7 +63,8 @@ fn place_in(tables: &Tables, request: &Request, aim: Aim, lo: u64, mirror: bool)
     attempt(tables, request, aim, lo, mirror, None)
 }
 
-/// The same in mirrored memory. Nothing is searched where the journal has no mirror.
+/// Like [`place_in`] for mirrored memory. It doesn't search if the journal has no item that
+/// mirrors memory.
 fn mirrored_place(
     journal: &Journal,
     tables: &Tables,
@@ -78,7 +83,7 @@ fn mirrored_place(
     place_in(tables, request, aim, lo, true)
 }
 
-/// The same, and then in any memory.
+/// Returns the place that one round finds: from `lo` on, first in mirrored memory, then in any.
 fn first_place(
     journal: &Journal,
     tables: &Tables,
@@ -97,7 +102,8 @@ fn first_place(
     place_in(tables, request, aim, lo, false)
 }
 
-/// The same from the minimum on, and then without one.
+/// Returns the place that the first round finds, from the request's minimum on, or else the
+/// second, from 0 on.
 fn place_for(journal: &Journal, tables: &Tables, request: &Request, aim: Aim) -> Option<u64>
     requires some { 1 ≤ request.now.size }
     requires aligned { (k : ℕ) × (request.now.align ≡ 2 ^ k) }
@@ -111,8 +117,9 @@ fn place_for(journal: &Journal, tables: &Tables, request: &Request, aim: Aim) ->
     first_place(journal, tables, request, aim, 0)
 }
 
-/// The place that is found is claimed for the owner (`memblock_alloc_range_nid`); its address is the answer. It takes no memory
-/// where the claim of that place takes none.
+/// Finds a place for the request, claims it for the owner, and returns its address
+/// (`memblock_alloc_range_nid`). If a place is found, the reserved table has room for it, and the
+/// journal for an item, the call can't fail.
 pub fn allocate(
     journal: &mut Journal,
     tables: &mut Tables,

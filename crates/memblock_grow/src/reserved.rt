@@ -1,7 +1,8 @@
-//! The reserved table: its growth, claims and freeings.
+//! The reserved table: its growth, claims and frees.
 //!
-//! The growth avoids the range that is being claimed or freed, so that the table never lands in it. Its new place is claimed
-//! like any other, and what it leaves is freed. A claim doubles the table up to twice before it writes anything.
+//! A growth avoids the range that is to be claimed or freed, so that the table never moves into
+//! it. The new place is claimed like any other range, and the old one is freed. A claim doubles
+//! the table's room up to twice before it writes its item.
 ghost use Rattle.std.specs.Prelude.{◌≡◌, ◌≢◌, ◌+◌, ◌-◌, ◌<◌, ◌≤◌, false, None, Err, OnOk, OnErr, IsOk, length};
 ghost use Rattle.memblock_model.specs.declared.owner.Owner.{Owner as ModelOwner};
 ghost use Rattle.memblock_model.specs.Items.{owner_of};
@@ -24,8 +25,9 @@ use boot_journal::{Item, Journal, Owner, Which};
 use growth_model::Refusal;
 use memblock_ranges::Tables;
 
-/// The table doubles, at a place beside the range (`memblock_double_array`): one step of three items, or of two where it
-/// lay in the kernel's image. Nothing is written or prepared where it finds no place, or where memory runs out.
+/// Doubles the reserved table's room, at a place apart from `avoid` (`memblock_double_array`).
+/// This is one step of three items, or of two if the table was in the kernel's image. If there is
+/// no place, or this program is out of memory, nothing is written or prepared.
 fn grow_reserved(
     journal: &mut Journal,
     tables: &mut Tables,
@@ -71,7 +73,7 @@ fn grow_reserved(
     }
 }
 
-/// The table doubles if it is full.
+/// Doubles the reserved table's room if it is full.
 fn grow_reserved_once(
     journal: &mut Journal,
     tables: &mut Tables,
@@ -97,7 +99,8 @@ fn grow_reserved_once(
     }
 }
 
-/// The table has room for so many more records: it doubles while it is full, twice at most.
+/// Makes room in the reserved table for `more` records: doubles the room as long as the table is
+/// full, at most twice.
 fn make_reserved_room(
     journal: &mut Journal,
     tables: &mut Tables,
@@ -120,8 +123,13 @@ fn make_reserved_room(
     grow_reserved_once(journal, tables, aim, avoid, more)
 }
 
-/// Whether a claim of the range, of which nobody has a byte, goes through: it is refused where the table is full for it and finds no
-/// place beside it. One growth is enough, since the range is one piece.
+/// Tests whether a claim of the range, which must be unclaimed, would be refused. That is so if
+/// the reserved table is full for it and finds no place. One growth is enough, since the range is
+/// one piece.
+///
+/// # Errors
+///
+/// `NoGapForTable` if the claim would be refused.
 pub fn may_claim(journal: &Journal, tables: &Tables, aim: Aim, range: Range) -> Result<(), Refusal>
     requires some { 0 < range.size }
     requires kept { IsKept journal.now.items tables.now aim }
@@ -144,8 +152,8 @@ pub fn may_claim(journal: &Journal, tables: &Tables, aim: Aim, range: Range) -> 
     }
 }
 
-/// The range is claimed for the owner (`memblock_reserve`). Where an item can be appended without wanting memory and the
-/// table has room, the call takes none.
+/// Claims the range for the owner (`memblock_reserve`). If the table has room, and the journal has
+/// room for an item, the call can't fail.
 pub fn claim(
     journal: &mut Journal,
     tables: &mut Tables,
@@ -169,7 +177,8 @@ pub fn claim(
     Ok(())
 }
 
-/// The range is freed (`memblock_phys_free`). It takes no memory where a claim wouldn't.
+/// Frees the range (`memblock_phys_free`). If the table has room for two more records, and the
+/// journal for an item, the call can't fail.
 pub fn free(
     journal: &mut Journal,
     tables: &mut Tables,

@@ -1,11 +1,11 @@
-//! A section: the unit in which the kernel keeps page structures (`SECTION_SIZE_BITS`). It stands here, since the
-//! crate that finds sections (`sparse_sections`) and the one that places their maps (`section_maps`) don't know
-//! each other.
+//! A section: the unit in which the kernel keeps page structures (`SECTION_SIZE_BITS`). It is
+//! defined here, since neither of the crates that use it (`sparse_sections`, `section_maps`)
+//! depends on the other.
 
-/// 128 MiB of addresses that have memory, and the node of their lowest memory frame.
+/// A range of 128 MiB that has memory, with the node of its lowest frame of memory.
 #[derive(Clone, Copy, Debug, PartialEq, Eq)]
 pub struct Section {
-    /// Which 128 MiB, from 0.
+    /// The section's number, counted from 0: its address divided by 128 MiB.
     pub number: u32,
     /// The node, below 1,024.
     pub node: u32,

@@ -1,32 +1,35 @@
-//! What the stages of a boot place, and why a stage stops it. Nodes, roots and maps have one list of things and
-//! one stop between them, so the boot makes its own stop of it in one place.
+//! What the stages of a boot allocate, and why a stage stops the boot. The stages for nodes, roots
+//! and maps share these types, so the boot converts their stops in one place.
 
 use bm_base::Memory;
 use memblock_model::Which;
 
-/// A thing that a boot can't do without.
+/// What a stage allocates and a boot can't do without.
 #[derive(Clone, Copy, Debug, PartialEq, Eq)]
 pub enum What {
     /// The data of the node (`alloc_node_data`).
     NodeData(u32),
     /// The table of section roots (`memory_present`).
     Roots,
-    /// The root of that number (`sparse_index_alloc`).
+    /// The section root of this number (`sparse_index_alloc`).
     Root(u32),
-    /// The usage data of the sections from that one on (`sparse_early_usemaps_alloc_pgdat_section`).
+    /// The usage data of the sections from this one on
+    /// (`sparse_early_usemaps_alloc_pgdat_section`).
     Usage(u32),
-    /// The map of the section, or of several from that one on (`sparse_buffer_init`, `__populate_section_memmap`).
+    /// The memory map of this section, or of several from it on (`sparse_buffer_init`,
+    /// `__populate_section_memmap`).
     Map(u32),
 }
 
 /// Why a stage stops the boot.
 #[derive(Clone, Copy, Debug, PartialEq, Eq)]
 pub enum StageStop {
-    /// No place fits.
+    /// No place fits this allocation.
     NoPlace { what: What },
-    /// A table had to grow and no place was found for it; `room` is the number of records that was too small.
+    /// A table had to grow and no place was found for it; `room` is the number of records that was
+    /// too small.
     NoTablePlace { which: Which, room: u64 },
-    /// The program's own memory ran out.
+    /// This program is out of memory.
     Memory,
 }
 

@@ -18,7 +18,7 @@ use Rattle.memblock_grow.proofs.memory.grow_memory.Goals.{In-Some, In_ok-take_pl
 found : (c : In-Some) → IsBest c.args.journal.now.items c.in-Some.place
 found c = best_place-found c.requires.kept.1.kept c.head-head.ensures.head c.place_between.ensures c.in-Some.is
 
--- behind its claim nobody else has it
+-- after its claim no one else has it
 taken : (c : In_ok-take_place) → IsBest c.args.journal.now.items c.in-Some.place
     → IsTaken c.requires.kept.0 c.take_place.new.journal.items (room_of which.Memory c.args.journal.now.items)
     (moved_to which.Memory c.args.journal.now.items) c.in-Some.place.base
@@ -26,7 +26,7 @@ taken c known =
     best_place-taken known c.requires.kept.0 c.take_place.new.journal.items (c.requires.kept.1.placed c.requires.begun)
     c.in_ok-take_place.ensures.ends
 
--- what stands once the table has moved there
+-- the state after the table has moved there
 record HasMoved (c : After-relocate) : Type 0 where
   tables : MovedMemory c.args.journal.now.items c.args.tables.now c.take_place.new.tables c.relocate.new.tables c.place.inside.base
       c.in-Some.place

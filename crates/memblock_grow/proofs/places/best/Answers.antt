@@ -1,4 +1,4 @@
--- The top place of mirrored memory, and else that of any.
+-- The top place in mirrored memory, or else the one in any.
 use Rattle.std.proofs.Common.{sym, ◌∙◌}
 use Rattle.address_runs.specs.Runs.{value_at}
 use Rattle.memblock_model.proofs.SearchLaws.{best_place_in-mirrored, best_place_in-other}

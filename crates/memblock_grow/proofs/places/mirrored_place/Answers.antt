@@ -1,4 +1,4 @@
--- Where the journal has no mirror no table has mirrored memory.
+-- If no item mirrors memory, the tables have no mirrored memory.
 use Rattle.std.proofs.Common.{sym, ◌∙◌}
 use Rattle.memblock_grow.proofs.PlaceLaws.{top_place-mirrorless}
 use Rattle.memblock_grow.proofs.places.mirrored_place.Goals as goal

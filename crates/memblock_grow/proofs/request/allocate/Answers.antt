@@ -10,7 +10,7 @@ use Rattle.memblock_grow.proofs.RequestLaws.{place-is-for, place-small, place-al
 use Rattle.memblock_grow.proofs.request.allocate.Goals as goal
 use Rattle.memblock_grow.proofs.request.allocate.Goals.{In-Some}
 
--- the place is the one of the definition
+-- the place is that of the definition
 found : (c : In-Some) → place_for c.args.request.now c.args.journal.now.items ≡ Some c.in-Some.base
 found c = place-is-for c.requires.kept.1.kept c.args.request.now c.place_for.ensures c.in-Some.is
 
@@ -50,7 +50,7 @@ pub returns-in_default-clause-ready : goal.returns-in_default-clause-ready
 returns-in_default-clause-ready c = λ place is spare idle.
     absurd (none-some place (sym (place-is-for c.requires.kept.1.kept c.args.request.now c.place_for.ensures c.in_default.is) ∙ is))
 
--- a claim of that place takes no memory where it has room
+-- a claim of that place needs no growth if the table has room
 idle_at : (c : In-Some) (place : ℕ) → place_for c.args.request.now c.args.journal.now.items ≡ Some place
     → is_full which.Reserved (new_in which.Reserved (record { base = place; size = c.args.request.now.size })) c.args.journal.now.items
     ≡ false

@@ -12,11 +12,11 @@ use Rattle.memblock_grow.proofs.PlaceLaws.{knows-mirrors, left-far}
 use Rattle.memblock_grow.proofs.PreparedLaws.{prepares-item}
 use Rattle.memblock_grow.proofs.ReservedLaws.{room-some, frames-some, IsBeside, beside-found, beside-free, beside-apart, growth-none, growth-wants, moved_items, written, left-size, left-found, twice-is, claim-room, Claimed, claimed, freed-keeps, freed-tells, prepares-moved, still-bytes}
 
--- the place was found beside the range
+-- the place was found apart from the range
 known : (c : In-Some) → IsBeside c.args.journal.now.items c.args.avoid c.in-Some.place
 known c = beside-found c.requires.kept.1.kept c.head-head.ensures.head c.place_beside.ensures c.in-Some.is
 
--- what stands once it is claimed
+-- the state after the claim
 record Stands (c : After-cover) : Type 0 where
   here : c.place.inside.base ≡ c.in-Some.place.base
   twice : 2 * c.head-head.result.room ≡ 2 * room_of which.Reserved c.args.journal.now.items

@@ -20,7 +20,7 @@ place_beside-requires-clause-some c = room-some c.requires.kept.1.kept which.Res
 pub place_beside-requires-clause-mirrors : goal.place_beside-requires-clause-mirrors
 place_beside-requires-clause-mirrors c = knows-mirrors c.requires.kept.1.kept
 
--- such a claim isn't refused, where the table isn't full for it or finds a place
+-- the claim isn't refused if the table isn't full for it, or finds a place
 unrefused : (c : After-is_full) (who : Owner)
     → (is_full which.Reserved (new_in which.Reserved c.args.range) c.args.journal.now.items ≡ false)
     ⊎ IsSome (place_beside c.args.range (room_of which.Reserved c.args.journal.now.items) c.args.journal.now.items)

@@ -1,4 +1,4 @@
--- Wherever the allocation ends, the parts still belong together.
+-- Wherever the allocation ends, the invariant of the memblock holds.
 use Rattle.std.proofs.Common.{refl, sym}
 use Rattle.growth_model.proofs.SoundLaws.{alloc-stands}
 use Rattle.memblock_grow.proofs.WholeLaws.{whole-on}

@@ -1,4 +1,4 @@
--- Wherever the claim ends, the parts still belong together.
+-- Wherever the claim ends, the invariant of the memblock holds.
 use Rattle.std.proofs.Common.{sym, arith}
 use Rattle.growth_model.proofs.SoundLaws.{claim-stands}
 use Rattle.memblock_grow.proofs.GoingLaws.{claim-away}

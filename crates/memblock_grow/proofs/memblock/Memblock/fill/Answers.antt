@@ -1,4 +1,4 @@
--- The fill meets no table, so the tables lie in the bytes as before.
+-- The fill overlaps no table, so both tables are in their bytes as before.
 use Rattle.std.proofs.Common.{ℕ, length, sym, ◌∙◌, ap}
 use Rattle.phys_store.specs.Bytes.{byte_of}
 use Rattle.growth_model.specs.Bytes.{Filled, put}

@@ -1,4 +1,4 @@
--- Wherever the freeing ends, the parts still belong together.
+-- Wherever the free ends, the invariant of the memblock holds.
 use Rattle.std.proofs.Common.{sym}
 use Rattle.growth_model.proofs.SoundLaws.{free-stands}
 use Rattle.memblock_grow.proofs.WholeLaws.{whole-on}

@@ -1,4 +1,4 @@
--- The tables are those of the items behind the new limit, which is that of the items.
+-- The tables are those of the items with the new limit, which is the limit of the items.
 use Rattle.std.proofs.Common.{refl, sym}
 use Rattle.memblock_model.specs.declared.item.Item.TheVariants as item
 use Rattle.growth_model.proofs.SoundLaws.{limit-stands}

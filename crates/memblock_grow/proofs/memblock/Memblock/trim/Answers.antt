@@ -1,4 +1,4 @@
--- The tables are those of the items behind the trim.
+-- The tables are those of the items after the trim.
 use Rattle.std.proofs.Common.{refl, sym}
 use Rattle.memblock_model.specs.declared.item.Item.TheVariants as item
 use Rattle.growth_model.proofs.SoundLaws.{trim-stands}
