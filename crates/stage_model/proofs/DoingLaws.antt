@@ -1,4 +1,4 @@
--- How one step after another ends: by the ends of both.
+-- How two steps in turn end.
 use Rattle.std.proofs.Common.{◌≡◌, inl, inr, ⊎_elim, Option, None, List, [], ◌∷◌, ◌++◌, take, Result, Ok, Err, refl, sym, ◌∙◌, append_assoc, arith}
 use Rattle.std.proofs.lemmas.List.{append-nil}
 use Rattle.memblock_model.specs.declared.item.Item.{Item}
@@ -17,7 +17,7 @@ pub appended-joined : (items : List Item) (ss : List (List Item)) → appended i
 appended-joined items [] = sym (append-nil items)
 appended-joined items (s ∷ ss) = appended-joined (items ++ s) ss ∙ append_assoc items s (joined ss)
 
--- all groups of the first stand, and some of the second
+-- all groups of the first step are written, and some of the second
 cut-behind : (old new : List Item) (a b : List (List Item)) → IsCutShort (appended old a) new b → IsCutShort old new (a ++ b)
 cut-behind old new a b cut = cut-second old new a b (rw (appended-joined old a) at cut)
 
@@ -27,7 +27,7 @@ cut_by (Ok a) old new steps next cut = cut-first old new steps (next a).steps cu
 cut_by (Err e) old new steps next cut = cut
 
 module _ {E F A B : Type 0} where
-  -- the first step answered, and the rest ends so
+  -- the first step returned a value, and the rest ends in this way
   pub ends-second : (a : A) (r : Result B F) (error : Option E → F) (old mid new : List Item) (f : Doing E A) (next : A → Doing E B)
       → StageEnds f error (Ok a) old mid → StageEnds (next a) error r mid new → StageEnds (f >>= next) error r old new
   ends-second a (Ok b) error old mid new f next was h =
@@ -39,7 +39,7 @@ module _ {E F A B : Type 0} where
       (λ told. inl (told.0, told.1, told.2, told.3 ∙ sym (appended-append old (f old).steps second)))
       (λ cut. inr (cut.0, cut-behind old new (f old).steps second cut.1)) (rw was.1 at h))
 
-  -- the first step stopped, or memory ran out in it
+  -- the first step failed, or the program was out of memory in it
   pub ends-first : (e : F) (error : Option E → F) (old new : List Item) (f : Doing E A) (next : A → Doing E B)
       → StageEnds {A = A} f error (Err e) old new → StageEnds {A = B} (f >>= next) error (Err e) old new
   ends-first e error old new f next h = ⊎_elim
@@ -47,7 +47,7 @@ module _ {E F A B : Type 0} where
       (λ cut. inr (cut.0, cut_by (f old).answer old new (f old).steps (λ a. next a (after old (f old))) cut.1)) h
 
 module _ {E F A : Type 0} where
-  -- memory was taken for a list, or ran out
+  -- memory of the program for a list was allocated, or it was out of memory
   pub ends-listed : (f : List Item → A) (error : Option E → F) (items : List Item) → StageEnds (listed f) error (Ok (f items)) items items
   ends-listed f error items = (refl, sym (append-nil items))
 

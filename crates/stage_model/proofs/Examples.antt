@@ -1,4 +1,5 @@
--- Worked examples: steps that answer, stop and go on; an allocation without a place; calls that were cut short.
+-- Worked examples: steps that return values, fail and follow each other; an allocation without a
+-- place; calls that stopped early.
 use Rattle.std.proofs.Common.{◌≡◌, ℕ, ◌+◌, nat_lt, if◌then◌else◌, None, Some, [], ◌∷◌, Ok, Err, refl, inl, inr, arith, length}
 use Rattle.std.proofs.lemmas.Option.{same_Some}
 use Rattle.memblock_model.specs.Labels.{LabelView, plain_label, with_node}
@@ -13,11 +14,12 @@ use Rattle.stage_model.specs.Doing.{Doing, returns, stops, seen, listed, ◌>>=�
 use Rattle.stage_model.specs.Noded.{AreOfFrames, IsNoded}
 use Rattle.stage_model.specs.Requests.{changes, placed_at, or_else}
 
--- a step that writes a limit and answers it
+-- a step that writes a limit and returns a sum
 abbrev limited : ℕ → ℕ → Doing StageCause ℕ
 limited before at items = record { steps = (item.Limit at ∷ []) ∷ []; answer = Ok (before + at) }
 
--- the groups of two steps stand behind each other, none behind a stop, and the second sees what the first wrote
+-- the groups of two steps, one after the other, and none after an error; the second step sees what
+-- the first wrote
 seen_then : ((limited 0 5 >>= λ a. limited a 7) []
     ≡ record { steps = (item.Limit 5 ∷ []) ∷ ((item.Limit 7 ∷ []) ∷ []); answer = Ok 12 })
     × ((stops {A = ℕ} (NoPlace what.Roots) >>= λ a. limited a 7) [] ≡ record { steps = []; answer = Err (NoPlace what.Roots) })
@@ -25,7 +27,7 @@ seen_then : ((limited 0 5 >>= λ a. limited a 7) []
     ≡ record { steps = (item.Limit 5 ∷ []) ∷ []; answer = Ok (item.Trim ∷ (item.Limit 5 ∷ [])) })
 seen_then = (refl, refl, refl)
 
--- one step for each of three, of two and of none
+-- one step for each of three elements, of two, and of none
 turn_examples : ((in_turn limited 0 (1 ∷ (2 ∷ (3 ∷ []))) []).answer ≡ Ok 6) × (in_turn limited 4 [] [] ≡ returns 4 [])
     × ((in_turn limited 0 (1 ∷ (2 ∷ [])) []).steps ≡ (item.Limit 1 ∷ []) ∷ ((item.Limit 2 ∷ []) ∷ []))
 turn_examples = (refl, refl, refl)
@@ -39,38 +41,38 @@ change_examples = (refl, refl)
 no_place : placed_at (what.Map 3) None 4096 owner.Roots [] ≡ record { steps = []; answer = Err (NoPlace (what.Map 3)) }
 no_place = refl
 
--- the other one is tried if the first had no place, and only then
+-- the other step follows only if the first found no place
 not_tried : ((or_else (stops (NoPlace what.Roots)) (limited 0 9) []).answer ≡ Ok 9)
     × ((or_else (stops (NoTablePlace which.Memory 128)) (limited 0 9) []).answer ≡ Err (NoTablePlace which.Memory 128))
 not_tried = (refl, refl)
 
--- memory ran out after the first of two groups
+-- out of memory after the first of two groups
 ends_cut : StageEnds {A = ℕ} (limited 0 5 >>= λ a. limited a 7) stage_stop (Err stop.Memory) [] (item.Limit 5 ∷ [])
 ends_cut = inr (refl, record { count = 1; short = omega arith; stands = refl })
 
--- it is no error in place of a stop
+-- out of memory doesn't replace a stop
 none_in_place : StageEnds {A = ℕ} (stops (NoPlace what.Roots)) stage_stop (Err stop.Memory) [] [] → ⊥
 none_in_place (inl (NoPlace thing, is, same, stands)) = cc same
 none_in_place (inl (NoTablePlace w room, is, same, stands)) = cc same
 none_in_place (inr cut) = let less = cut.1.short in absurd (omega (arith, less))
 
--- a list needs some, though it writes no item
+-- a list needs memory of the program, though it writes no item
 list_wanted : StageEnds {E = StageCause} {A = ℕ} (listed length) stage_stop (Err stop.Memory) [] []
 list_wanted = inr (refl, record { count = 0; short = omega arith; stands = refl })
 
--- no other error comes before a group
+-- no other error is returned before a group
 other_error_cut : StageEnds {A = ℕ} (limited 0 5 >>= λ a. limited a 7) stage_stop (Err (stop.NoPlace what.Roots)) [] (item.Limit 5 ∷ [])
     → ⊥
 other_error_cut (inl told) = let wrong = told.1 in cc wrong
 other_error_cut (inr cut) = let wrong = cut.0 in cc wrong
 
--- nor in place of the answer, once all groups stand
+-- no other error replaces the value after all groups are written
 other_error_told : StageEnds {A = ℕ} (limited 0 5 >>= λ a. limited a 7) stage_stop (Err (stop.NoPlace what.Roots)) []
     (item.Limit 5 ∷ (item.Limit 7 ∷ [])) → ⊥
 other_error_told (inl told) = let wrong = told.1 in cc wrong
 other_error_told (inr cut) = let wrong = cut.0 in cc wrong
 
--- no memory is of node 1,024
+-- no memory has node 1,024
 abbrev of_node_1024 : LabelView
 of_node_1024 = with_node (Some 1024) plain_label
 
@@ -85,7 +87,7 @@ too_great_a_node limit noded =
 half_a_frame : AreOfFrames (λ x. nat_lt x 2048) → ⊥
 half_a_frame same = let wrong = same 2048 in cc wrong
 
--- no memory lies behind the limit
+-- no memory is past the limit
 abbrev of_node_3 : LabelView
 of_node_3 = with_node (Some 3) plain_label
 

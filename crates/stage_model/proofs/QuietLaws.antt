@@ -1,4 +1,4 @@
--- Rows of allocations leave memory, its nodes and the limit as they are, wherever they end.
+-- Sequences of allocations change neither memory, nor its nodes, nor the limit, wherever they end.
 use Rattle.std.proofs.Common.{◌≡◌, List, [], ◌∷◌, ℕ, Option, Some, None, Result, Ok, Err, refl, ◌∙◌, ap}
 use Rattle.memblock_model.specs.declared.owner.Owner.{Owner}
 use Rattle.memblock_model.specs.declared.item.Item.{Item}
@@ -74,7 +74,7 @@ module _ {A : Type 0} where
         (then.each (after items (first items)));
   }
 
--- so what the items say of memory and of the limit stays
+-- memory and the limit stay the same
 
 pub quiet-appended_memory : (items : List Item) (steps : List (List Item)) → AreQuiet steps
     → memory_of (appended items steps) ≡ memory_of items

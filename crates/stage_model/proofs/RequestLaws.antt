@@ -28,7 +28,7 @@ ends-change (Err (refusal.NoGapForTable w room)) old new change h =
     inl (record { which = w; room = room }, ap refusal_of h.0, refl, h.1 ∙ sym (appended-joined old (change old).steps))
 ends-change (Err refusal.Memory) old new change cut = inr (refl, cut)
 
--- a change that the boot can't do without, whatever it is asked for
+-- a change that the boot can't do without, for any request
 module _ (thing : What) where
   pub ends-carried : (r : Result (Unit {0}) Refusal) (old new : List Item) (change : Change) → Ends r old new change
       → StageEnds (carried change) stage_stop (with_error (stop_for thing) r) old new
@@ -59,9 +59,9 @@ module _ (thing : What) where
   ends-placed (Ok base) old new q who h = placed_by (place_for q old) (Ok base) old new q.size who h
   ends-placed (Err e) old new q who h = placed_by (place_for q old) (Err e) old new q.size who h
 
--- one in place of another that had no gap
+-- one step in place of another that found no place
 module _ {A : Type 0} (first other : Doing StageCause A) (old : List Item) where
-  -- what the first wrote, as a step that answered
+  -- what the first step wrote, as a step that returned
   abbrev sent : Doing StageCause (Unit {0})
   sent items = record { steps = (first items).steps; answer = Ok tt }
 
@@ -75,7 +75,7 @@ module _ {A : Type 0} (first other : Doing StageCause A) (old : List Item) where
   cut_by new (Err (NoPlace thing)) steps then cut = cut-first old new steps then.steps cut
   cut_by new (Err (NoTablePlace w room)) steps then cut = cut
 
-  -- the first stopped, or memory ran out in it
+  -- the first step failed, or the program was out of memory in it
   stopped_by : (e : StageStop) (new : List Item) → ((thing : What) → e ≢ stop.NoPlace thing) → (why : StageCause)
       → (first old).answer ≡ Err why → e ≡ stage_stop (Some why) → new ≡ after old (first old)
       → StageEnds {A = A} (or_else first other) stage_stop (Err e) old new
@@ -88,7 +88,7 @@ module _ {A : Type 0} (first other : Doing StageCause A) (old : List Item) where
       (λ told. stopped_by e new placed told.0 told.1 told.2 told.3)
       (λ cut. inr (cut.0, cut_by new (first old).answer (first old).steps (other (after old (first old))) cut.1)) h
 
-  -- the first had no place: as the other ends, so do both
+  -- the first step found no place, so both end as the other one
   second_by : (r : Result A StageStop) (thing : What) (mid new : List Item) → StageEnds other stage_stop r mid new → (why : StageCause)
       → (first old).answer ≡ Err why → stop.NoPlace thing ≡ stage_stop (Some why) → mid ≡ after old (first old)
       → StageEnds (or_else first other) stage_stop r old new

@@ -1,5 +1,5 @@
--- Why a stage stops a boot, and the error of a call that carries it out. A definition allocates none of the program's own memory, so running
--- out of that is no cause: it is the error for `None`.
+-- Why a stage stops the boot, and the error that its call returns for it. A definition needs no
+-- memory of this program, so out of memory is no cause. It is the error for `None`.
 use Rattle.std.specs.Prelude.{ℕ, Option, Some, None}
 use Rattle.memblock_model.specs.declared.owner.Which.{Which}
 use Rattle.growth_model.specs.declared.refusal.Refusal.{Refusal}
@@ -9,7 +9,7 @@ use Rattle.memblock_grow.specs.declared.stop.What.{What}
 use Rattle.memblock_grow.specs.declared.stop.StageStop.{StageStop}
 use Rattle.memblock_grow.specs.declared.stop.StageStop.TheVariants as stop
 
--- no place fits a thing that the boot needs, or a table had to grow and no place fits it
+-- no place fits what the boot needs, or a table had to grow and found no place
 pub data StageCause : Type 0 where
   NoPlace : (thing : What) → StageCause
   NoTablePlace : (which : Which) (room : ℕ) → StageCause
@@ -19,12 +19,12 @@ stage_stop None = stop.Memory
 stage_stop (Some (NoPlace thing)) = stop.NoPlace thing
 stage_stop (Some (NoTablePlace w room)) = stop.NoTablePlace w room
 
--- the same for a stage that looks for its places itself: only a table that had to grow stops it
+-- the error of a stage that makes its own searches: only a table that found no place stops it
 abbrev pub refusal_for : Option Refused → Refusal
 refusal_for None = refusal.Memory
 refusal_for (Some r) = refusal.NoGapForTable r.which r.room
 
--- why a boot stops where memblock refused what it asked for the thing
+-- why the boot stops if memblock refused a request for this
 abbrev pub stop_for : What → Refusal → StageStop
 stop_for thing refusal.NoGap = stop.NoPlace thing
 stop_for thing (refusal.NoGapForTable w room) = stop.NoTablePlace w room

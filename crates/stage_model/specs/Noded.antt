@@ -1,14 +1,14 @@
--- What holds of memory behind the stage that gives it its nodes (`numa_init`).
+-- Memory after the stage that gives it its nodes (`numa_init`).
 use Rattle.std.specs.Prelude.{◌≡◌, ℕ, ◌*◌, ◌/◌, ◌<◌, Some}
 use Rattle.bm_base.specs.declared.range.TheConstants.{FRAME_SIZE}
 use Rattle.address_runs.specs.Edits.{NothingFrom}
 use Rattle.memblock_model.specs.Labels.{LabelView, Labels}
 
--- the bytes of a frame carry the same
+-- all bytes of a frame have the same value
 abbrev pub AreOfFrames : {T : Type 0} → (ℕ → T) → Type 0
 AreOfFrames f = (x : ℕ) → f x ≡ f (FRAME_SIZE * (x / FRAME_SIZE))
 
--- memory is whole frames below the limit of addresses, and each has a node, which is below 1,024 (`MAX_NUMNODES`)
+-- memory is whole frames below the limit, each with a node below 1,024 (`MAX_NUMNODES`)
 pub record IsNoded (limit : ℕ) (f : Labels) : Type 0 where
   pub frames : AreOfFrames f
   pub nodes : (x : ℕ) (label : LabelView) → f x ≡ Some label → (node : ℕ) × (label.node ≡ Some node) × (node < 1024)

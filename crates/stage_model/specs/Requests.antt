@@ -10,7 +10,7 @@ use Rattle.memblock_grow.specs.declared.stop.What.{What}
 use Rattle.stage_model.specs.Causes.{StageCause, NoPlace, NoTablePlace}
 use Rattle.stage_model.specs.Doing.{Done, Doing, ◌>>=◌, after, returns, stops}
 
--- a change as a step: it answers nothing, or that a table found no place
+-- a change as a step: it returns nothing, or fails with the growth that was refused
 abbrev pub refusal_of : Option Refused → Result (Unit {0}) Refused
 refusal_of None = Ok tt
 refusal_of (Some r) = Err r
@@ -26,7 +26,8 @@ refused_growth (Some r) = Err (NoTablePlace r.which r.room)
 abbrev pub carried : Change → Doing StageCause (Unit {0})
 carried change items = record { steps = (change items).steps; answer = refused_growth (change items).refused }
 
--- an allocation that the boot can't do without answers its place (`memblock_alloc_range_nid`)
+-- an allocation that the boot can't do without: claims the place that is found and returns its
+-- address (`memblock_alloc_range_nid`)
 abbrev pub placed_at : What → Option ℕ → ℕ → Owner → Doing StageCause ℕ
 placed_at thing None size who = stops (NoPlace thing)
 placed_at thing (Some place) size who = carried (claimed (record { base = place; size = size }) who) >>= λ done. returns place
@@ -34,7 +35,7 @@ placed_at thing (Some place) size who = carried (claimed (record { base = place;
 unfoldable pub placed : What → Request → Owner → Doing StageCause ℕ
 placed thing r who items = placed_at thing (place_for r items) r.size who items
 
--- the one, and where no place fits it, the other
+-- the first step, and if no place fits it, the other one after it
 abbrev pub unless_gap : {A : Type 0} → List (List Item) → Result A StageCause → Done StageCause A → Done StageCause A
 unless_gap steps (Ok a) other = record { steps = steps; answer = Ok a }
 unless_gap steps (Err (NoPlace thing)) other = record { steps = steps ++ other.steps; answer = other.answer }

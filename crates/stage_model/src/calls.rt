@@ -1,4 +1,4 @@
-//! One call of memblock each, with its refusal as the stop of a stage.
+//! Calls of memblock whose refusal is returned as the stop of a stage.
 ghost use Rattle.std.specs.Prelude.{◌≡◌, ℕ, ◌+◌, ◌-◌, ◌^◌, ◌<◌, ◌≤◌, false, IfOk, IsOk, Some};
 ghost use Rattle.memblock_model.specs.declared.owner.Which.TheVariants as tables_of;
 ghost use Rattle.growth_model.specs.Growth.{noded, new_in, two, is_full as is_full_by};
@@ -14,7 +14,7 @@ use boot_journal::Owner;
 use growth_model::{Refusal, Request};
 use memblock_grow::{Memblock, StageStop, What};
 
-/// Why a boot stops if memblock refused what it asked for the thing.
+/// Returns why the boot stops if memblock refused a request for `what`.
 pub fn stop_for(what: What, refusal: Refusal) -> StageStop
     ensures { result ≡ stop_for what refusal }
 {
@@ -25,12 +25,15 @@ pub fn stop_for(what: What, refusal: Refusal) -> StageStop
     }
 }
 
-/// Allocates memory that the boot needs and returns its place, in bytes. The size is at least 1, the alignment a power of two. It needs none of
-/// the program's own memory if an item can be appended without, and the reserved table has room for the place.
+/// Allocates memory that the boot needs, and returns its address. The size must be at least 1, and
+/// the alignment a power of two. If a place fits, the reserved table has room for it and the
+/// journal has room for an item, the call can't fail.
 ///
 /// # Errors
 ///
-/// `NoPlace` if no place fits the request, `NoTablePlace` if a table had to grow and no place fits it, `Memory` before the last step only.
+/// - `NoPlace` if no place fits the request.
+/// - `NoTablePlace` if a table has to grow and finds no place.
+/// - `Memory` if this program is out of memory. The call then stops before one of its steps.
 pub fn place(
     memblock: &mut Memblock,
     what: What,
@@ -53,12 +56,14 @@ pub fn place(
     }
 }
 
-/// Gives the memory of a range its node. It needs none of the program's own memory if an item can be appended without, and the memory table has
-/// room for two more records.
+/// Gives the node, which is below 1,024, to the memory of the range. If the memory table has room
+/// for two more records and the journal has room for an item, the call can't fail. The range must
+/// not be empty.
 ///
 /// # Errors
 ///
-/// `NoTablePlace` if the memory table had to grow and no place fits it, `Memory` before the last step only.
+/// - `NoTablePlace` if a table has to grow and finds no place.
+/// - `Memory` if this program is out of memory. The call then stops before one of its steps.
 pub fn set_node(memblock: &mut Memblock, range: Range, node: u32) -> Result<(), StageStop>
     requires begun { HasBegun memblock.old.journal.items }
     requires some { 0 < range.size }

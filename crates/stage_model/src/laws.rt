@@ -1,6 +1,5 @@
-//! The laws of rows of allocations, as functions that do nothing: what the stages may rest on. That a call of
-//! memblock ends as a step stands here, below all of them, so that a stage is argued by its steps and not by the
-//! growth in them.
+//! Laws of stages. That a call of memblock ends as a step is proved here, below all stages, so
+//! that the proof of a stage is about its steps and not about the growth in them.
 
 ghost use Rattle.std.specs.Prelude.{◌≡◌, ℕ, List, Result};
 ghost use Rattle.bm_base.specs.ResultSteps.{with_error};
@@ -17,7 +16,8 @@ ghost use Rattle.stage_model.specs.Causes.{refusal_for, stage_stop, stop_for};
 ghost use Rattle.stage_model.specs.Doing.{after, StageEnds};
 ghost use Rattle.stage_model.specs.Requests.{carried, changes, placed};
 
-/// Law: a call of memblock that carries out a change, or an allocation, ends as the step of it does, with its refusal as the stop.
+/// Law: a call of memblock that makes a change, or an allocation, ends as its step is defined,
+/// with memblock's refusal as the stop.
 pub fn calls_end_as_steps()
     ensures change { (result : Result (Unit {0}) AnyRefusal) (old new : List Item) (change : Change) → Ends result old new change →
         StageEnds (changes change) refusal_for result old new }
@@ -28,7 +28,7 @@ pub fn calls_end_as_steps()
         StageEnds (placed thing request who) stage_stop (with_error (stop_for thing) result) old new }
 {}
 
-/// Law: an allocation leaves memory and the limit as they are, whether it finds a place or not.
+/// Law: an allocation changes neither memory nor the limit, whether it finds a place or not.
 pub fn allocations_leave_memory()
     ensures memory { (thing : AnyWhat) (request : AnyRequest) (who : Owner) (items : List Item) →
         memory_of (after items (placed thing request who items)) ≡ memory_of items }

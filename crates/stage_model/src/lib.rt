@@ -1,22 +1,28 @@
-//! The stages of the boot that ask for several places one after another: the words in which they are spoken of, and the calls
-//! of which they are made.
+//! Defines the stages of the boot that make several allocations in turn: how a stage is written as
+//! steps, and how the call that carries it out may end.
 //!
-//! Node data, the crash area, section roots and section maps are each a row of allocations; what a later one asks for may
-//! depend on what an earlier one got, and the first refusal ends the row. Such a stage is defined as a text of steps
-//! (`specs/Doing.antt`): each step writes groups of items, and has an answer or an error. One relation, `StageEnds`, says how a call ends that
-//! carries such a text out: with its answer or its error, or, where the program's own memory ran out, behind some whole
-//! groups of it.
+//! Node data, the crash area, section roots and section maps are each a sequence of allocations.
+//! What a later allocation requests may depend on what an earlier one got, and the first refusal
+//! ends the sequence. Such a stage is defined as steps (`specs/Doing.antt`). A step writes groups
+//! of items to the journal, each group as a whole or not at all, and returns a value or fails with
+//! an error. The relation `StageEnds` says how a call that carries out a stage ends. It returns
+//! the stage's value or its error. Or it returns `Memory` because this program is out of memory,
+//! after some of the groups.
 //!
 //! - `specs/Doing.antt`: steps, one after another, and `StageEnds`.
-//! - `specs/Causes.antt`: why a stage stops a boot, and the error that a call returns for it.
-//! - `specs/Requests.antt`: a change as a step, a change and an allocation that the boot can't do without, and one allocation
-//!   in place of another that had no place.
+//! - `specs/Causes.antt`: why a stage stops the boot, and the error that a call returns for it.
+//! - `specs/Requests.antt`: steps that make a change, or an allocation, that the boot can't do
+//!   without; and one step in place of another that found no place.
+//! - `specs/Noded.antt` and `specs/Quiet.antt`: memory after it has its nodes, and steps that
+//!   don't change memory.
 //!
-//! A stage's code is a row of calls: [`place`], an allocation that the boot can't do without, and [`set_node`], a change that it
-//! can't do without, each over a memblock that was lent. Each ends as its step says. A stage's loop carries two sentences
-//! along: as what is left ends, so does all; and the memblock went on.
+//! The code of a stage calls [`place`] and [`set_node`] on a memblock. Each ends as its step is
+//! defined, and keeps `GoesOn` of `memblock_grow`: the kernel's image, the bytes, and which
+//! addresses are prepared. The loop of a stage has two invariants: if the rest ends in some way,
+//! so does the whole stage; and `GoesOn` holds from the stage's start.
 //!
-//! The functions of `laws` are laws over the definitions: they do nothing, and their contracts are proved.
+//! The functions of `laws` are laws. A law is an empty function whose contract is a proven fact.
+//! In contracts, a name means the definition in `specs/`.
 #![tactic(auto)]
 
 mod calls;
