@@ -1,4 +1,4 @@
--- Worked examples: how much memory there is, what is asked for by that, where it may lie, and what comes of it.
+-- Worked examples: total memory, the request for it, the windows, and outcomes.
 use Rattle.std.proofs.Common.{◌≡◌, ℕ, ◌^◌, nat_le, true, false, Some, None, List, [], ◌∷◌, refl, ap, arith}
 use Rattle.std.proofs.lemmas.Bool.Decides.{nat_tests}
 use Rattle.std.proofs.lemmas.Option.{same_Some}
@@ -25,7 +25,7 @@ use Rattle.crash_kernel.specs.Reserved.{reserved, with_main}
 use Rattle.crash_kernel.specs.Told.{HasLowPart, IsArea, IsFree}
 use Rattle.crash_kernel.proofs.TotalLaws.{runs-bytes}
 
--- 640 KiB less a page and, of two nodes, 1 MiB and 2 bytes: not rounded
+-- 636 KiB and, of two nodes, 512 KiB and 512 KiB with 2 bytes more: not rounded
 abbrev two_nodes : List (RunOf LabelView)
 two_nodes = record { base = 0x1000; size = 0x9F000; value = plain_label }
     ∷ (record { base = 0x100000; size = 0x80000; value = with_node (Some 0) plain_label }
@@ -57,7 +57,7 @@ counted = runs-bytes two_nodes are_runs nothing_behind
 no_bytes : memory_bytes (value_at []) ≡ 0
 no_bytes = runs-bytes [] tt (λ x le. refl)
 
--- a range holds its start, and not its end
+-- a range has its start, and not its end
 abbrev middle : CrashRange
 middle = record { start = 0x10000000; end = Some 0x20000000; size = 0x1000000 }
 
@@ -68,16 +68,16 @@ in_examples : (is_in 0xFFFFFFF middle ≡ false) × (is_in 0x10000000 middle ≡
     × (is_in 0x20000000 middle ≡ false) × (is_in 0xFFFFFFFFFFFF open_range ≡ true)
 in_examples = (refl, refl, refl, refl, refl)
 
--- the first range that holds the total counts, and where none does nothing is asked for
+-- the first range that has the total counts; if there is none, nothing is requested
 size_examples : (size_for 0x18000000 (middle ∷ (record { start = 0; end = None; size = 7 } ∷ [])) ≡ 0x1000000)
     × (size_for 0x20000000 (middle ∷ (open_range ∷ [])) ≡ 0x4000000) × (size_for 0x1000 (middle ∷ (open_range ∷ [])) ≡ 0)
 size_examples = (refl, refl, refl)
 
--- a base of 0 leaves the place free
+-- base 0 leaves the place to the kernel
 spot_examples : (spot_for 0 ≡ spot.Automatic) × (spot_for 0x2000000 ≡ spot.Fixed 0x2000000)
 spot_examples = (refl, refl)
 
--- the plain form goes before the high one, unless it comes to no byte
+-- the high form counts only if the plain form requests no byte
 abbrev both_forms : Asked
 both_forms = record { plain = Some (one_range 0x4000000 0); high = Some 0x8000000; low = None }
 
@@ -90,7 +90,8 @@ area_examples : (area_for 0x40000000 both_forms ≡ Some (record { size = 0x4000
 unfolding area_for
 area_examples = (refl, refl, refl, refl)
 
--- two bytes at 1 MiB, where three are memory, where one of the three is claimed, and where two are of node 1
+-- memory at 1 MiB for a request of two bytes: three bytes; three of which one is claimed; and two
+-- of node 1
 abbrev three : List Item
 three = item.Mem (record { base = 0x100000; size = 3 }) ∷ []
 
@@ -100,8 +101,8 @@ claimed_one = item.Mem (record { base = 0x100000; size = 3 }) ∷ (item.Claim (r
 abbrev noded_bytes : List Item
 noded_bytes = item.Mem (record { base = 0x100000; size = 3 }) ∷ (item.Node (record { base = 0x100001; size = 2 }) 1 ∷ [])
 
--- two bytes fit there, asked for or not; four don't, nor two where one is claimed or of another node, at no multiple of 1 MiB, or past
--- the end of addresses
+-- two bytes fit, and four don't; two don't fit if one is claimed or of another node, if the base
+-- isn't a multiple of 1 MiB, or if the range ends at 2^64
 fixed_examples : (fixed_range 0x100000 2 three ≡ Some (record { base = 0x100000; size = 2 }))
     × (main_range 2 (spot.Fixed 0x100000) three ≡ Some (record { base = 0x100000; size = 2 }))
     × (fixed_range 0x100000 4 three ≡ None) × (fixed_range 0x100000 2 claimed_one ≡ None) × (fixed_range 0x100001 2 three ≡ None)
@@ -109,7 +110,7 @@ fixed_examples : (fixed_range 0x100000 2 three ≡ Some (record { base = 0x10000
 unfolding main_range fits fits_in each_in each_from
 fixed_examples = (refl, refl, refl, refl, refl, refl, refl)
 
--- what is free, and an area of it that needs no low part
+-- free memory, and an area of it that needs no low part
 abbrev two_bytes : RangeView
 two_bytes = record { base = 0x100000; size = 2 }
 
@@ -142,20 +143,20 @@ two_told = record {
 low_part_wanting : HasLowPart two_asked three (record { base = 0x100000000; size = 2 }) None → ⊥
 low_part_wanting known = let clash : true ≡ false = known in cc
 
--- what comes of an area without a place
+-- the outcomes of an area without a range
 unplaced_examples : (with_main (record { size = 2; spot = spot.Fixed 0x100000 }) 0x10000000 None three ≡ returns crash.InUse three)
     × (with_main (record { size = 2; spot = spot.Automatic }) 0x10000000 None three ≡ returns crash.NoArea three)
     × (unplaced spot.High ≡ crash.NoArea)
 unplaced_examples = (refl, refl, refl)
 
--- a low part is needed from 4 GiB on, of 256 MiB where the line doesn't say, and not where it says none
+-- a low part is needed from 4 GiB on, of 256 MiB by default, and not if its size is 0
 low_examples : (needs_low (record { base = 0xFF000000; size = 0x2000000 }) 0x10000000 ≡ false)
     × (needs_low (record { base = 0x100000000; size = 0x2000000 }) 1 ≡ true)
     × (needs_low (record { base = 0x100000000; size = 0x2000000 }) 0 ≡ false)
     × (low_size no_crash ≡ 0x10000000) × (low_size (record no_crash { low = Some 0 }) ≡ 0)
 low_examples = (refl, refl, refl, refl, refl)
 
--- nothing is asked for: nothing is done, whatever happened before
+-- if nothing is requested, nothing is done, whatever the items
 nothing_asked : (items : List Item) → reserved no_crash items ≡ returns crash.Nothing items
 unfolding reserved area_for
 nothing_asked items = refl

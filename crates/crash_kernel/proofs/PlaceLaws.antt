@@ -1,4 +1,5 @@
--- Places that a search found: they end within the window, and one of exactly its range is its base.
+-- Ranges that a search found: they end in the window, and a search of exactly one range finds its
+-- base.
 use Rattle.std.proofs.Common.{◌≡◌, ℕ, ◌+◌, ◌%◌, ◌^◌, ◌<◌, ◌≤◌, ◌==◌, Bool, true, false, nat_lt, if◌then◌else◌, Some, None, List, refl, arith}
 use Rattle.std.proofs.lemmas.Bool.Decides.{nat_tests}
 use Rattle.memblock_model.specs.declared.owner.Which.TheVariants as which
@@ -31,7 +32,7 @@ exact-base items size base place found =
     let high : place + size ≤ base + size = known.high in
     omega arith
 
--- what comes of a place that is asked for, by that search
+-- the range at a requested base, by that search
 fixed_by : (items : List Item) (size base : ℕ) (b : Bool) → base % 0x100000 ≡ 0 → base + size < 2 ^ 64
     → fits items (area_query size 1 base (base + size)) false base ≡ b
     → fixed_range base size items ≡ (if b then Some (record { base = base; size = size }) else None)

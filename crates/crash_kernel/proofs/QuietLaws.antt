@@ -1,4 +1,4 @@
--- The stage writes no item of memory, whatever it answers.
+-- The stage writes no item that changes memory, whatever its outcome.
 use Rattle.std.proofs.Common.{ℕ, Bool, true, false, if◌then◌else◌, Option, Some, None}
 use Rattle.bm_base.specs.Range.{RangeView}
 use Rattle.memblock_model.specs.declared.owner.Owner.TheVariants as owner

@@ -1,4 +1,4 @@
--- The stage step by step: how its parts end by the ends of what they carry out.
+-- The stage step by step: how its parts end, from the ends of the calls in them.
 use Rattle.std.proofs.Common.{◌≡◌, ◌≢◌, ℕ, Bool, if◌then◌else◌, Option, Some, None, List, [], ◌∷◌, ◌++◌, Result, Ok, Err, refl, sym, ◌∙◌, ap}
 use Rattle.bm_base.specs.Range.{RangeView}
 use Rattle.memblock_model.specs.declared.owner.Which.TheVariants as which
@@ -25,7 +25,7 @@ use Rattle.crash_kernel.specs.Area.{area_for}
 use Rattle.crash_kernel.specs.Places.{low_range, low_size, main_range, needs_low}
 use Rattle.crash_kernel.specs.Reserved.{low_part, reserved, with_area, with_low, with_main}
 
--- a change and an answer behind it, and a change that was refused
+-- a change and an outcome after it, and a change that was refused
 pub change-then : (a : Crash) (old new : List Item) (change : Change) → Ends {T = Unit {0}} (Ok tt) old new change
     → StageEnds (changes change >>= λ done. returns a) refusal_for (Ok a) old new
 change-then a old new change h =
@@ -36,13 +36,13 @@ pub change-fails : (e : Refusal) (old new : List Item) (change : Change) (next :
     → Ends {T = Unit {0}} (Err e) old new change → StageEnds {A = Crash} (changes change >>= next) refusal_for (Err e) old new
 change-fails e old new change next h = ends-first e refusal_for old new (changes change) next (ends-change (Err e) old new change h)
 
--- the low part, by the place that was found
+-- the low part, by the range that was found
 pub low-at : (items : List Item) (main : RangeView) (size : ℕ) (low : Option RangeView) → low ≡ low_range size items
     → low_part main size items ≡ with_low main low items
 unfolding low_part
 low-at items main size low found = rw found refl
 
--- behind the claim of the area
+-- after the claim of the area
 pub main-then : (r : Result Crash Refusal) (old mid new : List Item) (low : ℕ) (area : Area) (main : RangeView) (b : Bool)
     → b ≡ needs_low main low → Ends {T = Unit {0}} (Ok tt) old mid (claimed main owner.Crash)
     → StageEnds (if b then low_part main low else returns (crash.At main None)) refusal_for r mid new
@@ -59,7 +59,7 @@ main-fails e old new low area main h =
     change-fails e old new (claimed main owner.Crash)
     (λ done. if needs_low main low then low_part main low else returns (crash.At main None)) h
 
--- the stage as it goes on from the total, the area and the place that was found
+-- the rest of the stage after the total, the request and the range are known
 pub area-at : (items : List Item) (asked : Asked) (total : ℕ) (area : Option Area) → total ≡ memory_bytes (memory_of items)
     → area ≡ area_for total asked → reserved asked items ≡ with_area (low_size asked) area items
 unfolding reserved
@@ -70,18 +70,18 @@ pub main-at : (items : List Item) (asked : Asked) (total : ℕ) (area : Area) (m
     → reserved asked items ≡ with_main area (low_size asked) main items
 main-at items asked total area main counted is found = rw (area-at items asked total (Some area) counted is, found) refl
 
--- an answer behind no step is the one that is told
+-- the outcome of a stage that takes no step is the one that it returns
 pub idle-ok : (a told : Crash) (old new : List Item) (f : Doing Refused Crash) → StageEnds f refusal_for (Ok a) old new
     → f old ≡ returns told old → ◌≡◌ {A = Result Crash Refusal} (Ok a) (Ok told)
 idle-ok a told old new f h is =
     let same : a ≡ told = cc (sym h.0 ∙ ap (λ (t : Done Refused Crash). t.answer) is) in rw same refl
 
--- steps of which one is written in their midst
+-- steps with one that writes among them
 some-step : (before behind : List (List Item)) (one : List Item) → (before ++ one ∷ []) ++ behind ≢ []
 some-step [] behind one = λ is. cc
 some-step (s ∷ ss) behind one = λ is. cc
 
--- a change that ends with a written item, and goes on to an answer, has a step
+-- a change that ends with a written item, and then returns an outcome, has a step
 writes : (told : Crash) (items : List Item) (first : Outcome) (refused : Option Refused) (i : Item)
     (next : Unit {0} → Done Refused Crash) → first.refused ≡ refused
     → going_on (followed_by first refused (write i items)).steps (refusal_of (followed_by first refused (write i items)).refused) next
@@ -91,7 +91,7 @@ writes told items first None i next same = λ is.
 writes told items first (Some r) i next same = λ is.
     let none = rw same at (ap (λ (t : Done Refused Crash). t.answer) is) in cc none
 
--- so a claim is no answer behind no step
+-- so a claim isn't a stage without a step
 pub claim-writes : (told : Crash) (items : List Item) (range : RangeView) (who : Owner) (next : Unit {0} → Doing Refused Crash)
     → (changes (claimed range who) >>= next) items ≢ returns told items
 unfolding claimed

@@ -1,4 +1,4 @@
--- An area that the stage tells was free, and it has a low part exactly where it needs one.
+-- An area that the stage returns was free, and it has a low part exactly if it needs one.
 use Rattle.std.proofs.Common.{◌≡◌, ◌⊎◌, inl, inr, ℕ, ◌+◌, ◌%◌, ◌^◌, ◌≤◌, ◌==◌, Bool, true, false, ◌&&◌, nat_lt, is_some, if◌then◌else◌, Option, Some, None, List, Result, Ok, refl, sym, arith}
 use Rattle.std.proofs.lemmas.Bool.{true≢false, and_parts}
 use Rattle.std.proofs.lemmas.Bool.Decides.{nat_tests}
@@ -33,7 +33,7 @@ use Rattle.crash_kernel.specs.Places.{area_query, best_range, high_range, low_ra
 use Rattle.crash_kernel.specs.Reserved.{low_part, reserved, with_area, with_low, with_main}
 use Rattle.crash_kernel.specs.Told.{HasLowPart, IsArea, IsFree, with_claim}
 
--- a place that fits is free
+-- a range that fits is free
 free_by : (items : List Item) (r : RangeView) (o : Option LabelView) → is_some o ≡ true
     → ((x : ℕ) → covers r x ≡ true → memory_of items x ≡ o) → Unclaimed (owner_of items) r → IsFree items r
 free_by items r None held each free = absurd (true≢false (sym held))
@@ -48,7 +48,7 @@ place_free items q place known =
     (λ x at. let inside = covers-from r x at in known.label x inside.0 inside.1)
     (λ x at. let inside = covers-from r x at in no_owner (owner_of items x) (known.free x inside.0 inside.1))
 
--- a range that was found: free, of that size, at a multiple of 1 MiB, and, in a window, ending by its end
+-- a range that was found: free, of that size, at a multiple of 1 MiB, and ending in its window
 record IsMain (items : List Item) (size : ℕ) (r : RangeView) : Type 0 where
   free : IsFree items r
   sized : r.size ≡ size
@@ -71,7 +71,7 @@ best_by items size lo hi (Some place) r was is =
 best_found : (items : List Item) (size lo hi : ℕ) (r : RangeView) → best_range size lo hi items ≡ Some r → IsFound items size hi r
 best_found items size lo hi r is = best_by items size lo hi (best_place items (area_query size 0x1000000 lo hi)) r refl is
 
--- the place that was asked for
+-- the range at a requested base
 fits_free : (items : List Item) (size base : ℕ) → fits items (area_query size 1 base (base + size)) false base ≡ true
     → IsFree items (record { base = base; size = size })
 unfolding fits
@@ -107,7 +107,7 @@ main_found items size spot.Automatic r is =
     ]
 main_found items size spot.High r is = (best_found items size 0x1000000 (2 ^ 46) r is).main
 
--- the stage, from its answer back to what it found: a change that was refused has no area to tell
+-- from the stage's outcome back to what it found: a refused change has no area
 abbrev ok : Crash → Result Crash Refused
 ok a = Ok a
 
@@ -120,7 +120,7 @@ change_told change items next a = by (change items).refused where
   by None h = h
   by (Some r) h = cc
 
--- behind the claim, by the place of the low part
+-- after the claim, by the range of the low part
 with_low_told : (asked : Asked) (items : List Item) (m main : RangeView) (low found : Option RangeView)
     → low_range (low_size asked) (with_claim m items) ≡ found → needs_low m (low_size asked) ≡ true
     → (with_low m found (with_claim m items)).answer ≡ Ok (crash.At main low) → HasLowPart asked items m low × (m ≡ main)
@@ -138,7 +138,7 @@ with_low_told asked items m main low (Some l) is needs h =
     let found = best_found mid (low_size asked) 0 (2 ^ 32) l is in
     (rw (← there) (needs, record { size = found.main.sized; free = found.main.free; within = found.within }), same)
 
--- by whether one is needed
+-- by whether a low part is needed
 needs_told : (asked : Asked) (items : List Item) (m main : RangeView) (low : Option RangeView) (b : Bool) → needs_low m (low_size asked) ≡ b
     → ((if b then low_part m (low_size asked) else returns (crash.At m None)) (with_claim m items)).answer ≡ Ok (crash.At main low)
     → HasLowPart asked items m low × (m ≡ main)
@@ -151,7 +151,7 @@ needs_told asked items m main low false is h =
     let there : None ≡ low = cc in
     (rw (← there) is, same)
 
--- an area without a place isn't one that is told
+-- an outcome without a range isn't an area
 unplaced_told : (s : Spot) (main : RangeView) (low : Option RangeView) → ok (unplaced s) ≡ Ok (crash.At main low) → ⊥
 unplaced_told (spot.Fixed base) main low h = cc
 unplaced_told spot.Automatic main low h = cc

@@ -18,11 +18,11 @@ use Rattle.memblock_model.proofs.TableLaws.{value_at-records}
 use Rattle.crash_kernel.specs.Total.{memory_bytes}
 
 module _ {X : Type 0} where
-  -- the sizes of all runs together
+  -- the sum of the sizes of all runs
   abbrev pub sizes : List (RunOf X) → ℕ
   sizes rs = sum_by (λ r. r.size) rs
 
-  -- those of the runs before one come to its base at most
+  -- the sizes of the runs before one add up to at most its base
   sizes_below : (at i : ℕ) (rs : List (RunOf X)) (d : RunOf X) → StartAtOrPast at rs → AreRuns rs → i < length rs
       → at + sizes (take i rs) ≤ (get_or rs i d).base
   sizes_below at i [] d start runs lt = absurd (omega arith)
@@ -47,7 +47,7 @@ module _ {X : Type 0} where
   rest_by : (n : ℕ) (r : RunOf X) (rs : List (RunOf X)) → run_end r ≤ n → NothingFrom n (value_at (r ∷ rs)) → NothingFrom n (value_at rs)
   rest_by n r rs ends none x le = rw (behind r x (omega arith)) at (none x le)
 
-  -- what lies in the first run lies in no other
+  -- an address in the first run is in no other
   first_alone : (r : RunOf X) (rs : List (RunOf X)) (x : ℕ) → AreRuns (r ∷ rs) → lies_in r x ≡ true → is_some (value_at rs x) ≡ false
   first_alone r rs x runs lies =
       let low : x < run_end r = grind (arith, nat_tests) in
@@ -58,7 +58,7 @@ module _ {X : Type 0} where
       elim (cases_Bool (lies_in r x)) as (λ _. is_some (value_at (r ∷ rs) x) ≡ (lies_in r x || is_some (value_at rs x)))
       [ inl here ↦ rw here refl | inr other ↦ rw other refl ]
 
-  -- so the addresses with a value are as many as the sizes say
+  -- so the number of addresses with a value is the sum of the sizes
   pub sizes-count : (n : ℕ) (rs : List (RunOf X)) → AreRuns rs → NothingFrom n (value_at rs)
       → count_below (λ x. is_some (value_at rs x)) n ≡ sizes rs
   sizes-count n [] runs none = count_none (λ x. false) n (λ i lt. refl)
@@ -74,7 +74,7 @@ pub runs-bytes : (rs : List (RunOf LabelView)) → AreRuns rs → NothingFrom (2
 unfolding memory_bytes
 runs-bytes rs runs none = sizes-count (2 ^ 64) rs runs none
 
--- and the records of the memory table say of each address what the items say
+-- the records of the memory table give each address what the items give it
 pub records-bytes : (items : List Item) (rs : List (RunOf LabelView)) → NothingFrom (2 ^ 64) (memory_of items)
     → rs ≡ records_of which.Memory items → memory_bytes (value_at rs) ≡ memory_bytes (memory_of items)
 unfolding records_of

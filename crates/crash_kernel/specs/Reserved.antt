@@ -1,4 +1,5 @@
--- The crash area, reserved: what is claimed and what comes of it (`reserve_crashkernel`, `reserve_crashkernel_low`).
+-- The reservation of the crash area, step by step (`reserve_crashkernel`,
+-- `reserve_crashkernel_low`).
 use Rattle.std.specs.Prelude.{ℕ, if◌then◌else◌, Option, Some, None}
 use Rattle.bm_base.specs.Range.{RangeView}
 use Rattle.memblock_model.specs.declared.owner.Owner.TheVariants as owner
@@ -15,7 +16,7 @@ use Rattle.crash_kernel.specs.Total.{memory_bytes}
 use Rattle.crash_kernel.specs.Area.{area_for}
 use Rattle.crash_kernel.specs.Places.{low_range, low_size, main_range, needs_low, unplaced}
 
--- the low part is claimed; where it has no place the area is given back
+-- searches for a low part and claims it; if no range was found for it, frees the area again
 abbrev pub with_low : RangeView → Option RangeView → Doing Refused Crash
 with_low main None = do
   done ← changes (freed main)
@@ -29,21 +30,21 @@ low_part main size = do
   low ← seen (low_range size)
   with_low main low
 
--- the area is claimed, and then a low part, where the area needs one
+-- claims the area, and reserves its low part if it needs one
 abbrev pub with_main : Area → ℕ → Option RangeView → Doing Refused Crash
 with_main area low None = returns (unplaced area.spot)
 with_main area low (Some main) = do
   done ← changes (claimed main owner.Crash)
   if needs_low main low then low_part main low else returns (crash.At main None)
 
--- a place is looked for, where something is asked for
+-- searches for the area, if one is requested, and claims it
 abbrev pub with_area : ℕ → Option Area → Doing Refused Crash
 with_area low None = returns crash.Nothing
 with_area low (Some area) = do
   main ← seen (main_range area.size area.spot)
   with_main area low main
 
--- how much is asked for depends on how much memory there is
+-- computes the request from total memory, and reserves it (`reserve_crashkernel`)
 unfoldable pub reserved : Asked → Doing Refused Crash
 reserved asked = do
   total ← seen (λ items. memory_bytes (memory_of items))

@@ -1,5 +1,5 @@
-//! How much is asked for, and in which form, by the total memory. It is told by the line and by one number, so it
-//! stands apart from the searches: nothing here sees memblock.
+//! The size and placement that `crashkernel=` requests (`parse_crashkernel`). They depend only on
+//! the option and on total memory. Nothing here reads memblock.
 
 ghost use Rattle.std.specs.Prelude.{◌≡◌, ◌<◌, IfSome};
 ghost use Rattle.std.specs.Option.{option_map};
@@ -8,26 +8,28 @@ ghost use Rattle.crash_kernel.specs.Area.{area_for, high_area, plain_area, size_
 
 use boot_options::{CrashOption, CrashPlain, CrashRange};
 
-/// Where an area may lie.
+/// Where the area may lie.
 #[derive(Clone, Copy, Debug, PartialEq, Eq)]
 pub enum Spot {
-    /// At this address alone.
+    /// At exactly this physical address (`crashkernel=SIZE@BASE`).
     Fixed(u64),
-    /// Below 4 GiB; where nothing fits there, below 64 TiB.
+    /// Between 16 MiB and 4 GiB; between 16 MiB and 64 TiB if nothing fits there
+    /// (`crashkernel=SIZE`, or ranges of total memory).
     Automatic,
-    /// Below 64 TiB.
+    /// Between 16 MiB and 64 TiB (`crashkernel=SIZE,high`). The area may lie below 4 GiB.
     High,
 }
 
-/// The area that is asked for.
+/// The crash area that the command line requests.
 #[derive(Clone, Copy, Debug, PartialEq, Eq)]
 pub struct Area {
-    /// Its number of bytes, above 0.
+    /// The size in bytes, above 0.
     pub size: u64,
     pub spot: Spot,
 }
 
-/// The area that is asked for where so many bytes are memory: the plain form goes before the high one.
+/// Returns the area that `option` requests if the machine has `total` bytes of memory, or `None`
+/// if it requests no memory. The high form counts only if the plain form requests nothing.
 #[tactic(auto, unfolding(crate::specs::Area::area_for))]
 pub fn area_for(total: u64, option: &CrashOption) -> Option<Area>
     ensures area { result ≡ area_for total (crash_view option.now) }
@@ -36,7 +38,7 @@ pub fn area_for(total: u64, option: &CrashOption) -> Option<Area>
     plain_area(total, &option.plain).or_else(|| high_area(option.high))
 }
 
-/// What the plain form asks for: the size of the first range that holds the total.
+/// Returns the area that the plain form requests: `SIZE`, `SIZE@BASE`, or ranges of total memory.
 fn plain_area(total: u64, plain: &Option<CrashPlain>) -> Option<Area>
     ensures area { result ≡ plain_area total (option_map plain_view plain.now) }
     ensures some { IfSome result (λ area. 0 < area.size) }
@@ -47,7 +49,7 @@ fn plain_area(total: u64, plain: &Option<CrashPlain>) -> Option<Area>
     }
 }
 
-/// What the high form asks for.
+/// Returns the area that the form `SIZE,high` requests. `high` is its size, if the form is given.
 fn high_area(high: Option<u64>) -> Option<Area>
     ensures area { result ≡ high_area high }
     ensures some { IfSome result (λ area. 0 < area.size) }
@@ -55,7 +57,7 @@ fn high_area(high: Option<u64>) -> Option<Area>
     sized(high?, Spot::High)
 }
 
-/// The area of that size, unless it has no byte.
+/// Returns an area of `size` bytes, or `None` if `size` is 0.
 fn sized(size: u64, spot: Spot) -> Option<Area>
     ensures area { result ≡ sized size spot }
     ensures some { IfSome result (λ area. 0 < area.size) }
@@ -66,7 +68,7 @@ fn sized(size: u64, spot: Spot) -> Option<Area>
     Some(Area { size, spot })
 }
 
-/// The place that a plain form with this base asks for.
+/// Returns the placement for the base of a plain form. Base 0 leaves the place to the kernel.
 fn spot_for(base: u64) -> Spot
     ensures { result ≡ spot_for base }
 {
@@ -77,7 +79,8 @@ fn spot_for(base: u64) -> Spot
     }
 }
 
-/// The size of the first range that holds the total, or 0.
+/// Returns the size given for the first range that `total` is in, or 0 if it is in none
+/// (`parse_crashkernel_mem`). The kernel first rounds `total` up to 128 MiB; this doesn't.
 fn size_for(total: u64, ranges: &[CrashRange]) -> u64
     ensures { result ≡ size_for total ranges.now }
 {
@@ -89,7 +92,7 @@ fn size_for(total: u64, ranges: &[CrashRange]) -> u64
     0
 }
 
-/// Whether the range holds the total.
+/// Tests whether total memory is at least the start of the range, and below its end if it has one.
 fn is_in(total: u64, range: &CrashRange) -> bool
     ensures { result ≡ is_in total range.now }
 {

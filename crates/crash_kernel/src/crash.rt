@@ -1,19 +1,21 @@
-//! What came of the crash area. All of these are answers, since a boot goes on without the area: an error is only
-//! that a table had to grow and found no place, or want of memory.
+//! The outcome of `crashkernel=`.
 
 use bm_base::Range;
 
-/// What a boot made of `crashkernel=`.
+/// The outcome of reserving the crash area. The boot continues after each of these.
 #[derive(Clone, Copy, Debug, PartialEq, Eq)]
 pub enum Crash {
-    /// Nothing was asked for.
+    /// Neither the plain nor the high form of `crashkernel=` requests any memory.
     Nothing,
-    /// The area is claimed, and below 4 GiB a part beside it, where it has one.
+    /// The area is claimed. So is its low part, if the area lies at or above 4 GiB and the low
+    /// part's size isn't 0.
     At { main: Range, low: Option<Range> },
-    /// No place was free for the area.
+    /// No free range fits the area (the kernel logs `No suitable area found`).
     NoArea,
-    /// The place that was asked for is no multiple of 1 MiB, or isn't all free memory of one node.
+    /// The requested base isn't a multiple of 1 MiB, or the range there isn't entirely free memory
+    /// of one node, or would end past 2^64 - 1 (the kernel logs `memory is in use`).
     InUse,
-    /// No place was free for the low part, and the area was given back.
+    /// No free range below 4 GiB fits the low part, and the area was freed again (the kernel logs
+    /// `Cannot reserve ..MB crashkernel low memory`).
     LowFailed,
 }

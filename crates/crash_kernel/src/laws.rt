@@ -1,5 +1,5 @@
-//! The laws of the crash area, as functions that do nothing: what the stages behind it may rest on. An answer
-//! tells where an area lies and no more; that it was free memory, of one node, is said here for who reads it.
+//! Laws of the crash area, for the later stages of a boot. A [`Crash`] says only where an area
+//! lies; these laws say what it was before.
 
 ghost use Rattle.std.specs.Prelude.{◌≡◌, Option, List, Ok};
 ghost use Rattle.bm_base.specs.Range.{RangeView};
@@ -11,7 +11,7 @@ ghost use Rattle.crash_kernel.specs.declared.crash.Crash.TheVariants as crash;
 ghost use Rattle.crash_kernel.specs.Reserved.{reserved};
 ghost use Rattle.crash_kernel.specs.Told.{IsArea};
 
-/// A law: the stage leaves memory and the limit as they are, whatever it answers.
+/// Law: the stage changes neither memory nor the limit, whatever its outcome.
 pub fn crash_area_leaves_memory()
     ensures memory { (asked : Asked) (items : List AnyItem) →
         memory_of (after items (reserved asked items)) ≡ memory_of items }
@@ -19,8 +19,10 @@ pub fn crash_area_leaves_memory()
         limit_of (after items (reserved asked items)) ≡ limit_of items }
 {}
 
-/// A law: an area that is answered was free memory of one node, at a multiple of 1 MiB and of the size that was asked for. It
-/// has a low part exactly where it lies at 4 GiB or above and that part is to have a byte; the part was free too, and lies below 4 GiB.
+/// Law: a reserved area was free memory of one node, has the requested size, and begins at a
+/// multiple of 1 MiB. It has a low part exactly if it lies at or above 4 GiB and the low size
+/// isn't 0. The low part was still free memory of one node once the area was claimed, and ends at
+/// or below 4 GiB.
 pub fn areas_were_free()
     ensures { (asked : Asked) (items : List AnyItem) (main : RangeView) (low : Option RangeView) →
         (reserved asked items).answer ≡ Ok (crash.At main low) → IsArea asked items main low }

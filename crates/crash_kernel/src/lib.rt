@@ -1,18 +1,24 @@
-//! The crash area: memory that is kept for a kernel that takes over after a crash (`reserve_crashkernel`).
+//! Reserves the crash area: memory set aside for the kernel that takes over after a crash
+//! (`reserve_crashkernel` in arch/x86/kernel/setup.c).
 //!
-//! What the command line asks for (`crashkernel=`, `boot_options`) becomes a size by how much memory there is, and a
-//! place by a row of searches. Then the area is claimed, and where it lies at 4 GiB or above also a part below, for
-//! devices that reach no higher. Where that part has no place, the area is given back: a boot goes on without it.
+//! [`reserve`] takes the parsed `crashkernel=` option of `boot_options`. The size that it requests
+//! may depend on total memory. The stage searches memblock for a free range of that size and
+//! claims it. An area at or above 4 GiB also gets a low part, a second range below 4 GiB, for
+//! devices that can't address more. If no range fits the low part, the area is freed again. The
+//! outcome is a [`Crash`]. An area that doesn't fit never stops the boot.
 //!
-//! - `specs/Total.antt`: how much memory there is, byte by byte.
-//! - `specs/Area.antt`: the size that is asked for by that, and in which form.
-//! - `specs/Places.antt`: where the area and its low part may lie.
-//! - `specs/Reserved.antt`: the stage as steps, one after another.
-//! - `specs/Told.antt`: what an area tells that is answered ([`areas_were_free`]).
+//! The definitions follow the kernel function:
 //!
-//! [`reserve`] carries the steps out on memblock and answers a [`Crash`]. It never stops a boot by itself: only a table
-//! that has to grow for a claim and finds no place does, and want of the program's own memory. Memory and the limit stay
-//! as they are ([`crash_area_leaves_memory`]).
+//! - `specs/Total.antt`: total memory.
+//! - `specs/Area.antt`: the size and placement that are requested for that total.
+//! - `specs/Places.antt`: the windows that are searched for the area and its low part.
+//! - `specs/Reserved.antt`: the whole stage, step by step.
+//! - `specs/Told.antt`: what is true of an area that was reserved.
+//!
+//! Later stages may rest on two laws. The stage changes neither memory nor the limit
+//! ([`crash_area_leaves_memory`]). An area that was reserved was free memory of the requested size
+//! ([`areas_were_free`]). A law is an empty function whose contract is a proven fact. In
+//! contracts, a name means the definition in `specs/`.
 #![tactic(auto)]
 
 mod area;

@@ -1,5 +1,6 @@
-//! Where the area and its low part may lie: searches of unclaimed memory, on any node. Memblock is only looked at
-//! here, so that an area has no place is known before anything is claimed, and wants no memory.
+//! Where the crash area and its low part may lie: the windows and alignments of
+//! `reserve_crashkernel` and `reserve_crashkernel_low`. A search only reads memblock. It never
+//! allocates, so it can't run out of memory.
 
 ghost use Rattle.std.specs.Prelude.{◌≡◌, ℕ, ◌+◌, ◌^◌, ◌<◌, ◌≤◌, IfSome};
 ghost use Rattle.bm_base.specs.Range.{RangeView};
@@ -12,19 +13,19 @@ use bm_base::Range;
 use memblock_grow::Memblock;
 use memblock_model::Query;
 
-/// The alignment of a place that is searched for, 16 MiB (`CRASH_ALIGN`).
+/// The alignment of a range that is searched for, 16 MiB (`CRASH_ALIGN`).
 const ALIGN: u64 = 1 << 24;
 
-/// The alignment of a place that is asked for, 1 MiB (`SZ_1M`).
+/// The alignment of a requested base, 1 MiB (`SZ_1M`).
 const FIXED_ALIGN: u64 = 1 << 20;
 
-/// The end of what every device reaches, 4 GiB (`CRASH_ADDR_LOW_MAX`).
+/// The end of the memory that every device can address, 4 GiB (`CRASH_ADDR_LOW_MAX`).
 const LOW_END: u64 = 1 << 32;
 
-/// The end of what a crash kernel reaches, 64 TiB (`CRASH_ADDR_HIGH_MAX`).
+/// The end of the memory that a crash kernel can use, 64 TiB (`CRASH_ADDR_HIGH_MAX`).
 const HIGH_END: u64 = 1 << 46;
 
-/// The place of the area, or `None` where nothing that it may have is free.
+/// Returns the range for the crash area, or `None` if no free range fits the request.
 #[tactic(auto, unfolding(crate::specs::Places::main_range))]
 pub fn main_range(memblock: &Memblock, area: &Area) -> Option<Range>
     requires begun { HasBegun memblock.now.journal.items }
@@ -43,7 +44,7 @@ pub fn main_range(memblock: &Memblock, area: &Area) -> Option<Range>
     }
 }
 
-/// Why an area with this spot has no place.
+/// Returns the outcome if no free range fits an area with this placement.
 pub fn unplaced(spot: Spot) -> Crash
     ensures { result ≡ unplaced spot }
 {
@@ -53,14 +54,15 @@ pub fn unplaced(spot: Spot) -> Crash
     }
 }
 
-/// Whether an area there needs a low part of that size: it lies at 4 GiB or above, and the part has a byte.
+/// Tests whether the area at `main` needs a low part of `low` bytes: it lies at or above 4 GiB,
+/// and `low` isn't 0.
 pub fn needs_low(main: &Range, low: u64) -> bool
     ensures { result ≡ needs_low main.now low }
 {
     LOW_END <= main.base && 0 < low
 }
 
-/// The place of a low part.
+/// Returns the range for the low part, or `None` if no free range below 4 GiB fits.
 #[tactic(auto, unfolding(crate::specs::Places::low_range))]
 pub fn low_range(memblock: &Memblock, size: u64) -> Option<Range>
     requires begun { HasBegun memblock.now.journal.items }
@@ -71,7 +73,8 @@ pub fn low_range(memblock: &Memblock, size: u64) -> Option<Range>
     best_range(memblock, size, 0, LOW_END)
 }
 
-/// The highest aligned place in the window that is free.
+/// Returns the free range of `size` bytes that memblock picks between `lo` and `hi`, on any node
+/// and aligned to 16 MiB. `None` means that no free range fits.
 fn best_range(memblock: &Memblock, size: u64, lo: u64, hi: u64) -> Option<Range>
     requires begun { HasBegun memblock.now.journal.items }
     requires some { 0 < size }
@@ -90,7 +93,8 @@ fn best_range(memblock: &Memblock, size: u64, lo: u64, hi: u64) -> Option<Range>
     Some(Range { base, size })
 }
 
-/// The place that is asked for, where it is aligned and free.
+/// Returns the range of `size` bytes at `base`, or `None` if `base` isn't a multiple of 1 MiB or
+/// the range isn't free.
 fn fixed_range(memblock: &Memblock, base: u64, size: u64) -> Option<Range>
     requires begun { HasBegun memblock.now.journal.items }
     requires some { 0 < size }

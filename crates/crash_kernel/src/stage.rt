@@ -1,4 +1,4 @@
-//! The stage: the area is claimed, and its low part, or what was claimed is given back.
+//! Claims the crash area and its low part, or frees the area again if the low part doesn't fit.
 
 ghost use Rattle.std.specs.Prelude.{◌≡◌, ◌≢◌, ◌<◌, IfErr, Ok};
 ghost use Rattle.growth_model.specs.Sound.{HasBegun, IsAway};
@@ -20,12 +20,21 @@ use growth_model::Refusal;
 use memblock_grow::Memblock;
 use memblock_model::Owner;
 
-/// The size of the low part where the line doesn't say, 256 MiB (`reserve_crashkernel_low`).
+/// The size of the low part without `crashkernel=SIZE,low`, 256 MiB (`reserve_crashkernel_low`).
+/// The kernel takes more if `swiotlb=` requests larger bounce buffers; this doesn't.
 const DEFAULT_LOW: u64 = 1 << 28;
 
-/// Reserves the crash area that the line asks for (`reserve_crashkernel`), and answers what came of it. `NoGapForTable`
-/// comes where a table has to grow for a claim or a release and finds no place; what was claimed before stays then.
-/// Where nothing is claimed, since nothing is asked for or it has no place, no memory is taken, and none is wanted.
+/// Reserves the crash area that `option` requests, and its low part if it needs one
+/// (`reserve_crashkernel`). Returns the outcome, which may be that nothing fits. The kernel's
+/// image must be claimed already. For `Nothing`, `NoArea` and `InUse` the call allocates nothing
+/// and can't fail.
+///
+/// # Errors
+///
+/// Completed steps stay: if claiming the low part fails, the area stays claimed.
+///
+/// - `NoGapForTable` if a table has to grow for a claim or a free and finds no place.
+/// - `Memory` if this program is out of memory.
 pub fn reserve(memblock: &mut Memblock, option: &CrashOption) -> Result<Crash, Refusal>
     requires begun { HasBegun memblock.old.journal.items }
     ensures ends { StageEnds (reserved (crash_view option.now)) refusal_for result
@@ -51,7 +60,8 @@ pub fn reserve(memblock: &mut Memblock, option: &CrashOption) -> Result<Crash, R
     }
 }
 
-/// Reserves the low part beside an area that is claimed, or gives the area back (`reserve_crashkernel_low`).
+/// Reserves a low part of `size` bytes for the claimed area at `main`, or frees the area if
+/// nothing fits (`reserve_crashkernel_low`).
 fn reserve_low(memblock: &mut Memblock, main: Range, size: u64) -> Result<Crash, Refusal>
     requires begun { HasBegun memblock.old.journal.items }
     requires main { 0 < main.size }

@@ -1,4 +1,4 @@
-//! How much memory there is, from the records of the memory table: one pass, a number each.
+//! Total memory, from the records of the memory table.
 
 ghost use Rattle.std.specs.Prelude.{◌≡◌};
 ghost use Rattle.address_runs.specs.Runs.{value_at};
@@ -7,7 +7,7 @@ ghost use Rattle.crash_kernel.specs.Total.{memory_bytes};
 use memblock_model::Which;
 use memblock_ranges::Tables;
 
-/// How many bytes are memory, not rounded.
+/// Returns the number of bytes of memory, not rounded (`memblock_phys_mem_size`).
 pub fn total_memory(tables: &Tables) -> u64
     ensures { result ≡ memory_bytes (value_at tables.now.memory.records) }
 {

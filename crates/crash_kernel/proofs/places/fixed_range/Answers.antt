@@ -4,7 +4,7 @@ use Rattle.crash_kernel.proofs.PlaceLaws.{exact-base, fixed-found, fixed-fails}
 use Rattle.crash_kernel.proofs.places.fixed_range.Goals as goal
 use Rattle.crash_kernel.proofs.places.fixed_range.Goals.{After-end}
 
--- the window's end is the range's
+-- the window ends where the range ends
 end_is : (c : After-end) → c.end.result ≡ c.args.base + c.args.size
 end_is c = c.end.ensures.value ∙ ap (λ (r : RangeView). r.base + r.size) c.in_ok-range.ensures.1
 

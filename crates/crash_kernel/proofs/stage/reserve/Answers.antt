@@ -23,7 +23,7 @@ total_is c =
     ∙ records-bytes c.args.memblock.now.journal.items c.tables.result.now.memory.records c.tables.ensures.within
     (ap (λ (m : Table). m.records) c.tables.ensures.memory)
 
--- the stage goes on by the place of the area
+-- the rest of the stage, by the range of the area
 by_main : (c : In-Some-main_range) → c.total_memory-total.result ≡ memory_bytes (memory_of c.args.memblock.now.journal.items)
     → reserved (crash_view c.args.option.now) c.args.memblock.now.journal.items
     ≡ with_main c.in-Some.area (low_size (crash_view c.args.option.now)) (Some c.in-Some-main_range.main) c.args.memblock.now.journal.items

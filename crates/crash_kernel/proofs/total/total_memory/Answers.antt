@@ -8,7 +8,7 @@ use Rattle.crash_kernel.specs.Total.{memory_bytes}
 use Rattle.crash_kernel.proofs.TotalLaws.{sizes-before, runs-bytes}
 use Rattle.crash_kernel.proofs.total.total_memory.Goals as goal
 
--- in place of a record, where there is none
+-- the value for a record that doesn't exist
 nothing : RunOf LabelView
 nothing = record { base = 0; size = 0; value = plain_label }
 
