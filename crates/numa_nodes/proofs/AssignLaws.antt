@@ -1,4 +1,4 @@
--- The parts of the stage, one behind another; and what of the memory table they are told.
+-- The parts of the stage, one after another, and what they read from the memory table.
 use Rattle.std.proofs.Common.{◌≡◌, ◌^◌, ◌<◌, ℕ, Bool, is_some, Option, List, [], ◌∷◌, ◌++◌, Result, Ok, Err, refl, ◌∙◌, ap, arith}
 use Rattle.std.proofs.lemmas.List.Elements.{All-cons}
 use Rattle.bm_base.specs.Range.{RangeView}
@@ -27,7 +27,7 @@ use Rattle.stage_model.proofs.DoingLaws.{ends-first, ends-listed, ends-second, e
 use Rattle.numa_nodes.specs.Assigned.{Noded, assigned, assigned_by, data_placed, given, is_memory, noded_by, nodes_with_memory, ranges_by, ranges_given, with_data}
 use Rattle.numa_nodes.specs.Steps.{CanGetNodes}
 
--- the ranges as a list, what comes behind them, and behind the nodes of memory
+-- the list of ranges, what follows them, and what follows the nodes that have memory
 abbrev ranges_in : Judgement → List Item → List NumaBlock
 ranges_in found items = ranges_given (limit_of items) found
 
@@ -40,7 +40,7 @@ by_ranges found ranges = in_turn given tt ranges >>= behind found
 abbrev nodes_in : List Item → List ℕ
 nodes_in items = nodes_with_memory (memory_of items)
 
--- memory ran out before anything was written
+-- out of memory before anything was written
 pub by-wanting : (items : List Item) (found : Judgement)
     → StageEnds {A = Noded} (assigned_by found) stage_stop (Err stop.Memory) items items
 unfolding assigned_by
@@ -48,7 +48,7 @@ by-wanting items found =
     ends-first stop.Memory stage_stop items items (listed (ranges_in found)) (by_ranges found)
     (ends-wanting (ranges_in found) stage_stop items)
 
--- as what comes behind the list of ranges ends, so does all
+-- the stage ends as what follows the list of ranges
 by-listed : (r : Result Noded StageStop) (old new : List Item) (found : Judgement)
     → StageEnds (by_ranges found (ranges_in found old)) stage_stop r old new → StageEnds (assigned_by found) stage_stop r old new
 unfolding assigned_by
@@ -62,7 +62,7 @@ pub by-ranges : (e : StageStop) (old new : List Item) (found : Judgement)
 by-ranges e old new found was =
     by-listed (Err e) old new found (ends-first e stage_stop old new (in_turn given tt (ranges_in found old)) (behind found) was)
 
--- behind the ranges
+-- after the ranges
 module _ (old mid : List Item) (found : Judgement)
     (was : StageEnds {A = Unit {0}} (in_turn given tt (ranges_given (limit_of old) found)) stage_stop (Ok tt) old mid) where
   by-behind : (r : Result Noded StageStop) (new : List Item) → StageEnds (behind found tt) stage_stop r mid new
@@ -71,13 +71,13 @@ module _ (old mid : List Item) (found : Judgement)
       by-listed r old new found
       (ends-second tt r stage_stop old mid new (in_turn given tt (ranges_in found old)) (behind found) was rest)
 
-  -- memory ran out for the nodes of memory
+  -- out of memory for the nodes that have memory
   pub data-wanting : StageEnds {A = Noded} (assigned_by found) stage_stop (Err stop.Memory) old mid
   data-wanting =
       by-behind (Err stop.Memory) mid
       (ends-first stop.Memory stage_stop mid mid (listed nodes_in) (with_data found) (ends-wanting nodes_in stage_stop mid))
 
-  -- or the data of those nodes is placed
+  -- the data of those nodes is placed
   by-data : (r : Result Noded StageStop) (new : List Item) → StageEnds (with_data found (nodes_in mid)) stage_stop r mid new
       → StageEnds (assigned_by found) stage_stop r old new
   by-data r new rest =
@@ -101,7 +101,7 @@ pub assigned-is : (table : Option Affinity) (off : Bool) (items : List Item)
 unfolding assigned
 assigned-is table off items = refl
 
--- the records of the memory table tell memory
+-- the records of the memory table give each byte the label that the items give it
 pub records-tell : (kernel : RangeView) (items : List Item) (records : List (RunOf LabelView)) (t : Table) → records ≡ t.records
     → t ≡ table_for which.Memory kernel items → NothingFrom (2 ^ 64) (memory_of items) → value_at records ≡ memory_of items
 unfolding records_of
@@ -112,7 +112,7 @@ pub ranges-tell : (items : List Item) (ranges : List RangeView) (records : List 
     → ((x : ℕ) → in_any ranges x ≡ is_some (value_at records x)) → value_at records ≡ memory_of items → in_any ranges ≡ is_memory items
 ranges-tell items ranges records each same = λ i x. (each x ∙ ap (λ (f : Labels). is_some (f x)) same) i
 
--- where the table isn't used, all below the limit is one range
+-- if the table isn't used, all addresses below the limit are one range
 pub ranges-cases : (P : List NumaBlock → Type 0) (reason : Why) (limit : ℕ) (j : Judgement) → (reason ≡ why.Used → P (j.joined ++ j.rest))
     → P (record { base = 0; size = limit; value = 0 } ∷ []) → P (ranges_by reason limit j)
 ranges-cases P why.Used limit j used other = used refl
@@ -124,7 +124,7 @@ ranges-cases P why.TooManyBlocks limit j used other = other
 ranges-cases P (why.Overlap m n) limit j used other = other
 ranges-cases P (why.NotCovered frames) limit j used other = other
 
--- each range that gets a node can get it
+-- each range of the judgement can get its node
 pub can-get : (limit : ℕ) (found : Judgement) (memory : ℕ → Bool) (off : Bool) (table : Option Affinity) → 0 < limit
     → found ≡ judged memory off table → CanGetNodes (ranges_given limit found)
 can-get limit found memory off table some is =

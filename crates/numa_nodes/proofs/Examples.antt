@@ -1,4 +1,5 @@
--- Worked examples: which ranges get a node, what that makes of memory, which nodes have memory, and what is asked for their data.
+-- Worked examples: the ranges that get a node, memory with its nodes, the nodes that have memory,
+-- and the requests for their data.
 use Rattle.std.proofs.Common.{◌≡◌, ℕ, true, false, Some, None, [], ◌∷◌, Ok, Err, refl, ap, arith}
 use Rattle.std.specs.List.{Contains}
 use Rattle.memblock_model.specs.declared.owner.Which.TheVariants as which
@@ -16,7 +17,7 @@ use Rattle.numa_nodes.specs.Assigned.{given, has_node, is_memory, is_of_node, no
 use Rattle.numa_nodes.proofs.ListedLaws.{nodes-listed, nodes-lists}
 use Rattle.numa_nodes.proofs.MemoryLaws.{noded_all}
 
--- 16 KiB in node 1 and 16 KiB in node 0, and 4 KiB behind them that no block covers
+-- 16 KiB in node 1, 16 KiB in node 0 after them, and then 4 KiB that no block covers
 abbrev low : NumaBlock
 low = record { base = 0; size = 0x4000; value = 1 }
 
@@ -29,13 +30,13 @@ last = record { base = 0x8000; size = 0x1000; value = 0 }
 abbrev two_nodes : Judgement
 two_nodes = record { why = why.Used; domains = 9 ∷ (4 ∷ []); joined = low ∷ (high ∷ []); rest = last ∷ []; uncovered = 1 }
 
--- the joined ranges before the rest, where the table is used; else all below the limit
+-- the joined ranges before the rest if the table is used, else all addresses below the limit
 range_examples : (ranges_given 0x9000 two_nodes ≡ low ∷ (high ∷ (last ∷ [])))
     × (ranges_given 0x9000 (unused why.NoBlocks) ≡ record { base = 0; size = 0x9000; value = 0 } ∷ [])
     × (ranges_given 0x9000 (unused (why.NotCovered 300)) ≡ record { base = 0; size = 0x9000; value = 0 } ∷ [])
 range_examples = (refl, refl, refl)
 
--- memory gets the nodes, and what isn't memory gets none
+-- memory gets the nodes, and other addresses get none
 abbrev memory_below : ℕ → Labels
 memory_below end x = memory_of (item.Mem (record { base = 0; size = end }) ∷ []) x
 
@@ -53,29 +54,29 @@ memory_is : (is_memory (item.Mem (record { base = 0x1000; size = 0x1000 }) ∷ [
     × (is_memory (item.Mem (record { base = 0x1000; size = 0x1000 }) ∷ []) 0x2000 ≡ false)
 memory_is = (refl, refl)
 
--- a table that finds no place to grow to stops the boot, and then no further range gets its node
+-- a table that finds no place to grow stops the boot, and then no further range gets its node
 given_examples : (carried (refuse which.Memory 128) [] ≡ record { steps = []; answer = Err (NoTablePlace which.Memory 128) })
     × (in_turn given tt [] (item.Trim ∷ []) ≡ record { steps = []; answer = Ok tt })
 given_examples = (refl, refl)
 
--- memory of node 5, memory of no node yet, and no memory
+-- memory of node 5, memory without a node, and no memory
 of_node_5 : (is_of_node 5 (Some (of_node 5)) ≡ true) × (is_of_node 4 (Some (of_node 5)) ≡ false)
     × (is_of_node 5 (Some plain_label) ≡ false) × (is_of_node 5 None ≡ false)
 of_node_5 = (refl, refl, refl, refl)
 
--- one byte of it is enough
+-- one byte of memory is enough
 one_byte : (f : Labels) → f 0x1234 ≡ Some (of_node 5) → Contains (nodes_with_memory f) 5
 one_byte f at = nodes-lists f 5 0x1234 (omega arith) (omega arith) (ap (is_of_node 5) at)
 
--- a node of number 1,024 is none
+-- there is no node 1,024
 too_high : (f : Labels) → Contains (nodes_with_memory f) 1024 → ⊥
 too_high f listed = let below = (nodes-listed f 1024 listed).0 in absurd (omega (arith, below))
 
--- of nodes 3, 4 and 5 those that have memory, ascending
+-- those of nodes 3, 4 and 5 that have memory, in ascending order
 third_and_fifth : (f : Labels) → has_node f 3 ≡ true → has_node f 4 ≡ false → has_node f 5 ≡ true → nodes_from f 3 3 ≡ 3 ∷ (5 ∷ [])
 third_and_fifth f third fourth fifth = rw (third, fourth, fifth) refl
 
--- what is asked for the data of node 3, and that without nodes nothing is asked
+-- the request for the data of node 3; without nodes there is none
 data_examples : (node_data_request 3 ≡ record { size = 176128; align = 64; min = 0; max = None; node = Some 3; exact = false })
     × (with_data two_nodes [] [] ≡ record { steps = []; answer = Ok (noded_by two_nodes []) })
 data_examples = (refl, refl)

@@ -1,4 +1,4 @@
--- What the steps make of memory and of the limit: the ranges get their nodes, and that is all.
+-- How the steps change memory and the limit: the ranges get their nodes, and nothing else changes.
 use Rattle.std.proofs.Common.{◌≡◌, ◌≢◌, ℕ, Bool, is_some, Option, Some, None, List, [], ◌∷◌, ◌++◌, Result, Ok, Err, refl, sym, ◌∙◌, ap, subst, inl, inr}
 use Rattle.std.proofs.lemmas.Bool.{cases_Bool}
 use Rattle.std.specs.Option.{option_map}
@@ -31,14 +31,14 @@ use Rattle.node_hulls.specs.Judgement.{Judgement, judged}
 use Rattle.numa_nodes.specs.Assigned.{Noded, assigned, assigned_by, data_placed, given, is_memory, node_data_request, noded_by, nodes_with_memory, ranges_given, with_data}
 use Rattle.numa_nodes.proofs.AssignLaws.{behind}
 
--- the growth that may go before
+-- the growth that may come before
 abbrev growth : List Item → Outcome
 growth items = grown which.Memory two memory_growth items
 
 growth-quiet : (items : List Item) → AreQuiet (growth items).steps
 growth-quiet items = (quiet-grown which.Memory two memory_growth memory_growth-quiet).each items
 
--- a range that gets its node is an item behind the growth, or, where that was refused, the growth alone
+-- a range that gets its node is an item after the growth, or only the growth if that was refused
 given-cases : (P : List Item → Type 0) (first : Outcome) (r : Option Refused) (items others : List Item) (node : Item)
     → P (appended items first.steps ++ node ∷ []) → (r ≢ None → P (appended items first.steps))
     → P (appended items (followed_by first r (write node others)).steps)
@@ -57,7 +57,7 @@ none-refused : (first second : Outcome) (r : Option Refused) → first.refused �
 none-refused first second None is answered = refl
 none-refused first second (Some r) is answered = let clash = rw is at answered in absurd (cc clash)
 
--- what a range with its node makes of memory
+-- memory after each range got its node
 unfoldable pub noded_all : List NumaBlock → Labels → Labels
 noded_all [] f = f
 noded_all (r ∷ rs) f = noded_all rs (relabel_range (extent_of r) (with_node (Some r.value)) f)
@@ -101,7 +101,7 @@ given-limit b items =
     given-by (λ (is : List Item). limit_of is ≡ limit_of items) b items
     (fold-append limit_after 0 (appended items (growth items).steps) (item.Node (extent_of b) b.value ∷ []) ∙ same) (λ refused. same)
 
--- node data leaves memory alone
+-- node data doesn't change memory
 quiet-data : (done : Unit {0}) (n : ℕ) → IsQuietStep (data_placed done n)
 quiet-data done n =
     quiet-bind _ _ (quiet-placed (what.NodeData n) (node_data_request n) (owner.NodeData n)) (λ place. quiet-returns tt)
@@ -114,7 +114,7 @@ quiet-behind : (found : Judgement) (done : Unit {0}) → IsQuietStep (behind fou
 quiet-behind found done =
     quiet-bind _ _ (quiet-listed (λ items. nodes_with_memory (memory_of items))) (quiet-with_data found)
 
--- what quiet steps and nodes leave as it is, all of it leaves
+-- what neither quiet steps nor nodes change, the whole stage doesn't change
 module _ {V : Type 0} (seen_of : List Item → V)
     (quiet : (items : List Item) (steps : List (List Item)) → AreQuiet steps → seen_of (appended items steps) ≡ seen_of items)
     (one : (b : NumaBlock) (items : List Item) → seen_of (after items (given tt b items)) ≡ seen_of items) where
@@ -152,13 +152,13 @@ pub keeps-limit : (table : Option Affinity) (off : Bool) (items : List Item)
     → limit_of (after items (assigned table off items)) ≡ limit_of items
 keeps-limit table off items = keeps-all limit_of quiet-appended_limit given-limit table off items
 
--- an answer of two steps tells that the first one answered
+-- if two steps in turn return a value, so did the first
 went-on : {E A B : Type 0} (steps : List (List Item)) (answer : Result A E) (next : A → Done E B) (b : B)
     → (going_on steps answer next).answer ≡ Ok b → (a : A) × (answer ≡ Ok a)
 went-on steps (Ok a) next b is = (a, refl)
 went-on steps (Err e) next b is = absurd (cc is)
 
--- where all ranges got their nodes, memory has them
+-- if all ranges got their nodes, memory has them
 turn-memory : (rs : List NumaBlock) (items : List Item) → (in_turn given tt rs items).answer ≡ Ok tt
     → memory_of (after items (in_turn given tt rs items)) ≡ noded_all rs (memory_of items)
 unfolding noded_all
@@ -170,7 +170,8 @@ turn-memory (r ∷ rs) items answered =
     rw first.1 (ap memory_of (appended-append items d.steps (next tt).steps) ∙ turn-memory rs (after items d) (rw first.1 at answered)
     ∙ ap (noded_all rs) (given-memory r items first.1))
 
--- what an answer of the stage tells: the memory behind it, and that the nodes are those that have memory
+-- after success: memory has the nodes of the ranges, and the nodes that are returned are those
+-- that have memory
 pub record IsBehind (items : List Item) (found : Judgement) (new : List Item) (noded : Noded) : Type 0 where
   pub memory : memory_of new ≡ noded_all (ranges_given (limit_of items) found) (memory_of items)
   pub nodes : noded.with_memory ≡ nodes_with_memory (memory_of new)

@@ -1,4 +1,5 @@
--- Behind the stage each byte of memory has a node below 1,024, and the bytes of a frame have the same.
+-- After the stage each byte of memory has a node below 1,024, which is the same for all bytes of a
+-- frame.
 use Rattle.std.proofs.Common.{◌≡◌, ℕ, ◌-◌, ◌%◌, ◌*◌, ◌/◌, ◌^◌, ◌<◌, ◌≤◌, Bool, true, false, ◌||◌, is_some, Option, Some, None, List, [], ◌∷◌, ◌++◌, length, Ok, refl, sym, ◌∙◌, ap, inl, inr, arith}
 use Rattle.std.proofs.lemmas.Bool.{cases_lt, cases_Bool, true≢false}
 use Rattle.std.proofs.lemmas.Bool.Decides.{nat_tests}
@@ -26,7 +27,7 @@ use Rattle.numa_nodes.specs.Steps.{CanGetNodes}
 use Rattle.numa_nodes.proofs.AssignLaws.{ranges-cases}
 use Rattle.numa_nodes.proofs.MemoryLaws.{behind-answer, noded_all}
 
--- a label with a node, where there is one to give
+-- a label with the node, if there is one to give
 abbrev relabel : Option ℕ → Option LabelView → Option LabelView
 relabel None o = o
 relabel (Some n) o = option_map (with_node (Some n)) o
@@ -50,7 +51,7 @@ unfolding noded_all
 noded-append [] ss f = refl
 noded-append (r ∷ rs) ss f = noded-append rs ss (relabel_range (extent_of r) (with_node (Some r.value)) f)
 
--- where one of two gives a node, the label has that node
+-- if one of two lists gives a node, the label has that node
 abbrev labelled : Option ℕ → Option LabelView → Option LabelView
 labelled node o = option_map (with_node node) o
 
@@ -73,7 +74,7 @@ value-small (r ∷ rs) x n can at = elim (cases_Bool (lies_in r x)) as (λ _. n 
   | inr not_here ↦ value-small rs x n (All-tail (λ (b : NumaBlock). (0 < b.size) × (b.value < 1024)) r rs can) (rw not_here at at)
 ]
 
--- what is known of the labels g that memory f got: by these nodes
+-- the labels g that memory f got from these nodes
 record IsGiven (limit : ℕ) (f g : Labels) (nodes : ℕ → Option ℕ) : Type 0 where
   given : (x : ℕ) → g x ≡ labelled (nodes x) (f x)
   small : (x n : ℕ) → nodes x ≡ Some n → n < 1024
@@ -84,7 +85,7 @@ label-node : (n : Option ℕ) (o : Option LabelView) (label : LabelView) → lab
 label-node n None label at = absurd (none-some label at)
 label-node n (Some l) label at = (refl, ap (λ (k : LabelView). k.node) (sym (same_Some (with_node n l) label at)))
 
--- so memory is noded
+-- so memory satisfies IsNoded
 is-noded : (limit : ℕ) (f g : Labels) (nodes : ℕ → Option ℕ) → IsGiven limit f g nodes → AreOfFrames f
     → NothingFrom limit f → IsNoded limit g
 is-noded limit f g nodes by frames within = record {
@@ -102,7 +103,7 @@ is-noded limit f g nodes by frames within = record {
   noded x label None has at some = absurd (true≢false (sym some))
   noded x label (Some n) has at some = (n, has, by.small x n at)
 
--- by a table that is used
+-- from a table that is used
 two-small : (a b : Option ℕ) (n : ℕ) → ((m : ℕ) → a ≡ Some m → m < 1024) → ((m : ℕ) → b ≡ Some m → m < 1024)
     → option_or b a ≡ Some n → n < 1024
 two-small a None n first second at = first n at
@@ -152,7 +153,7 @@ module _ (f : Labels) (off : Bool) (table : Option Affinity) where
             rw (same.0, same.1) refl;
       }
 
--- and without one: all memory lies below the limit
+-- and without one: all memory is below the limit
 below-given : (reach limit : ℕ) (f : Labels) → NothingFrom limit f
     → IsGiven reach f (noded_all (record { base = 0; size = limit; value = 0 } ∷ []) f) (λ x. Some 0)
 unfolding noded_all
@@ -171,7 +172,7 @@ below-given reach limit f within = record {
   frames = λ x near. refl;
 }
 
--- by any judgement
+-- from any judgement
 given-noded : (reach limit : ℕ) (f : Labels) (off : Bool) (table : Option Affinity) → reach ≤ 2 ^ 64 → AreOfFrames f
     → NothingFrom reach f → NothingFrom limit f → IsNoded reach (noded_all (ranges_given limit (judged (λ x. is_some (f x)) off table)) f)
 given-noded reach limit f off table near frames within low =

@@ -1,4 +1,4 @@
--- A row of steps, one for each of a list: as what is left ends, so does all of it.
+-- One step for each element of a list: the sequence ends as its remaining steps end.
 use Rattle.std.proofs.Common.{◌≡◌, ℕ, ◌+◌, ◌<◌, ◌≤◌, List, ◌∷◌, drop, get_or, length, Result, Ok, Err, refl, sym, ◌∙◌, ap}
 use Rattle.std.proofs.lemmas.List.{drop_all, drop_more}
 use Rattle.memblock_model.specs.declared.owner.Owner.TheVariants as owner
@@ -12,7 +12,7 @@ use Rattle.stage_model.specs.Requests.{placed}
 use Rattle.stage_model.proofs.DoingLaws.{ends-first, ends-second}
 use Rattle.numa_nodes.specs.Assigned.{data_placed, node_data_request}
 
--- as the steps from the one with this index on end, so do all
+-- all steps end as those from index i on
 pub record Turns {X : Type 0} (step : Unit {0} → X → Doing StageCause (Unit {0})) (xs : List X) (i : ℕ) (old here : List Item) : Type 0 where
   pub ends : (r : Result (Unit {0}) StageStop) (new : List Item)
       → StageEnds (in_turn step tt (drop i xs)) stage_stop r here new → StageEnds (in_turn step tt xs) stage_stop r old new
@@ -22,7 +22,7 @@ module _ {X : Type 0} {step : Unit {0} → X → Doing StageCause (Unit {0})} {x
   drop-next : (x d : X) → i < length xs → x ≡ get_or xs i d → drop i xs ≡ x ∷ drop (i + 1) xs
   drop-next x d below is = drop_more xs i d below ∙ ap (λ (y : X). y ∷ drop (i + 1) xs) (sym is)
 
-  -- the next step answered
+  -- the next step returned
   pub turn-next : (x d : X) (mid : List Item) → i < length xs → x ≡ get_or xs i d
       → StageEnds (step tt x) stage_stop (Ok tt) here mid → Turns step xs (i + 1) old mid
   turn-next x d mid below is was = record {
@@ -30,7 +30,7 @@ module _ {X : Type 0} {step : Unit {0} → X → Doing StageCause (Unit {0})} {x
         (λ next. in_turn step next (drop (i + 1) xs)) was rest));
   }
 
-  -- it stopped
+  -- the next step failed
   pub turn-stops : (x d : X) (new : List Item) (e : StageStop) → i < length xs → x ≡ get_or xs i d
       → StageEnds {A = Unit {0}} (step tt x) stage_stop (Err e) here new
       → StageEnds {A = Unit {0}} (in_turn step tt xs) stage_stop (Err e) old new
@@ -38,11 +38,11 @@ module _ {X : Type 0} {step : Unit {0} → X → Doing StageCause (Unit {0})} {x
       turns.ends (Err e) new (rw (drop-next x d below is) (ends-first e stage_stop here new (step tt x)
       (λ next. in_turn step next (drop (i + 1) xs)) was))
 
-  -- nothing is left
+  -- no step remains
   pub turn-done : length xs ≤ i → StageEnds {A = Unit {0}} (in_turn step tt xs) stage_stop (Ok tt) old here
   turn-done all = turns.ends (Ok tt) here (rw (drop_all i xs all) (refl, refl))
 
--- the data of a node by its allocation
+-- the data of a node, by its allocation
 pub data-placed : (r : Result ℕ StageStop) (n : ℕ) (here new : List Item) (q : Request) → q ≡ node_data_request n
     → StageEnds (placed (what.NodeData n) q (owner.NodeData n)) stage_stop r here new
     → StageEnds (data_placed tt n) stage_stop (ok_as (λ base. tt) r) here new

@@ -25,8 +25,9 @@ use Rattle.numa_nodes.specs.declared.nodes.Nodes.{Nodes}
 abbrev pub is_memory : List Item → ℕ → Bool
 is_memory items x = is_some (memory_of items x)
 
--- the ranges that get a node, each with it: where the table is used, the runs of addresses of one node and then the runs of memory that
--- is left over; else all addresses up to the limit get node 0 (`dummy_numa_init`)
+-- the ranges that get a node, each with its node: if the table is used, the runs of addresses of
+-- one node and then the runs of memory that is left over; else all addresses below the limit, with
+-- node 0 (`dummy_numa_init`)
 abbrev pub ranges_by : Why → ℕ → Judgement → List NumaBlock
 ranges_by why.Used limit found = found.joined ++ found.rest
 ranges_by reason limit found = record { base = 0; size = limit; value = 0 } ∷ []
@@ -43,11 +44,11 @@ abbrev pub is_of_node : ℕ → Option LabelView → Bool
 is_of_node node None = false
 is_of_node node (Some label) = same_node_or_none label.node (Some node)
 
--- whether some byte is
+-- whether some byte is memory of the node
 abbrev pub has_node : Labels → ℕ → Bool
 has_node f node = not (each_from (λ x. not (is_of_node node (f x))) 0 (2 ^ 64))
 
--- of the n nodes from the first on, those that have memory, ascending
+-- those of the n nodes from `node` on that have memory, in ascending order
 abbrev pub nodes_from : Labels → ℕ → ℕ → List ℕ
 nodes_from f node zero = []
 nodes_from f node (suc n) = if has_node f node then node ∷ nodes_from f (node + 1) n else nodes_from f (node + 1) n
@@ -56,7 +57,8 @@ nodes_from f node (suc n) = if has_node f node then node ∷ nodes_from f (node 
 unfoldable pub nodes_with_memory : Labels → List ℕ
 nodes_with_memory f = nodes_from f 0 MAX_NODES
 
--- the data of a node: so many bytes, at a cache line, on the node itself if there is room (`alloc_node_data`)
+-- the data of a node: its size, at a cache line, on the node itself if there is room
+-- (`alloc_node_data`)
 abbrev pub node_data_request : ℕ → Request
 node_data_request node = record { size = 0x2B000; align = 64; min = 0; max = None; node = Some node; exact = false }
 
@@ -77,16 +79,17 @@ nodes_view n = record { why = n.why; domains = n.domains.items; uncovered = n.un
 abbrev pub noded_by : Judgement → List ℕ → Noded
 noded_by found nodes = record { why = found.why; domains = found.domains; uncovered = found.uncovered; with_memory = nodes }
 
--- the data of each node with memory
+-- the data of each node that has memory
 abbrev pub with_data : Judgement → List ℕ → Doing StageCause Noded
 with_data found nodes = in_turn data_placed tt nodes >>= λ done. returns (noded_by found nodes)
 
--- all of it, by a judgement
+-- the whole stage, after the table has been judged
 unfoldable pub assigned_by : Judgement → Doing StageCause Noded
 assigned_by found =
     listed (λ items. ranges_given (limit_of items) found) >>= λ ranges. (in_turn given tt ranges
     >>= λ done. (listed (λ items. nodes_with_memory (memory_of items)) >>= λ nodes. with_data found nodes))
 
--- and by the table and `numa=off`: the table is judged by the memory that there is before the first range gets its node
+-- the whole stage for a table and `numa=off`: the table is judged against memory before the first
+-- range gets its node
 unfoldable pub assigned : Option Affinity → Bool → Doing StageCause Noded
 assigned table off = seen (λ items. judged (is_memory items) off table) >>= λ found. assigned_by found

@@ -1,4 +1,4 @@
--- Words for the steps of the code, which private clauses and proofs cite.
+-- Definitions that only proofs and the contracts of private functions cite.
 use Rattle.std.specs.Prelude.{ℕ, ◌<◌, Bool, Some, List}
 use Rattle.std.specs.List.{list_any, All}
 use Rattle.address_runs.specs.Runs.{RunOf}
@@ -8,7 +8,7 @@ use Rattle.memblock_grow.specs.Contents.{Contents}
 use Rattle.memblock_grow.specs.Going.{GoesOn}
 use Rattle.node_hulls.specs.Hulls.{NumaBlock}
 
--- a record of the table is of the node
+-- a record of the table has the node
 abbrev pub has_record : List (RunOf LabelView) → ℕ → Bool
 has_record records node = list_any (λ (r : RunOf LabelView). same_node_or_none r.value.node (Some node)) records
 
@@ -16,6 +16,6 @@ has_record records node = list_any (λ (r : RunOf LabelView). same_node_or_none 
 abbrev pub CanGetNodes : List NumaBlock → Type 0
 CanGetNodes ranges = All (λ (r : NumaBlock). (0 < r.size) × (r.value < 1024)) ranges
 
--- a memblock that went on to here goes on to there
+-- if GoesOn holds from some start to `old`, it holds from that start to `new`
 abbrev pub GoesFurther : Contents → Contents → Type 0
 GoesFurther old new = (start : Contents) → GoesOn start old → GoesOn start new

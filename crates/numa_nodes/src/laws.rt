@@ -1,6 +1,5 @@
-//! What the steps come to, as functions that do nothing: what the boot may rest on. The steps go by ranges; that
-//! each byte of memory has a node then, the same for all of a frame, is what the stages behind them ask, and is
-//! said here.
+//! Laws of the stage. The steps are about ranges; the stages above need what they mean for each
+//! byte of memory: that it has a node, which is the same for all bytes of its frame.
 ghost use Rattle.std.specs.Prelude.{◌≡◌, ◌↔◌, ℕ, ◌^◌, ◌<◌, ◌≤◌, Bool, true, is_some, Option, List, length, get_or, Ok};
 ghost use Rattle.std.specs.List.{Contains};
 ghost use Rattle.address_runs.specs.Edits.{NothingFrom};
@@ -12,7 +11,8 @@ ghost use Rattle.stage_model.specs.Doing.{after};
 ghost use Rattle.stage_model.specs.Noded.{AreOfFrames, IsNoded};
 ghost use Rattle.numa_nodes.specs.Assigned.{Noded, assigned, is_of_node, nodes_with_memory};
 
-/// A law: no byte becomes memory or ceases to be, and the limit stays, whatever is answered.
+/// Law: no byte becomes memory or stops being memory, and the limit is unchanged, whatever the
+/// stage returns.
 pub fn nodes_leave_memory()
     ensures memory { (table : Option Affinity) (off : Bool) (items : List AnyItem) (x : ℕ) →
         is_some (memory_of (after items (assigned table off items)) x) ≡ is_some (memory_of items x) }
@@ -20,8 +20,9 @@ pub fn nodes_leave_memory()
         limit_of (after items (assigned table off items)) ≡ limit_of items }
 {}
 
-/// A law: behind an answer each byte of memory has a node below 1,024, and the bytes of a frame have the same, where memory was
-/// whole frames, each of one label, and ended at the limit or below it; and the nodes that are answered are those that have memory then.
+/// Law: after success each byte of memory has a node below 1,024, and all bytes of a frame have
+/// the same label. This holds if memory was whole frames, each with one label, and ended at or
+/// below the limit. The nodes that the stage returns are those that have memory.
 pub fn nodes_reach_memory()
     ensures noded { (reach : ℕ) (table : Option Affinity) (off : Bool) (items : List AnyItem) (noded : Noded) →
         (assigned table off items).answer ≡ Ok noded → reach ≤ 2 ^ 64 → AreOfFrames (memory_of items) →
@@ -32,8 +33,8 @@ pub fn nodes_reach_memory()
         noded.with_memory ≡ nodes_with_memory (memory_of (after items (assigned table off items))) }
 {}
 
-/// A law: a node is among those that have memory exactly where it is below 1,024 and some byte of memory has it; and they stand
-/// ascending.
+/// Law: a node is listed exactly if it is below 1,024 and some byte of memory has it; and the list
+/// is ascending.
 pub fn listed_nodes_have_memory()
     ensures listed { (f : Labels) (n : ℕ) → Contains (nodes_with_memory f) n ↔
         ((n < 1024) × ((x : ℕ) × (x < 2 ^ 64) × (is_of_node n (f x) ≡ true))) }

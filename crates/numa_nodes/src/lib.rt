@@ -1,18 +1,25 @@
-//! The nodes of memory and the data of each node: the boot between memory and the crash area.
+//! Gives memory its nodes, and places the data of each node: the stage of the boot between memory
+//! and the crash area.
 //!
-//! The firmware's table of domains is judged over the memory that there is (`numa_init`), each byte of memory gets its
-//! node (`numa_register_memblks`), and a place is found for the data of each node that has memory (`alloc_node_data`).
-//! `specs/Assigned.antt` says it as steps: one Node item a run of addresses of one node, one a run of memory that no block
-//! covers, and then a row of allocations. Where the table isn't used all memory is of node 0.
+//! The stage judges the firmware's table of domains (the SRAT) against the machine's memory
+//! (`numa_init`). It gives each byte of memory its node (`numa_register_memblks`), and allocates
+//! the data of each node that has memory (`alloc_node_data`). `specs/Assigned.antt` defines it as
+//! steps. There is one Node item for each run of addresses of one node, then one for each run of
+//! memory that no block of the table covers. The allocations follow. If the table isn't used, all
+//! memory gets node 0.
 //!
-//! [`assign`] carries the steps out over a memblock that was lent, and answers the [`Nodes`]. It reads the memory table
-//! twice: for the ranges that the table of domains is judged by, and, behind the Node items, for the nodes that have memory.
+//! [`assign`] carries out the stage on a memblock and returns the [`Nodes`]. It reads the memory
+//! table twice: before the first step, for the ranges against which the table of domains is
+//! judged; and after the Node items, for the nodes that have memory.
 //!
-//! - `src/memory.rt`: what is read of the memory table, one pass each.
-//! - `src/limit.rt`: the limit, by the journal.
-//! - `src/stage.rt`: the ranges that get a node, the node data, and all of it.
-//! - `src/laws.rt`: what the steps come to: no byte becomes memory or ceases to be, the limit stays, and behind an answer each
-//!   byte of memory has a node.
+//! - `src/memory.rt`: what is read from the memory table, one pass each.
+//! - `src/limit.rt`: the limit, from the journal.
+//! - `src/stage.rt`: the ranges that get a node, the node data, and the whole stage.
+//! - `src/laws.rt`: what the stages above may rest on. No byte becomes memory or stops being
+//!   memory, the limit is unchanged, and after success each byte of memory has a node.
+//!
+//! A law is an empty function whose contract is a proven fact. In contracts, a name means the
+//! definition in `specs/`.
 #![tactic(auto)]
 
 mod laws;

@@ -1,10 +1,10 @@
-//! The limit of allocations, as the journal has it: memblock keeps it to itself.
+//! The limit of allocations, from the journal, since memblock doesn't return it.
 ghost use Rattle.std.specs.Prelude.{◌≡◌};
 ghost use Rattle.memblock_model.specs.Items.{limit_of};
 
 use boot_journal::Item;
 
-/// The newest limit, an address; 0 where none was set (`memblock_set_current_limit`).
+/// Returns the newest limit, an address, or 0 if none was set (`memblock_set_current_limit`).
 pub fn limit_of(items: &[Item]) -> u64
     ensures { result ≡ limit_of items.now }
 {

@@ -1,5 +1,6 @@
-//! Nodes for memory, and data for nodes: the Node items and the allocations, in their order. They are one stage,
-//! since the data of a node should lie on it: it is asked for once memory has its nodes, for those with memory.
+//! Nodes for memory, and data for nodes: the Node items and then the allocations. They are one
+//! stage, since the data of a node should lie on the node. So it is allocated after memory has its
+//! nodes, and only for nodes that have memory.
 ghost use Rattle.std.specs.Prelude.{◌≡◌, ◌^◌, ◌<◌, length, IfOk};
 ghost use Rattle.std.specs.Option.{ForSome, option_map, option_copied};
 ghost use Rattle.memblock_model.specs.Items.{limit_of};
@@ -24,18 +25,24 @@ use srat_reader::Srat;
 use stage_model::{StageStop, What, place, set_node};
 use std::alloc::Global;
 
-/// The bytes of a node's data (`pg_data_t` of x86-64, in whole pages).
+/// The size in bytes of a node's data (`pg_data_t` of x86-64, in whole pages).
 const NODE_DATA_SIZE: u64 = 0x2B000;
 
-/// A line of the processor's cache, in bytes (`SMP_CACHE_BYTES`).
+/// The size in bytes of a line of the processor's cache (`SMP_CACHE_BYTES`).
 const CACHE_LINE: u64 = 64;
 
-/// Gives each byte of memory its node, and each node that has memory a place for its data (`initmem_init`). The table of
-/// domains is judged by the memory that there is; `off` says that `numa=off` was given. A limit of allocations is set, and
-/// where the table isn't used the addresses below it get node 0.
+/// Gives each byte of memory its node, and places the data of each node that has memory
+/// (`initmem_init`). The table of domains is judged against the machine's memory; `off` says that
+/// `numa=off` was given. A limit of allocations must be set. If the table isn't used, the
+/// addresses below the limit get node 0.
 ///
-/// Errors: `NoPlace` where there is no place for the data of a node, `NoTablePlace` where a table had to grow and found
-/// none, `Memory`. What was carried out by then stands.
+/// # Errors
+///
+/// Completed steps stay.
+///
+/// - `NoPlace` if the data of a node finds no place.
+/// - `NoTablePlace` if a table has to grow and finds no place.
+/// - `Memory` if this program is out of memory.
 pub fn assign(
     alloc: Global,
     memblock: &mut Memblock,
@@ -54,7 +61,7 @@ pub fn assign(
     assign_by(alloc, memblock, found)
 }
 
-/// The same by a judgement, whose ranges can get nodes.
+/// Like [`assign`], after the table of domains has been judged.
 fn assign_by(alloc: Global, memblock: &mut Memblock, found: Judged) -> Result<Nodes, StageStop>
     requires begun { HasBegun memblock.old.journal.items }
     requires ranges { CanGetNodes (ranges_given (limit_of memblock.old.journal.items) (judgement found)) }
@@ -82,8 +89,9 @@ fn assign_by(alloc: Global, memblock: &mut Memblock, found: Judged) -> Result<No
     })
 }
 
-/// The ranges that get a node, each with it: where the table is used, the joined ones and those that are left over; else the
-/// addresses below the limit, with node 0 (`dummy_numa_init`).
+/// Returns the ranges that get a node, each with its node. If the table is used, these are the
+/// joined ranges and then those that are left over. Else they are the addresses below the limit,
+/// with node 0 (`dummy_numa_init`).
 fn ranges_given(alloc: Global, limit: u64, found: &Judged) -> Result<Vec<NodeRange>, Memory>
     ensures { IfOk result (λ ranges. ranges.items ≡ ranges_given limit (judgement found.now)) }
 {
@@ -118,7 +126,7 @@ fn give_nodes(memblock: &mut Memblock, ranges: &[NodeRange]) -> Result<(), Stage
     Ok(())
 }
 
-/// Places the data of each node.
+/// Allocates the data of each node.
 fn place_data(memblock: &mut Memblock, nodes: &[u32]) -> Result<(), StageStop>
     requires begun { HasBegun memblock.old.journal.items }
     ensures ends { StageEnds (in_turn data_placed tt nodes.now) stage_stop result
@@ -137,7 +145,8 @@ fn place_data(memblock: &mut Memblock, nodes: &[u32]) -> Result<(), StageStop>
     Ok(())
 }
 
-/// What is asked for the data of a node: whole pages at a cache line, on the node itself if there is room.
+/// Returns the request for the data of a node: whole pages at a cache line, on the node itself if
+/// there is room.
 fn node_data_request(node: u32) -> Request
     ensures { result ≡ node_data_request node }
 {

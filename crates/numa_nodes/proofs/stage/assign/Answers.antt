@@ -1,4 +1,4 @@
--- The table is judged by the memory that the memory table tells.
+-- The table is judged against the memory that the memory table gives.
 use Rattle.std.proofs.lemmas.Result.{err_from_is_err_and}
 use Rattle.std.specs.Option.{option_map, option_copied}
 use Rattle.memblock_model.specs.Items.{limit_of}

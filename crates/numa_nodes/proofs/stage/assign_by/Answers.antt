@@ -1,4 +1,4 @@
--- The ranges get their nodes, and behind them the data of the nodes is placed.
+-- The ranges get their nodes, and then the data of the nodes is placed.
 use Rattle.std.proofs.Common.{◌≡◌, Ok, Err, refl}
 use Rattle.std.proofs.lemmas.Result.{err_from_is_err_and}
 use Rattle.memblock_model.specs.Items.{limit_of, memory_of}
@@ -11,7 +11,7 @@ use Rattle.numa_nodes.proofs.AssignLaws.{by-ranges, by-wanting, data-told, data-
 use Rattle.numa_nodes.proofs.stage.assign_by.Goals as goal
 use Rattle.numa_nodes.proofs.stage.assign_by.Goals.{After-deref, After-deref-2}
 
--- the ranges are those of the judgement, below the limit that the journal tells
+-- the ranges are those of the judgement, below the limit of the journal
 ranges : (c : After-deref) → c.deref.result.now ≡ ranges_given (limit_of c.args.memblock.now.journal.items) (judgement c.args.found)
 ranges c = rw (
   c.deref.ensures.value,
@@ -21,7 +21,7 @@ ranges c = rw (
   c.journal.ensures.journal,
 ) refl
 
--- and the nodes those of memory behind them
+-- the nodes are those of memory after the ranges
 nodes : (c : After-deref-2) → c.deref-2.result.now ≡ nodes_with_memory (memory_of c.give_nodes.new.memblock.journal.items)
 nodes c =
     let tells = records-tell c.give_nodes.new.memblock.kernel c.give_nodes.new.memblock.journal.items c.records.result

@@ -1,4 +1,4 @@
--- As what is left ends, so does all.
+-- The stage ends as its remaining steps end.
 use Rattle.growth_model.specs.Sound.{HasBegun}
 use Rattle.numa_nodes.specs.Assigned.{given}
 use Rattle.numa_nodes.specs.Steps.{GoesFurther}
