@@ -1,4 +1,4 @@
--- The sections with memory ascend, and their nodes are those of memory.
+-- The sections with memory are in ascending order, and their nodes are those of memory.
 use Rattle.std.proofs.Common.{◌≡◌, ℕ, zero, suc, ◌+◌, ◌-◌, ◌^◌, ◌<◌, ◌≤◌, Option, Some, None, List, [], ◌∷◌, ◌++◌, length, get_or, inl, inr, arith, length-append}
 use Rattle.std.specs.List.{All}
 use Rattle.std.proofs.lemmas.Bool.{cases_lt}
@@ -10,7 +10,7 @@ use Rattle.stage_model.specs.Noded.{IsNoded}
 use Rattle.sparse_sections.specs.Present.{section_label, section_of, section_for, sections_below, present, AreSections}
 use Rattle.sparse_sections.proofs.LowestLaws.{present-lowest}
 
--- sections that ascend, all of them below the number
+-- ascending sections, all with a number below n
 pub record Ascend (n : ℕ) (ss : List Section) : Type 0 where
   pub ascend : (i j : ℕ) (d : Section) → i < j → j < length ss → (get_or ss i d).number < (get_or ss j d).number
   pub below : All (λ s. s.number < n) ss
@@ -61,7 +61,7 @@ unfolding present
 present-ascends f =
     let all = sections-ascend f (2 ^ 25) in record { ascend = all.ascend; below = all.below; few = all.few }
 
--- the nodes of sections with memory are those of nodes
+-- the nodes of sections with memory are nodes of memory
 pub present-has : (limit : ℕ) (f : Labels) → IsNoded limit f → All (λ s. s.node < 1024) (present f)
 present-has limit f noded k d in_list =
     let low = present-lowest limit f noded k d in_list in

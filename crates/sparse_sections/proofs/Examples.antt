@@ -1,4 +1,5 @@
--- Worked examples: frames of which some are memory, records that end within sections, sections and their roots.
+-- Worked examples: frames of which some are memory, records that end inside sections, sections and
+-- their roots.
 use Rattle.std.proofs.Common.{◌≡◌, ℕ, true, false, Some, None, List, [], ◌∷◌, ◌++◌, refl, sym, ◌∙◌, ap, subst, arith, lit<, lit≤}
 use Rattle.address_runs.specs.Runs.{RunOf, value_at, AreRuns}
 use Rattle.memblock_model.specs.Labels.{LabelView, Labels, plain_label, with_node}
@@ -18,8 +19,8 @@ record_at base size node = record { base = base; size = size; value = of_node no
 abbrev section : ℕ → ℕ → Section
 section number node = record { number = number; node = node }
 
--- frames 2 and 3 are memory of node 5: none of the frames 0 and 1 is, the first of the frames 0 to 3 is frame 2; a byte within a frame
--- that isn't its first isn't looked at
+-- frames 2 and 3 are memory of node 5: neither of frames 0 and 1 is; the first of frames 0 to 3 is
+-- frame 2; only the first byte of a frame is looked at
 abbrev two_frames : Labels
 two_frames = value_at (record_at 0x2000 0x2000 5 ∷ [])
 
@@ -31,7 +32,7 @@ first_of_frames : (first_label two_frames 0 2 ≡ None) × (first_label two_fram
 unfolding first_label
 first_of_frames = (refl, refl, refl, refl, refl)
 
--- a section is there with its node, and isn't where nothing is memory, or where memory has no node
+-- a section with its node; no section if nothing is memory, or if memory has no node
 of_labels : (section_for 7 None ≡ []) × (section_for 7 (Some (of_node 2)) ≡ section 7 2 ∷ [])
     × (section_for 7 (Some plain_label) ≡ [])
 of_labels = (refl, refl, refl)
@@ -57,7 +58,7 @@ both_sections =
     sym (present-end f 2 last (lit≤ tt)) ∙ sections-record f 0 r [] 0 2 3 left refl refl refl refl
     ∙ ap (λ (ss : List Section). ss ++ sections_from 0 2 3) (present-none f)
 
--- two records in section 0: it is there once, with the node of the lower one
+-- two records in section 0: it is listed once, with the node of the lower record
 abbrev shared : List (RunOf LabelView)
 shared = record_at 0x1000 0x1000 1 ∷ record_at 0x3000 0x1000 2 ∷ []
 
@@ -80,11 +81,11 @@ one_section =
 whole : IsWholeNoded (record_at 0x1000 0x9E000 0)
 whole = record { node = 0; has = refl; base = refl; end = refl; reach = lit≤ tt }
 
--- the last frame below 2^52, and the one behind it
+-- the last frame below 2^52, and the one after it
 last_frame : IsWholeNoded (record_at 0xFFFFFFFFFF000 0x1000 0) × (IsWholeNoded (record_at 0x10000000000000 0x1000 0) → ⊥)
 last_frame = (record { node = 0; has = refl; base = refl; end = refl; reach = lit≤ tt }, λ known. omega (arith, known.reach))
 
--- a root has 256 sections, and gets its place with the first of them
+-- a root has 256 sections, and is placed with the first of them
 root_numbers : (root_of (section 255 0) ≡ 0) × (root_of (section 256 0) ≡ 1) × (root_of (section 524287 0) ≡ 2047)
     × (root_of (section 33554431 0) ≡ 131071)
     × (is_root None 0 ≡ false) × (is_root (Some 0) 0 ≡ true) × (is_root (Some 0) 1 ≡ false)
@@ -99,7 +100,8 @@ roots_once = (refl, refl, refl)
 root_page : small_request 4096 (Some 1) ≡ record { size = 4096; align = 64; min = 0; max = None; node = Some 1; exact = false }
 root_page = refl
 
--- the second of the two sections is at index 1; they ascend; and section 0 has the node of its lowest byte
+-- the second of the two sections is at index 1; they are ascending; section 0 has the node of its
+-- lowest byte
 found_at : IsSectionAt (section 0 3 ∷ section 1 3 ∷ []) 1 1
 found_at = record { within = lit< tt; is = λ d. refl }
 

@@ -1,4 +1,4 @@
--- Of sections that ascend, each root comes once, in ascending order, with its lowest section.
+-- Of ascending sections, each root comes once, in ascending order, with its lowest section.
 use Rattle.std.proofs.Common.{◌≡◌, ℕ, zero, suc, ◌+◌, ◌/◌, ◌<◌, ◌≤◌, ◌==◌, true, false, Option, Some, None, List, [], ◌∷◌, length, get_or, refl, inl, inr, arith}
 use Rattle.std.proofs.lemmas.Bool.{cases_Bool}
 use Rattle.std.proofs.lemmas.Bool.Decides.{nat_tests}
@@ -7,7 +7,8 @@ use Rattle.memblock_grow.specs.declared.section.Section.{Section}
 use Rattle.sparse_sections.specs.Present.{AreSections}
 use Rattle.sparse_sections.specs.Roots.{root_of, is_root, firsts_behind}
 
--- the first section of a root that isn't the last one is the first of all of that root
+-- the first section of a root that isn't the last placed one is the first of all sections of that
+-- root
 first_behind : (last : Option ℕ) (ss : List Section) (root : ℕ) → is_root last root ≡ false
     → find (λ s. root_of s == root) (firsts_behind last ss) ≡ find (λ s. root_of s == root) ss
 first_behind last [] root other = refl
@@ -26,7 +27,7 @@ pub first_of_root : (ss : List Section) (root : ℕ)
     → find (λ s. root_of s == root) (firsts_behind None ss) ≡ find (λ s. root_of s == root) ss
 first_of_root ss root = first_behind None ss root refl
 
--- numbers, or roots, that ascend from one on
+-- numbers of sections, or of roots, that ascend from n on
 abbrev AscendFrom : (Section → ℕ) → ℕ → List Section → Type 0
 AscendFrom f n [] = Unit {0}
 AscendFrom f n (s ∷ ss) = (n ≤ f s) × AscendFrom f (f s + 1) ss

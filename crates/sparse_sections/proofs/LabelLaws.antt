@@ -1,4 +1,4 @@
--- What the first frame of a section carries that is memory.
+-- The label of the first frame of a section that is memory.
 use Rattle.std.proofs.Common.{◌≡◌, ℕ, zero, suc, ◌+◌, ◌-◌, ◌*◌, ◌/◌, ◌%◌, ◌<◌, ◌≤◌, Some, None, refl, ◌∙◌, ap, arith, add-zero}
 use Rattle.address_runs.specs.Runs.{RunOf, run_end}
 use Rattle.memblock_model.specs.Labels.{LabelView, Labels}
@@ -11,7 +11,7 @@ label-none f a zero none = refl
 label-none f a (suc n) none =
     rw (none a (omega arith) (omega arith)) (label-none f (a + 1) n (λ y above below. none y (omega arith) (omega arith)))
 
--- the one so many frames behind the first is, and none before it
+-- the k-th frame after the first is memory, and none before it is
 pub label-found : (f : Labels) (a n k : ℕ) (v : LabelView) → k < n → ((y : ℕ) → a ≤ y → y < a + k → f (4096 * y) ≡ None)
     → f (4096 * (a + k)) ≡ Some v → first_label f a n ≡ Some v
 unfolding first_label
@@ -27,7 +27,7 @@ pub section-none : (f : Labels) (s : ℕ) → ((x : ℕ) → 0x8000000 * s ≤ x
 section-none f s none =
     label-none f (32768 * s) 32768 (λ y above below. none (4096 * y) (omega arith) (omega arith))
 
--- a section whose first memory is that of a record
+-- a section of which the first memory is in a record
 pub section-found : (f : Labels) (s : ℕ) (r : RunOf LabelView) → r.base % 4096 ≡ 0 → r.base < 0x8000000 * (s + 1) → 0x8000000 * s < run_end r
     → 0 < r.size → ((x : ℕ) → 0x8000000 * s ≤ x → x < r.base → f x ≡ None)
     → ((x : ℕ) → 0x8000000 * s ≤ x → r.base ≤ x → x < run_end r → f x ≡ Some r.value) → section_label f s ≡ Some r.value

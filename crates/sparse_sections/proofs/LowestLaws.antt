@@ -1,4 +1,5 @@
--- The sections that are told are those of memory, each with the node of its lowest byte.
+-- The sections that are found are those of memory, each with the node of its lowest byte of
+-- memory.
 use Rattle.std.proofs.Common.{◌≡◌, ◌⊎◌, ℕ, zero, suc, ◌+◌, ◌-◌, ◌*◌, ◌/◌, ◌^◌, ◌<◌, Option, Some, None, List, [], ◌∷◌, ◌++◌, length, refl, sym, ◌∙◌, ap, inl, inr, arith, add-zero, length-append}
 use Rattle.std.specs.List.{All}
 use Rattle.std.proofs.lemmas.Bool.{cases_lt}
@@ -9,7 +10,7 @@ use Rattle.memblock_grow.specs.declared.section.Section.{Section}
 use Rattle.stage_model.specs.Noded.{AreOfFrames, IsNoded}
 use Rattle.sparse_sections.specs.Present.{first_label, section_label, section_of, section_for, sections_below, present, IsLowest, IsSectionAt}
 
--- the frame whose label is found: the first of them that is memory
+-- the frame of which the label is found: the first one that is memory
 record IsFirst (f : Labels) (a n : ℕ) (label : LabelView) : Type 0 where
   behind : ℕ
   within : behind < n
@@ -45,7 +46,7 @@ label-first f a (suc n) label found = elim (cases_label (f (4096 * a))) [
   }
 ]
 
--- some label is found where a frame is memory
+-- if a frame is memory, some label is found
 label-some : (f : Labels) (a n k : ℕ) (label : LabelView) → k < n → f (4096 * (a + k)) ≡ Some label
     → (v : LabelView) × (first_label f a n ≡ Some v)
 unfolding first_label
@@ -60,7 +61,7 @@ label-some f a (suc n) k label few told = elim (cases_label (f (4096 * a))) [
   | inr some ↦ (some.0, rw some.1 refl)
 ]
 
--- a section that is told is one
+-- a section that is found has memory
 first-lowest : (f : Labels) (n node : ℕ) (label : LabelView) → AreOfFrames f → IsFirst f (32768 * n) 32768 label → label.node ≡ Some node
     → IsLowest f (record { number = n; node = node })
 first-lowest f n node label frames first has =
@@ -97,7 +98,7 @@ pub present-lowest : (limit : ℕ) (f : Labels) → IsNoded limit f → All (IsL
 unfolding present
 present-lowest limit f noded = sections-lowest f (2 ^ 25) noded.frames
 
--- a section with memory is told
+-- a section with memory is found
 at-left : (xs ys : List Section) (i n : ℕ) → IsSectionAt xs i n → IsSectionAt (xs ++ ys) i n
 at-left xs ys i n at = record {
   within = omega (arith, at.within, length-append xs ys);

@@ -1,4 +1,5 @@
--- Where memory is whole frames and each of its bytes has a node, so is each record of it.
+-- If memory is whole frames and each of its bytes has a node, each of its records is whole frames
+-- with a node.
 use Rattle.std.proofs.Common.{◌≡◌, ℕ, zero, suc, ◌-◌, ◌*◌, ◌/◌, ◌^◌, ◌<◌, ◌≤◌, Some, List, [], ◌∷◌, length, get_or, refl, sym, ◌∙◌, arith, inl, inr, inl, inr}
 use Rattle.std.specs.List.{All}
 use Rattle.address_runs.specs.Runs.{RunOf, run_end, value_at, IsRunsOf, AreRuns}
@@ -17,7 +18,8 @@ use Rattle.sparse_sections.specs.Present.{IsWholeNoded}
 use Rattle.std.proofs.lemmas.Bool.{cases_lt}
 use Rattle.address_runs.specs.Sweep.{StartAtOrPast}
 
--- a canonical list gives at the addresses of each record, which isn't empty, what it says; and none begins below the first
+-- in a sorted list, each record isn't empty, the list gives its addresses its label, and no record
+-- begins below the first
 told-at : (rs : List (RunOf LabelView)) (k : ℕ) (d : RunOf LabelView) → AreRuns rs → k < length rs → (0 < (get_or rs k d).size)
     × ((at : ℕ) → StartAtOrPast at rs → at ≤ (get_or rs k d).base)
     × ((x : ℕ) → (get_or rs k d).base ≤ x → x < run_end (get_or rs k d) → value_at rs x ≡ Some (get_or rs k d).value)
@@ -51,7 +53,7 @@ noded-records f rs is noded k d few =
       ];
     }
 
--- memory's own records
+-- the records of memory
 far : (limit : ℕ) (f : Labels) → limit ≤ 2 ^ 64 → NothingFrom limit f → NothingFrom (2 ^ 64) f
 far limit f less none x above = none x (omega arith)
 

@@ -20,7 +20,7 @@ sections-none f n zero none = rw add-zero refl
 sections-none f n (suc k) none =
     rw (add-suc, none (n + k) (omega arith) (omega arith), append-nil) (sections-none f n k (λ s above below. none s above (omega arith)))
 
--- each of the next sections has memory, of one node
+-- each of the next sections has memory of one node
 pub sections-run : (f : Labels) (n k node : ℕ) (v : LabelView) → v.node ≡ Some node
     → ((s : ℕ) → n ≤ s → s < n + k → section_label f s ≡ Some v)
     → sections_below f (n + k) ≡ sections_below f n ++ sections_from n k node
@@ -48,7 +48,7 @@ from-next before now first number node above so_far =
 pub nobody : RunOf LabelView
 nobody = record { base = 0; size = 0; value = plain_label }
 
--- what is left to be looked at from a section on
+-- what remains to be looked at from section `next` on
 pub record IsLeft (f : Labels) (next : ℕ) (rs : List (RunOf LabelView)) : Type 0 where
   pub runs : AreRuns rs
   pub starts : StartAtOrPast (0x8000000 * (next - 1)) rs
@@ -62,7 +62,7 @@ starts-next : (r : RunOf LabelView) (rs : List (RunOf LabelView)) (at : ℕ) →
 starts-next r [] at less starts = tt
 starts-next r (s ∷ ss) at less starts = omega arith
 
--- behind a record
+-- after a record
 pub left-next : (f : Labels) (next : ℕ) (r : RunOf LabelView) (rs : List (RunOf LabelView)) → IsLeft f next (r ∷ rs)
     → IsLeft f ((run_end r - 1) / 0x8000000 + 1) rs
 left-next f next r rs left =
@@ -94,7 +94,7 @@ sections-record f next r rs first until node left whole has first_is until_is =
     let high : first + (until - first) ≡ until = omega arith in
     rw (rw high at run, rw low at gap) refl
 
--- the next record, which the table has at that index
+-- the next record, which is at this index of the table
 pub record IsNext (f : Labels) (next : ℕ) (rs : List (RunOf LabelView)) (i : ℕ) (g : Region) : Type 0 where
   pub left : IsLeft f next (get_or rs i nobody ∷ drop (i + 1) rs)
   pub whole : IsWholeNoded (get_or rs i nobody)
@@ -128,7 +128,7 @@ pub present-none : (f : Labels) → sections_below f 0 ≡ []
 unfolding sections_below
 present-none f = refl
 
--- nothing is left
+-- no record remains
 pub present-end : (f : Labels) (next : ℕ) → IsLeft f next [] → next ≤ 2 ^ 25 → sections_below f next ≡ present f
 unfolding present
 present-end f next left reach =

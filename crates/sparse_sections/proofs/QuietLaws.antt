@@ -1,4 +1,4 @@
--- The places of roots leave memory and the limit as they are.
+-- Placing roots changes neither memory nor the limit.
 use Rattle.std.proofs.Common.{◌≡◌, List}
 use Rattle.bm_base.specs.declared.width.Width.{Width}
 use Rattle.memblock_model.specs.declared.item.Item.{Item}

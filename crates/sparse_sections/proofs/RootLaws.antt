@@ -1,4 +1,4 @@
--- One root after another: as what is left ends, so do all.
+-- One root after another: the sequence ends as its remaining roots end.
 use Rattle.std.proofs.Common.{◌≡◌, ℕ, ◌+◌, ◌<◌, ◌≤◌, true, false, Option, Some, None, List, [], ◌∷◌, length, drop, get_or, Result, Ok, Err, add-one, drop-cons, refl}
 use Rattle.std.proofs.lemmas.List.{drop_all}
 use Rattle.bm_base.specs.declared.width.Width.{Width}
@@ -19,7 +19,7 @@ use Rattle.sparse_sections.specs.Roots.{root_of, is_root, firsts_behind, small_r
 abbrev pub no_section : Section
 no_section = record { number = 0; node = 0 }
 
--- all roots end as those of the sections that are left
+-- all roots end as those of the sections that remain
 pub record Goes (entry : List Item) (sections : List Section) (now : List Item) (roots : List RootPlace) (last : Option ℕ)
     (rest : List Section) : Type 0 where
   pub ends : (r : Result (List RootPlace) StageStop) (new : List Item)
@@ -37,7 +37,7 @@ goes-first entry sections roots none = record {
       (rw none at h);
 }
 
--- the section at the index, and those behind it
+-- the section at the index, and those after it
 left-at : (sections : List Section) (i : ℕ) (d : Section) → i < length sections
     → drop i sections ≡ get_or sections i d ∷ drop (i + 1) sections
 left-at sections i d few = rw (add-one, drop-cons sections i d few) refl

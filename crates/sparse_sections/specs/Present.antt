@@ -7,16 +7,16 @@ use Rattle.address_runs.specs.Runs.{RunOf, run_end}
 use Rattle.memblock_model.specs.Labels.{LabelView, Labels}
 use Rattle.memblock_grow.specs.declared.section.Section.{Section}
 
--- what the first of the n frames from the one on carries that is memory
+-- the label of the first of the n frames from `frame` on that is memory
 unfoldable pub first_label : Labels → ℕ → ℕ → Option LabelView
 first_label f frame zero = None
 first_label f frame (suc n) = option_or (f (FRAME_SIZE * frame)) (first_label f (frame + 1) n)
 
--- and of the 32,768 frames of a section
+-- the same for the 32,768 frames of section s
 abbrev pub section_label : Labels → ℕ → Option LabelView
 section_label f s = first_label f (32768 * s) 32768
 
--- the section is there where it has memory, with the node of its lowest frame
+-- the section, if it has memory, with the node of its lowest frame of memory
 abbrev pub section_of : ℕ → Option ℕ → List Section
 section_of s None = []
 section_of s (Some node) = record { number = s; node = node } ∷ []
@@ -25,21 +25,22 @@ abbrev pub section_for : ℕ → Option LabelView → List Section
 section_for s None = []
 section_for s (Some label) = section_of s label.node
 
--- the sections below the n-th
+-- the sections with memory of which the number is below n
 unfoldable pub sections_below : Labels → ℕ → List Section
 sections_below f zero = []
 sections_below f (suc n) = sections_below f n ++ section_for n (section_label f n)
 
--- all of them: 2^25 sections reach to 2^52, as far as the kernel's tables of memory do at most (`MAX_PHYSMEM_BITS`)
+-- all sections with memory: 2^25 sections end at 2^52, the highest address that the kernel's
+-- memory model can have (`MAX_PHYSMEM_BITS`)
 unfoldable pub present : Labels → List Section
 present f = sections_below f (2 ^ 25)
 
--- so many sections of one node that follow one another, from the number on
+-- n consecutive sections of one node, from number `first` on
 unfoldable pub sections_from : ℕ → ℕ → ℕ → List Section
 sections_from first zero node = []
 sections_from first (suc n) node = sections_from first n node ++ record { number = first + n; node = node } ∷ []
 
--- a record of memory in whole frames, with a node, within reach
+-- a record of memory: whole frames, with a node, ending at or below 2^52
 pub record IsWholeNoded (r : RunOf LabelView) : Type 0 where
   pub node : ℕ
   pub has : r.value.node ≡ Some node
@@ -47,7 +48,7 @@ pub record IsWholeNoded (r : RunOf LabelView) : Type 0 where
   pub end : run_end r % FRAME_SIZE ≡ 0
   pub reach : run_end r ≤ 2 ^ 52
 
--- the section has memory, and its node is that of the lowest byte
+-- the section has memory, and its node is that of its lowest byte of memory
 pub record IsLowest (f : Labels) (s : Section) : Type 0 where
   pub byte : ℕ
   pub label : LabelView
@@ -56,12 +57,12 @@ pub record IsLowest (f : Labels) (s : Section) : Type 0 where
   pub node : label.node ≡ Some s.node
   pub none : (x : ℕ) → x / 0x8000000 ≡ s.number → x < byte → f x ≡ None
 
--- the list has a section of that number at the index
+-- the section at this index has this number
 pub record IsSectionAt (ss : List Section) (i number : ℕ) : Type 0 where
   pub within : i < length ss
   pub is : (d : Section) → (get_or ss i d).number ≡ number
 
--- sections in ascending order, as far as those tables reach
+-- sections in ascending order, below 2^52
 pub record AreSections (ss : List Section) : Type 0 where
   pub ascend : (i j : ℕ) (d : Section) → i < j → j < length ss → (get_or ss i d).number < (get_or ss j d).number
   pub below : All (λ s. s.number < 2 ^ 25) ss

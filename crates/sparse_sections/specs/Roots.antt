@@ -1,4 +1,4 @@
--- The places of the table of roots and of the roots (`memory_present`, `sparse_index_alloc`).
+-- The allocations of the table of roots and of the roots (`memory_present`, `sparse_index_alloc`).
 use Rattle.std.specs.Prelude.{ℕ, ◌/◌, ◌==◌, Bool, false, if◌then◌else◌, Option, Some, None, List, [], ◌∷◌, ◌++◌}
 use Rattle.bm_base.specs.declared.range.TheConstants.{FRAME_SIZE}
 use Rattle.bm_base.specs.declared.width.Width.{Width}
@@ -13,7 +13,7 @@ use Rattle.stage_model.specs.Requests.{placed}
 use Rattle.sparse_sections.specs.declared.roots.RootPlace.{RootPlace}
 use Rattle.sparse_sections.specs.declared.roots.Roots.{Roots}
 
--- the root of a section: each has 256 (`SECTIONS_PER_ROOT`)
+-- the root of a section: each root has 256 (`SECTIONS_PER_ROOT`)
 abbrev pub root_of : Section → ℕ
 root_of s = s.number / 256
 
@@ -21,12 +21,12 @@ abbrev pub is_root : Option ℕ → ℕ → Bool
 is_root None root = false
 is_root (Some last) root = last == root
 
--- the first section of each root, of sections that ascend, behind the root that was last
+-- the first section of each root after `last`, of ascending sections
 abbrev pub firsts_behind : Option ℕ → List Section → List Section
 firsts_behind last [] = []
 firsts_behind last (s ∷ ss) = if is_root last (root_of s) then firsts_behind last ss else (s ∷ firsts_behind (Some (root_of s)) ss)
 
--- so many bytes at a cache line, on the node if there is room
+-- a request for `size` bytes at a cache line, on the node if there is room
 abbrev pub small_request : ℕ → Option ℕ → Request
 small_request size node = record { size = size; align = 64; min = 0; max = None; node = node; exact = false }
 
@@ -47,7 +47,8 @@ pub record RootsPlaced : Type 0 where
 abbrev pub roots_view : Roots → RootsPlaced
 roots_view r = record { table = r.table; roots = r.roots.items }
 
--- the table, which has room for each root that addresses of that width can have; and then the roots in their order, in a list
+-- the table, which has room for each root that addresses of this width can have, and then the
+-- roots in order, in a list
 unfoldable pub roots : Width → List Section → Doing StageCause RootsPlaced
 roots width sections =
     placed what.Roots (small_request (root_table_of width) None) owner.Roots

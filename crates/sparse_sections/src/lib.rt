@@ -1,16 +1,20 @@
-//! Which sections of 128 MiB have memory, and where the roots of their table lie.
+//! Finds the sections of 128 MiB that have memory, and places the table of section roots and the
+//! roots.
 //!
-//! The kernel keeps page structures a section at a time (`SECTION_SIZE_BITS`), for the sections that have memory alone. It marks these
-//! (`memory_present`), and finds a place for the table of roots and for each root that has such a section
-//! (`sparse_index_alloc`). The definitions look at each section alone (`specs/Present.antt`); a root covers 256 of them
-//! (`specs/Roots.antt`).
+//! The kernel keeps page structures one section at a time (`SECTION_SIZE_BITS`), and only for
+//! sections that have memory. It marks these (`memory_present`), and allocates the table of roots
+//! and each root that has such a section (`sparse_index_alloc`). `specs/Present.antt` defines the
+//! sections, each by itself. A root covers 256 sections (`specs/Roots.antt`).
 //!
-//! [`present`] finds the sections by the records of the memory table, in one pass over both: no section without memory is looked
-//! at. [`place_roots`] carries out the allocations of the roots as `roots` says them, wherever memory runs out.
+//! [`present`] finds the sections in one pass over the records of the memory table, and doesn't
+//! look at a section without memory. [`place_roots`] carries out the allocations that `roots`
+//! defines.
 //!
-//! The functions of `src/laws.rt` do nothing: their contracts are what the layers above may rest on. Behind the stage of nodes
-//! the records are whole frames with nodes; the sections that are told are those of memory, and ascend; their roots ascend,
-//! each by its first section; and the roots leave memory as it is.
+//! The layers above may rest on the laws of `src/laws.rt`. After the stage of nodes the records
+//! are whole frames with nodes. The sections that are found are those of memory, in ascending
+//! order. Their roots are ascending too, each with its first section. Placing roots doesn't change
+//! memory. A law is an empty function whose contract is a proven fact. In contracts, a name means
+//! the definition in `specs/`.
 #![tactic(auto)]
 
 mod laws;

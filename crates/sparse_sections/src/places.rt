@@ -1,5 +1,6 @@
-//! The allocations of the table of roots and of each root. The kernel makes them as it meets the sections; here
-//! these are a list by then, and since they ascend it is enough to know which root was placed last.
+//! The allocations of the table of roots and of each root. The kernel makes them as it meets the
+//! sections. Here the sections are a list by then; since it is ascending, the last root that was
+//! placed is enough to know whether a root has its place.
 
 ghost use Rattle.std.specs.Prelude.{◌≡◌, ◌≤◌, ◌<◌, ◌+◌, ℕ, None, [], List, IfOk, length, vec_len, vec_capacity};
 ghost use Rattle.bm_base.specs.Width.{root_table_of};
@@ -17,13 +18,13 @@ use memblock_grow::{Memblock, no_items_no_change};
 use stage_model::{Section, StageStop, What, place};
 use std::alloc::Global;
 
-/// The bytes of a root: a page.
+/// The size of a root in bytes: a page.
 const ROOT_SIZE: u64 = FRAME_SIZE;
 
-/// The sections of which a root has entries (`SECTIONS_PER_ROOT`).
+/// The number of sections for which a root has entries (`SECTIONS_PER_ROOT`).
 const SECTIONS_PER_ROOT: u32 = 256;
 
-/// So many bytes at a cache line, on the node if there is room.
+/// Returns a request for `size` bytes at a cache line, on the node if there is room.
 fn small_request(size: u64, node: Option<u32>) -> Request
     ensures { result ≡ small_request size node }
 {
@@ -37,21 +38,22 @@ fn small_request(size: u64, node: Option<u32>) -> Request
     }
 }
 
-/// The request of the table of roots, which has room for all that addresses of that width can have.
+/// Returns the request for the table of roots, which has room for all roots that addresses of this
+/// width can have.
 fn table_request(width: Width) -> Request
     ensures { result ≡ small_request (root_table_of width) None }
 {
     small_request(width.root_table(), None)
 }
 
-/// The number of the section's root.
+/// Returns the number of the section's root.
 fn root_of(section: &Section) -> u32
     ensures { result ≡ root_of section.now }
 {
     section.number / SECTIONS_PER_ROOT
 }
 
-/// Whether the last root that was placed, if there is one, is that one.
+/// Tests whether `root` is the last root that was placed.
 fn is_root(last: Option<u32>, root: u32) -> bool
     ensures { result ≡ is_root last root }
 {
@@ -61,7 +63,7 @@ fn is_root(last: Option<u32>, root: u32) -> bool
     }
 }
 
-/// Finds a place for the section's root, and appends it. The list has room for it, so it takes no memory.
+/// Allocates the section's root and appends it to the list, which must have room for it.
 fn place_root(
     memblock: &mut Memblock,
     roots: &mut Vec<RootPlace>,
@@ -84,7 +86,7 @@ fn place_root(
     }
 }
 
-/// A list with room for a root for each section.
+/// Returns an empty list with room for one root for each section.
 fn with_room(alloc: Global, sections: &[Section]) -> Result<Vec<RootPlace>, Memory>
     ensures empty { IfOk result (λ roots. roots.items ≡ []) }
     ensures room { IfOk result (λ roots. vec_len roots + length sections.now ≤ vec_capacity roots) }
@@ -92,7 +94,7 @@ fn with_room(alloc: Global, sections: &[Section]) -> Result<Vec<RootPlace>, Memo
     Ok(Vec::with_capacity(alloc, sections.len())?)
 }
 
-/// Finds a place for the root of each section, once for those that have it in common.
+/// Allocates the root of each section, once for all sections of a root.
 fn place_each_root(
     alloc: Global,
     memblock: &mut Memblock,
@@ -116,10 +118,19 @@ fn place_each_root(
     Ok(roots)
 }
 
-/// Finds places for the table of roots and for the root of each section: 16 KiB, or 1 MiB where addresses have 52 bits, and then a page
-/// each, on the node of the root's first section if there is room (`memory_present`, `sparse_index_alloc`). Where the sections ascend each root gets one place. The
-/// first that gets none stops the boot. The program's own memory is wanted behind the table's place, before the first root's, or for a step of
-/// memblock's that is left.
+/// Allocates the table of roots and then the root of each section (`memory_present`,
+/// `sparse_index_alloc`). The table has 16 KiB, or 1 MiB if addresses have 52 bits. Each root is a
+/// page, on the node of its first section if there is room. If the sections are ascending, each
+/// root is placed once.
+///
+/// # Errors
+///
+/// Completed steps stay.
+///
+/// - `NoPlace` if the table or a root finds no place.
+/// - `NoTablePlace` if a table of memblock has to grow and finds no place.
+/// - `Memory` if this program is out of memory: for the list of roots, after the table is placed,
+///   or before a step of memblock.
 pub fn place_roots(
     alloc: Global,
     memblock: &mut Memblock,

@@ -1,12 +1,12 @@
-//! Where the table of roots and the roots lie. A root has its number with it, since one of whose sections none has
-//! memory gets no place, and doesn't stand in the list.
+//! Where the table of roots and the roots lie. Each root has its number, since a root without a
+//! section that has memory isn't placed, and isn't in the list.
 
-/// A root: a page of entries for 256 sections.
+/// A root: a page with entries for 256 sections.
 #[derive(Clone, Copy, Debug, PartialEq, Eq)]
 pub struct RootPlace {
-    /// Which 256 sections, from 0.
+    /// The root's number, counted from 0: the number of its first section divided by 256.
     pub number: u32,
-    /// The address of its first byte.
+    /// The address of the root's first byte.
     pub place: u64,
 }
 
@@ -15,6 +15,6 @@ pub struct RootPlace {
 pub struct Roots {
     /// The address of the table's first byte.
     pub table: u64,
-    /// The roots that have a section with memory, ascending.
+    /// The roots that have a section with memory, in ascending order.
     pub roots: Vec<RootPlace>,
 }

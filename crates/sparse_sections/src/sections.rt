@@ -1,7 +1,8 @@
-//! The sections with memory, by the records of the memory table.
+//! The sections with memory, from the records of the memory table.
 //!
-//! A record has a byte of each section from that of its first byte to that of its last one. The record before it may
-//! end in the first of these; the section is that one's then, as its frame is the lower one.
+//! A record has bytes of all sections from that of its first byte to that of its last byte. The
+//! record before it may end in the first of these. That section then belongs to the record before,
+//! since its frame is the lower one.
 
 ghost use Rattle.std.specs.Prelude.{◌≡◌, ◌+◌, ◌-◌, ◌/◌, ◌^◌, ◌<◌, ◌≤◌, ◌++◌, max, OnOk, IfOk};
 ghost use Rattle.std.specs.List.{All};
@@ -14,11 +15,11 @@ use memblock_ranges::{Region, Tables};
 use stage_model::Section;
 use std::alloc::Global;
 
-/// The bytes of a section (`SECTION_SIZE_BITS`).
+/// The size of a section in bytes (`SECTION_SIZE_BITS`).
 const SECTION_SIZE: u64 = 0x800_0000;
 
-/// The numbers of the sections of which a record has a byte and which are `next` or behind it: the first of them, and one more
-/// than the last. The record isn't empty and ends within 4 PiB.
+/// Returns the first number, from `next` on, of a section of which the record has a byte, and one
+/// more than the last such number. The record must not be empty, and must end at or below 4 PiB.
 fn numbers_of(region: &Region, next: u32) -> (u32, u32)
     requires some { 0 < region.now.size }
     requires reach { region.now.base + region.now.size ≤ 2 ^ 52 }
@@ -30,7 +31,7 @@ fn numbers_of(region: &Region, next: u32) -> (u32, u32)
     (if number < next { next } else { number }, last + 1)
 }
 
-/// Appends the sections from the first number up to the second, all of the node.
+/// Appends the sections from `first` to below `until`, all with this node.
 fn put_sections(
     sections: &mut Vec<Section>,
     first: u32,
@@ -46,8 +47,14 @@ fn put_sections(
     Ok(())
 }
 
-/// The sections of 128 MiB that have memory, ascending, each with the node of its lowest memory frame (`memory_present`). Each record
-/// of memory is whole frames with a node, within 4 PiB. The cost is that of the records and of the sections that there are.
+/// Returns the sections of 128 MiB that have memory, in ascending order, each with the node of its
+/// lowest frame of memory (`memory_present`). Each record of memory must be whole frames with a
+/// node, and end at or below 4 PiB. The time grows with the number of records and of sections with
+/// memory.
+///
+/// # Errors
+///
+/// `Memory` if this program is out of memory.
 pub fn present(alloc: Global, tables: &Tables) -> Result<Vec<Section>, Memory>
     requires { All IsWholeNoded tables.now.memory.records }
     ensures { IfOk result (λ sections. sections.items ≡ present (value_at tables.now.memory.records)) }

@@ -1,4 +1,4 @@
--- As the roots of the sections that are left end, so do all.
+-- The sequence ends as the roots of the remaining sections end.
 use Rattle.std.proofs.Common.{◌≤◌, ◌+◌, drop, length, vec_len, vec_capacity}
 use Rattle.growth_model.specs.Sound.{HasBegun}
 use Rattle.memblock_grow.specs.Going.{GoesOn}

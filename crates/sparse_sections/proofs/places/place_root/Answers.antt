@@ -1,4 +1,4 @@
--- A root lies at a cache line.
+-- A root is aligned to a cache line.
 use Rattle.std.proofs.Common.{ap}
 use Rattle.memblock_model.specs.declared.query.Request.{Request}
 use Rattle.sparse_sections.proofs.places.place_root.Goals as goal

@@ -1,4 +1,4 @@
--- A record's sections stand behind those below it, and from the next section on it has no byte.
+-- A record's sections follow those below it, and from the next section on the record has no byte.
 use Rattle.std.proofs.Common.{◌≡◌, ◌+◌, ◌-◌, ◌/◌, drop, get_or, sym, ◌∙◌, arith}
 use Rattle.std.proofs.lemmas.List.{drop_all}
 use Rattle.address_runs.specs.Runs.{RunOf, run_end, value_at}

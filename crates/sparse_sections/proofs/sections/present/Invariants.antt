@@ -1,4 +1,4 @@
--- The sections below the next one are in the list, and the records so far have no byte from there on.
+-- The sections below `next` are in the list, and the records so far have no byte from there on.
 use Rattle.std.proofs.Common.{◌≡◌, ◌≤◌, ◌^◌, drop}
 use Rattle.address_runs.specs.Runs.{value_at}
 use Rattle.sparse_sections.specs.Present.{sections_below}

@@ -1,4 +1,4 @@
--- One section more.
+-- One more section.
 use Rattle.std.proofs.Common.{◌∙◌, arith}
 use Rattle.sparse_sections.proofs.PresentLaws.{from-none, from-next}
 use Rattle.sparse_sections.proofs.sections.put_sections.Goals as goal

@@ -1,4 +1,4 @@
--- The sections so far stand behind those that were there.
+-- The sections so far follow those that were in the list.
 use Rattle.std.proofs.Common.{◌≡◌, ◌-◌, ◌++◌}
 use Rattle.sparse_sections.specs.Present.{sections_from}
 use Rattle.sparse_sections.proofs.sections.put_sections.Given as goal
