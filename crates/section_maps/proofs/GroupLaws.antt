@@ -16,18 +16,18 @@ use Rattle.section_maps.specs.Maps.{Group, leading, groups_of, group_placed, map
 abbrev pub is_of : ℕ → Section → Bool
 is_of node s = s.node == node
 
--- how many sections in front are of the first one's node
+-- the number of sections at the front that have the node of the first one
 abbrev pub own_part : Section → List Section → ℕ
 own_part d rest = prefix_len (is_of (get_or rest 0 d).node) rest
 
--- the group of a first section, with those of its node behind it
+-- the group of a first section, with those of its node after it
 abbrev pub group_at : Section → List Section → Group
 group_at s ss = record { first = s; others = take (prefix_len (is_of s.node) ss) ss }
 
 other-eq : (a b : ℕ) → (a == b) ≡ false → (b == a) ≡ false
 other-eq a b other = false_from_ne_true (b == a) (λ same. let back = eq-eqb a b (sym (eqb-true b a same)) in cc)
 
--- the first section and those of its node behind it
+-- the number of sections in it: the first one and those of its node after it
 own-length : (s : Section) (ss : List Section) → prefix_len (is_of s.node) (s ∷ ss) ≡ suc (prefix_len (is_of s.node) ss)
 own-length s ss =
     let more : 1 + prefix_len (is_of s.node) ss ≡ suc (prefix_len (is_of s.node) ss) = omega arith in
@@ -50,7 +50,7 @@ groups-next s (t ∷ ts) =
           rw (other-eq t.node s.node other, none) (ap (λ (gs : List Group). record { first = s; others = [] } ∷ gs) (sym rest))
     ]
 
--- all groups end as those of the sections that are left
+-- all groups end as those of the remaining sections
 pub record Goes (entry : List Item) (sections : List Section) (now : List Item) (placed : List Placed) (rest : List Section) : Type 0 where
   pub ends : (r : Result (List Placed) StageStop) (new : List Item)
       → StageEnds (in_turn map_group placed (groups_of rest)) stage_stop r now new → StageEnds (maps sections) stage_stop r entry new
@@ -67,7 +67,7 @@ goes-first entry sections placed none = record {
       (rw none at h);
 }
 
--- memory ran out for the list
+-- out of memory for the list
 pub maps-wanting : (entry : List Item) (sections : List Section)
     → StageEnds {A = List Placed} (maps sections) stage_stop (Err stop.Memory) entry entry
 unfolding maps
@@ -76,7 +76,7 @@ maps-wanting entry sections =
     ends-first stop.Memory stage_stop entry entry (listed no_placed) (λ before. in_turn map_group before (groups_of sections))
     (ends-wanting no_placed stage_stop entry)
 
--- nothing is left, or a group in front of it
+-- no section remains, or a group comes next
 module _ {entry : List Item} {sections : List Section} {now : List Item} {placed : List Placed} where
   pub goes-all : (rest : List Section) → length rest ≡ 0 → Goes entry sections now placed rest
       → StageEnds (maps sections) stage_stop (Ok placed) entry now

@@ -1,4 +1,4 @@
--- One map after another, and all maps of a group: as what is left ends, so does all.
+-- One map after another, and all maps of a group: the sequence ends as its remaining steps end.
 use Rattle.std.proofs.Common.{◌≡◌, ◌≢◌, ℕ, ◌+◌, ◌*◌, ◌<◌, ◌≤◌, true, false, List, [], ◌∷◌, ◌++◌, length, take, drop, get_or, Result, Ok, Err, refl, append_assoc, arith}
 use Rattle.std.proofs.lemmas.List.{drop_all, drop_more, take_more, length-take-le}
 use Rattle.memblock_model.specs.declared.item.Item.{Item}
@@ -20,11 +20,11 @@ use Rattle.section_maps.specs.Maps.{usage_request, map_request, spread, map_each
 abbrev pub no_section : Section
 no_section = record { number = 0; node = 0 }
 
--- a section with its places
+-- a section with its addresses
 abbrev pub placed_at : ℕ → ℕ → Section → Placed
 placed_at usage map s = record { section = s.number; node = s.node; map = map; usage = usage }
 
--- one section more of a group
+-- one more section of a group
 spread-push : (usage map : ℕ) (ss : List Section) (s : Section)
     → spread usage map (ss ++ s ∷ []) ≡ spread usage map ss ++ placed_at (usage + 40 * length ss) (map + 0x200000 * length ss) s ∷ []
 spread-push usage map [] s =
@@ -122,7 +122,7 @@ module _ (usage : ℕ) (before : List Placed) (first : Section) (sections : List
       else-second (map_all usage before first sections) (map_each usage before sections) old r thing mid new
       (buffer-fails (stop.NoPlace thing) mid h) rest
 
--- a group: its usage data, and longer its maps
+-- a group: its usage data, and then its maps
 module _ (before : List Placed) (first : Section) (sections : List Section) (q : Request) (old : List Item)
     (asked : q ≡ usage_request (length sections) first.node) where
   pub group-second : (r : Result (List Placed) StageStop) (usage : ℕ) (mid new : List Item)

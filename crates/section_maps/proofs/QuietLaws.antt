@@ -1,4 +1,4 @@
--- The places of maps and usage data leave memory and the limit as they are.
+-- Placing maps and usage data changes neither memory nor the limit.
 use Rattle.std.proofs.Common.{◌≡◌, ℕ, ◌+◌, true, false, List, [], ◌∷◌, ◌++◌, length}
 use Rattle.memblock_model.specs.declared.owner.Owner.TheVariants as owner
 use Rattle.memblock_model.specs.declared.item.Item.{Item}

@@ -14,7 +14,7 @@ Differ g h = g.first.node ≢ h.first.node
 abbrev AllDiffer : List Group → Type 0
 AllDiffer groups = AllAdjacentBelow Differ groups (length groups)
 
--- one more group of another node than the first
+-- one more group, of another node than the first
 differ-cons : (g h : Group) (hs : List Group) → Differ g h → AllDiffer (h ∷ hs) → AllDiffer (g ∷ (h ∷ hs))
 differ-cons g h hs other rest zero d below = other
 differ-cons g h hs other rest (suc k) d below = let next : suc k + 1 ≡ suc (k + 1) = omega arith in rw next (rest k d (omega arith))
@@ -25,7 +25,7 @@ differ-first g h hs same all zero d below = λ is. all zero d below (sym same �
 differ-first g h hs same all (suc k) d below =
     let next : suc k + 1 ≡ suc (k + 1) = omega arith in rw next (rw next at (all (suc k) d below))
 
--- a group has its first section
+-- a group has at least its first section
 none-empty : (groups : List Group) → All (λ g. 0 < length (sections_in g)) groups
 none-empty groups k d below = omega arith
 

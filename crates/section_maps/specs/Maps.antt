@@ -10,7 +10,7 @@ use Rattle.stage_model.specs.Doing.{Doing, ◌>>=◌, returns, listed, in_turn}
 use Rattle.stage_model.specs.Requests.{placed, or_else}
 use Rattle.section_maps.specs.declared.placed.Placed.{Placed}
 
--- sections of one node that follow each other: the first, and the others
+-- consecutive sections of one node: the first, and the others
 pub record Group : Type 0 where
   pub first : Section
   pub others : List Section
@@ -27,11 +27,12 @@ abbrev pub groups_of : List Section → List Group
 groups_of [] = []
 groups_of (s ∷ ss) = leading s (groups_of ss)
 
--- the usage data of so many sections, on the node if there is room (`sparse_early_usemaps_alloc_pgdat_section`)
+-- the usage data of n sections, on the node if there is room
+-- (`sparse_early_usemaps_alloc_pgdat_section`)
 abbrev pub usage_request : ℕ → ℕ → Request
 usage_request n node = record { size = 40 * n; align = 64; min = 0; max = None; node = Some node; exact = false }
 
--- the maps of so many sections, from 16 MiB on if there is room (`__pa(MAX_DMA_ADDRESS)`)
+-- the maps of n sections, from 16 MiB on if there is room (`__pa(MAX_DMA_ADDRESS)`)
 abbrev pub map_request : ℕ → ℕ → Bool → Request
 map_request n node exact = record {
   size = 0x200000 * n;
@@ -42,7 +43,7 @@ map_request n node exact = record {
   exact = exact;
 }
 
--- the sections of a group one behind the other: 40 bytes of usage data and a map of 2 MiB each
+-- the sections of a group, one after another: 40 bytes of usage data and a map of 2 MiB each
 abbrev pub spread : ℕ → ℕ → List Section → List Placed
 spread usage map [] = []
 spread usage map (s ∷ ss) =
@@ -61,7 +62,7 @@ map_all usage before first sections =
     placed (what.Map first.number) (map_request (length sections) first.node true) (owner.Map first.number)
     >>= λ map. returns (before ++ spread usage map sections)
 
--- a group: its usage data, and then its maps in one buffer, or one by one where no buffer is free
+-- a group: its usage data, and then its maps in one buffer, or one by one if no buffer is free
 abbrev pub group_placed : List Placed → Section → List Section → Doing StageCause (List Placed)
 group_placed before first sections =
     placed (what.Usage first.number) (usage_request (length sections) first.node) (owner.Usage first.number)
@@ -70,6 +71,6 @@ group_placed before first sections =
 abbrev pub map_group : List Placed → Group → Doing StageCause (List Placed)
 map_group before g = group_placed before g.first (sections_in g)
 
--- a list with room for all sections, and then the groups in their order
+-- a list with room for all sections, and then the groups in order
 unfoldable pub maps : List Section → Doing StageCause (List Placed)
 maps sections = listed (λ items. []) >>= λ none. in_turn map_group none (groups_of sections)

@@ -1,5 +1,5 @@
-//! The maps of sections one by one. So they are placed where no buffer is free for those of their group: each has
-//! an owner of its own then, and may lie on another node.
+//! The maps of sections, one by one. They are placed so if no buffer is free for the maps of their
+//! group. Each then has an owner of its own, and may lie on another node.
 
 ghost use Rattle.std.specs.Prelude.{◌≡◌, ◌+◌, ◌*◌, ◌^◌, ◌<◌, ◌≤◌, false, length, vec_len, vec_capacity};
 ghost use Rattle.memblock_model.specs.declared.owner.Owner.TheVariants as owner;
@@ -17,7 +17,7 @@ use boot_journal::Owner;
 use memblock_grow::{Memblock, no_items_no_change};
 use stage_model::{Section, StageStop, What, place};
 
-/// Finds a place for the map of one section.
+/// Allocates the map of one section, and returns its address.
 fn place_map(memblock: &mut Memblock, section: &Section) -> Result<u64, StageStop>
     requires { HasBegun memblock.old.journal.items }
     ensures ends { StageEnds (placed (what.Map section.now.number) (map_request 1 section.now.node false) (owner.Map section.now.number)) stage_stop result
@@ -29,7 +29,8 @@ fn place_map(memblock: &mut Memblock, section: &Section) -> Result<u64, StageSto
     place(memblock, What::Map(number), &request, Owner::Map(number))
 }
 
-/// Finds a place for the map of each section; their usage data lie one behind the other from the address on.
+/// Allocates the map of each section. The usage data of the sections is consecutive from address
+/// `usage` on.
 pub fn place_each(
     memblock: &mut Memblock,
     placed: &mut Vec<Placed>,

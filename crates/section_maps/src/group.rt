@@ -16,15 +16,16 @@ use boot_journal::Owner;
 use memblock_grow::Memblock;
 use stage_model::{Section, StageStop, What, place};
 
-/// How many sections from the first on are of the node.
+/// Counts the sections from the first on that have this node.
 pub fn count_same(sections: &[Section], node: u32) -> usize
     ensures { result ≡ prefix_len (λ s. s.node == node) sections.now }
 {
     sections.iter().take_while(|s| s.node == node).count()
 }
 
-/// Finds places for the maps of a group, whose first section is told: in one buffer of the node itself, or, where none is free, one
-/// by one. The usage data lie one behind the other from the address on.
+/// Allocates the maps of a group: in one buffer on the node itself or, if none is free, one by
+/// one. `first` is the group's first section. The usage data is consecutive from address `usage`
+/// on.
 fn map_group(
     memblock: &mut Memblock,
     placed: &mut Vec<Placed>,
@@ -56,7 +57,7 @@ fn map_group(
     }
 }
 
-/// Finds places for the usage data and the maps of a group, and appends its sections with them.
+/// Allocates the usage data and the maps of a group, and appends its sections to the list.
 pub fn place_group(
     memblock: &mut Memblock,
     placed: &mut Vec<Placed>,

@@ -1,5 +1,5 @@
-//! The laws of maps, as functions that do nothing: what a boot may rest on. The handover asks that each byte of
-//! memory has a node: where that was so before the maps, it is so behind them. And groups are what they are called.
+//! Laws of maps, on which a boot may rest. The handover needs that each byte of memory has a node;
+//! if that was so before the maps, it is so after them. The second law says what groups are.
 
 ghost use Rattle.std.specs.Prelude.{◌≡◌, List};
 ghost use Rattle.memblock_model.specs.declared.item.Item.{Item as AnyItem};
@@ -9,7 +9,8 @@ ghost use Rattle.stage_model.specs.Doing.{after};
 ghost use Rattle.section_maps.specs.Maps.{groups_of, maps};
 ghost use Rattle.section_maps.specs.Stretches.{AreMaximalStretches};
 
-/// A law: the places of maps and usage data leave memory and the limit as they are, whether each finds one or not.
+/// Law: placing maps and usage data changes neither memory nor the limit, whether each finds a
+/// place or not.
 pub fn maps_leave_memory()
     ensures memory { (sections : List AnySection) (items : List AnyItem) →
         memory_of (after items (maps sections items)) ≡ memory_of items }
@@ -17,7 +18,8 @@ pub fn maps_leave_memory()
         limit_of (after items (maps sections items)) ≡ limit_of items }
 {}
 
-/// Law: the groups of a list of sections are its maximal stretches of sections of one node, in its order.
+/// Law: the groups of a list of sections are its maximal stretches of sections of one node, in the
+/// list's order.
 pub fn groups_are_maximal_stretches()
     ensures { (sections : List AnySection) → AreMaximalStretches sections (groups_of sections) }
 {}

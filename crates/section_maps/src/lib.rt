@@ -1,9 +1,16 @@
-//! Where the page structures and the usage data of each section lie (`sparse_init_nid`).
+//! Places the memory map (page structures) and the usage data of each section (`sparse_init_nid`).
 //!
-//! Sections that follow each other among those with memory and have one node are a group. A group gets its usage data in one
-//! buffer and the maps of its sections in one buffer of the node itself (`sparse_buffer_init`); where no such buffer is free each section's
-//! map is placed alone. `specs/Maps.antt` says it as steps, and [`place_maps`] carries them out.
-//! `specs/Stretches.antt` says what a group is: a maximal stretch of sections of one node, next to each other in the list.
+//! Consecutive sections of one node, in the list of sections with memory, form a group. A group
+//! gets its usage data in one buffer, and the maps of its sections in one buffer on the node
+//! itself (`sparse_buffer_init`). If no such buffer is free, the map of each section is placed
+//! alone. `specs/Maps.antt` defines this as steps, and [`place_maps`] carries them out.
+//! `specs/Stretches.antt` says what a group is: a maximal stretch of sections of one node, next to
+//! each other in the list.
+//!
+//! The layers above may rest on the laws: placing maps doesn't change memory
+//! ([`maps_leave_memory`]), and groups are such stretches ([`groups_are_maximal_stretches`]). A
+//! law is an empty function whose contract is a proven fact. In contracts, a name means the
+//! definition in `specs/`.
 #![tactic(auto)]
 
 mod each;

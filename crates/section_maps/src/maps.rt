@@ -1,5 +1,6 @@
-//! The groups of sections, one after another. Each is cut off the front of the list when its turn comes, as the
-//! kernel does (`sparse_init`), so no list of groups is made that could want memory.
+//! The groups of sections, one after another. Each is split off the front of the list when its
+//! turn comes, as in the kernel (`sparse_init`). So there is no list of groups, which would need
+//! memory of this program.
 
 ghost use Rattle.std.specs.Prelude.{◌≡◌, ◌^◌, ◌<◌, ◌≤◌, AllPairs, length};
 ghost use Rattle.growth_model.specs.Sound.{HasBegun};
@@ -21,7 +22,7 @@ fn number_fits(section: &Section)
     let _number = section.number;
 }
 
-/// How many sections there are: at most 2^32, since their numbers ascend.
+/// Counts the sections: at most 2^32, since their numbers are ascending.
 fn count_all(sections: &[Section]) -> usize
     requires ascend { AllPairs (λ s t. s.number < t.number) sections.now }
     ensures count { result ≡ length sections.now }
@@ -34,9 +35,17 @@ fn count_all(sections: &[Section]) -> usize
     sections.len()
 }
 
-/// Finds places for the usage data and the map of each section, group by group: 40 bytes and 2 MiB (`sparse_init_nid`). The
-/// numbers of the sections ascend. The first that gets no place stops the boot. The program's own memory is wanted before
-/// the first place, or for a step of memblock's that is left.
+/// Allocates the usage data and the map of each section, group by group: 40 bytes and 2 MiB each
+/// (`sparse_init_nid`). The numbers of the sections must be ascending.
+///
+/// # Errors
+///
+/// Completed steps stay.
+///
+/// - `NoPlace` if usage data or a map finds no place.
+/// - `NoTablePlace` if a table of memblock has to grow and finds no place.
+/// - `Memory` if this program is out of memory: for the list, before the first allocation, or
+///   before a step of memblock.
 pub fn place_maps(
     alloc: Global,
     memblock: &mut Memblock,

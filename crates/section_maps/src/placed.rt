@@ -1,5 +1,5 @@
-//! Where a section's map and usage data lie. It is a record a section, whether its map lies in the buffer of a
-//! group or alone: so who reads it has to know nothing of groups.
+//! Where the map and the usage data of a section lie. There is one record for each section,
+//! whether its map is in the buffer of a group or alone, so readers don't have to know of groups.
 
 ghost use Rattle.std.specs.Prelude.{◌≡◌, ◌+◌, ◌*◌, ◌^◌, ◌<◌, ◌≤◌, [], ◌∷◌, ◌++◌, length, IfOk, vec_len, vec_capacity};
 ghost use Rattle.section_maps.specs.Maps.{spread};
@@ -9,20 +9,20 @@ use bm_base::Memory;
 use stage_model::Section;
 use std::alloc::Global;
 
-/// A section and its places.
+/// A section, with the addresses of its map and its usage data.
 #[derive(Clone, Copy, Debug, PartialEq, Eq)]
 pub struct Placed {
     /// The number of the section.
     pub section: u32,
-    /// Its node.
+    /// The node of the section.
     pub node: u32,
-    /// The address of its map: 2 MiB of page structures.
+    /// The address of the section's map: 2 MiB of page structures.
     pub map: u64,
-    /// The address of its usage data: 40 bytes.
+    /// The address of the section's usage data: 40 bytes.
     pub usage: u64,
 }
 
-/// A list with room for so many sections.
+/// Returns an empty list with room for `count` sections.
 pub fn with_room(alloc: Global, count: usize) -> Result<Vec<Placed>, Memory>
     ensures empty { IfOk result (λ placed. placed.items ≡ []) }
     ensures room { IfOk result (λ placed. vec_len placed + count ≤ vec_capacity placed) }
@@ -30,7 +30,7 @@ pub fn with_room(alloc: Global, count: usize) -> Result<Vec<Placed>, Memory>
     Ok(Vec::with_capacity(alloc, count)?)
 }
 
-/// Appends the section with its places. The list has room for it, so no memory is taken.
+/// Appends the section with its addresses. The list must have room for it.
 pub fn put_placed(placed: &mut Vec<Placed>, section: &Section, map: u64, usage: u64)
     requires room { vec_len placed.old < vec_capacity placed.old }
     ensures placed { placed.new.items ≡ placed.old.items
@@ -50,7 +50,8 @@ pub fn put_placed(placed: &mut Vec<Placed>, section: &Section, map: u64, usage: 
     }
 }
 
-/// Appends the sections of a group, whose usage data and maps lie one behind the other from the two addresses on.
+/// Appends the sections of a group, with usage data and maps that are consecutive from the two
+/// addresses on. The list must have room for them.
 pub fn put_spread(placed: &mut Vec<Placed>, sections: &[Section], usage: u64, map: u64)
     requires room { vec_len placed.old + length sections.now ≤ vec_capacity placed.old }
     requires usage { usage + 40 * length sections.now < 2 ^ 64 }

@@ -1,4 +1,4 @@
--- As the maps that are left end, so do all.
+-- The sequence ends as the maps that remain end.
 use Rattle.std.proofs.Common.{◌≡◌, ◌≤◌, ◌+◌, ◌*◌, drop, vec_len, vec_capacity}
 use Rattle.growth_model.specs.Sound.{HasBegun}
 use Rattle.memblock_grow.specs.Going.{GoesOn}

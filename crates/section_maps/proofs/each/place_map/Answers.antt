@@ -1,4 +1,4 @@
--- A map begins at a multiple of 2 MiB.
+-- A map is aligned to 2 MiB.
 use Rattle.std.proofs.Common.{ap}
 use Rattle.memblock_model.specs.declared.query.Request.{Request}
 use Rattle.section_maps.proofs.each.place_map.Goals as goal

@@ -1,4 +1,4 @@
--- The sections of the first one's node are the next group.
+-- The sections at the front with the node of the first one are the next group.
 use Rattle.std.proofs.Common.{Ok, take, get_or, arith}
 use Rattle.std.proofs.lemmas.List.Sums.{prefix_len-le-length}
 use Rattle.std.proofs.lemmas.Result.{err_from_is_err_and}

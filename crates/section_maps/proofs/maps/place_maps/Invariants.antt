@@ -1,4 +1,4 @@
--- As the groups that are left end, so do all.
+-- The sequence ends as the groups that remain end.
 use Rattle.std.proofs.Common.{◌≤◌, ◌+◌, ◌^◌, length, vec_len, vec_capacity}
 use Rattle.growth_model.specs.Sound.{HasBegun}
 use Rattle.memblock_grow.specs.Going.{GoesOn}

@@ -1,4 +1,4 @@
--- One section more.
+-- One more section.
 use Rattle.std.proofs.Common.{◌∙◌, arith}
 use Rattle.section_maps.proofs.MapLaws.{no_section, spread-next}
 use Rattle.section_maps.proofs.placed.put_spread.Goals as goal

@@ -1,4 +1,4 @@
--- The sections so far stand behind those that were there.
+-- The sections so far follow those that were in the list.
 use Rattle.std.proofs.Common.{◌≡◌, ◌≤◌, ◌+◌, ◌++◌, take, vec_len, vec_capacity}
 use Rattle.section_maps.specs.Maps.{spread}
 use Rattle.section_maps.proofs.placed.put_spread.Given as goal
