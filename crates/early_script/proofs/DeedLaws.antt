@@ -1,4 +1,4 @@
--- What a line leaves, by the act that it asks for.
+-- What holds after a line, by its act.
 use Rattle.std.proofs.Common.{◌≡◌, ℕ, None, List, [], ◌++◌, Result, IsOk, refl}
 use Rattle.std.proofs.lemmas.List.{append-nil}
 use Rattle.bm_base.specs.declared.memory.Memory.{Memory}
@@ -12,22 +12,22 @@ use Rattle.early_script.specs.Found.{state_of, bytes_in}
 use Rattle.early_script.proofs.RunLaws.{only-answers, bytes-quiet}
 use Rattle.early_script.proofs.HoldLaws.{holds-quiet}
 
--- a line that only answers leaves the state as it was
+-- a line that only returns an outcome leaves the state unchanged
 pub nothing-done : (s : State) → record { kernel = s.kernel; items = s.items ++ []; ids = s.ids } ≡ s
 nothing-done s = rw append-nil refl
 
--- a call ended as the deed says: in its answer, and in each byte
+-- a call ended as the deed says, in its result and in each byte
 pub record Ran (r : Result Outcome Memory) (old new : State) (f g : ℕ → ℕ) (d : Deed) : Type 0 where
   pub acts : Acts r old new d
   pub answered : OnlyAnswers old d → IsOk r
   pub bytes : (x : ℕ) → g x ≡ byte_by r old new d x (f x)
   pub holds : (fills : List Filled) → Holds old.kernel old.items fills f → Holds new.kernel new.items (fills_by r d fills) g
 
--- as the deed of the act, from the IDs and memblock before to those behind
+-- by the deed of the act, from the IDs and the memblock before to those after
 abbrev pub RanAct : Result Outcome Memory → Ids → Contents → Ids → Contents → Act → Type 0
 RanAct r ids m next n a = Ran r (state_of ids m) (state_of next n) (bytes_in m) (bytes_in n) (deed (state_of ids m) (bytes_in m) a)
 
--- by an equal act, also where its deed fills nothing
+-- by an equal act, also if its deed fills nothing
 module _ (r : Result Outcome Memory) (ids : Ids) (m : Contents) (next : Ids) (n : Contents) (a b : Act) (is : a ≡ b) where
   abbrev d : Deed
   d = deed (state_of ids m) (bytes_in m) b

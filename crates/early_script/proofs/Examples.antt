@@ -1,4 +1,4 @@
--- Two live IDs in a small machine, and what each act makes of them.
+-- Examples: two live IDs in a small machine, and what each act does with them.
 use Rattle.std.proofs.Common.{◌≡◌, ℕ, suc, zero, ◌+◌, ◌<◌, ◌++◌, true, false, Some, None, List, [], ◌∷◌, length, take, refl, sym, ap, subst, arith, lit<, inl, inr, length-take, length-append}
 use Rattle.std.proofs.lemmas.Bool.{true≢false}
 use Rattle.bm_base.specs.Range.{RangeView}
@@ -34,7 +34,7 @@ second = at_base 0x200 2
 abbrev ids : Ids
 ids = (1, first) ∷ (5, second) ∷ []
 
--- a new ID goes to its place, a live one gets the new range
+-- a new ID is inserted at its position, and a live one gets the new range
 ids_examples : (range_of ids 5 ≡ Some second) × (range_of ids 2 ≡ None) × (is_live ids 1 ≡ true) × (is_live ids 2 ≡ false)
     × (with_range ids 3 second ≡ (1, first) ∷ (3, second) ∷ (5, second) ∷ [])
     × (with_range ids 1 second ≡ (1, second) ∷ (5, second) ∷ [])
@@ -44,7 +44,7 @@ ids_examples = (refl, refl, refl, refl, refl, refl, refl, refl)
 bytes_examples : HaveBytes ids × ¬ HaveBytes ((1, at_base 0x100 0) ∷ [])
 bytes_examples = ((lit< tt, (lit< tt, tt)), λ known. let clash : 0 < 0 = known.0 in absurd (omega (arith, clash)))
 
--- both IDs have what they claimed, but for one byte of the second, which was freed
+-- both IDs own what they claimed, except one byte of the second that was freed
 abbrev kernel : RangeView
 kernel = at_base 0x10000 0x4000
 
@@ -58,7 +58,7 @@ owned_examples : (is_owned (owner_of items) (owner.Script 1) first ≡ true) × 
 unfolding is_owned each_in each_from
 owned_examples = (refl, refl, refl)
 
--- the memory table lies at 0x12000, the reserved one at 0x13000, with 3,072 bytes each
+-- the memory table is at 0x12000 and the reserved one at 0x13000, with 3,072 bytes each
 touches_examples : (meets first (at_base 0x103 9) ≡ true) × (meets first (at_base 0x104 9) ≡ false)
     × (touches kernel items (at_base 0x11FFF 1) ≡ false) × (touches kernel items (at_base 0x12BFF 1) ≡ true)
     × (touches kernel items (at_base 0x12C00 0x400) ≡ false) × (touches kernel items (at_base 0x12C00 0x401) ≡ true)
@@ -67,7 +67,7 @@ touches_examples = (refl, refl, refl, refl, refl, refl)
 abbrev found : State
 found = record { kernel = kernel; items = items; ids = ids }
 
--- the tests in their order
+-- the tests in order
 alloc_examples : (alloc_at found 2 8 None ≡ answers found outcomes.NoGap)
     × ((alloc_at found 2 8 (Some 0x300)).answer ≡ outcomes.At 0x300)
     × ((alloc_at found 2 8 (Some 0x300)).ids ≡ (1, first) ∷ (2, at_base 0x300 8) ∷ (5, second) ∷ [])
@@ -95,7 +95,7 @@ deed_examples : (deed found (λ x. 0) (acts.Free 2) ≡ answers found outcomes.U
 unfolding deed is_owned each_in each_from
 deed_examples = (refl, refl)
 
--- a growth that was refused is the answer, and the IDs stay
+-- if a growth was refused, that is the outcome, and the IDs stay
 abbrev no_place : Refused
 no_place = record { which = which.Reserved; room = 128 }
 
@@ -118,7 +118,7 @@ fills_examples : (put_by (Some sevens) 0x103 1 ≡ 7) × (put_by (Some sevens) 0
     × (with_fill (sevens ∷ []) (Some sevens) ≡ sevens ∷ sevens ∷ []) × (with_fill [] None ≡ [])
 fills_examples = (refl, refl, refl, refl, refl)
 
--- two lines: one that fills, and one that finds no such ID
+-- two lines: one that fills, and one for an ID that isn't live
 abbrev fills_first : Line
 fills_first = record { number = 3; act = acts.Fill 1 7 }
 
@@ -134,7 +134,8 @@ lines_example : after_lines (record { state = found; fills = []; answers = [] })
 unfolding deed is_owned each_in each_from
 lines_example = refl
 
--- memory may run out amid the one that fills, which takes some, and never amid the other, which only answers
+-- out of memory may happen during the line that fills, and never during the other, which only
+-- returns an outcome
 abbrev begun : LineStage
 begun = record { state = found; fills = []; answers = [] }
 

@@ -1,4 +1,4 @@
--- Bytes that are those of items and fills stay so behind a line.
+-- Bytes that are those of items and fills are so after a line.
 use Rattle.std.proofs.Common.{◌≡◌, ℕ, None, List, Result, Ok, Err, ◌∙◌, ap, refl}
 use Rattle.bm_base.specs.declared.memory.Memory.{Memory}
 use Rattle.bm_base.specs.Range.{RangeView}
@@ -22,7 +22,7 @@ fills-quiet : (r : Result Outcome Memory) (d : Deed) (fills : List Filled) → d
 fills-quiet (Ok answer) d fills none = rw none refl
 fills-quiet (Err memory) d fills none = refl
 
--- behind a line that fills nothing
+-- after a line that fills nothing
 pub holds-quiet : (r : Result Outcome Memory) (old new : State) (d : Deed) (f g : ℕ → ℕ) (fills : List Filled) → d.fill ≡ None →
     Acts r old new d → Follows old.kernel old.items new.items f g → Holds old.kernel old.items fills f →
     Holds new.kernel new.items (fills_by r d fills) g

@@ -1,4 +1,4 @@
--- No live ID's range is empty, whatever changes.
+-- No live ID has an empty range, whatever changes.
 use Rattle.std.proofs.Common.{◌≡◌, ℕ, ◌<◌, Bool, true, false, cond, Option, Some, [], ◌∷◌, subst}
 use Rattle.std.specs.Ordering.{nat_cmp, match_ordering, is_eq}
 use Rattle.std.specs.declared.cmp.Ordering.{Ordering}

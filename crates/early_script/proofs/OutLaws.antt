@@ -1,4 +1,5 @@
--- Lines of which a part was run, since the program's own memory ran out; and what all of them write, in parts.
+-- Lines that were run in part, since this program is out of memory; and the items of all lines, in
+-- parts.
 use Rattle.std.proofs.Common.{◌≡◌, ℕ, ◌+◌, List, [], ◌∷◌, ◌++◌, take, drop, refl, sym, ◌∙◌, ap, subst, append_assoc}
 use Rattle.std.proofs.lemmas.List.{append-nil, take-append-drop}
 use Rattle.memblock_model.specs.declared.item.Item.{Item}
@@ -17,7 +18,7 @@ use Rattle.early_script.specs.Stage.{LineStage, Reaches, EndsAmid, GoesThrough, 
 use Rattle.early_script.proofs.RunLaws.{ran-cut}
 use Rattle.early_script.proofs.StageLaws.{after_lines-append, deed-reached}
 
--- amid the next line
+-- out of memory during the next line
 pub out-amid : (start : LineStage) (lines : List Line) (i : ℕ) (line : Line) (ids later : Ids) (m next : Contents)
     (answers : List Answer) → take (i + 1) lines ≡ take i lines ++ line ∷ [] →
     Reaches (after_lines start (take i lines)) ids m answers →
@@ -36,7 +37,7 @@ out-amid start lines i line ids later m next answers more reached amid holds =
       holds = holds s.fills reached.holds;
     }
 
--- one list goes on to another
+-- one list is the beginning of another
 record Goes (first second : List Item) : Type 0 where
   pub more : List Item
   pub on : second ≡ first ++ more
@@ -74,7 +75,7 @@ after_lines-both : (s : LineStage) (a b : List Line) → after_lines s (a ++ b) 
 after_lines-both s [] b = refl
 after_lines-both s (line ∷ a) b = after_lines-both (after_line s line) a b
 
--- all lines are those that were run, the next, and those behind it
+-- all lines are those that were run, the next one, and those after it
 all-lines : (start : LineStage) (lines : List Line) (i : ℕ) (line : Line) → take (i + 1) lines ≡ take i lines ++ line ∷ [] →
     after_lines start lines ≡ after_lines (after_line (after_lines start (take i lines)) line) (drop (i + 1) lines)
 all-lines start lines i line more =
@@ -82,7 +83,7 @@ all-lines start lines i line more =
     ap (after_lines start) (sym (take-append-drop (i + 1) lines)) ∙ after_lines-both start (take (i + 1) lines) rest
     ∙ rw (more, after_lines-append start (take i lines) line) refl
 
--- lines that were all run
+-- all lines were run
 pub between-all : (start : LineStage) (lines : List Line) (ids : Ids) (m : Contents) (answers : List Answer) →
     Reaches (after_lines start lines) ids m answers →
     GoesThrough start.state.items m.journal.items (after_lines start lines).state.items
@@ -93,7 +94,7 @@ between-all start lines ids m answers reached =
     (goes-then start.state.items whole m.journal.items (lines-go start lines) (goes-same whole m.journal.items same))
     (goes-same m.journal.items whole (sym same))
 
--- those of which a part was
+-- a part of the lines was run
 pub between-out : (start : LineStage) (lines : List Line) (ids : Ids) (m : Contents) (answers : List Answer) →
     EndsAmid start lines ids m answers →
     GoesThrough start.state.items m.journal.items (after_lines start lines).state.items
@@ -111,7 +112,7 @@ between-out start lines ids m answers out =
     (record { more = joined (take cut.count change.steps); on = cut.stands }))
     (goes-then m.journal.items next.state.items whole (cut-goes-on so_far.state.items m.journal.items change cut) goes_further)
 
--- and those of which none was
+-- no line was run
 pub between-none : (start : LineStage) (lines : List Line) →
     GoesThrough start.state.items start.state.items (after_lines start lines).state.items
 between-none start lines =

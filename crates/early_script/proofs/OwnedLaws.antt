@@ -1,4 +1,4 @@
--- The tests on ranges tell what they are named for.
+-- The tests on ranges mean what their names say.
 use Rattle.std.proofs.Common.{◌≡◌, ℕ, ◌<◌, ◌≤◌, ◌↔◌, Bool, true, false, Option, Some, None, List, refl, ap, arith, inl, inr, IsTrue}
 use Rattle.std.specs.Prelude.{min, max}
 use Rattle.std.proofs.lemmas.Bool.{cases_Bool, and_from, or_right, false≢true, false_from_ne_true}
@@ -38,7 +38,7 @@ owned-is own who range true tells =
 owned-is own who range false tells =
     false_from_ne_true _ (λ holds. false≢true (tells.1 (λ x low high. owned-each own who range holds x low high)))
 
--- ranges that meet have a byte in common, and the other way round
+-- ranges that meet have a byte in common, and conversely
 meets-meet : (r s : RangeView) → meets r s ≡ true → Meet s r
 meets-meet r s h =
     let x = max r.base s.base in

@@ -1,4 +1,4 @@
--- A line claims and frees, and nothing else: memory and the limit stay.
+-- A line only claims and frees, so memory and the limit are unchanged.
 use Rattle.std.proofs.Common.{◌≡◌, ℕ, ◌-◌, Bool, true, false, if◌then◌else◌, Option, Some, None, List, take, Result, Ok, Err, ◌∙◌, ap}
 use Rattle.bm_base.specs.declared.memory.Memory.{Memory}
 use Rattle.bm_base.specs.Range.{RangeView}
@@ -47,7 +47,7 @@ deed-quiet s bytes (acts.Trim id keep) = search (whole-quiet, either, by_change,
 deed-quiet s bytes (acts.Fill id byte) = search (whole-quiet, either, by_change, nothing-quiet)
 deed-quiet s bytes a = by_change _ nothing-quiet
 
--- what a row of quiet steps leaves as it is, an act leaves as it is, however it ends
+-- what quiet steps don't change, an act doesn't change, however it ends
 pub acts-keep : {X : Type 0} (f : List Item → X) →
     ((items : List Item) (o : Steps) → AreQuiet o.steps → f (after items o) ≡ f items) →
     (r : Result Outcome Memory) (old new : State) (d : Deed) → IsQuietDeed d → Acts r old new d → f new.items ≡ f old.items

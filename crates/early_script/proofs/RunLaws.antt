@@ -1,4 +1,5 @@
--- How a line ends, by how memblock's call ended, and that it leaves the bytes to the items where it fills nothing.
+-- How a line ends, from the end of memblock's call; and that the items decide the bytes if it
+-- fills nothing.
 use Rattle.std.proofs.Common.{◌≡◌, ℕ, Bool, None, List, length, Result, Ok, Err, IsOk, refl, sym, ◌∙◌, ap, arith, inl, inr}
 use Rattle.std.proofs.lemmas.Bool.{true≢false}
 use Rattle.std.proofs.Math.Seq.{take-length}
@@ -13,7 +14,7 @@ use Rattle.growth_model.specs.Bytes.{Follows}
 use Rattle.early_script.specs.declared.outcome.Outcome.{Outcome}
 use Rattle.early_script.specs.Acted.{State, Deed, RanOut, OnlyAnswers, Acts, alloc_deed, reserve_deed, free_deed, trim_deed, byte_by}
 
--- where memory ran out, some of the steps stand, or all of them
+-- out of memory: some of the steps are written, or all
 pub ran-cut : (takes : Bool) (old new : List Item) (o : growth.Outcome) → RanOut takes old new o → IsCut old new o.steps
 ran-cut takes old new o ran =
     elim ran as (λ _. IsCut old new o.steps) [
@@ -25,7 +26,7 @@ ran-cut takes old new o ran =
       }
     ]
 
--- a line that only answers wants none
+-- a line that only returns an outcome can't be out of memory
 pub only-answers : (r : Result Outcome Memory) (old new : State) (d : Deed) → OnlyAnswers old d → Acts r old new d → IsOk r
 only-answers (Ok answer) old new d only acts = refl
 only-answers (Err memory) old new d only acts =
@@ -35,7 +36,7 @@ only-answers (Err memory) old new d only acts =
       | inr behind ↦ absurd (true≢false (sym behind.0 ∙ only.untaken))
     ]
 
--- without a fill, the bytes behind a line are those that the items make
+-- without a fill, the bytes after a line are those of the items
 pub bytes-quiet : (result : Result Outcome Memory) (old new : State) (d : Deed) (f g : ℕ → ℕ) → d.fill ≡ None →
     Follows old.kernel old.items new.items f g → (x : ℕ) → g x ≡ byte_by result old new d x (f x)
 bytes-quiet (Ok answer) old new d f g none follows x = rw none (follows.each x)

@@ -1,4 +1,4 @@
--- A script that was read places the sections once at most.
+-- A script that was read places the sections at most once.
 use Rattle.std.proofs.Common.{◌≡◌, ℕ, ◌+◌, Bool, true, false, if◌then◌else◌, Option, Some, None, List, [], ◌∷◌, Result, Ok, Err, subst, inl, inr}
 use Rattle.std.specs.List.{All, cons_option}
 use Rattle.std.proofs.lemmas.Bool.{cases_Bool}
@@ -43,7 +43,7 @@ if-clean false r s first second = second
 by_name-clean : (name : List ℕ) (words : Words) → Clean (by_name true name words)
 by_name-clean name words = search (if-clean, bind-clean, ok-clean, err-clean) depth 24
 
--- neither does a line
+-- a line that was read doesn't either
 abbrev IsCleanLine : Result (Option Act) Wrong → Type 0
 IsCleanLine (Ok None) = Unit {0}
 IsCleanLine (Ok (Some a)) = is_sections a ≡ false
@@ -61,7 +61,7 @@ asked-clean : (words : Words) → IsCleanLine (asked_by (by_name true) words)
 asked-clean [] = tt
 asked-clean (name ∷ words) = comment-clean (is_comment name) _ (some-clean (by_name true name words) (by_name-clean name words).known)
 
--- nor lines behind the one that did
+-- nor do the lines after the one that did
 abbrev AreClean : Result (List Line) ScriptFault → Type 0
 AreClean (Ok lines) = All (λ l. CanBeRun l.act) lines
 AreClean (Err fault) = Unit {0}

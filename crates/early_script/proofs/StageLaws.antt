@@ -1,4 +1,4 @@
--- One line more of a stage.
+-- One more line of a stage.
 use Rattle.std.proofs.Common.{◌≡◌, ℕ, ◌+◌, ◌<◌, ◌≤◌, true, false, List, [], ◌∷◌, ◌++◌, length, take, drop, get_or, Ok, refl, sym, ap, subst, add-one, inl, inr}
 use Rattle.std.specs.List.{All}
 use Rattle.std.proofs.Math.Seq.{drop-cons}
@@ -26,7 +26,7 @@ pub after_lines-append : (s : LineStage) (lines : List Line) (line : Line) → a
 after_lines-append s [] line = refl
 after_lines-append s (l ∷ lines) line = after_lines-append (after_line s l) lines line
 
--- a line more
+-- one more line
 pub take_next : (lines : List Line) (i : ℕ) (line : Line) → i < length lines → line ≡ get_or lines i line →
     take (i + 1) lines ≡ take i lines ++ line ∷ []
 take_next lines i line below is = rw (take_more lines i line below, ← is) refl
@@ -34,7 +34,7 @@ take_next lines i line below is = rw (take_more lines i line below, ← is) refl
 pub begun-along : (items more longer : List Item) → longer ≡ items ++ more → HasBegun items → HasBegun longer
 begun-along items more longer goes begun = rw goes (more-begun items more begun)
 
--- what a line does where the stage stands
+-- the deed of a line in the state that the stage has reached
 pub deed-reached : (s : LineStage) (ids : Ids) (m : Contents) (answers : List Answer) (line : Line) → Reaches s ids m answers →
     deed (state_of ids m) (bytes_in m) line.act ≡ deed_at s line
 deed-reached s ids m answers line reached =
@@ -53,7 +53,7 @@ reaches-line s ids after_ids m next answers line outcome reached acts holds =
     subst (λ (t : State). Acts (Ok outcome) t (state_of after_ids next) (deed_at s line)) reached.state (rw same at acts) in
     record { state = done.1; answers_are = rw (reached.answers_are, done.0) refl; holds = rw same at (holds s.fills reached.holds) }
 
--- an act that doesn't place the sections can be run, and so can all before the one that does
+-- an act that doesn't place the sections can be run, and so can all lines before the one that does
 pub is_run : (a : Act) → is_sections a ≡ false → CanBeRun a
 is_run acts.Sections no_sections = true≢false no_sections
 is_run a no_sections = tt
@@ -65,12 +65,12 @@ all-before (line ∷ lines) = elim (cases_Bool (is_sections line.act)) [
   | inr later ↦ rw later (All-cons (λ l. CanBeRun l.act) line (before_sections lines) (is_run line.act later) (all-before lines))
 ]
 
--- a loop that has passed i lines without finding it
+-- the loop has passed i lines, and none of them places the sections
 pub record Passed (lines : List Line) (i : ℕ) : Type 0 where
   pub before : before_sections lines ≡ take i lines ++ before_sections (drop i lines)
   pub behind : behind_sections lines ≡ behind_sections (drop i lines)
 
--- and the one that finds it
+-- the next line places the sections
 pub passed-here : (lines : List Line) (i : ℕ) (line : Line) → i < length lines → line ≡ get_or lines i line →
     is_sections line.act ≡ true → Passed lines i →
     (take i lines ≡ before_sections lines) × (drop (i + 1) lines ≡ behind_sections lines)
@@ -78,7 +78,7 @@ passed-here lines i line below is here passed =
     let whole : drop i lines ≡ line ∷ drop (i + 1) lines = rw (add-one, drop-cons lines i line below, ← is) refl in
     (sym (rw (whole, here, append-nil (take i lines)) at passed.before), sym (rw (whole, here) at passed.behind))
 
--- or that it isn't there
+-- no line places the sections
 pub passed-all : (lines : List Line) (i : ℕ) → length lines ≤ i → Passed lines i →
     (lines ≡ before_sections lines) × ([] ≡ behind_sections lines)
 passed-all lines i all passed =

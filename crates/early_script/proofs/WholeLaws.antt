@@ -1,4 +1,4 @@
--- An act on a live ID, by what is found of it.
+-- An act on a live ID, from what is known of its range.
 use Rattle.std.proofs.Common.{◌≡◌, ℕ, ◌<◌, ◌≤◌, ◌↔◌, Bool, if◌then◌else◌, Some, IsTrue, refl}
 use Rattle.bm_base.specs.Range.{RangeView, end_of}
 use Rattle.memblock_model.specs.declared.owner.Owner.TheVariants as owner
@@ -10,7 +10,7 @@ use Rattle.early_script.specs.Owned.{is_owned}
 use Rattle.early_script.specs.Acted.{State, Deed, answers, on_whole}
 use Rattle.early_script.proofs.OwnedLaws.{owned-is}
 
--- what the journal's look-up tells
+-- the result of the journal's look-up
 pub owned-by : (j k : Contents) (id : ℕ) (range : RangeView) (b told : Bool) → j ≡ k → b ≡ told →
     (IsTrue b ↔ ((x : ℕ) → range.base ≤ x → x < end_of range → owner_of j.items x ≡ Some (owner.Script id))) →
     is_owned (owner_of k.items) (owner.Script id) range ≡ told

@@ -1,5 +1,5 @@
--- What a line of the script does and answers: the tests of its act in their order, the first that holds is the outcome; and the change of
--- memory where none does.
+-- What a line of the script does and returns. The tests of its act come in order, and the first
+-- that holds is the outcome. Memory changes only if none holds.
 use Rattle.std.specs.Prelude.{◌≡◌, ◌⊎◌, ℕ, ◌+◌, ◌-◌, nat_le, nat_lt, Bool, true, false, IsTrue, if◌then◌else◌, Option, Some, None, List, [], ◌∷◌, ◌++◌, length, Result, Ok, Err}
 use Rattle.bm_base.specs.declared.memory.Memory.{Memory}
 use Rattle.bm_base.specs.Range.{RangeView}
@@ -21,14 +21,15 @@ use Rattle.early_script.specs.declared.outcome.Outcome.TheVariants as outcomes
 use Rattle.early_script.specs.Ids.{Ids, range_of, is_live, with_range, without}
 use Rattle.early_script.specs.Owned.{is_owned, touches}
 
--- what a line finds: the kernel's image, what happened to memory, and the live IDs
+-- the state before a line: the range of the kernel's image, the journal's items, and the live IDs
 pub record State : Type 0 where
   pub kernel : RangeView
   pub items : List Item
   pub ids : Ids
 
--- what a line does to memory; and, unless that is refused: its answer, the IDs then, a fill of bytes, and whether the program's own memory
--- is taken then, for the range that an ID gets or for the bytes of the fill
+-- what a line does to memory; and, unless that is refused, its outcome, the new IDs, a fill, and
+-- whether memory of this program is then needed for the range of an ID or for the bytes of the
+-- fill
 pub record Deed : Type 0 where
   pub change : Change
   pub answer : Outcome
@@ -36,11 +37,12 @@ pub record Deed : Type 0 where
   pub fill : Option Filled
   pub takes : Bool
 
--- a line that only answers
+-- a line that only returns an outcome
 abbrev pub answers : State → Outcome → Deed
 answers s answer = record { change = nothing; answer = answer; ids = s.ids; fill = None; takes = false }
 
--- where it does: its change comes to nothing, and no memory is taken
+-- a deed that only returns an outcome: its change writes nothing, and no memory of this program is
+-- needed
 pub record OnlyAnswers (s : State) (d : Deed) : Type 0 where
   pub unchanged : d.change s.items ≡ nothing s.items
   pub untaken : d.takes ≡ false
@@ -59,7 +61,7 @@ alloc_at s id size (Some place) = record {
 abbrev pub alloc_deed : State → ℕ → Request → Deed
 alloc_deed s id r = if is_live s.ids id then answers s outcomes.Taken else alloc_at s id r.size (place_for r s.items)
 
--- reserve: the range is claimed for the ID, unless it meets a table
+-- reserve: the range is claimed for the ID, unless it overlaps a table
 abbrev pub reserved_for : State → ℕ → RangeView → Deed
 reserved_for s id range = record {
   change = claimed range (owner.Script id);
@@ -74,7 +76,7 @@ reserve_deed s id range =
     if is_live s.ids id then answers s outcomes.Taken else
     (if touches s.kernel s.items range then answers s outcomes.TableInUse else reserved_for s id range)
 
--- an act on the range of a live ID, of which nobody else has a byte
+-- an act on the range of a live ID that owns all of it
 abbrev pub on_range : State → ℕ → (RangeView → Deed) → Option RangeView → Deed
 on_range s id deed None = answers s outcomes.Unknown
 on_range s id deed (Some range) = if is_owned (owner_of s.items) (owner.Script id) range then deed range else answers s outcomes.NotWhole
@@ -82,7 +84,7 @@ on_range s id deed (Some range) = if is_owned (owner_of s.items) (owner.Script i
 abbrev pub on_whole : State → ℕ → (RangeView → Deed) → Deed
 on_whole s id deed = on_range s id deed (range_of s.ids id)
 
--- free: the ID's whole range is freed
+-- free: the whole range of the ID is freed
 abbrev pub free_whole : State → ℕ → RangeView → Deed
 free_whole s id range = record { change = freed range; answer = outcomes.Done; ids = without s.ids id; fill = None; takes = false }
 
@@ -105,7 +107,7 @@ trim_whole s id keep range = if nat_le range.size keep then answers s outcomes.T
 abbrev pub trim_deed : State → ℕ → ℕ → Deed
 trim_deed s id keep = on_whole s id (trim_whole s id keep)
 
--- fill: each byte of the ID's range gets the value, where there are at most 65,536
+-- fill: each byte of the ID's range gets the value, if there are at most 65,536
 abbrev pub fill_whole : State → ℕ → RangeView → Deed
 fill_whole s byte range = if nat_lt 65536 range.size then answers s outcomes.TooLargeFill else
     record (answers s outcomes.Done) { fill = Some (record { range = range; byte = byte; at = length s.items }); takes = true }
@@ -113,11 +115,12 @@ fill_whole s byte range = if nat_lt 65536 range.size then answers s outcomes.Too
 abbrev pub fill_deed : State → ℕ → ℕ → Deed
 fill_deed s id byte = on_whole s id (fill_whole s byte)
 
--- peek: the bytes from the address on are told
+-- peek: returns the bytes from the address on
 abbrev pub peek_deed : State → (ℕ → ℕ) → ℕ → ℕ → Deed
 peek_deed s bytes at len = answers s (outcomes.Bytes (record { items = bytes_at bytes at len }))
 
--- what an act does, in this state and with these bytes in memory. Where the sections are placed, no line does anything
+-- what an act does in this state, with these bytes in memory; the line that places the sections
+-- does nothing here
 unfoldable pub deed : State → (ℕ → ℕ) → Act → Deed
 deed s bytes (acts.Alloc id request) = alloc_deed s id request
 deed s bytes (acts.Reserve id range) = reserve_deed s id range
@@ -127,7 +130,7 @@ deed s bytes (acts.Fill id byte) = fill_deed s id byte
 deed s bytes (acts.Peek at len) = peek_deed s bytes at len
 deed s bytes acts.Sections = answers s outcomes.Done
 
--- a growth that finds no place is the answer, and the IDs stay
+-- if a growth finds no place, that is the outcome, and the IDs stay
 abbrev pub answer_to : Option Refused → Outcome → Outcome
 answer_to None answer = answer
 answer_to (Some r) answer = outcomes.NoGapForTable r.which r.room
@@ -145,31 +148,31 @@ answer_of s d = answer_to (d.change s.items).refused d.answer
 abbrev pub state_after : State → Deed → State
 state_after s d = state_by s d.ids (d.change s.items)
 
--- the program's own memory ran out: before a step of the change that was still to be taken; or behind all of them, where none was refused
--- and memory is taken then
+-- this program is out of memory: before a step of the change that is then missing; or after all of
+-- them, if none was refused and the deed needs memory
 abbrev pub RanOut : Bool → List Item → List Item → growth.Outcome → Type 0
 RanOut takes old new o = IsCutShort old new o.steps ⊎ (IsTrue takes × (o.refused ≡ None) × (new ≡ after old o))
 
--- so it ran out amid a line, and the IDs are as they were
+-- it ran out of memory during a line, and the IDs are unchanged
 abbrev pub IsAmid : State → State → Deed → Type 0
 IsAmid old new d = RanOut d.takes old.items new.items (d.change old.items) × (new.kernel ≡ old.kernel) × (new.ids ≡ old.ids)
 
--- a line ends with its answer, and leaves what it comes to; or it wants the program's own memory
+-- a line ends with the outcome and the state of its deed, or out of memory
 abbrev pub Acts : Result Outcome Memory → State → State → Deed → Type 0
 Acts (Ok answer) old new d = (answer ≡ answer_of old d) × (new ≡ state_after old d)
 Acts (Err memory) old new d = IsAmid old new d
 
--- what a fill makes of a byte, where there is one
+-- a byte after the fill, if there is one
 abbrev pub put_by : Option Filled → ℕ → ℕ → ℕ
 put_by None x b = b
 put_by (Some f) x b = put f x b
 
--- and what stands at an address behind a line, where the byte stood before
+-- the byte at an address after a line, if it was b before
 abbrev pub byte_by : Result Outcome Memory → State → State → Deed → ℕ → ℕ → ℕ
 byte_by (Ok answer) old new d x b = put_by d.fill x (byte_after old.kernel old.items new.items x b)
 byte_by (Err memory) old new d x b = byte_after old.kernel old.items new.items x b
 
--- the fills then
+-- the fills after the line
 abbrev pub with_fill : List Filled → Option Filled → List Filled
 with_fill fills None = fills
 with_fill fills (Some f) = fills ++ f ∷ []
@@ -178,7 +181,7 @@ abbrev pub fills_by : Result Outcome Memory → Deed → List Filled → List Fi
 fills_by (Ok answer) d fills = with_fill fills d.fill
 fills_by (Err memory) d fills = fills
 
--- a line can be run: it doesn't place the sections
+-- the line can be run: it doesn't place the sections
 abbrev pub CanBeRun : Act → Type 0
 CanBeRun acts.Sections = ⊥
 CanBeRun a = Unit {0}

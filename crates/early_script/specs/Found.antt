@@ -1,4 +1,4 @@
--- What lines find in memblock, and how a refusal of memblock is answered.
+-- What lines read from memblock, and the outcome for a refusal of memblock.
 use Rattle.std.specs.Prelude.{◌≡◌, ℕ, Result, Ok, Err}
 use Rattle.bm_base.specs.declared.memory.Memory.{Memory}
 use Rattle.phys_store.specs.Bytes.{byte_of}
@@ -10,7 +10,7 @@ use Rattle.early_script.specs.declared.outcome.Outcome.TheVariants as outcomes
 use Rattle.early_script.specs.Ids.{Ids}
 use Rattle.early_script.specs.Acted.{State}
 
--- the state of live IDs beside memblock
+-- the state, from live IDs and a memblock
 abbrev pub state_of : Ids → Contents → State
 state_of ids m = record { kernel = m.kernel; items = m.journal.items; ids = ids }
 
@@ -18,7 +18,7 @@ state_of ids m = record { kernel = m.kernel; items = m.journal.items; ids = ids 
 abbrev pub bytes_in : Contents → ℕ → ℕ
 bytes_in m = byte_of m.tables.store
 
--- what memblock refused is the answer, but want of memory ends the script
+-- a refusal is the outcome, but out of memory is an error and ends the script
 abbrev pub Refuses : Result Outcome Memory → Refusal → Type 0
 Refuses (Ok answer) refusal.NoGap = answer ≡ outcomes.NoGap
 Refuses (Ok answer) (refusal.NoGapForTable w room) = answer ≡ outcomes.NoGapForTable w room

@@ -1,4 +1,4 @@
--- Whose the bytes of a range are, and whether it meets a table, as tests.
+-- Tests for the owner of a range, and for its overlap with a table.
 use Rattle.std.specs.Prelude.{Bool, ◌||◌, nat_lt, min, max, Some, List}
 use Rattle.bm_base.specs.Range.{RangeView, end_of}
 use Rattle.bm_base.specs.Each.{each_in}
@@ -18,6 +18,6 @@ is_owned own who range = each_in range (λ x. agree same_owner (own x) (Some who
 abbrev pub meets : RangeView → RangeView → Bool
 meets r s = nat_lt (max r.base s.base) (min (end_of r) (end_of s))
 
--- the range meets the bytes of a table
+-- the range overlaps a table
 abbrev pub touches : RangeView → List Item → RangeView → Bool
 touches kernel items range = meets range (table_bytes which.Memory kernel items) || meets range (table_bytes which.Reserved kernel items)

@@ -1,4 +1,4 @@
--- Lines one behind another, each with its answer.
+-- Lines in order, each with its outcome.
 use Rattle.std.specs.Prelude.{◌≡◌, ◌⊎◌, ℕ, ◌+◌, ◌<◌, if◌then◌else◌, List, [], ◌∷◌, ◌++◌, length, take, Vec, vec_capacity}
 use Rattle.std.specs.List.{All}
 use Rattle.std.specs.declared.alloc.Global.{Global}
@@ -12,13 +12,13 @@ use Rattle.early_script.specs.Ids.{Ids}
 use Rattle.early_script.specs.Acted.{State, Deed, IsAmid, CanBeRun, with_fill, deed, answer_of, state_after}
 use Rattle.early_script.specs.Found.{state_of, bytes_in}
 
--- what stands before a line: the state, the fills so far, and the answers so far
+-- what there is before a line: the state, and the fills and outcomes so far
 pub record LineStage : Type 0 where
   pub state : State
   pub fills : List Filled
   pub answers : List Answer
 
--- the deed of a line: it finds at each address the byte of the items and the fills
+-- the deed of a line, which reads at each address the byte of the items and the fills
 abbrev pub deed_at : LineStage → Line → Deed
 deed_at s line = deed s.state (byte s.state.kernel s.state.items s.fills) line.act
 
@@ -37,17 +37,19 @@ abbrev pub after_lines : LineStage → List Line → LineStage
 after_lines s [] = s
 after_lines s (line ∷ lines) = after_lines (after_line s line) lines
 
--- where lines begin: beside memblock, after these fills, with these answers
+-- the start of the lines: the state of a memblock after these fills, with these outcomes
 abbrev pub stage_of : Ids → Contents → List Filled → List Answer → LineStage
 stage_of ids m fills answers = record { state = state_of ids m; fills = fills; answers = answers }
 
--- live IDs, memblock and answers are those of the stage, and each byte is that of its items and fills
+-- live IDs, memblock and outcomes are those of the stage, and each byte is that of its items and
+-- fills
 pub record Reaches (s : LineStage) (ids : Ids) (m : Contents) (answers : List Answer) : Type 0 where
   pub state : state_of ids m ≡ s.state
   pub answers_are : answers ≡ s.answers
   pub holds : Holds m.kernel m.journal.items s.fills (bytes_in m)
 
--- the program's own memory ran out before the first line: the answers had no room for those of all lines, and nothing has changed
+-- out of memory before the first line: the list had no room for the outcomes of all lines, and
+-- nothing has changed
 pub record EndsBefore (ids : Ids) (m : Contents) (answers : Vec Answer Global) (lines : List Line)
     (later : Ids) (next : Contents) (told : Vec Answer Global) : Type 0 where
   pub no_room : vec_capacity answers < length answers.items + length lines
@@ -55,7 +57,8 @@ pub record EndsBefore (ids : Ids) (m : Contents) (answers : Vec Answer Global) (
   pub memblock_stays : next ≡ m
   pub answers_stay : told.items ≡ answers.items
 
--- or amid a line, as running that line alone may end (`Acts`); so many lines before it have been run and answered
+-- out of memory during a line, as that line alone may end (`Acts`); the `count` lines before it
+-- have been run, and their outcomes are in the list
 pub record EndsAmid (s : LineStage) (lines : List Line) (ids : Ids) (m : Contents) (answers : List Answer) : Type 0 where
   pub count : ℕ
   pub line : Line
@@ -64,21 +67,21 @@ pub record EndsAmid (s : LineStage) (lines : List Line) (ids : Ids) (m : Content
   pub amid : IsAmid (after_lines s (take count lines)).state (state_of ids m) (deed_at (after_lines s (take count lines)) line)
   pub holds : Holds m.kernel m.journal.items (after_lines s (take count lines)).fills (bytes_in m)
 
--- where it ran out among lines: before the first, or amid one of them, after whatever fills
+-- out of memory before the first line or during one of them, whatever was filled before
 abbrev pub RunsOut : Ids → Contents → Vec Answer Global → List Line → Ids → Contents → Vec Answer Global → Type 0
 RunsOut ids m answers lines later next told =
     EndsBefore ids m answers lines later next told
     ⊎ ((fills : List Filled) → Holds m.kernel m.journal.items fills (bytes_in m) →
     EndsAmid (stage_of ids m fills answers.items) lines later next told.items)
 
--- the first list goes on to the second, and that to the third
+-- the first list is the beginning of the second, and the second of the third
 pub record GoesThrough (first second third : List Item) : Type 0 where
   pub more : List Item
   pub rest : List Item
   pub goes_on : second ≡ first ++ more
   pub goes_further : third ≡ second ++ rest
 
--- the lines before the one that places the sections, or all of them; and the lines behind it
+-- the lines before the one that places the sections, or all of them; and the lines after it
 abbrev pub before_sections : List Line → List Line
 before_sections [] = []
 before_sections (line ∷ lines) = if is_sections line.act then [] else line ∷ before_sections lines

@@ -1,22 +1,30 @@
-//! The early script, line by line: allocations behind the boot's own.
+//! Runs the early script, line by line: allocations after the boot's own.
 //!
-//! A line of the script (`script_reader`) asks memblock for a place, claims a range, gives back what it got, writes
-//! or reads bytes. [`Live::run_line`] carries one out and answers an [`Outcome`]: the tests of each act come in the
-//! order of the outcomes, the first that holds is the answer, and only then memory changes. A refused line isn't the
-//! end of a boot: it is recorded, and the next line follows.
+//! A line of the script (`script_reader`) allocates memory, claims a range, frees all or a part of
+//! what it got, or writes or reads bytes. [`Live::run_line`] runs one line and returns an
+//! [`Outcome`]. The tests of each act come in the order of the outcomes, and the first that holds
+//! is the outcome. Only if none holds does memory change. A refused line doesn't end the boot: its
+//! outcome is recorded, and the next line follows.
 //!
-//! - `specs/Acted.antt`: what each act does and answers (`deed`), as a change of the items; `specs/Stage.antt` puts
-//!   lines one behind another.
-//! - [`Live`]: which IDs are live, each with its range. Contracts see it as the list of them.
-//! - An ID is whole while nobody else claimed or freed a byte of its range; the journal tells that by a look-up.
+//! - `specs/Acted.antt`: what each act does and returns (`deed`), as a change of the items.
+//!   `specs/Stage.antt`: lines, one after another.
+//! - [`Live`]: the live IDs, each with its range. Contracts see it as a list of them.
+//! - An ID is whole as long as no one else claims or frees a byte of its range. The journal
+//!   decides that by one look-up.
+//! - [`run_lines`] runs lines in order. [`split_at_sections`] returns the lines before and after
+//!   the one that places the sections.
 //!
-//! - [`run_lines`] runs lines one behind another, [`split_at_sections`] gives those before and behind the line that
-//!   places the sections.
+//! The layer above may rest on this:
 //!
-//! What a line may claim, free or fill never meets memblock's tables: a `reserve` that does is refused, and a byte of
-//! a table has no owner of a script. A table moves only where a claim or a freeing makes it grow. Where the program's
-//! own memory runs out amid a line, some steps of its change stand, and the IDs are as before. What was
-//! prepared stays prepared, whatever a line answers.
+//! - What a line claims, frees or fills never overlaps memblock's tables. A `reserve` that would
+//!   is refused, and no byte of a table is owned by the script.
+//! - A table moves only if a claim or a free makes it grow.
+//! - If this program is out of memory during a line, some steps of its change are written, and the
+//!   IDs are unchanged.
+//! - Prepared addresses stay prepared, whatever a line returns.
+//!
+//! A law is an empty function whose contract is a proven fact. In contracts, a name means the
+//! definition in `specs/`.
 #![tactic(auto)]
 
 mod laws;

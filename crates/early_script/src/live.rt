@@ -1,5 +1,6 @@
-//! The live IDs, and the lines that are run on them. Of an ID its range alone is kept here: whether all of it is
-//! still the ID's is asked of the journal, since another line may have claimed over it.
+//! The live IDs, and the lines that are run on them. For an ID only its range is kept here.
+//! Whether the ID still owns all of it is asked of the journal, since another line may have
+//! claimed over it.
 
 ghost use Rattle.std.specs.Prelude.{◌≡◌, ℕ, ◌+◌, ◌-◌, ◌^◌, ◌<◌, ◌≤◌, List, [], OnOk, OnErr, IfOk, IfErr, IsOk};
 ghost use Rattle.bm_base.specs.Range.{RangeView};
@@ -19,10 +20,10 @@ use std::alloc::Global;
 use std::collections::BTreeMap;
 use std::marker::Model;
 
-/// The most bytes that a `fill` writes.
+/// The largest number of bytes that a `fill` writes.
 const MOST_FILLED: u64 = 65_536;
 
-/// Which IDs are live, each with its range. No range is empty.
+/// The live IDs, each with its range. No range is empty.
 #[derive(Debug, Drop)]
 pub struct Live {
     ids: BTreeMap<u32, Range>,
@@ -43,7 +44,7 @@ impl Live {
     ghost use Rattle.early_script.specs.Acted.{Deed as AnyDeed, Acts, CanBeRun, OnlyAnswers, byte_by, fills_by, answers, on_whole, deed, alloc_deed, reserve_deed, free_deed, trim_deed, fill_deed};
     ghost use Rattle.early_script.specs.Found.{state_of, bytes_in};
 
-    /// No ID is live.
+    /// Creates a map without a live ID.
     pub fn new(alloc: Global) -> Live
         ensures { result ≡ [] }
     {
@@ -52,8 +53,14 @@ impl Live {
         }
     }
 
-    /// Carries one line out, which doesn't place the sections and has the bounds that its reader gives it. A line that
-    /// only answers takes no memory.
+    /// Runs one line, which must not be the one that places the sections, and returns its outcome.
+    /// Its numbers must be within the bounds that the reader guarantees. A line that only returns
+    /// an outcome can't fail.
+    ///
+    /// # Errors
+    ///
+    /// `Memory` if this program is out of memory. Some steps of the line's change may then be
+    /// written, and the IDs are unchanged.
     pub fn run_line(&mut self, mb: &mut Memblock, line: &Line) -> Result<Outcome, Memory>
         requires begun { HasBegun mb.old.journal.items }
         requires run { CanBeRun line.now.act }
@@ -194,14 +201,14 @@ impl Live {
         Ok(Outcome::Done)
     }
 
-    /// Whether the ID has a range.
+    /// Tests whether the ID is live.
     fn is_live(&self, id: u32) -> bool
         ensures { result ≡ has_range self.now id }
     {
         self.ids.contains_key(&id)
     }
 
-    /// The ID has the range, whatever it had.
+    /// Gives the ID this range, whatever it had.
     fn keep(&mut self, id: u32, range: Range) -> Result<(), Memory>
         requires { 0 < range.size }
         ensures ok { OnOk result (self.new ≡ with_range self.old id range) }
@@ -211,7 +218,12 @@ impl Live {
         Ok(())
     }
 
-    /// The range of a live ID, of which nobody else has a byte; or what else is answered, whatever is to be done.
+    /// Returns the range of a live ID that owns all of it.
+    ///
+    /// # Errors
+    ///
+    /// The outcome of every act on this ID: `Unknown` if the ID isn't live, `NotWhole` if it
+    /// doesn't own all of its range.
     fn whole(&self, mb: &Memblock, id: u32) -> Result<Range, Outcome>
         requires { HasBegun mb.now.journal.items }
         ensures range { IfOk result (λ range. (deed : RangeView → AnyDeed) → on_whole (state_of self.now mb.now) id deed ≡ deed range) }

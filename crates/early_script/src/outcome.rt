@@ -1,23 +1,23 @@
-//! What comes of a line. A refusal of memblock is an outcome like any other, and want of the program's own memory
-//! is none: behind the one the next line follows, and the other ends the boot.
+//! The outcome of a line. A refusal of memblock is an outcome, and the next line follows. Running
+//! out of this program's memory is none: it ends the boot.
 
 use arrayvec::ArrayVec;
 use memblock_model::Which;
 
-/// What comes of a line. After an answer below `Bytes` nothing has changed, but for `NoGapForTable`: what
-/// the growth completed stays.
+/// The outcome of a line. After an outcome below `Bytes` nothing has changed, except that after
+/// `NoGapForTable` the completed steps of a growth stay.
 #[derive(Debug, Drop, PartialEq, Eq)]
 pub enum Outcome {
-    /// The ID has the place at the address.
+    /// The ID got the range at this address.
     At(u64),
-    /// It was done.
+    /// The act was carried out.
     Done,
-    /// The bytes that were asked for, ascending.
+    /// The bytes that were read, in the order of their addresses.
     Bytes(ArrayVec<u8, 64>),
     /// No address fits the request.
     NoGap,
-    /// A table had to grow and no place was found for it; `room` is the number of records that was too
-    /// small (`memblock_double_array`).
+    /// A table had to grow and no place was found for it (`memblock_double_array`); `room` is the
+    /// number of records that was too small.
     NoGapForTable { which: Which, room: u64 },
     /// The ID is live already.
     Taken,
@@ -25,15 +25,15 @@ pub enum Outcome {
     Unknown,
     /// Some byte of the ID's range has another owner, or none.
     NotWhole,
-    /// The range meets the bytes of a table.
+    /// The range overlaps a table.
     TableInUse,
-    /// The ID has no more bytes than are to be kept.
+    /// The ID has at most as many bytes as it should keep.
     TooLargeKeep,
     /// The ID has more than 65,536 bytes.
     TooLargeFill,
 }
 
-/// What came of the line of that number.
+/// The outcome of the line of this number.
 #[derive(Debug, Drop, PartialEq, Eq)]
 pub struct Answer {
     pub line: u32,

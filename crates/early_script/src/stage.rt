@@ -1,6 +1,6 @@
-//! The lines of a script one behind another, each with its answer. Where the sections are placed is one of the
-//! lines, but the crates that place them stand beside this one: so lines are split at it, and the boot runs both
-//! parts.
+//! The lines of a script in order, each with its outcome. One of the lines may place the sections,
+//! but the crates that do so aren't below this one. So the lines are split there, and the boot
+//! runs both parts.
 ghost use Rattle.std.specs.Prelude.{◌≡◌, ℕ, ◌+◌, ◌<◌, ◌≤◌, List, [], ◌∷◌, ◌++◌, OnOk, OnErr, vec_len, vec_capacity};
 ghost use Rattle.std.specs.List.{All};
 ghost use Rattle.script_reader.specs.Forms.{HasBounds};
@@ -17,9 +17,14 @@ use bm_base::{Memory, push_within_capacity};
 use memblock_grow::Memblock;
 use script_reader::{Act, Line};
 
-/// Runs the lines in their order and appends what came of each. A refused line is answered like any
-/// other. The memory for all answers is taken before the first line, and where it is wanted nothing has
-/// changed; behind it `Memory` comes only as the answer of a line's own run, and those before are answered.
+/// Runs the lines in order and appends the outcome of each. A refused line has an outcome like any
+/// other.
+///
+/// # Errors
+///
+/// `Memory` if this program is out of memory: either for the list of outcomes, before the first
+/// line, and then nothing has changed; or during a line. All lines before that one have then been
+/// run, and their outcomes are in the list.
 pub fn run_lines(
     live: &mut Live,
     mb: &mut Memblock,
@@ -46,12 +51,13 @@ pub fn run_lines(
             line: line.number,
             outcome,
         };
-        push_within_capacity(answers, answer); // the list has room for it
+        push_within_capacity(answers, answer); // `reserve` made room for it
     }
     Ok(())
 }
 
-/// The lines before the one that places the sections, or all where there is none, and those behind it.
+/// Returns the lines before the one that places the sections, or all lines if none does, and the
+/// lines after it.
 pub fn split_at_sections(lines: &[Line]) -> (&[Line], &[Line])
     requires once { PlaceOnce lines.now }
     requires bounds { All (λ l. HasBounds l.act) lines.now }

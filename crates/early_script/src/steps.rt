@@ -1,5 +1,5 @@
-//! The steps of a line that need no live ID. They stand apart from `Live`, so that their contracts speak of
-//! memblock or of numbers alone.
+//! The steps of a line that need no live ID. They are outside `Live`, so that their contracts are
+//! only about memblock or numbers.
 
 ghost use Rattle.std.specs.Prelude.{◌≡◌, ℕ, ◌+◌, ◌-◌, ◌^◌, ◌<◌, ◌≤◌, false, length, MatchOption};
 ghost use Rattle.phys_store.specs.Bytes.{bytes_at};
@@ -14,7 +14,7 @@ use arrayvec::ArrayVec;
 use bm_base::{Memory, Range};
 use memblock_grow::{Memblock, Refusal, no_items_no_change};
 
-/// A refusal of memblock is the answer; want of memory isn't.
+/// Converts a refusal of memblock to an outcome; out of memory stays an error.
 pub fn refused(refusal: Refusal) -> Result<Outcome, Memory>
     ensures { Refuses result refusal }
 {
@@ -25,7 +25,8 @@ pub fn refused(refusal: Refusal) -> Result<Outcome, Memory>
     }
 }
 
-/// The first `keep` bytes of the range and the rest of it, where there is a rest.
+/// Splits the range after its first `keep` bytes, or returns `None` if nothing would be left for
+/// the second part.
 pub fn split(range: Range, keep: u64) -> Option<(Range, Range)>
     ensures { MatchOption result (range.size ≤ keep) (λ parts. (keep < range.size)
         × (parts.0 ≡ record { base = range.base; size = keep })
@@ -45,7 +46,7 @@ pub fn split(range: Range, keep: u64) -> Option<(Range, Range)>
     Some((kept, rest))
 }
 
-/// Whether the range meets the bytes of a table.
+/// Tests whether the range overlaps a table.
 pub fn touches(mb: &Memblock, range: Range) -> bool
     ensures value { result ≡ touches mb.now.kernel mb.now.journal.items range }
     ensures away { result ≡ false → IsAway mb.now.kernel range mb.now.journal.items }
@@ -53,7 +54,7 @@ pub fn touches(mb: &Memblock, range: Range) -> bool
     mb.touches_table(range)
 }
 
-/// The `len` bytes from the address on, at most 64.
+/// Reads `len` bytes, at most 64, from address `at` on.
 pub fn peek(mb: &Memblock, at: u64, len: u32) -> Outcome
     requires begun { HasBegun mb.now.journal.items }
     requires few { len ≤ 64 }

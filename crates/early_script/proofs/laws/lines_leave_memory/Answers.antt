@@ -1,4 +1,4 @@
--- What a line writes are claims, frees and moves of tables.
+-- A line writes only claims, frees and moves of tables.
 use Rattle.early_script.specs.Acted.{deed}
 use Rattle.early_script.proofs.QuietLaws.{deed-quiet, acts-memory, acts-limit}
 use Rattle.early_script.proofs.laws.lines_leave_memory.Goals as goal

@@ -1,4 +1,4 @@
--- Behind the line that places the sections the reader refuses another.
+-- After the line that places the sections, the reader refuses another.
 use Rattle.early_script.proofs.SectionLaws.{script-once}
 use Rattle.early_script.proofs.laws.scripts_place_once.Goals as goal
 

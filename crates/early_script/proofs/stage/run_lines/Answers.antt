@@ -1,4 +1,4 @@
--- The next line goes on from the stage that the lines before it reached.
+-- The next line continues from the stage that the lines before it reached.
 use Rattle.std.proofs.Common.{take, Result, Ok, Err, OnErr, ◌∙◌, ap, arith, inr}
 use Rattle.std.proofs.lemmas.List.{take_all}
 use Rattle.bm_base.specs.declared.memory.Memory.{Memory}
@@ -32,7 +32,7 @@ loop-line-preserved c =
       ready = λ x h. c.run_line.ensures.still_ready x (c.loop-line.invariant.ready x h);
     }
 
--- what holds anyway
+-- what holds in any case
 on_err : (r : Result (Unit {0}) Memory) (P : Type 0) → P → OnErr r P
 on_err (Ok x) P holds = tt
 on_err (Err memory) P holds = holds

@@ -1,4 +1,4 @@
--- Before that line none places the sections, and behind it none does by the condition.
+-- Before that line none places the sections, and after it none does by the requirement.
 use Rattle.std.proofs.Common.{◌≡◌, ◌+◌, true, sym, ◌∙◌, ap, arith}
 use Rattle.std.proofs.lemmas.Bool.{true≢false}
 use Rattle.std.proofs.lemmas.List.{take_rest}

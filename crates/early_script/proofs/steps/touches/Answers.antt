@@ -1,4 +1,4 @@
--- Memblock tells whether an address is common, the definition by the ends.
+-- Memblock tests for a common address, the definition compares the ends.
 use Rattle.std.proofs.Common.{sym}
 use Rattle.early_script.proofs.OwnedLaws.{touches-is}
 use Rattle.early_script.proofs.steps.touches.Goals as goal

@@ -1,4 +1,4 @@
--- The range's bytes are filled, and nobody else had one.
+-- The bytes of the range are filled, and the ID owned all of them.
 use Rattle.std.proofs.Common.{◌≡◌, ◌≤◌, false, nat_lt, Ok, [], ◌∷◌, ◌++◌, length, refl, ap, subst, arith}
 use Rattle.std.proofs.lemmas.Bool.Decides.{nat_tests}
 use Rattle.bm_base.specs.Range.{RangeView}

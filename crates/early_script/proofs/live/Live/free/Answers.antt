@@ -1,4 +1,4 @@
--- An ID less.
+-- One ID less.
 use Rattle.early_script.proofs.IdsLaws.{bytes-without}
 use Rattle.early_script.proofs.live.Live.free.Goals as goal
 

@@ -1,4 +1,4 @@
--- An ID more, whose range isn't empty.
+-- One more ID, with a range that isn't empty.
 use Rattle.early_script.proofs.IdsLaws.{bytes-with}
 use Rattle.early_script.proofs.live.Live.keep.Goals as goal
 

@@ -1,4 +1,4 @@
--- The map has the range, and the journal's answer is the test of the definition.
+-- The map has the range, and the journal's result is the definition's test.
 use Rattle.std.proofs.Common.{◌≡◌, true, false, Some, sym, ◌∙◌, subst}
 use Rattle.early_script.specs.Ids.{Ids, range_of}
 use Rattle.early_script.specs.Found.{state_of}
