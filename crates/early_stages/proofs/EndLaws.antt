@@ -1,4 +1,4 @@
--- Where memory ends: behind its last usable frame, which is where its last run ends.
+-- Memory ends after its last usable frame, which is the end of its last run.
 use Rattle.std.proofs.Common.{◌≡◌, ℕ, zero, suc, ◌+◌, ◌-◌, ◌*◌, ◌/◌, ◌%◌, ◌<◌, ◌≤◌, true, is_some, Option, Some, None, List, [], ◌∷◌, refl, sym, ap, ◌∙◌, inl, inr, arith}
 use Rattle.std.proofs.lemmas.Bool.Decides.{nat_tests}
 use Rattle.std.proofs.Math.Nat.{le_antisymm}
@@ -16,14 +16,15 @@ use Rattle.early_stages.specs.Early.{FrameRange}
 use Rattle.early_stages.specs.Memory.{behind_frame, end_behind, end_of_runs, memory_end, mirrored_memory, usable_memory}
 use Rattle.early_stages.proofs.MirrorLaws.{mirrored-usable}
 
--- a usable frame lies below the limit of addresses
+-- a usable frame ends at or below the limit of addresses
 pub low_frame : (limit : ℕ) (f : TypeAt) (frame : ℕ) → is_usable_frame (types_below limit f) frame ≡ true → 4096 * frame + 4096 ≤ limit
 low_frame limit f frame usable =
     let last = usable_each (types_below limit f) frame usable (4096 * frame + 4095) (omega arith) (omega arith) in
     let both = sym (memory_reached limit f (4096 * frame + 4095)) ∙ last in
     grind (arith, nat_tests, both)
 
--- an end of memory, as a number: each usable frame ends by it, and it is 0 or the end of a usable one
+-- an end of memory: each usable frame ends at or below it, and it is 0 or the end of a usable
+-- frame
 pub record IsEnd (limit : ℕ) (f : TypeAt) (at : ℕ) : Type 0 where
   pub by : (frame : ℕ) → is_usable_frame (types_below limit f) frame ≡ true → 4096 * frame + 4096 ≤ at
   pub last : 0 < at → (frame : ℕ) × (at ≡ 4096 * frame + 4096) × (is_usable_frame (types_below limit f) frame ≡ true)
@@ -50,7 +51,7 @@ pub memory_end-is : (limit : ℕ) (f : TypeAt) → IsEnd limit f (memory_end lim
 unfolding memory_end
 memory_end-is limit f = end_by limit f (last_below (is_usable_frame (types_below limit f)) (limit / 4096)) refl
 
--- it lies within reach, and it is a border of frames
+-- an end of memory is at most the limit of addresses, and a multiple of the frame size
 pub end_reached : (limit : ℕ) (f : TypeAt) (at : ℕ) → IsEnd limit f at → (at ≤ limit) × (at % 4096 ≡ 0)
 end_reached limit f zero known = (omega arith, refl)
 end_reached limit f (suc at) known =
@@ -58,7 +59,7 @@ end_reached limit f (suc at) known =
     let low = low_frame limit f last.0 last.2 in
     (omega (arith, last.1, low), omega (arith, last.1))
 
--- two ends are one
+-- there is only one such end
 pub one_end : (limit : ℕ) (f : TypeAt) (at also : ℕ) → IsEnd limit f at → IsEnd limit f also → at ≤ also
 one_end limit f zero also first second = omega arith
 one_end limit f (suc at) also first second =
@@ -66,7 +67,7 @@ one_end limit f (suc at) also first second =
     let by = second.by last.0 last.2 in
     omega (arith, last.1, by)
 
--- a byte of memory lies below it, whatever of it is mirrored
+-- a byte of memory, mirrored or not, is below it
 pub mirrored_below : (limit : ℕ) (f : TypeAt) (mirrors : List FrameRange) (x : ℕ) (label : LabelView)
     → mirrored_memory mirrors (usable_memory limit f) x ≡ Some label → x < memory_end limit f
 mirrored_below limit f mirrors x label held =
@@ -75,7 +76,7 @@ mirrored_below limit f mirrors x label held =
 pub memory_below : (limit : ℕ) (f : TypeAt) (x : ℕ) (label : LabelView) → usable_memory limit f x ≡ Some label → x < memory_end limit f
 memory_below limit f x label held = mirrored_below limit f [] x label held
 
--- from the end of the last run on a list gives nothing, and its last address has something
+-- the list gives no value from the end of its last run on, and a value at the address before
 record EndsAt {X : Type 0} (rs : List (RunOf X)) (from at : ℕ) : Type 0 where
   later : from ≤ at
   past : (x : ℕ) → at ≤ x → value_at rs x ≡ None
@@ -97,7 +98,7 @@ ends_at {X} from (r ∷ rs) runs start =
       ];
     }
 
--- so the runs of memory end where memory does
+-- so the runs of memory end where memory ends
 runs_are_end : (limit : ℕ) (f : TypeAt) (mirrors : List FrameRange) (rs : List (RunOf LabelView))
     → IsRunsOf (mirrored_memory mirrors (usable_memory limit f)) rs → IsEnd limit f (end_of_runs rs)
 runs_are_end limit f mirrors rs are =
@@ -128,7 +129,7 @@ runs_end_memory limit f mirrors rs are =
     let second = memory_end-is limit f in
     le_antisymm (one_end limit f _ _ first second) (one_end limit f _ _ second first)
 
--- and it depends on the types within reach alone
+-- the end depends only on the types below the limit of addresses
 pub memory_end-same : (limit : ℕ) (f g : TypeAt) → types_below limit f ≡ types_below limit g → memory_end limit f ≡ memory_end limit g
 unfolding memory_end
 memory_end-same limit f g same = ap (λ (t : TypeAt). behind_frame (last_below (is_usable_frame t) (limit / 4096))) same

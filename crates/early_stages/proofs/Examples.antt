@@ -1,4 +1,4 @@
--- Small maps: what is wanted of them, and the memory that they come to.
+-- Examples of small maps: the items for them, and the memory that they give.
 use Rattle.std.proofs.Common.{◌≡◌, ℕ, ◌^◌, Bool, true, false, ◌&&◌, nat_le, nat_lt, Option, Some, None, List, [], ◌∷◌, take, refl, sym, ◌∙◌, ap, arith}
 use Rattle.std.proofs.lemmas.Bool.Decides.{nat_tests}
 use Rattle.std.proofs.Math.Nat.{le_antisymm}
@@ -28,14 +28,16 @@ run base size type = record { base = base; size = size; value = type }
 abbrev limit : ℕ
 limit = 2 ^ 46
 
--- who has a byte before memory is known: an image of 32 MiB from 16 MiB on, and an initrd of 12 KiB or none
+-- the owner of a byte before memory is known: an image of 32 MiB from 16 MiB on, and an initrd of
+-- 12 KiB or none
 abbrev owned : Option RangeView → ℕ → Option Owner
 owned initrd x = owner_of (early_claims (bytes 0x1000000 0x2000000) initrd) x
 
 abbrev initrd_range : Option RangeView
 initrd_range = Some (bytes 0x7000000 0x3000)
 
--- with the initrd, without it, and with one that begins within the first 64 KiB, which has its bytes there, too
+-- with an initrd, without one, and with one that begins in the first 64 KiB, which then also owns
+-- its bytes there
 owned_examples : (owned initrd_range 0x6FFFFFF ≡ None) × (owned initrd_range 0x7000000 ≡ Some owner.Initrd)
     × (owned initrd_range 0x7002FFF ≡ Some owner.Initrd) × (owned initrd_range 0x7003000 ≡ None)
     × (owned None 0xFFFF ≡ Some owner.Low64K) × (owned None 0x10000 ≡ None) × (owned None 0xFFFFFF ≡ None)
@@ -46,7 +48,8 @@ owned_examples = (refl, refl, refl, refl, refl, refl, refl, refl, refl, refl, re
 none_without_an_initrd : (initrd_claims None ≡ []) × (up_to 0x10000 ≡ bytes 0 0x10000)
 none_without_an_initrd = (refl, refl)
 
--- RAM is added, a reserved run isn't, a driver's is claimed; what passes the limit is cut, what begins there is left out
+-- RAM is added, a reserved run isn't, and a driver's is claimed; a run that passes the limit is
+-- cut, and one that begins there is left out
 runs_of_types : (items_of_run limit (run 0x1000 0x9F000 1) ≡ item.Mem (bytes 0x1000 0x9F000) ∷ [])
     × (items_of_run limit (run 0x1000 0x9F000 128) ≡ item.Mem (bytes 0x1000 0x9F000) ∷ [])
     × (items_of_run limit (run 0x1000 0x9F000 2) ≡ [])
@@ -63,7 +66,8 @@ two_runs = refl
 abbrev some_frames : List FrameRange
 some_frames = record { first = 1; count = 2 } ∷ record { first = 8; count = 1 } ∷ []
 
--- of RAM from frame 1 to the middle of frame 2 the half frame is gone before anything is mirrored, and frame 1 is mirrored next
+-- RAM from frame 1 to the middle of frame 2: the half frame is removed before anything is
+-- mirrored, and then frame 1 is mirrored
 abbrev ram_and_a_half : ℕ → Labels
 ram_and_a_half steps = memory_of (item.Mem (bytes 0x1000 0x1800) ∷ take steps (closing_items some_frames 0x4000))
 
@@ -72,7 +76,7 @@ only_whole_frames_are_mirrored : (ram_and_a_half 0 0x27FF ≡ Some plain_label) 
 unfolding trim_frames each_in each_from
 only_whole_frames_are_mirrored = (refl, refl, refl, refl)
 
--- behind all of it an allocation stays below the end, and the first MiB has its owner
+-- after the whole list allocations end at the end of memory, and the first MiB has its owner
 closed : (limit_of (item.Limit 0x100000 ∷ closing_items some_frames 0x4000) ≡ 0x4000)
     × (owner_of (closing_items some_frames 0x4000) 0xFFFFF ≡ Some owner.Low1M)
     × (owner_of (closing_items some_frames 0x4000) 0x100000 ≡ None)
@@ -90,25 +94,27 @@ given initrd upward =
 abbrev wanted : Option RangeView → Bool → ℕ → List Item
 wanted initrd upward steps = take steps (first_items (given initrd upward) (run 0x100000 0x7F00000 1 ∷ []))
 
--- an allocation stays in the first MiB when the first byte becomes memory, which is the fourth thing to happen
+-- allocations stay in the first MiB when the first byte becomes memory, by the fourth item
 limited_when_memory_comes : (memory_of (wanted None false 3) 0x100000 ≡ None) × (limit_of (wanted None false 3) ≡ 0x100000)
     × (memory_of (wanted None false 4) 0x100000 ≡ Some plain_label) × (upward_of (wanted None false 4) ≡ false)
 limited_when_memory_comes = (refl, refl, refl, refl)
 
--- with an initrd and a search from below: the initrd has its bytes, then the limit is there, then the direction, and memory behind it
+-- with an initrd and searches from below: the initrd is claimed first, then the limit is set, then
+-- the direction, and then memory is added
 direction_behind_the_limit : (owner_of (wanted initrd_range true 3) 0x7000000 ≡ Some owner.Initrd)
     × (limit_of (wanted initrd_range true 4) ≡ 0x100000) × (upward_of (wanted initrd_range true 4) ≡ false)
     × (upward_of (wanted initrd_range true 5) ≡ true) × (memory_of (wanted initrd_range true 5) 0x100000 ≡ None)
     × (memory_of (wanted initrd_range true 6) 0x100000 ≡ Some plain_label)
 direction_behind_the_limit = (refl, refl, refl, refl, refl, refl)
 
--- without a map nothing becomes memory, whatever is mirrored, and the first MiB is claimed all the same
+-- without a map there is no memory, whatever is mirrored, and the first MiB is claimed
+-- nevertheless
 no_map_no_memory : (memory_of (first_items (given None false) []) 0x1000 ≡ None)
     × (owner_of (first_items (given None false) []) 0xFFFFF ≡ Some owner.Low1M)
 unfolding trim_frames each_in each_from
 no_map_no_memory = (refl, refl)
 
--- what is mirrored and what isn't: bytes of those frames that are memory
+-- bytes that are in mirrored frames, and bytes that aren't
 mirrored_bytes : (is_mirrored some_frames 0xFFF ≡ false) × (is_mirrored some_frames 0x1000 ≡ true) × (is_mirrored some_frames 0x2FFF ≡ true)
     × (is_mirrored some_frames 0x3000 ≡ false) × (is_mirrored some_frames 0x8000 ≡ true) × (is_mirrored [] 0x8000 ≡ false)
 mirrored_bytes = (refl, refl, refl, refl, refl, refl)
@@ -118,14 +124,15 @@ memory_is_mirrored : (mirrored_memory some_frames (λ x. Some plain_label) 0x2FF
     × (mirrored_memory some_frames (λ x. None) 0x1000 ≡ None)
 memory_is_mirrored = (refl, refl, refl)
 
--- ends
+-- ends of frames
 frame_ends : (behind_frame None ≡ 0) × (behind_frame (Some 0) ≡ 0x1000) × (behind_frame (Some 3) ≡ 0x4000)
 frame_ends = (refl, refl, refl)
 
 run_ends : (end_of_runs (run 0x1000 0x1000 1 ∷ run 0x3000 0x800 1 ∷ []) ≡ 0x3800) × (end_behind {X = ℕ} 5 [] ≡ 5)
 run_ends = (refl, refl)
 
--- RAM and the kernel's own memory meet within a frame, and end within one: frames 1, 2 and 3 are usable
+-- RAM and the kernel's own memory meet inside a frame, and end inside one: frames 1, 2 and 3 are
+-- usable
 abbrev meeting : List (RunOf ℕ)
 meeting = run 0x1000 0x1C00 1 ∷ run 0x2C00 0x1500 128 ∷ []
 

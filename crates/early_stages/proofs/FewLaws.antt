@@ -1,4 +1,4 @@
--- A few items need no growth: carried out, they are written as they are.
+-- A few items need no growth, and are written as they are.
 use Rattle.std.proofs.Common.{◌≡◌, ℕ, ◌+◌, ◌*◌, ◌^◌, ◌≤◌, false, List, [], ◌∷◌, ◌++◌, length, Ok, refl, sym, ap, ◌∙◌, subst, arith}
 use Rattle.std.proofs.lemmas.Bool.Decides.{nat_tests}
 use Rattle.std.proofs.lemmas.List.{append-nil, append_assoc}
@@ -21,14 +21,14 @@ use Rattle.growth_model.specs.Carried.{carried_out, change, ended}
 use Rattle.growth_model.proofs.FirstLaws.{no_records, nothing_said}
 use Rattle.growth_model.proofs.IdleLaws.{added-idle, claimed-idle}
 
--- the reserved table has at most n records, memory's at most m, and neither grew yet
+-- the reserved table has at most n records, the memory table at most m, and neither has grown yet
 record HasFew (items : List Item) (n m : ℕ) : Type 0 where
   reserved : length (records_for (table_of which.Reserved items)) ≤ n
   memory : length (records_for (table_of which.Memory items)) ≤ m
   rooms : (w : Which) → room_of w items ≡ 128
   within : (w : Which) → NothingFrom (2 ^ 64) (table_of w items)
 
--- the items are claims, memory, trims and limits, so few that both tables have room for what they may add
+-- the items are claims, memory, trims and limits, and so few that both tables have room for them
 abbrev pub NeedNone : ℕ → ℕ → List Item → Type 0
 NeedNone n m [] = Unit {0}
 NeedNone n m (item.Claim range who ∷ is) = (end_of range ≤ 2 ^ 64) × (2 * n + 1 ≤ 128) × NeedNone (2 * n + 1) m is
@@ -37,7 +37,7 @@ NeedNone n m (item.Trim ∷ is) = NeedNone n m is
 NeedNone n m (item.Limit at ∷ is) = NeedNone n m is
 NeedNone n m (i ∷ is) = ⊥
 
--- behind an item the tables have these many records
+-- after an item the tables have at most these numbers of records
 behind : (i : Item) (items : List Item) (n m a b : ℕ) → HasFew items n m → EndsInSpace i
     → ((w : Which) → room_after w (room_of w items) i ≡ 128)
     → length (records_for (table_after which.Reserved (table_of which.Reserved items) i)) ≤ a
@@ -49,7 +49,7 @@ behind i items n m a b few small rooms reserved memory = record {
   within = λ w. items-within w items i small (few.within w);
 }
 
--- a range that comes to a table of few records needs no growth
+-- a range that is added to a table of few records needs no growth
 covers_few : (w : Which) (r : RangeView) (items : List Item) (n : ℕ) → end_of r ≤ 2 ^ 64 → 2 * n + 1 ≤ 128 → room_of w items ≡ 128
     → NothingFrom (2 ^ 64) (table_of w items) → length (records_for (table_of w items)) ≤ n
     → (is_full w (new_in w r) items ≡ false) × (length (records_for (cover_range r plain_label (table_of w items))) ≤ 2 * n + 1)
@@ -90,7 +90,7 @@ few_carried (item.Limit at ∷ is) items n m few need =
     (behind (item.Limit at) items n m n m few tt few.rooms few.reserved few.memory) need)
 few_carried (i ∷ is) items n m few need = absurd need
 
--- from nothing
+-- the whole list, from no items
 pub few_from_nothing : (is : List Item) → NeedNone 0 0 is → carried_out is [] ≡ Ok is
 few_from_nothing is need =
     let none : (w : Which) → length (records_for (table_of w [])) ≤ 0 =

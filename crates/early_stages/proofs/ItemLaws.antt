@@ -1,4 +1,4 @@
--- No item that is wanted has an empty range.
+-- No item of the list has an empty range.
 use Rattle.std.proofs.Common.{◌≡◌, ℕ, suc, ◌<◌, Bool, true, false, ◌==◌, ◌&&◌, nat_lt, if◌then◌else◌, Option, Some, None, List, [], ◌∷◌, ◌++◌, refl, arith}
 use Rattle.std.proofs.lemmas.Bool.Decides.{nat_tests}
 use Rattle.std.specs.Prelude.{IfSome}
@@ -17,7 +17,7 @@ items-append : (is js : List Item) → AreItems is → AreItems js → AreItems 
 items-append [] js first rest = rest
 items-append (i ∷ is) js first rest = (first.0, items-append is js first.1 rest)
 
--- of a run at most one item is wanted
+-- a run gives at most one item
 if-items : (soft held : Bool) (i j : Item) → IsItem i → (held ≡ true → IsItem j)
     → AreItems (if soft then i ∷ [] else (if held then j ∷ [] else []))
 if-items true held i j first second = (first, tt)
@@ -37,7 +37,7 @@ initrd-items : (initrd : Option RangeView) → IfSome initrd (λ range. 0 < rang
 initrd-items None some = tt
 initrd-items (Some range) some = (some, tt)
 
--- ranges of mirrored frames that have some
+-- ranges of mirrored frames that aren't empty
 mirrors-items : (mirrors : List FrameRange) → All (λ r. 0 < r.count) mirrors → AreItems (mirror_items mirrors)
 mirrors-items [] some = tt
 mirrors-items (r ∷ rs) some =

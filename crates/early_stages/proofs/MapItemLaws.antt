@@ -1,4 +1,4 @@
--- What the items of a map make of memory, byte by byte; and what is left of it once it is trimmed.
+-- What the items of a map make of memory, byte by byte, and what is left after the trim.
 use Rattle.std.proofs.Common.{◌≡◌, ℕ, ◌+◌, ◌*◌, ◌/◌, ◌<◌, ◌≤◌, ◌==◌, Bool, true, false, ◌&&◌, nat_lt, if◌then◌else◌, Option, Some, None, List, [], ◌∷◌, refl, sym, ◌∙◌, ap, inl, inr, arith}
 use Rattle.std.proofs.lemmas.Bool.Decides.{nat_tests}
 use Rattle.std.proofs.lemmas.Bool.{cases_Bool, true≢false}
@@ -19,7 +19,7 @@ use Rattle.memblock_model.specs.Items.{memory_after, no_memory, trim_frames}
 use Rattle.memblock_model.proofs.LabelLaws.{IsInFrame, in_own_frame, trim_frames-cases, trim_frames-whole}
 use Rattle.early_stages.specs.Wanted.{items_of_map, items_of_run, part_below}
 
--- a byte becomes memory, or stays as it is
+-- a byte becomes memory or stays as it is
 abbrev pub becomes : Bool → Option LabelView → Option LabelView
 becomes held old = if held then Some (unwrap_or old plain_label) else old
 
@@ -40,7 +40,7 @@ one_run limit r f x =
           [ inl soft ↦ rw (soft, other) refl | inr plain ↦ rw (plain, out, other) refl ])
     ]
 
--- the bytes that are memory within reach become memory, and no others
+-- the bytes that are memory below the limit become memory, and no others
 pub all_runs : (limit : ℕ) (rs : List (RunOf ℕ)) (f : Labels) (x : ℕ) → AreRuns rs
     → fold memory_after f (items_of_map limit rs) x ≡ becomes (is_memory (value_at rs x) && nat_lt x limit) (f x)
 all_runs limit [] f x runs = refl
@@ -62,7 +62,7 @@ all_runs limit (r ∷ rs) f x runs =
           rw (outside, here) refl)
     ])
 
--- from no memory at all
+-- starting without memory
 pub added_memory : (limit : ℕ) (rs : List (RunOf ℕ)) (x : ℕ) → AreRuns rs
     → fold memory_after no_memory (items_of_map limit rs) x
     ≡ (if is_memory (types_below limit (value_at rs) x) then Some plain_label else None)
@@ -70,7 +70,7 @@ added_memory limit rs x runs =
     all_runs limit rs no_memory x runs
     ∙ ap (λ (b : Bool). becomes b None) (sym (memory_reached limit (value_at rs) x))
 
--- trimmed, it is the usable frames
+-- after the trim it is the usable frames
 pub trimmed_memory : (t : TypeAt) (g : Labels) → ((x : ℕ) → g x ≡ (if is_memory (t x) then Some plain_label else None))
     → (x : ℕ) → trim_frames g x ≡ (if is_usable_frame t (x / 4096) then Some plain_label else None)
 trimmed_memory t g each x =

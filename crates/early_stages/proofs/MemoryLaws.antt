@@ -1,4 +1,4 @@
--- Memory and the limit behind all that is wanted first, whatever growth stands between.
+-- Memory and the limit after the whole list, whatever growth came between.
 use Rattle.std.proofs.Common.{◌≡◌, ℕ, Bool, true, false, Option, Some, None, List, [], ◌∷◌, ◌++◌, Ok, refl, ◌∙◌, ap}
 use Rattle.std.proofs.lemmas.List.{append-nil}
 use Rattle.std.proofs.lemmas.List.Sums.{fold-append}
@@ -21,7 +21,7 @@ use Rattle.early_stages.specs.Wanted.{closing_items, direction_items, early_clai
 use Rattle.early_stages.proofs.MapItemLaws.{added_memory, trimmed_memory}
 use Rattle.early_stages.proofs.MirrorLaws.{mirrors-memory}
 
--- what is wanted before the map says nothing of memory, and leaves the limit of the first MiB
+-- the items before the map don't change memory, and set the limit to the first MiB
 begins : (kernel : RangeView) (initrd : Option RangeView) (upward : Bool) (is : List Item)
     → (memory_of (early_claims kernel initrd ++ (item.Limit ISA_END_ADDRESS ∷ (direction_items upward ++ is))) ≡ memory_of is)
     × (limit_of (early_claims kernel initrd ++ (item.Limit ISA_END_ADDRESS ∷ (direction_items upward ++ is)))
@@ -36,7 +36,8 @@ mirrors-limit : (mirrors : List FrameRange) (at : ℕ) (is : List Item)
 mirrors-limit [] at is = refl
 mirrors-limit (r ∷ rs) at is = mirrors-limit rs at is
 
--- without growth the map becomes memory, is trimmed, and some of it is mirrored; what comes behind leaves that
+-- without growth the map becomes memory, is trimmed, and some of it is mirrored; the later items
+-- don't change that
 mapped : (e : Early) (map : List (RunOf ℕ)) (last : List Item) → AreRuns map → ((f : Labels) → fold memory_after f last ≡ f) → (x : ℕ)
     → memory_of (early_claims e.kernel e.initrd ++ (item.Limit ISA_END_ADDRESS ∷ (direction_items e.upward
     ++ (items_of_map e.limit map ++ (item.Trim ∷ (mirror_items e.mirrors ++ last)))))) x
@@ -51,14 +52,14 @@ mapped e map last runs quiet x =
     ∙ fold-append memory_after (trim_frames added) (mirror_items e.mirrors) last ∙ quiet _)
     ∙ mirrors-memory e.mirrors (trim_frames added) x ∙ ap (λ (h : Labels). mirrored_memory e.mirrors h x) trimmed_is
 
--- so it is up to the mirrored frames
+-- the same for the list that ends with the mirrored frames
 pub mirrored-first : (e : Early) (map : List (RunOf ℕ)) → AreRuns map → (x : ℕ)
     → memory_of (early_claims e.kernel e.initrd ++ (item.Limit ISA_END_ADDRESS ∷ (direction_items e.upward
     ++ (items_of_map e.limit map ++ (item.Trim ∷ mirror_items e.mirrors))))) x
     ≡ mirrored_memory e.mirrors (usable_memory e.limit (value_at map)) x
 mirrored-first e map runs x = let all = mapped e map [] runs (λ f. refl) x in rw append-nil at all
 
--- and carried out from the beginning
+-- the memory after the list was carried out from the beginning
 pub first_memory : (e : Early) (map : List (RunOf ℕ)) (items : List Item) → AreRuns map
     → carried_out (first_items e map) [] ≡ Ok items
     → (x : ℕ) → memory_of items x ≡ mirrored_memory e.mirrors (usable_memory e.limit (value_at map)) x

@@ -1,4 +1,4 @@
--- Mirrored memory: what ranges of mirrored frames make of what each byte carries.
+-- Mirrored memory: how ranges of mirrored frames change the label of each byte.
 use Rattle.std.proofs.Common.{◌≡◌, ℕ, ◌/◌, Bool, true, false, ◌||◌, is_some, if◌then◌else◌, Option, Some, None, List, [], ◌∷◌, refl, ◌∙◌, arith}
 use Rattle.std.proofs.lemmas.Bool.Decides.{nat_tests}
 use Rattle.std.specs.List.{fold}
@@ -13,7 +13,7 @@ use Rattle.early_stages.specs.Early.{FrameRange, bytes_of_frames}
 use Rattle.early_stages.specs.Memory.{is_mirrored, mirrored_memory, usable_memory}
 use Rattle.early_stages.specs.Wanted.{mirror_items}
 
--- one range more: what is mirrored twice is mirrored
+-- one more range: what is mirrored twice is mirrored
 abbrev mirrored_if : Bool → Option LabelView → Option LabelView
 mirrored_if b o = if b then option_map with_mirror o else o
 
@@ -31,7 +31,7 @@ mirrors-memory (r ∷ rs) f x =
     mirrors-memory rs (relabel_range (bytes_of_frames r) with_mirror f) x
     ∙ one_more (covers (bytes_of_frames r) x) (is_mirrored rs x) (f x)
 
--- what is usable is memory, and nothing else, whatever of it is mirrored
+-- exactly the usable bytes are memory, mirrored or not
 some_by : (mirrored usable : Bool) → is_some (mirrored_if mirrored (if usable then Some plain_label else None)) ≡ usable
 some_by true true = refl
 some_by true false = refl
@@ -42,14 +42,14 @@ pub mirrored-usable : (limit : ℕ) (f : TypeAt) (mirrors : List FrameRange) (x 
     → is_some (mirrored_memory mirrors (usable_memory limit f) x) ≡ is_usable_frame (types_below limit f) (x / 4096)
 mirrored-usable limit f mirrors x = some_by (is_mirrored mirrors x) (is_usable_frame (types_below limit f) (x / 4096))
 
--- the bytes of a frame are mirrored together
+-- all bytes of a frame are mirrored, or none is
 same_frames : (mirrors : List FrameRange) (x y : ℕ) → x / 4096 ≡ y / 4096 → is_mirrored mirrors x ≡ is_mirrored mirrors y
 same_frames [] x y frame = refl
 same_frames (r ∷ rs) x y frame =
     let one : covers (bytes_of_frames r) x ≡ covers (bytes_of_frames r) y = grind (arith, nat_tests) in
     rw (one, same_frames rs x y frame) refl
 
--- so where they carry the same, they do so mirrored
+-- so if two bytes of a frame have one label, they have one label after mirroring
 pub mirrored-alike : (mirrors : List FrameRange) (f : Labels) (x y : ℕ) → x / 4096 ≡ y / 4096 → f x ≡ f y
     → mirrored_memory mirrors f x ≡ mirrored_memory mirrors f y
 mirrored-alike mirrors f x y frame same = rw (same_frames mirrors x y frame, same) refl

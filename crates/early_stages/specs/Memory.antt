@@ -1,4 +1,5 @@
--- The memory that a map comes to: its usable frames, of which some are mirrored, and where the last of them ends.
+-- The memory that a map gives: its usable frames, some of them mirrored, and the end of the last
+-- one.
 use Rattle.std.specs.Prelude.{ℕ, ◌/◌, Bool, if◌then◌else◌, Option, Some, None, List, [], ◌∷◌}
 use Rattle.std.specs.List.{list_any}
 use Rattle.std.specs.Option.{option_map}
@@ -12,28 +13,28 @@ use Rattle.memblock_model.specs.Labels.{Labels, plain_label, with_mirror}
 use Rattle.memblock_model.specs.Search.{last_below}
 use Rattle.early_stages.specs.Early.{FrameRange, bytes_of_frames}
 
--- the bytes of usable frames are memory, and no node has them yet (`e820__memblock_setup`)
+-- the bytes of usable frames are memory without a node (`e820__memblock_setup`)
 abbrev pub usable_memory : ℕ → TypeAt → Labels
 usable_memory limit f x = if is_usable_frame (types_below limit f) (x / FRAME_SIZE) then Some plain_label else None
 
--- whether the address lies in frames that are mirrored
+-- whether the address is in frames that are mirrored
 abbrev pub is_mirrored : List FrameRange → ℕ → Bool
 is_mirrored mirrors x = list_any (λ r. covers (bytes_of_frames r) x) mirrors
 
--- the bytes in those frames are mirrored, where they are memory, and keep what else they carry (`memblock_mark_mirror`)
+-- memory in those frames is mirrored, and keeps its node (`memblock_mark_mirror`)
 abbrev pub mirrored_memory : List FrameRange → Labels → Labels
 mirrored_memory mirrors f x = if is_mirrored mirrors x then option_map with_mirror (f x) else f x
 
--- the address behind the frame, and 0 without one
+-- the address past the frame, or 0 if there is none
 abbrev pub behind_frame : Option ℕ → ℕ
 behind_frame None = 0
 behind_frame (Some frame) = end_of (bytes_of_frame frame)
 
--- the end of the last usable frame, 0 where no frame is usable (`e820__end_of_ram_pfn`)
+-- the end of the last usable frame, or 0 if no frame is usable (`e820__end_of_ram_pfn`)
 unfoldable pub memory_end : ℕ → TypeAt → ℕ
 memory_end limit f = behind_frame (last_below (is_usable_frame (types_below limit f)) (limit / FRAME_SIZE))
 
--- the end of the last run of a list, 0 for none (`memblock_end_of_DRAM`)
+-- the end of the last run of a list, or 0 if it is empty (`memblock_end_of_DRAM`)
 abbrev pub end_behind : {X : Type 0} → ℕ → List (RunOf X) → ℕ
 end_behind at [] = at
 end_behind at (r ∷ rs) = end_behind (run_end r) rs

@@ -1,4 +1,5 @@
--- What a boot wants to happen to memory before any node is known, as items in their order. They depend on what it is given alone.
+-- The items that a boot is to write before any node is known, in order. They depend only on its
+-- inputs.
 use Rattle.std.specs.Prelude.{ℕ, ◌-◌, ◌==◌, Bool, true, false, ◌&&◌, nat_lt, min, if◌then◌else◌, Option, Some, None, List, [], ◌∷◌, ◌++◌}
 use Rattle.bm_base.specs.Range.{RangeView}
 use Rattle.address_runs.specs.Runs.{RunOf, run_end, extent_of, value_at}
@@ -11,11 +12,11 @@ use Rattle.early_stages.specs.declared.low.TheConstants.{ISA_END_ADDRESS, LOW_EN
 use Rattle.early_stages.specs.Early.{Early, FrameRange, bytes_of_frames}
 use Rattle.early_stages.specs.Memory.{memory_end}
 
--- the bytes from 0 up to the address
+-- the bytes from 0 to below the address
 abbrev pub up_to : ℕ → RangeView
 up_to at = record { base = 0; size = at }
 
--- the initrd is claimed, where there is one (`early_reserve_initrd`)
+-- the initrd is claimed, if there is one (`early_reserve_initrd`)
 abbrev pub initrd_claims : Option RangeView → List Item
 initrd_claims None = []
 initrd_claims (Some range) = item.Claim range owner.Initrd ∷ []
@@ -28,8 +29,8 @@ early_claims kernel initrd = item.Claim kernel owner.Kernel ∷ item.Claim (up_t
 abbrev pub part_below : ℕ → RunOf ℕ → RangeView
 part_below limit r = record { base = r.base; size = min (run_end r) limit - r.base }
 
--- memory that firmware keeps for a driver is claimed, and what is memory is added as far as the kernel's tables of memory reach
--- (`e820__memblock_setup`, the body of its loop)
+-- memory that firmware keeps for a driver is claimed; RAM and the kernel's own memory are added as
+-- far as the kernel's tables of memory reach (the loop body of `e820__memblock_setup`)
 abbrev pub items_of_run : ℕ → RunOf ℕ → List Item
 items_of_run limit r =
     if r.value == E820_TYPE_SOFT_RESERVED then item.Claim (extent_of r) owner.Soft ∷ []
@@ -39,8 +40,8 @@ abbrev pub items_of_map : ℕ → List (RunOf ℕ) → List Item
 items_of_map limit [] = []
 items_of_map limit (r ∷ rs) = items_of_run limit r ++ items_of_map limit rs
 
--- where places shall be looked for from the lowest address up, that is said before memory is known (`memblock_set_bottom_up` in
--- `setup_arch`)
+-- if searches should go from the lowest address up, that is set before memory is known
+-- (`memblock_set_bottom_up` in `setup_arch`)
 abbrev pub direction_items : Bool → List Item
 direction_items true = item.Upward true ∷ []
 direction_items false = []
@@ -50,13 +51,15 @@ abbrev pub mirror_items : List FrameRange → List Item
 mirror_items [] = []
 mirror_items (r ∷ rs) = item.Mirror (bytes_of_frames r) ∷ mirror_items rs
 
--- memory is trimmed to whole frames (`memblock_trim_memory`) and some of it is mirrored, what is allocated stays below the end of the
--- last usable frame (`memblock_set_current_limit`), and the first MiB is claimed (`reserve_real_mode`)
+-- memory is trimmed to whole frames (`memblock_trim_memory`), some of it is mirrored, the limit is
+-- set to the end of the last usable frame (`memblock_set_current_limit`), and the first MiB is
+-- claimed (`reserve_real_mode`)
 abbrev pub closing_items : List FrameRange → ℕ → List Item
 closing_items mirrors end =
     item.Trim ∷ (mirror_items mirrors ++ (item.Limit end ∷ item.Claim (up_to ISA_END_ADDRESS) owner.Low1M ∷ []))
 
--- all of it, of what is given early and a map: before memory is known an allocation stays in the first MiB (`setup_arch`)
+-- the whole list for these inputs and a map; before memory is known, allocations stay in the first
+-- MiB (`setup_arch`)
 abbrev pub first_items : Early → List (RunOf ℕ) → List Item
 first_items e map =
     early_claims e.kernel e.initrd

@@ -1,6 +1,5 @@
-//! The laws of the early stages, as functions that do nothing: what the stages behind them may rest on.
-//!
-//! Whatever growth stood between the wanted items, memory is what the map says, frame by frame.
+//! Laws of the early stages, on which later stages may rest. Whatever growth came between the
+//! items of the list, memory is what the map says, frame by frame.
 
 ghost use Rattle.std.specs.Prelude.{◌≡◌, ℕ, ◌-◌, ◌/◌, ◌%◌, ◌<◌, ◌≤◌, true, Some, List, [], IfSome, Ok};
 ghost use Rattle.std.specs.List.{All};
@@ -17,8 +16,9 @@ ghost use Rattle.early_stages.specs.Wanted.{first_items};
 
 use bm_base::FRAME_SIZE;
 
-/// A law: behind the early stages a byte is memory exactly where its frame is usable, no node has it yet, it is mirrored exactly where
-/// it lies in the frames that were given as mirrored, and what is allocated ends with the last usable frame.
+/// Law: after the early stages a byte is memory exactly if its frame is usable. It has no node,
+/// and is mirrored exactly if it is in frames that were given as mirrored. The limit of
+/// allocations is the end of the last usable frame.
 pub fn memory_is_usable_frames()
     ensures memory { (e : Early) (map : List (RunOf ℕ)) (items : List AnyItem) → AreRuns map →
         carried_out (first_items e map) [] ≡ Ok items →
@@ -27,8 +27,9 @@ pub fn memory_is_usable_frames()
         carried_out (first_items e map) [] ≡ Ok items → limit_of items ≡ memory_end e.limit (value_at map) }
 {}
 
-/// A law: each byte of memory lies below the end of the last usable frame, whatever of it is mirrored; that is a border of frames within
-/// reach, and, unless it is 0, the frame before it is usable.
+/// Law: all memory, mirrored or not, ends at or below the end of the last usable frame. That end
+/// is a multiple of the frame size and at most the limit of addresses. Unless it is 0, the frame
+/// before it is usable.
 pub fn memory_ends_within_reach()
     ensures below { (limit : ℕ) (f : TypeAt) (mirrors : List FrameRange) (x : ℕ) (label : LabelView) →
         mirrored_memory mirrors (usable_memory limit f) x ≡ Some label → x < memory_end limit f }
@@ -38,13 +39,15 @@ pub fn memory_ends_within_reach()
         is_usable_frame (types_below limit f) ((memory_end limit f - 1) / FRAME_SIZE) ≡ true }
 {}
 
-/// A law: that is where the last run of memory ends, so the table of memory tells it.
+/// Law: the last run of memory ends at the end of the last usable frame, so that end can be read
+/// from the memory table.
 pub fn memory_ends_with_its_last_run()
     ensures { (limit : ℕ) (f : TypeAt) (mirrors : List FrameRange) (runs : List (RunOf LabelView)) →
         IsRunsOf (mirrored_memory mirrors (usable_memory limit f)) runs → end_of_runs runs ≡ memory_end limit f }
 {}
 
-/// A law: no wanted item has an empty range, where the kernel's image, the initrd and each range of mirrored frames have a byte.
+/// Law: no item of the list has an empty range, if the kernel's image, the initrd and each range
+/// of mirrored frames aren't empty.
 pub fn wanted_items_have_bytes()
     ensures { (e : Early) (map : List (RunOf ℕ)) → 0 < e.kernel.size → IfSome e.initrd (λ range. 0 < range.size) →
         All (λ r. 0 < r.count) e.mirrors → AreRuns map → AreItems (first_items e map) }

@@ -1,17 +1,26 @@
-//! What a boot does to memory before any node is known: the items that it wants, and what they come to.
+//! Defines what a boot does to memory before any node is known: the items that it is to write, and
+//! the memory that they give.
 //!
-//! The kernel's image, the first 64 KiB and the initrd are claimed before memory is known
-//! (`early_reserve_memory`), and until it is known allocations stay in the first MiB. Then the runs of the map
-//! are gone through once (`e820__memblock_setup`): what firmware keeps for a driver is claimed, and what is RAM or the
-//! kernel's own becomes memory as far as the kernel's tables reach. Memory is trimmed to whole frames
-//! (`memblock_trim_memory`), those that firmware keeps twice are mirrored (`efi_find_mirror`), allocations may go up to the end of the
-//! last one (`memblock_set_current_limit`), and the first MiB is claimed (`reserve_real_mode`). Where places shall be looked for from the
-//! lowest address up, that is said before memory is known (`memblock_set_bottom_up`).
+//! The stages follow `setup_arch`, in this order:
 //!
-//! What is wanted depends on the inputs alone (`specs/Early.antt`), so it is one list (`specs/Wanted.antt`); the growth of tables
-//! comes in where the list is carried out (`growth_model`). What memory then is, byte by byte, stands in
-//! `specs/Memory.antt`: the usable frames, of which some are mirrored. The functions here are laws over these definitions: they do nothing, and
-//! their contracts are proved.
+//! 1. The kernel's image, the first 64 KiB and the initrd are claimed (`early_reserve_memory`).
+//!    Until memory is known, allocations stay in the first MiB.
+//! 2. If searches should go from the lowest address up, that is set before memory is known
+//!    (`memblock_set_bottom_up`).
+//! 3. Each run of the map is visited once (`e820__memblock_setup`). Memory that firmware keeps for
+//!    a driver is claimed. RAM and the kernel's own memory are added, as far as the kernel's
+//!    tables of memory reach.
+//! 4. Memory is trimmed to whole frames (`memblock_trim_memory`), and frames that firmware mirrors
+//!    are marked (`efi_find_mirror`).
+//! 5. The limit of allocations is set to the end of the last usable frame
+//!    (`memblock_set_current_limit`), and the first MiB is claimed (`reserve_real_mode`).
+//!
+//! These items depend only on the inputs (`specs/Early.antt`), so they are one list
+//! (`specs/Wanted.antt`). Tables may have to grow when the list is carried out (`growth_model`).
+//! `specs/Memory.antt` defines the memory after it, byte by byte: the usable frames, some of them
+//! mirrored. The layers above may rest on these definitions and on the laws. A law is an empty
+//! function whose contract is a proven fact. In contracts, a name means the definition in
+//! `specs/`.
 #![tactic(auto)]
 
 mod laws;
