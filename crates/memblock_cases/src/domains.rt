@@ -1,11 +1,11 @@
-//! A table of domains, of the blocks that a case gives.
+//! Builds a table of domains from the blocks of a case.
 ghost use Rattle.std.specs.Prelude.{◌≡◌, ◌≤◌, IfOk, length};
 
 use crate::ranges::between;
 use srat_reader::{Srat, SratBlock};
 use std::alloc::{AllocError, Global};
 
-/// The addresses from one up to another, in the domain.
+/// Returns a block of addresses from `from` to below `until`, in this domain.
 pub fn block(domain: u32, from: u64, until: u64) -> SratBlock
     requires { from ≤ until }
 {
@@ -15,7 +15,7 @@ pub fn block(domain: u32, from: u64, until: u64) -> SratBlock
     }
 }
 
-/// A table of the domains of processors, and of these blocks.
+/// Returns a table with the domains of these processors, and with these blocks.
 pub fn table(alloc: Global, processors: &[u32], blocks: &[SratBlock]) -> Result<Srat, AllocError>
     ensures { IfOk result (λ srat. length srat.blocks.items ≡ length blocks.now) }
 {

@@ -1,9 +1,10 @@
-//! Worked cases of memblock, of what it stands on and of what stands on it: the journal, bytes at addresses, the tables, the search;
-//! the stages, free frames, and the texts of all of these.
+//! Worked cases of memblock, of the crates below it and of those above it: the journal, bytes at
+//! addresses, the tables, the search, the stages, free frames, and the texts of all of these.
 //!
-//! Each module has the cases of the crate that it is named for, called as any other crate calls it: by its public names, and by
-//! what its contracts say alone. The tests of a crate are proved with the crate, so those that need no more than that stand here, and
-//! a crate that stands is proved once.
+//! Each module has the cases of the crate that it is named after. It calls that crate as any other
+//! crate does, by its public names, and knows only what the contracts say. The tests of a crate
+//! are proved with the crate. So tests that need no more than its contracts are here, and proving
+//! a crate doesn't repeat them.
 #![tactic(auto)]
 
 #[cfg(test)]

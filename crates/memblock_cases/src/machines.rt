@@ -1,4 +1,5 @@
-//! Machines on which something has happened: the kernel's image is claimed, and there is memory.
+//! Builds machines on which something has happened: the kernel's image is claimed, and there is
+//! memory.
 ghost use Rattle.std.specs.Prelude.{◌<◌, IsTrue};
 ghost use Rattle.growth_model.specs.Sound.{HasBegun, IsImage};
 
@@ -21,7 +22,7 @@ pub fn has_begun(memblock: &Memblock) -> bool
     memblock.journal().items().len() > 0
 }
 
-/// The machine of which no more is known than where its kernel lies.
+/// Returns a machine of which only the range of its kernel is known.
 pub fn started(alloc: Global, kernel: Range) -> Result<Memblock, Refusal>
     requires image { IsImage kernel }
     requires some { 0 < kernel.size }
@@ -31,7 +32,8 @@ pub fn started(alloc: Global, kernel: Range) -> Result<Memblock, Refusal>
     Ok(memblock)
 }
 
-// Whether the part can be added and get its node; then it is.
+// Adds the part to memory and gives it its node. Returns false if it can't be added, or can't get
+// the node.
 fn add(memblock: &mut Memblock, part: Part) -> Result<bool, Refusal> {
     let (from, until, node) = part;
     let Some(range) = Range::between(from, until) else {
@@ -48,7 +50,7 @@ fn add(memblock: &mut Memblock, part: Part) -> Result<bool, Refusal> {
     Ok(true)
 }
 
-/// The machine whose kernel lies there, with this memory.
+/// Returns a machine with its kernel in this range, and with this memory.
 pub fn machine(alloc: Global, kernel: Range, memory: &[Part]) -> Result<Memblock, Fail>
     requires image { IsImage kernel }
     requires some { 0 < kernel.size }
@@ -62,7 +64,7 @@ pub fn machine(alloc: Global, kernel: Range, memory: &[Part]) -> Result<Memblock
     Ok(memblock)
 }
 
-/// Lets allocations end at the address.
+/// Sets the limit of allocations.
 pub fn limit(memblock: &mut Memblock, at: u64) -> Result<(), Fail> {
     if !has_begun(memblock) {
         return Err("nothing has happened".into());
@@ -71,7 +73,7 @@ pub fn limit(memblock: &mut Memblock, at: u64) -> Result<(), Fail> {
     Ok(())
 }
 
-/// The machine with 128 MiB of no node, whose allocations end at the address.
+/// Returns a machine with 128 MiB of memory without a node, and with this limit of allocations.
 pub fn bare(alloc: Global, at: u64) -> Result<Memblock, Fail> {
     let mut memblock = started(alloc, KERNEL)?;
     if has_begun(&memblock) {

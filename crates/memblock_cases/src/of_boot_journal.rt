@@ -1,4 +1,5 @@
-//! A journal in use: tags around a trim, claims over one another, runs of owners, by values worked out by hand.
+//! A journal in use: tags before and after a trim, claims over one another, and runs of owners.
+//! The expected values were worked out by hand.
 
 use crate::ranges::bytes;
 use bm_base::{Memory, Range};
@@ -7,7 +8,7 @@ use std::alloc::Global;
 use std::process::Abort;
 use std::test::Fail;
 
-// What is memory of one byte less than three frames, the upper half of the second one node 1's.
+// Adds one byte less than three frames of memory; the upper half of the second frame is of node 1.
 fn add_memory(journal: &mut Journal) -> Result<(), Memory> {
     journal.push(Item::Mem {
         range: bytes(0, 0x2FFF),
@@ -18,7 +19,7 @@ fn add_memory(journal: &mut Journal) -> Result<(), Memory> {
     })
 }
 
-// Memory that has a node is added again, with more behind it; then a trim.
+// Adds memory that has a node again, with more after it, and then trims.
 fn add_more(journal: &mut Journal) -> Result<(), Memory> {
     journal.push(Item::Node {
         range: bytes(0, 0x4000),
@@ -30,7 +31,7 @@ fn add_more(journal: &mut Journal) -> Result<(), Memory> {
     journal.push(Item::Trim)
 }
 
-// The tag of a byte of memory.
+// Returns the tag of a byte of memory.
 fn memory(node: Option<u32>, mirror: bool) -> Tag {
     Tag::Memory { node, mirror }
 }
@@ -41,7 +42,8 @@ fn compare_tags(rt: &impl Abort, journal: &Journal, rows: &[(u64, Tag)]) {
     }
 }
 
-// The frames from 0x0 on, as they are memory before the first trim: whole, of two tags, one byte short.
+// The frames from address 0 on, before the first trim: a whole one, one of two tags, and one that
+// is a byte short.
 //
 //     0x0        0x1000     0x2000     0x3000
 //     |..........|....11111|.........  |
@@ -67,7 +69,7 @@ fn tags(rt: HostRuntime) -> Result<(), Fail> {
     ];
     compare_tags(&rt, &journal, &rows);
 
-    // The second trim keeps all of it.
+    // The second trim removes nothing.
     add_more(&mut journal)?;
     let rows = [
         (0xFFF, memory(Some(3), false)),
@@ -79,7 +81,8 @@ fn tags(rt: HostRuntime) -> Result<(), Fail> {
     Ok(())
 }
 
-// The upper half of a frame and the next one become mirrored, and then get a node; a trim keeps the whole one alone.
+// The upper half of a frame and the next frame become mirrored, and then a part gets a node. The
+// trim keeps only the frame that has one tag.
 #[test]
 fn mirrors(rt: HostRuntime) -> Result<(), Fail> {
     let mut journal = Journal::new(rt.alloc());
@@ -118,7 +121,7 @@ fn mirrors(rt: HostRuntime) -> Result<(), Fail> {
     Ok(())
 }
 
-// Claims over one another, freed in part, claimed again.
+// Claims ranges over one another, frees a part, and claims some of it again.
 fn claim_over(journal: &mut Journal) -> Result<(), Memory> {
     journal.push(Item::Claim {
         range: bytes(0x1000, 0x4000),
@@ -137,7 +140,7 @@ fn claim_over(journal: &mut Journal) -> Result<(), Memory> {
     })
 }
 
-// Claims that touch with equal and with other owners, and one of the last address.
+// Claims ranges that touch, with equal and with different owners, and one at the last address.
 fn claim_beside(journal: &mut Journal) -> Result<(), Memory> {
     journal.push(Item::Claim {
         range: bytes(0x5000, 0x1000),
@@ -159,7 +162,7 @@ fn compare_owners(rt: &impl Abort, journal: &Journal, rows: &[(u64, Option<Owner
     }
 }
 
-// Each row is a range and the owner of each byte of it: the runs are these.
+// Each row is a range and the owner of all its bytes. The journal's runs must be these.
 fn compare_runs(
     rt: &impl Abort,
     journal: &Journal,
@@ -235,7 +238,7 @@ fn owners(rt: HostRuntime) -> Result<(), Fail> {
     Ok(())
 }
 
-// The second item takes the room that was made for it.
+// Writes two items, the second into room that was made for it.
 fn limit_and_growth(journal: &mut Journal) -> Result<(), Memory> {
     journal.push(Item::Limit { at: 0x10_0000 })?;
     journal.ready(1)?;

@@ -1,4 +1,5 @@
-//! Handovers of whole machines, and frames that come in any order; all numbers from outside.
+//! Handovers of whole machines, and frames that are freed in any order. All expected numbers are
+//! from outside.
 ghost use Rattle.std.specs.Prelude.{◌≡◌, ◌+◌, ◌^◌, ◌<◌, ◌≤◌, None, IsTrue};
 ghost use Rattle.buddy_handover.specs.Contents.{free};
 
@@ -14,7 +15,7 @@ use std::process::Abort;
 use std::test::Fail;
 use table_frames::{has_records, has_whole_frames};
 
-// The handover, where the bytes are records.
+// Hands over, if the bytes are records.
 fn handed(alloc: Global, store: &Store, heads: &Heads) -> Result<Buddy, Fail> {
     if has_records(store, &heads.memory, FRAME_SIZE * MAX_FRAMES)
         && has_records(store, &heads.reserved, u64::MAX)
@@ -26,7 +27,7 @@ fn handed(alloc: Global, store: &Store, heads: &Heads) -> Result<Buddy, Fail> {
     Err("records".into())
 }
 
-// How many blocks there are of each order.
+// Returns the number of blocks of each order.
 fn counts(buddy: &Buddy, node: u32, zone: Zone) -> [u64; 11] {
     let mut counts = [0; 11];
     for order in 0..11 {
@@ -35,7 +36,7 @@ fn counts(buddy: &Buddy, node: u32, zone: Zone) -> [u64; 11] {
     counts
 }
 
-// Frees the frames, if none of them is free.
+// Frees the frames. Returns false if one of them is free already.
 fn free(buddy: &mut Buddy, first: u64, count: u64, node: u32) -> Result<bool, Memory> {
     if first > MAX_FRAMES || count > MAX_FRAMES - first {
         return Ok(false);
@@ -49,7 +50,7 @@ fn free(buddy: &mut Buddy, first: u64, count: u64, node: u32) -> Result<bool, Me
     Ok(true)
 }
 
-// How many blocks of each order a node has in a zone.
+// A node, a zone, and the number of blocks of each order.
 type Counts = (u32, Zone, [u64; 11]);
 
 fn compare_counts(rt: &impl Abort, buddy: &Buddy, rows: &[Counts]) {
@@ -76,7 +77,7 @@ fn compare_ends(rt: &impl Abort, blocks: &[Block], many: usize, ends: [Block; 2]
     );
 }
 
-// How many blocks there are, and the first and the last of them.
+// Compares the number of blocks, and the first and the last of them.
 fn compare_list(
     rt: &impl Abort,
     buddy: &Buddy,
@@ -88,7 +89,7 @@ fn compare_list(
     Ok(())
 }
 
-// What is reserved of a virtual machine of 128 MiB at the end of its boot.
+// The ranges of a virtual machine of 128 MiB that are reserved at the end of its boot.
 const RESERVED: [(u64, u64); 5] = [
     (0, 0x100000),
     (0x1000000, 0x3000000),
@@ -97,7 +98,8 @@ const RESERVED: [(u64, u64); 5] = [
     (0x7FB0000, 0x7FE0000),
 ];
 
-// A virtual machine of 128 MiB, with the kernel at 16 MiB: `/proc/buddyinfo` of it, and blocks at both ends.
+// A virtual machine of 128 MiB, with its kernel at 16 MiB: the numbers of its `/proc/buddyinfo`,
+// and blocks at both ends.
 #[test]
 fn a_virtual_machine_of_128_mib(rt: HostRuntime) -> Result<(), Fail> {
     let (store, heads) = tables_of(rt.alloc(), &MACHINE, &RESERVED)?.into_parts();
@@ -132,7 +134,8 @@ fn a_virtual_machine_of_128_mib(rt: HostRuntime) -> Result<(), Fail> {
     Ok(())
 }
 
-// The same machine with a node border inside a set of 1,024 frames, both sides of it free.
+// The same machine with a node border inside a set of 1,024 frames, which are free on both sides
+// of it.
 //
 //     0x4000000 ..node 0.. 0x4100000 ..node 1.. 0x4400000
 #[test]
@@ -162,7 +165,7 @@ fn a_node_border_inside_a_set(rt: HostRuntime) -> Result<(), Fail> {
     Ok(())
 }
 
-// Frees two halves of a block, in this order.
+// Frees the two halves of a block, in this order.
 fn free_halves(
     rt: &impl Abort,
     buddy: &mut Buddy,
@@ -180,7 +183,8 @@ fn free_halves(
     compare_list(rt, buddy, 1, [whole, whole])
 }
 
-// Two ranges that meet give one block, whichever comes first; with memory for 32 entries neither wants any.
+// Two ranges that meet give one block, whichever is freed first. With room for 32 entries neither
+// call allocates.
 #[test]
 fn ranges_that_meet(rt: HostRuntime) -> Result<(), Fail> {
     let whole = Block {
@@ -197,7 +201,7 @@ fn ranges_that_meet(rt: HostRuntime) -> Result<(), Fail> {
     Ok(())
 }
 
-// Each frame is a block of its own, in this zone.
+// Compares blocks of one frame: each row is a frame and its zone.
 fn compare_zones(rt: &impl Abort, buddy: &Buddy, rows: &[(u64, Zone)]) {
     for (frame, zone) in rows {
         let block = buddy.block_of(*frame).map(|b| (b.order, b.zone));
@@ -221,7 +225,7 @@ fn borders_of_zones(rt: HostRuntime) -> Result<(), Fail> {
     Ok(())
 }
 
-// Gives the frame back to node 0, if it isn't free.
+// Frees the frame, on node 0. Returns false if it is free already.
 fn give_back(buddy: &mut Buddy, frame: u64) -> Result<bool, Memory> {
     if frame >= MAX_FRAMES || buddy.block_of(frame).is_some() {
         return Ok(false);
@@ -230,7 +234,7 @@ fn give_back(buddy: &mut Buddy, frame: u64) -> Result<bool, Memory> {
     Ok(true)
 }
 
-// So many blocks of node 0 in DMA, one behind another.
+// Returns a row of `count` consecutive blocks of node 0 in zone DMA.
 fn row(order: u32, first: u64, count: u64) -> BlockRow {
     BlockRow {
         order,
@@ -241,7 +245,8 @@ fn row(order: u32, first: u64, count: u64) -> BlockRow {
     }
 }
 
-// A frame that comes back is joined with what is free beside it; blocks of the greatest order that follow one another are one row.
+// A frame that is freed is merged with the free frames next to it. Consecutive blocks of the
+// greatest order are one row.
 #[test]
 fn frames_that_come_back(rt: HostRuntime) -> Result<(), Fail> {
     let mut buddy = Buddy::new(rt.alloc());

@@ -1,5 +1,5 @@
-//! Crash areas of two machines, line by line. The values are those of an implementation of the same rules in another
-//! language.
+//! Crash areas of two machines, command line by command line. The expected values are from an
+//! implementation of the same rules in another language.
 
 ghost use Rattle.std.specs.Prelude.{◌+◌, ◌^◌, ◌<◌};
 
@@ -12,7 +12,7 @@ use std::alloc::Global;
 use std::process::Abort;
 use std::test::Fail;
 
-/// 512 MiB, less what firmware keeps.
+/// 512 MiB, without what firmware keeps.
 const SMALL: [Part; 2] = [(0x1000, 0x9F000, 0), (0x100000, 0x1FFE_0000, 0)];
 
 /// 2 GiB below 4 GiB and 6 GiB above, of two nodes.
@@ -42,7 +42,7 @@ fn at_both(base: u64, size: u64, low: u64, low_size: u64) -> Crash
     }
 }
 
-// What comes of the line, and the last thing that happened.
+// Returns the outcome for the command line, and the last item of the journal.
 fn reserved(alloc: Global, memory: &[Part], line: &[u8]) -> Result<(Crash, Option<Item>), Fail> {
     let options = read_options(alloc, line)?;
     let mut memblock = machine(alloc, bytes(0x100_0000, 0x240_0000), memory)?;
@@ -54,7 +54,7 @@ fn reserved(alloc: Global, memory: &[Part], line: &[u8]) -> Result<(Crash, Optio
     Ok((crash, last))
 }
 
-/// Each row is a command line and what comes of it.
+/// Each row is a command line and its outcome.
 fn compare(
     rt: &impl Abort,
     alloc: Global,
@@ -99,7 +99,7 @@ fn areas_below_4_gib(rt: HostRuntime) -> Result<(), Fail> {
     compare(&rt, rt.alloc(), &SMALL, &cases)
 }
 
-// The memory of this machine is 0x1FF7E000 bytes.
+// The machine has 0x1FF7E000 bytes of memory.
 #[test]
 fn ranges_of_the_total(rt: HostRuntime) -> Result<(), Fail> {
     let cases = [
@@ -161,7 +161,7 @@ fn areas_above_4_gib(rt: HostRuntime) -> Result<(), Fail> {
     compare(&rt, rt.alloc(), &LARGE, &cases)
 }
 
-// The low part is claimed behind the area; where it has no place, the area is given back.
+// The low part is claimed after the area. If it doesn't fit, the area is freed again.
 #[test]
 fn low_parts(rt: HostRuntime) -> Result<(), Fail> {
     let line = b"crashkernel=512M,high".as_slice();

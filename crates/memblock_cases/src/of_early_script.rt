@@ -1,4 +1,5 @@
-//! Each outcome once, on a machine of 128 MiB with its kernel at 16 MiB. The places are the greatest addresses by hand.
+//! Each outcome once, on a machine of 128 MiB with its kernel at 16 MiB. The expected addresses,
+//! the greatest that fit, were worked out by hand.
 ghost use Rattle.std.specs.Prelude.{◌≡◌, ◌+◌, ◌^◌, ◌<◌, ◌≤◌, length, IsTrue};
 ghost use Rattle.early_script.specs.Acted.{CanBeRun};
 
@@ -21,7 +22,7 @@ fn is_run(act: &Act) -> bool
     }
 }
 
-// What comes of the lines of a script.
+// Returns the outcomes of the script's lines.
 fn run(alloc: Global, memblock: &mut Memblock, text: &str) -> Result<Vec<Outcome>, Fail>
     requires { length text.now < 2 ^ 32 }
 {
@@ -36,7 +37,7 @@ fn run(alloc: Global, memblock: &mut Memblock, text: &str) -> Result<Vec<Outcome
     Ok(outcomes)
 }
 
-// What a peek that sees these bytes tells.
+// Returns what a peek of these bytes returns.
 pub fn bytes_told(bytes: &[u8]) -> Option<ArrayVec<u8, 64>> {
     let mut told = ArrayVec::new();
     for byte in bytes {
@@ -79,7 +80,7 @@ fn each_outcome(rt: HostRuntime) -> Result<(), Fail> {
     Ok(())
 }
 
-// Claims of so many pages, with a page between them.
+// Returns a script that claims `many` pages, with a page between each two.
 fn claims(alloc: Global, many: u32) -> Result<String, Fail> {
     let mut text = String::new(alloc);
     for id in 0..many {
@@ -89,7 +90,8 @@ fn claims(alloc: Global, many: u32) -> Result<String, Fail> {
     Ok(text)
 }
 
-// The reserved table has room for 128 records, one of them the kernel's; with a limit of 0 it finds no place to grow to.
+// The reserved table has room for 128 records, and one is the kernel's. With a limit of 0 it finds
+// no place to grow.
 #[test]
 fn no_place_for_a_table(rt: HostRuntime) -> Result<(), Fail> {
     let alloc = rt.alloc();
@@ -102,7 +104,7 @@ fn no_place_for_a_table(rt: HostRuntime) -> Result<(), Fail> {
     Ok(())
 }
 
-// All lines but the last of 128 are done; that one finds no place for the table.
+// The first 127 of 128 lines succeed, and the last one finds no place for the table.
 fn compare_growth(rt: &impl Abort, outcomes: &[Outcome]) {
     let none = Outcome::NoGapForTable {
         which: Which::Reserved,

@@ -1,4 +1,5 @@
-//! The search and the runs of unclaimed memory in the tables that a virtual machine's boot leaves.
+//! The search, and the runs of unclaimed memory, in the tables after the boot of a virtual
+//! machine.
 
 use crate::ranges::MACHINE;
 use crate::tables::{cover, mirror, tables_of};
@@ -8,7 +9,7 @@ use memblock_ranges::Tables;
 use std::process::Abort;
 use std::test::Fail;
 
-// What a search says: its answer, or that it isn't a search.
+// The result of a search, or that its numbers aren't those of a search.
 #[derive(Clone, Copy, Debug, PartialEq, Eq)]
 enum Answer {
     At(u64),
@@ -28,7 +29,7 @@ const UP: Mode = Mode {
     up: true,
 };
 
-// A search: its window, its size, its alignment's power of two, and its node.
+// A search: its window, its size, the exponent of its alignment (a power of two), and its node.
 type Search = (u64, u64, u64, u32, Option<u32>);
 
 fn search(tables: &Tables, mode: Mode, wanted: Search) -> Answer {
@@ -49,7 +50,7 @@ fn search(tables: &Tables, mode: Mode, wanted: Search) -> Answer {
     }
 }
 
-// Whether this run is answered, and isn't mirrored; a size of 0 is none.
+// Tests whether this run is returned, and isn't mirrored. Size 0 stands for no run.
 fn is_told(run: Option<FreeRange>, base: u64, size: u64, node: u32) -> bool {
     match run {
         Some(run) => {
@@ -59,7 +60,8 @@ fn is_told(run: Option<FreeRange>, base: u64, size: u64, node: u32) -> bool {
     }
 }
 
-// Each row is a size, its alignment's power of two, and the best place of node 0, which is claimed then.
+// Each row is a size, the exponent of its alignment, and the best place on node 0, which is then
+// claimed.
 fn claim_each(rt: &impl Abort, tables: &mut Tables, rows: &[(u64, u32, u64)]) {
     for (size, power, at) in rows {
         let answer = search(tables, DOWN, (0, 0x7FE0000, *size, *power, Some(0)));
@@ -68,7 +70,7 @@ fn claim_each(rt: &impl Abort, tables: &mut Tables, rows: &[(u64, u32, u64)]) {
     }
 }
 
-// Each row is an address, and the first run at or behind it; a size of 0 is none.
+// Each row is an address, and the first run at or after it. Size 0 stands for no run.
 fn compare_next(rt: &impl Abort, tables: &Tables, rows: &[(u64, u64, u64, u32)]) {
     for (from, base, size, node) in rows {
         let run = next_free(tables, *from);
@@ -76,7 +78,8 @@ fn compare_next(rt: &impl Abort, tables: &Tables, rows: &[(u64, u64, u64, u32)])
     }
 }
 
-// Each row is an address, and the last run that begins before it, up to it; a size of 0 is none.
+// Each row is an address, and the last run that begins before it, cut to end there. Size 0 stands
+// for no run.
 fn compare_prev(rt: &impl Abort, tables: &Tables, rows: &[(u64, u64, u64, u32)]) {
     for (until, base, size, node) in rows {
         let run = prev_free(tables, *until);
@@ -84,7 +87,7 @@ fn compare_prev(rt: &impl Abort, tables: &Tables, rows: &[(u64, u64, u64, u32)])
     }
 }
 
-// All runs behind an address, in one pass.
+// Compares all runs from an address on, in one pass.
 fn compare_pass(rt: &impl Abort, tables: &Tables, from: u64, rows: &[(u64, u64, u32)]) {
     let mut runs = FreeRuns::from(tables, from);
     for (base, size, node) in rows {
@@ -94,8 +97,9 @@ fn compare_pass(rt: &impl Abort, tables: &Tables, from: u64, rows: &[(u64, u64, 
     assert!(rt; runs.next_run().is_none());
 }
 
-// A virtual machine of 128 MiB: where the node data, the section roots, the sections of node 0, the usage map
-// and the memory map lie, each the best place once those before it are claimed.
+// A virtual machine of 128 MiB: the places of the node data, the section roots, the sections of
+// node 0, the usage map and the memory map. Each is the best place after those before it are
+// claimed.
 #[test]
 fn a_virtual_machine_of_128_mib(rt: HostRuntime) -> Result<(), Fail> {
     let reserved = [(0, 0x100000), (0x1000000, 0x3000000)];
@@ -109,7 +113,7 @@ fn a_virtual_machine_of_128_mib(rt: HostRuntime) -> Result<(), Fail> {
     ];
     claim_each(&rt, &mut tables, &places);
 
-    // What is left, from below and from above, and cut in the middle of a run.
+    // The remaining runs, from below and from above, and cut in the middle.
     let from_below = [
         (0, 0x100000, 0xF00000, 0),
         (0x1000000, 0x3000000, 0x4C00000, 0),
@@ -136,7 +140,7 @@ fn a_virtual_machine_of_128_mib(rt: HostRuntime) -> Result<(), Fail> {
     Ok(())
 }
 
-// A search, and what is answered.
+// A search and its result.
 type Row = (u64, u64, u64, u32, Option<u32>, Answer);
 
 fn compare(rt: &impl Abort, tables: &Tables, mode: Mode, rows: &[Row]) {
@@ -145,7 +149,7 @@ fn compare(rt: &impl Abort, tables: &Tables, mode: Mode, rows: &[Row]) {
     }
 }
 
-// An exact fit, and one byte more, from 0x3000000 on.
+// An exact fit, and a search for one byte more, from 0x3000000 on.
 #[test]
 fn an_exact_fit(rt: HostRuntime) -> Result<(), Fail> {
     let reserved = [
@@ -240,7 +244,7 @@ fn nodes_in_turn(rt: HostRuntime) -> Result<(), Fail> {
     Ok(())
 }
 
-// The first frame is never answered, and a window may end at the last address.
+// No search returns the first frame, and a window may end at the last address.
 #[test]
 fn the_first_frame(rt: HostRuntime) -> Result<(), Fail> {
     let memory = [
@@ -263,7 +267,7 @@ fn the_first_frame(rt: HostRuntime) -> Result<(), Fail> {
     Ok(())
 }
 
-// The same machine, of which 0x4000000 .. 0x5000000 is mirrored.
+// The same machine, with 0x4000000 to below 0x5000000 mirrored.
 #[test]
 fn mirrored_memory_and_from_below(rt: HostRuntime) -> Result<(), Fail> {
     let reserved = [(0, 0x100000), (0x1000000, 0x3000000)];
@@ -310,7 +314,7 @@ fn mirrored_memory_and_from_below(rt: HostRuntime) -> Result<(), Fail> {
     Ok(())
 }
 
-// No search from below answers the first frame.
+// No search from below returns the first frame.
 #[test]
 fn from_below_over_the_first_frame(rt: HostRuntime) -> Result<(), Fail> {
     let tables = tables_of(rt.alloc(), &[(0, 0x3000, 1024)], &[(0x2000, 0x2800)])?;

@@ -1,5 +1,6 @@
-//! A memblock through the first minutes of a boot: what stands in the journal, where the tables go, what is read back. The values are
-//! those of an implementation of the same rules in another language.
+//! A memblock through the early part of a boot: the items of the journal, the places of the
+//! tables, and the bytes that are read back. The expected values are from an implementation of the
+//! same rules in another language.
 ghost use Rattle.std.specs.Prelude.{◌≡◌, ◌^◌, ◌<◌, ◌≤◌, IsTrue};
 ghost use Rattle.growth_model.specs.Sound.{HasBegun};
 
@@ -17,7 +18,7 @@ use std::test::Fail;
 
 mod nested;
 
-// A call, its addresses and the node.
+// A call, with its range and its node.
 #[derive(Clone, Copy)]
 enum Step {
     Add(u64, u64),
@@ -30,7 +31,7 @@ enum Step {
     Upward(bool),
 }
 
-// Whether the call's conditions hold; then it is carried out.
+// Carries out the call. Returns false if its requirements don't hold.
 fn act(memblock: &mut Memblock, step: Step) -> Result<bool, Refusal> {
     if !has_begun(memblock) {
         return Ok(false);
@@ -56,7 +57,7 @@ fn act(memblock: &mut Memblock, step: Step) -> Result<bool, Refusal> {
     }
 }
 
-// Carries out each step in turn; `NoGap` where a call's conditions don't hold.
+// Carries out the steps in turn. The error is `NoGap` if the requirements of one don't hold.
 fn carry_out(memblock: &mut Memblock, steps: &[Step]) -> Result<(), Refusal> {
     for step in steps {
         if !act(memblock, *step)? {
@@ -66,7 +67,8 @@ fn carry_out(memblock: &mut Memblock, steps: &[Step]) -> Result<(), Refusal> {
     Ok(())
 }
 
-// Claims so many frames from an address on, each beside a gap: as many records.
+// Claims `count` frames from an address on, with a gap after each, so that each has its own
+// record.
 fn claim_apart(memblock: &mut Memblock, first: u64, count: u32) -> Result<(), Refusal>
     requires { first < 2 ^ 63 }
 {
@@ -76,7 +78,8 @@ fn claim_apart(memblock: &mut Memblock, first: u64, count: u32) -> Result<(), Re
     Ok(())
 }
 
-// Adds so many frames of memory from an address on, each beside a gap: as many records.
+// Adds `count` frames of memory from an address on, with a gap after each, so that each has its
+// own record.
 fn add_apart(memblock: &mut Memblock, first: u64, count: u32) -> Result<(), Refusal>
     requires { first < 2 ^ 63 }
 {
@@ -169,7 +172,8 @@ fn best(memblock: &Memblock, query: &Query) -> Option<u64>
     memblock.find(query)
 }
 
-// A request for so many bytes in a window, its least address and its end, at a multiple of a frame.
+// Returns a request for `size` bytes in a window, given by its lowest address and its end, aligned
+// to a frame.
 fn request(size: u64, window: (u64, Option<u64>), node: Option<u32>) -> Request
     ensures size { result.size ≡ size }
     ensures align { result.align ≡ 2 ^ 12 }
@@ -185,7 +189,7 @@ fn request(size: u64, window: (u64, Option<u64>), node: Option<u32>) -> Request
     }
 }
 
-// What a request is answered.
+// Allocates what the request asks for.
 fn answer(memblock: &mut Memblock, request: &Request) -> Result<u64, Refusal>
     requires begun { HasBegun memblock.old.journal.items }
     requires some { 1 ≤ request.now.size }
@@ -194,7 +198,7 @@ fn answer(memblock: &mut Memblock, request: &Request) -> Result<u64, Refusal>
     memblock.alloc(request, Owner::Soft)
 }
 
-// What a request for so many bytes is answered; `None` where nothing was claimed yet, or no byte is asked for.
+// Allocates `size` bytes. Returns `None` if nothing is claimed yet, or the size is 0.
 fn alloc(
     memblock: &mut Memblock,
     size: u64,
@@ -207,13 +211,15 @@ fn alloc(
     Some(answer(memblock, &request(size, window, node)))
 }
 
-// Whether there are so many items, and so many records of claims.
+// Tests whether the journal has this number of items, and the reserved table this number of
+// records.
 fn has_counts(memblock: &Memblock, items: usize, claims: u64) -> bool {
     memblock.journal().items().len() == items
         && memblock.tables().head(Which::Reserved).count == claims
 }
 
-// A virtual machine of 128 MiB, as far as its nodes; the kernel's image is 0x1000000..0x2ffffff.
+// Returns a virtual machine of 128 MiB whose memory has its nodes. The kernel's image is
+// 0x1000000..0x2ffffff.
 fn machine(alloc: Global) -> Result<Memblock, Refusal> {
     let mut memblock = started(alloc, KERNEL)?;
     let steps = [
@@ -258,7 +264,8 @@ fn allocations_come_from_the_top(rt: HostRuntime) -> Result<(), Fail> {
     Ok(())
 }
 
-// What a frame, and more than mirrored memory holds, are given: from the top, from below, and from the top again.
+// Allocates a frame, and more than the mirrored memory has: from the top, from below, and from the
+// top again.
 fn place_both_ways(rt: &impl Abort, memblock: &mut Memblock) -> Result<(), Refusal> {
     let cases = [
         (false, 0x1000, 0x4FFF000),
@@ -292,7 +299,7 @@ fn mirrored_memory_goes_first(rt: HostRuntime) -> Result<(), Fail> {
     Ok(())
 }
 
-// Whether these bytes, at most 24, are read from the address on.
+// Tests whether these bytes, at most 24, are read from the address on.
 fn reads(memblock: &Memblock, base: u64, bytes: &[u8]) -> bool {
     if base.checked_add(24).is_none() {
         return false;
@@ -305,7 +312,8 @@ fn reads(memblock: &Memblock, base: u64, bytes: &[u8]) -> bool {
     *read == *bytes
 }
 
-// A boot as far as its nodes: the memory table starts with the memory below 640 KiB, and holds zeros after its second record.
+// A boot up to its nodes: the memory table begins with the memory below 640 KiB, and is all zeros
+// after its second record.
 #[test]
 fn first_record_after_the_nodes(rt: HostRuntime) -> Result<(), Fail> {
     let mut memblock = started(rt.alloc(), KERNEL)?;
@@ -325,13 +333,14 @@ fn first_record_after_the_nodes(rt: HostRuntime) -> Result<(), Fail> {
     Ok(())
 }
 
-// The places that the tables moved to belong to them.
+// Tests whether the tables own the places that they moved to.
 fn owns_places(journal: &Journal) -> bool {
     journal.owner_at(0x7FDBFFF) == Some(Owner::Table(Which::Reserved))
         && journal.owner_at(0x7FDE000) == Some(Owner::Table(Which::Memory))
 }
 
-// Both tables move, the reserved one twice. The place that the memory table moves to was filled before, and so was a place where no memory is.
+// Both tables move, the reserved one twice. The place that the memory table moves to was filled
+// before, and so was a place outside memory.
 #[test]
 fn tables_move(rt: HostRuntime) -> Result<(), Fail> {
     let mut memblock = machine(rt.alloc())?;
@@ -342,18 +351,19 @@ fn tables_move(rt: HostRuntime) -> Result<(), Fail> {
     assert!(rt; has_counts(&memblock, 514, 303));
     assert!(rt; owns_places(memblock.journal()));
     let cases = [
-        // the first place of the memory table is zeros; at its new one stand the first record and, behind the last one, zeros
+        // the first place of the memory table is all zeros; its new place has the first record
+        // and, after the last one, zeros
         (0x2FFE000, [0; 24].as_slice()),
         (0x7FDE000, FIRST_RECORD.as_slice()),
         (0x7FDE000 + 24 * 202, [0; 24].as_slice()),
-        // across the end of its bytes what was filled before is there
+        // at the end of its bytes the earlier fill is still there
         (0x7FDF7FE, [0, 0, 0xA5, 0xA5].as_slice()),
         (0x1FFFFFFFF, [0, 0xA5, 0xA5, 0].as_slice()),
     ];
     for (base, bytes) in cases {
         assert!(rt; reads(&memblock, base, bytes), "{base}");
     }
-    // what it left may be filled, and its bytes may not
+    // the place that it left may be filled, and its new bytes may not
     assert!(rt; fill(&mut memblock, 0x2FFE000, 24, 0x5A)?);
     assert!(rt; reads(&memblock, 0x2FFE000, &[0x5A; 24]));
     assert!(rt; fill(&mut memblock, 0x300000, 0x10, 0x5A)?);

@@ -1,4 +1,5 @@
-//! The plain data of this crate: values that differ in one part differ, and they print their parts.
+//! The plain data of `memblock_model`: values that differ in one part aren't equal, and they print
+//! their parts.
 
 ghost use Rattle.std.specs.Prelude.{◌≡◌};
 ghost use Rattle.memblock_model.specs.declared.owner.Owner.{Owner as AnyOwner};
@@ -28,7 +29,7 @@ fn owner_of(run: &OwnerRun) -> Owner
     run.owner
 }
 
-// Each variant beside one that differs from it in one part.
+// Each variant next to one that differs from it in one part.
 #[test]
 fn items_that_differ_in_one_part(rt: HostRuntime) {
     let items = [
@@ -81,7 +82,7 @@ fn items_that_differ_in_one_part(rt: HostRuntime) {
     }
 }
 
-// The item equals that of its own number alone.
+// The item equals only the one at its own index.
 fn compare_with_all(rt: &impl Abort, items: &[Item], i: usize, first: &Item) {
     for (j, second) in items.iter().enumerate() {
         assert!(rt; (first == second) == (i == j), "{first:?} and {second:?}");
@@ -121,7 +122,7 @@ fn queries_and_labels(rt: HostRuntime) {
     );
 }
 
-// The run ends where addresses end.
+// The run ends at the last address.
 #[test]
 fn runs_of_owners(rt: HostRuntime) {
     let run = OwnerRun {

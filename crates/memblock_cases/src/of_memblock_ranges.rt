@@ -1,4 +1,4 @@
-//! The tables as a machine's boot leaves them, list by list and byte by byte.
+//! The tables after the boot of a machine, record by record and byte by byte.
 
 use crate::ranges::{KERNEL, bytes};
 use crate::tables::{FIRST_RECORD, cover, mirror};
@@ -9,7 +9,7 @@ use phys_store::Store;
 use std::process::Abort;
 use std::test::Fail;
 
-// An edit, its addresses and the node.
+// An edit, with its range and its node.
 #[derive(Clone, Copy)]
 enum Step {
     Add(u64, u64, u32),
@@ -20,7 +20,7 @@ enum Step {
     Trim,
 }
 
-// Whether the edit's conditions hold; then it is carried out.
+// Carries out the edit. Returns false if its requirements don't hold.
 fn act(tables: &mut Tables, step: Step) -> bool {
     match step {
         Step::Add(base, size, node) => cover(tables, Which::Memory, base, size, node),
@@ -59,7 +59,7 @@ fn set_node(tables: &mut Tables, base: u64, size: u64, node: u32) -> bool {
     true
 }
 
-// Whether the table's records, of which none is mirrored, are these: base, size, node.
+// Tests whether the table's records are these, without flags: base, size, node.
 fn has(tables: &Tables, which: Which, records: &[(u64, u64, u32)]) -> bool {
     if tables.head(which).count != records.len() as u64 {
         return false;
@@ -79,7 +79,7 @@ fn has(tables: &Tables, which: Which, records: &[(u64, u64, u32)]) -> bool {
     true
 }
 
-// Whether the memory table's records are these: base, size, flags, node.
+// Tests whether the memory table's records are these: base, size, flags, node.
 fn has_marked(tables: &Tables, records: &[(u64, u64, u32, u32)]) -> bool {
     let list = tables.records(Which::Memory);
     if list.count() != records.len() as u64 {
@@ -110,7 +110,7 @@ fn act_all(rt: &impl Abort, tables: &mut Tables, steps: &[Step]) {
     }
 }
 
-// Each row is the address of 24 bytes, and these.
+// Each row is an address and the 24 bytes there.
 fn compare_bytes(rt: &impl Abort, tables: &Tables, rows: &[(u64, [u8; 24])]) {
     for (at, expected) in rows {
         assert!(rt; *at <= u64::MAX - 24);
@@ -120,7 +120,7 @@ fn compare_bytes(rt: &impl Abort, tables: &Tables, rows: &[(u64, [u8; 24])]) {
     }
 }
 
-// A virtual machine of 128 MiB, through the node data; the kernel's image is 0x1000000..0x2ffffff.
+// A virtual machine of 128 MiB, up to the node data. The kernel's image is 0x1000000..0x2ffffff.
 #[test]
 fn a_virtual_machine_of_128_mib(rt: HostRuntime) -> Result<(), Fail> {
     let mut tables = Tables::new(rt.alloc(), KERNEL)?;
@@ -150,8 +150,9 @@ fn a_virtual_machine_of_128_mib(rt: HostRuntime) -> Result<(), Fail> {
     assert!(rt; has(&tables, Which::Memory, &memory));
     assert!(rt; has(&tables, Which::Reserved, &reserved));
 
-    // The memory table lies two frames before the image's end: its first record, and zeros behind its two. The end of
-    // the reserved table's last record, and zeros behind it.
+    // The memory table begins two frames before the image's end, with its first record; after its
+    // two records it is all zeros. The last row has the end of the reserved table's last record,
+    // and zeros after it.
     let across = [
         0, 0, 0, 0, 0, 0, 3, 0, 0, 0, 0, 0, 0, 0, 0, 0, 0, 4, 0, 0, 0, 0, 0, 0,
     ];
@@ -164,8 +165,8 @@ fn a_virtual_machine_of_128_mib(rt: HostRuntime) -> Result<(), Fail> {
     Ok(())
 }
 
-// Records of two nodes that touch, bare parts between records, a frame that two nodes share, the last
-// address.
+// Records of two nodes that touch, gaps between records, a frame that two nodes share, and the
+// last address.
 //
 //     0x1000     0x2000     0x3000     0x4000     0x5000    0x9000     0xA000
 //     |0000000000|1111111111|.....................|          |..........|
@@ -241,8 +242,8 @@ fn claims_and_gaps(rt: &impl Abort, tables: &mut Tables) {
     assert!(rt; has(tables, Which::Memory, &[(0x2000, 0x3000, 1)]));
 }
 
-// Mirrored memory from the middle of node 0 to the middle of node 1; then all of it is node 2's, and what is added behind isn't
-// mirrored.
+// Mirrored memory from the middle of node 0 to the middle of node 1. Then all of it gets node 2,
+// and what is added after it isn't mirrored.
 //
 //     0x1000     0x1800     0x2000     0x2800     0x4000     0x5000
 //     |0000000000|0 mirrored|1 mirrored|1111111111|..........|
@@ -282,7 +283,7 @@ fn mirrored_memory(rt: HostRuntime) -> Result<(), Fail> {
     Ok(())
 }
 
-// Whether the place is free of tables; then the table moves there.
+// Moves the table to the place. Returns false if the place overlaps a table.
 fn moved(tables: &mut Tables, which: Which, place: u64) -> Result<bool, Memory> {
     let head = tables.head(which);
     let Some(size) = head.room.checked_mul(48) else {
@@ -327,8 +328,8 @@ fn move_reserved(rt: &impl Abort, tables: &mut Tables) -> Result<(), Memory> {
     Ok(())
 }
 
-// What it left may be written now; a read goes across the end of the memory table's bytes, which are followed by
-// others there.
+// The old place may be written now. A read crosses the end of the memory table's bytes, where
+// other bytes follow.
 fn read_across(rt: &impl Abort, tables: &mut Tables) -> Result<(), Memory> {
     let freed = bytes(0x2FFF000, 0x10);
     assert!(rt; !tables.overlaps_table(freed));
@@ -343,14 +344,14 @@ fn read_across(rt: &impl Abort, tables: &mut Tables) -> Result<(), Memory> {
     Ok(())
 }
 
-/// The reserved table's head once it has moved.
+/// The reserved table's head after it has moved.
 const MOVED: Head = Head {
     place: 0x100000,
     room: 256,
     count: 1,
 };
 
-// Whoever has the bytes and the heads has the tables: each record is read from the bytes.
+// The bytes and the heads are all of the tables: each record is read from the bytes.
 fn compare_records(rt: &impl Abort, store: &Store, heads: &Heads) {
     let first = Region {
         base: 0x1000000,

@@ -1,4 +1,4 @@
-//! Small machines: what the table of domains gives on them, and why it isn't used.
+//! Small machines: the result of their table of domains, and why it isn't used.
 ghost use Rattle.std.specs.Prelude.{◌^◌, ◌<◌, length};
 
 use crate::domains::{block, table};
@@ -9,7 +9,7 @@ use srat_reader::SratBlock;
 use std::alloc::Global;
 use std::test::Fail;
 
-/// The addresses from one up to another, in the node.
+/// Returns the addresses from `from` to below `until`, in this node.
 fn in_node(node: u32, from: u64, until: u64) -> NodeRange
     requires { from < until }
 {
@@ -17,7 +17,8 @@ fn in_node(node: u32, from: u64, until: u64) -> NodeRange
     RunOf { range, value: node }
 }
 
-/// What is made of a table of these blocks on a machine of 128 MiB, of which the last 32 frames are the firmware's.
+/// Returns the judgement of a table with these blocks, on a machine of 128 MiB with its last 32
+/// frames kept by firmware.
 fn judged(alloc: Global, blocks: &[SratBlock]) -> Result<Judged, Fail>
     requires { length blocks.now < 2 ^ 32 }
 {
@@ -27,7 +28,8 @@ fn judged(alloc: Global, blocks: &[SratBlock]) -> Result<Judged, Fail>
     Ok(judge(alloc, &memory, Some(&srat), false)?)
 }
 
-// node 0 on both sides of the hole below 4 GiB, node 1 behind it; the domain that a processor names first is node 0
+// Node 0 is on both sides of the hole below 4 GiB, and node 1 is above it. The domain that a
+// processor names first is node 0.
 #[test]
 fn two_nodes_and_a_hole(rt: HostRuntime) -> Result<(), Fail> {
     let memory = [
@@ -55,7 +57,8 @@ fn two_nodes_and_a_hole(rt: HostRuntime) -> Result<(), Fail> {
     Ok(())
 }
 
-// a block of node 1 between two of node 0: their hull isn't its own, and what lies around the block has no node
+// A block of node 1 is between two of node 0. So their hull isn't only node 0's, and the memory
+// around the block has no node.
 #[test]
 fn another_node_in_between(rt: HostRuntime) -> Result<(), Fail> {
     let blocks = [
@@ -78,7 +81,7 @@ fn another_node_in_between(rt: HostRuntime) -> Result<(), Fail> {
     Ok(())
 }
 
-// the reasons on 128 MiB, each with its numbers
+// The reasons on a machine of 128 MiB, each with its numbers.
 #[test]
 fn reasons(rt: HostRuntime) -> Result<(), Fail> {
     let cases = [

@@ -1,4 +1,5 @@
-//! A machine of 128 MiB with its kernel at 16 MiB: its Node items and the places of node data, by hand.
+//! A machine of 128 MiB with its kernel at 16 MiB: its Node items and the places of node data,
+//! worked out by hand.
 ghost use Rattle.std.specs.Prelude.{◌^◌, ◌<◌, IsTrue, length};
 ghost use Rattle.memblock_model.specs.Items.{limit_of};
 
@@ -14,7 +15,7 @@ use std::alloc::Global;
 use std::process::Abort;
 use std::test::Fail;
 
-/// The bytes of a node's data.
+/// The size of a node's data in bytes.
 const DATA: u64 = 0x2B000;
 
 fn has_limit(memblock: &Memblock) -> bool
@@ -23,7 +24,7 @@ fn has_limit(memblock: &Memblock) -> bool
     matches!(memblock.journal().items(), [.., Item::Limit { at }] if *at > 0)
 }
 
-// The items behind those of the machine.
+// Returns the items after those of the machine.
 fn items_behind(memblock: &Memblock) -> &[Item] {
     match memblock.journal().items() {
         [_, _, _, behind @ ..] => behind,
@@ -31,7 +32,7 @@ fn items_behind(memblock: &Memblock) -> &[Item] {
     }
 }
 
-// The nodes of the machine by a table of these blocks.
+// Assigns the nodes of the machine, with a table of these blocks.
 fn nodes_by(
     alloc: Global,
     memblock: &mut Memblock,
@@ -52,13 +53,13 @@ fn compare(rt: &impl Abort, nodes: &Nodes, why: Why, domains: &[u32], with_memor
     assert!(rt; nodes.with_memory.as_slice() == with_memory);
 }
 
-// These items stand behind those of the machine.
+// The items after those of the machine must be these.
 fn compare_items(rt: &impl Abort, memblock: &Memblock, items: &[Item]) {
     assert!(rt; items_behind(memblock) == items, "{memblock:?}");
 }
 
-// Three blocks of two domains, with a hole between those of the second one, and 64 KiB that none covers: the lowest node
-// gets these, and they are too few for its data
+// Three blocks of two domains, with a hole between those of the second one. No block covers the
+// last 64 KiB; they get the lowest node, and are too small for its data.
 #[test]
 fn two_nodes_and_a_rest(rt: HostRuntime) -> Result<(), Fail> {
     let alloc = rt.alloc();
@@ -97,7 +98,7 @@ fn two_nodes_and_a_rest(rt: HostRuntime) -> Result<(), Fail> {
     Ok(())
 }
 
-// No table: all below the limit is of node 0, whose data goes to the top
+// Without a table all addresses below the limit are of node 0, whose data gets the highest place.
 #[test]
 fn no_table(rt: HostRuntime) -> Result<(), Fail> {
     let alloc = rt.alloc();
@@ -120,7 +121,7 @@ fn no_table(rt: HostRuntime) -> Result<(), Fail> {
     Ok(())
 }
 
-// Where no place is left for the data of a node the boot stops
+// If there is no place for the data of a node, the boot stops.
 #[test]
 fn no_place_for_node_data(rt: HostRuntime) -> Result<(), Fail> {
     let alloc = rt.alloc();

@@ -1,4 +1,4 @@
-//! The calls of a store on small ranges, in memory that is ample.
+//! The calls of a store on small ranges.
 
 use crate::ranges::bytes;
 use bm_base::{Memory, Range};
@@ -13,7 +13,7 @@ fn compare_prepared(rt: &impl Abort, store: &Store, rows: &[(Range, bool)]) {
     }
 }
 
-// Each row is the address of four bytes, and these.
+// Each row is an address and the four bytes there.
 fn compare_bytes(rt: &impl Abort, store: &Store, rows: &[(u64, [u8; 4])]) {
     for (at, expected) in rows {
         assert!(rt; *at <= u64::MAX - 4);
@@ -23,7 +23,7 @@ fn compare_bytes(rt: &impl Abort, store: &Store, rows: &[(u64, [u8; 4])]) {
     }
 }
 
-// Two frames with a frame between them, the inner ends of both written.
+// Prepares two frames with a frame between them, and writes at their inner ends.
 fn write_apart(store: &mut Store) -> Result<(), Memory> {
     store.prepare(bytes(0x1000, 0x1000))?;
     store.prepare(bytes(0x3000, 0x1000))?;
@@ -32,7 +32,7 @@ fn write_apart(store: &mut Store) -> Result<(), Memory> {
     Ok(())
 }
 
-// The last address that a range can have.
+// Writes the last address that a range can have.
 fn write_last(store: &mut Store) -> Result<(), Memory> {
     store.prepare(bytes(u64::MAX - 1, 1))?;
     store.fill(bytes(u64::MAX - 1, 1), 1);
@@ -73,7 +73,7 @@ fn frames_are_prepared_and_joined(rt: HostRuntime) -> Result<(), Fail> {
     Ok(())
 }
 
-// Bytes move up and down within one extent.
+// Moves bytes up and down inside one extent.
 fn move_both_ways(rt: &impl Abort, store: &mut Store) -> Result<(), Memory> {
     store.prepare(bytes(0x1000, 0x400))?;
     store.write(0x1000, b"abcdef".as_slice());
@@ -84,7 +84,7 @@ fn move_both_ways(rt: &impl Abort, store: &mut Store) -> Result<(), Memory> {
     Ok(())
 }
 
-// More than is copied at a time, to another extent.
+// Copies more than is copied at a time, to another extent.
 fn copy_across(store: &mut Store) -> Result<(), Memory> {
     store.prepare(bytes(0x1000, 0x400))?;
     store.prepare(bytes(0x9000, 0x400))?;
@@ -98,7 +98,7 @@ fn bytes_are_moved_and_copied(rt: HostRuntime) -> Result<(), Fail> {
     let mut store = Store::new(rt.alloc());
     move_both_ways(&rt, &mut store)?;
     copy_across(&mut store)?;
-    // What lies across the end of an extent reads as 0.
+    // What is past the end of an extent reads as 0.
     let read = [
         (0x90FC, [0; 4]),
         (0x9100, [b'b', b'c', b'd', b'e']),

@@ -1,4 +1,4 @@
-//! The texts of a small boot, put once each with memory to spare.
+//! The texts of a small boot, each written once with enough memory.
 
 use crate::ranges::{FIRST_MIB, KERNEL, bytes};
 use bm_base::{Memory, Range};
@@ -87,7 +87,7 @@ fn page_of(kind: u32) -> Run {
     }
 }
 
-// Each type that has a name, and numbers between and beyond them, which have none.
+// Each type that has a name, and numbers between and above them, which have none.
 #[test]
 fn each_type(rt: HostRuntime) -> Result<(), Fail> {
     let runs = [
@@ -121,7 +121,7 @@ fn each_type(rt: HostRuntime) -> Result<(), Fail> {
     Ok(())
 }
 
-// The edits and the form of a crash area that `map_and_options` lacks.
+// The edits, and the form of a crash area, that `map_and_options` doesn't have.
 #[test]
 fn each_edit(rt: HostRuntime) -> Result<(), Fail> {
     let add = Edit::Add {
@@ -162,7 +162,7 @@ fn grown(which: Which) -> Item {
     }
 }
 
-// Each item of a journal but a claim.
+// Each item of a journal except a claim.
 #[test]
 fn each_item(rt: HostRuntime) -> Result<(), Fail> {
     let range = FIRST_MIB;
@@ -204,7 +204,7 @@ fn each_item(rt: HostRuntime) -> Result<(), Fail> {
     Ok(())
 }
 
-// Each owner of a claim with a page of its own.
+// Each owner of a claim, with a page of its own.
 const OWNERS: &[u8] = b"\
     \x20  0: 0x0000000000000000..0x0000000000000fff kernel\n\
     \x20  1: 0x0000000000001000..0x0000000000001fff low-64k\n\
@@ -222,7 +222,8 @@ const OWNERS: &[u8] = b"\
     \x20 13: 0x000000000000d000..0x000000000000dfff map 524287\n\
     \x20 14: 0x000000000000e000..0x000000000000efff script 4294967295\n";
 
-// Each owner of a claim, of which those with a number have the greatest; and all of them in one text.
+// Each owner of a claim, those that have a number with the greatest one; and all of them in one
+// text.
 #[test]
 fn each_owner(rt: HostRuntime) -> Result<(), Fail> {
     let rows = [
@@ -288,7 +289,7 @@ fn journal_and_owners(rt: HostRuntime) -> Result<(), Fail> {
     Ok(())
 }
 
-/// The text of the records at a head, if they are an ascending list.
+/// Returns the text of the records at a head, if they are in ascending order.
 fn records_text(alloc: Global, store: &Store, head: &Head) -> Result<Vec<u8>, Fail> {
     if !has_records(store, head, u64::MAX) {
         return Err("no ascending list".into());
@@ -329,7 +330,7 @@ fn records_and_heads(rt: HostRuntime) -> Result<(), Fail> {
     Ok(())
 }
 
-/// Two records that touch and say the same, with flags 5 and node 7; the bytes after them aren't
+/// Two records that touch and have the same flags (5) and node (7). The bytes after them aren't
 /// zeros.
 const TOUCHING: [u8; 50] = [
     0, 0x10, 0, 0, 0, 0, 0, 0, 0, 0x10, 0, 0, 0, 0, 0, 0, 5, 0, 0, 0, 7, 0, 0, 0, //
@@ -343,7 +344,7 @@ fn write_touching(store: &mut Store) -> Result<(), Memory> {
     Ok(())
 }
 
-// A table that no boot leaves: its room is four records, of which half of the bytes were never
+// A table that no boot writes: it has room for four records, and half of the bytes were never
 // written.
 #[test]
 fn records_that_no_boot_writes(rt: HostRuntime) -> Result<(), Fail> {

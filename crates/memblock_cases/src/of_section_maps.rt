@@ -1,4 +1,5 @@
-//! The maps of two groups, the second of which has no piece for all of its maps. The places are the greatest addresses by hand.
+//! The maps of two groups. For the second one there is no buffer for all of its maps. The expected
+//! addresses, the greatest that fit, were worked out by hand.
 
 ghost use Rattle.std.specs.Prelude.{◌<◌, AllPairs};
 
@@ -8,7 +9,7 @@ use section_maps::{Placed, place_maps};
 use stage_model::Section;
 use std::test::Fail;
 
-// Sections 0 and 1; of sections 2 and 3 the first 3 MiB each.
+// Sections 0 and 1, and the first 3 MiB of each of sections 2 and 3.
 const MEMORY: [Part; 3] = [
     (0, 0x1000_0000, 0),
     (0x1000_0000, 0x1030_0000, 1),

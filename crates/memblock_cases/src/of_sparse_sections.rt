@@ -1,4 +1,5 @@
-//! Sections and roots of a machine of two nodes. The places are the greatest addresses by hand.
+//! Sections and roots of a machine of two nodes. The expected addresses, the greatest that fit,
+//! were worked out by hand.
 ghost use Rattle.std.specs.Prelude.{◌≡◌, ◌+◌, ◌%◌, ◌^◌, ◌<◌, ◌≤◌, IsTrue};
 ghost use Rattle.std.specs.List.{All};
 ghost use Rattle.sparse_sections.specs.Present.{IsWholeNoded};
@@ -35,7 +36,7 @@ fn is_whole(region: &Region) -> bool
         && region.base <= 0x10_0000_0000_0000 - region.size
 }
 
-// Whether each record is such that sections are found by it.
+// Tests whether sections can be found in all records.
 fn are_whole(tables: &Tables) -> bool
     ensures { IsTrue result → All IsWholeNoded tables.now.memory.records }
 {
@@ -59,7 +60,7 @@ fn compare_sections(rt: &impl Abort, sections: &[Section], rows: &[(u32, u32)]) 
     }
 }
 
-// The sections of the machine.
+// Returns the sections of the machine.
 fn sections_of(alloc: Global, memblock: &Memblock) -> Result<Vec<Section>, Fail> {
     if !are_whole(memblock.tables()) {
         return Err("a record isn't whole".into());
@@ -84,7 +85,8 @@ fn compare_roots(rt: &impl Abort, roots: &Roots, table: u64, places: &[RootPlace
     assert!(rt; roots.roots.as_slice() == places);
 }
 
-// The table is 16 KiB or 1 MiB at the end of memory, root 1 a page below it, and root 0 a page at the end of node 0.
+// The table of roots has 16 KiB or 1 MiB at the end of memory. Root 1 is a page below it, and root
+// 0 a page at the end of node 0.
 const WIDTHS: [(Width, u64, u64); 2] = [
     (Width::Bits46, 0x8_07FF_C000, 0x8_07FF_B000),
     (Width::Bits52, 0x8_07F0_0000, 0x8_07EF_F000),

@@ -1,4 +1,4 @@
-//! The texts of small stages, put once each with memory to spare.
+//! The texts of small stages, each written once with enough memory.
 
 use crate::of_early_script::bytes_told;
 use crate::ranges::FIRST_MIB;
@@ -86,7 +86,7 @@ fn nodes(rt: HostRuntime) -> Result<(), Fail> {
     Ok(())
 }
 
-/// The nodes of a machine whose table of domains isn't used for that reason.
+/// Returns the nodes of a machine whose table of domains isn't used for this reason.
 fn by_no_table(alloc: Global, why: Why) -> Nodes {
     Nodes {
         why,
@@ -96,7 +96,7 @@ fn by_no_table(alloc: Global, why: Why) -> Nodes {
     }
 }
 
-// Each reason but that of `nodes`.
+// Each reason except that of `nodes`.
 #[test]
 fn each_reason(rt: HostRuntime) -> Result<(), Fail> {
     let journal = Journal::new(rt.alloc());
@@ -121,7 +121,8 @@ fn each_reason(rt: HostRuntime) -> Result<(), Fail> {
     Ok(())
 }
 
-// A machine of 8 GiB: 512 MiB above 4 GiB, and 64 MiB below or nothing; and each answer without an area.
+// A machine of 8 GiB: an area of 512 MiB above 4 GiB, with 64 MiB below or without a low part; and
+// each outcome without an area.
 #[test]
 fn crash(rt: HostRuntime) -> Result<(), Fail> {
     let main = Range {
@@ -155,7 +156,7 @@ fn crash(rt: HostRuntime) -> Result<(), Fail> {
     Ok(())
 }
 
-// Two sections, of which the second has another root.
+// Two sections, the second with another root.
 #[test]
 fn sections(rt: HostRuntime) -> Result<(), Fail> {
     let low = RootPlace {
@@ -190,7 +191,7 @@ fn sections(rt: HostRuntime) -> Result<(), Fail> {
     Ok(())
 }
 
-// The last three frames of zone Dma and the first four of Dma32, of node 1.
+// The last three frames of zone DMA and the first four of DMA32, of node 1.
 #[test]
 fn zones_and_blocks(rt: HostRuntime) -> Result<(), Fail> {
     let mut buddy = Buddy::new(rt.alloc());
@@ -231,8 +232,8 @@ fn zones_and_blocks(rt: HostRuntime) -> Result<(), Fail> {
     Ok(())
 }
 
-// 2,050 blocks of the greatest order, from 4 MiB below 8 GiB on: a line, the lines of two times 4
-// GiB, and a line.
+// 2,050 blocks of the greatest order, beginning 4 MiB below 8 GiB: one line, the lines for two
+// ranges of 4 GiB, and one line.
 #[test]
 fn lines_of_a_great_row(rt: HostRuntime) -> Result<(), Fail> {
     let alloc = rt.alloc();
@@ -252,7 +253,7 @@ fn lines_of_a_great_row(rt: HostRuntime) -> Result<(), Fail> {
     Ok(())
 }
 
-// All of 16 TiB is usable and free, but for one set of frames.
+// All of 16 TiB is usable, and all but one set of frames is free.
 #[test]
 fn summary(rt: HostRuntime) -> Result<(), Fail> {
     let summary = Summary {

@@ -1,4 +1,4 @@
-//! What small tables say of frames, from their bytes.
+//! The frames of small tables, from their bytes.
 
 use crate::tables::tables_of;
 use memblock_ranges::{Head, Heads};
@@ -7,7 +7,7 @@ use std::process::Abort;
 use std::test::Fail;
 use table_frames::{Claim, RecordFrames, frames_at, has_records, next_claim};
 
-// The frames of a record, where the bytes are records.
+// Returns the frames of a record, if the bytes are records.
 fn frames(store: &Store, head: &Head, i: u64) -> Option<RecordFrames> {
     if has_records(store, head, u64::MAX) && i < head.count {
         Some(frames_at(store, head, i))
@@ -16,7 +16,7 @@ fn frames(store: &Store, head: &Head, i: u64) -> Option<RecordFrames> {
     }
 }
 
-// The first frames of which a record has a byte.
+// Returns the first frames of which a record has a byte.
 fn first_claim(store: &Store, head: &Head) -> Option<Claim> {
     if has_records(store, head, u64::MAX) {
         Some(next_claim(store, head, 0, 0))
@@ -25,7 +25,7 @@ fn first_claim(store: &Store, head: &Head) -> Option<Claim> {
     }
 }
 
-// Memory 0x1000..0x9efff of node 3, and 40 bytes reserved in frame 4.
+// Memory 0x1000..0x9efff of node 3, and 40 bytes that are reserved in frame 4.
 #[test]
 fn records_by_frames(rt: HostRuntime) -> Result<(), Fail> {
     let memory = [(0x1000, 0x9F000, 3)];

@@ -1,4 +1,4 @@
-//! The spans of whole machines, by values from outside.
+//! The spans of whole machines. The expected values are from outside.
 
 use crate::ranges::IN_TURN;
 use crate::tables::tables_of;
@@ -11,7 +11,7 @@ use std::test::Fail;
 use table_frames::{has_records, has_whole_frames};
 use zone_spans::{Span, spans};
 
-// The spans, where the bytes are records.
+// Returns the spans, if the bytes are records.
 fn spans_of(alloc: Global, store: &Store, heads: &Heads) -> Result<Vec<Span>, Fail> {
     if has_records(store, &heads.memory, FRAME_SIZE * MAX_FRAMES)
         && has_whole_frames(store, &heads.memory)
@@ -22,7 +22,7 @@ fn spans_of(alloc: Global, store: &Store, heads: &Heads) -> Result<Vec<Span>, Fa
     Err("records".into())
 }
 
-// A virtual machine of 128 MiB whose nodes take turns.
+// A virtual machine of 128 MiB with nodes that take turns.
 #[test]
 fn nodes_that_take_turns(rt: HostRuntime) -> Result<(), Fail> {
     let (store, heads) = tables_of(rt.alloc(), &IN_TURN, &[])?.into_parts();

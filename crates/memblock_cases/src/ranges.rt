@@ -1,9 +1,10 @@
-//! Ranges, spelled shortly, and the memory of machines.
+//! Short ways to write ranges, and the memory of machines.
 ghost use Rattle.std.specs.Prelude.{◌≡◌, ◌+◌, ◌-◌, ◌^◌, ◌<◌, ◌≤◌};
 
 use bm_base::Range;
 
-/// From one address up to another, and the node of what lies between; 1024 where it has none.
+/// The first address of a part of memory, the address past its last one, and its node, or 1,024
+/// for none.
 pub type Part = (u64, u64, u32);
 
 /// The kernel's image, 32 MiB from 16 MiB on.
@@ -17,10 +18,10 @@ pub const FIRST_MIB: Range = Range {
     size: 0x10_0000,
 };
 
-/// A virtual machine of 128 MiB, without what its firmware keeps.
+/// The memory of a virtual machine of 128 MiB, without what its firmware keeps.
 pub const MACHINE: [Part; 2] = [(0x1000, 0x9F000, 0), (0x10_0000, 0x7FE_0000, 0)];
 
-/// The same machine, of two nodes that take turns.
+/// The same memory, with two nodes that take turns.
 pub const IN_TURN: [Part; 4] = [
     (0x1000, 0x9F000, 0),
     (0x10_0000, 0x410_0000, 0),
@@ -35,7 +36,7 @@ pub fn bytes(base: u64, size: u64) -> Range
     Range { base, size }
 }
 
-/// The addresses from one up to another.
+/// Returns the addresses from `from` to below `until`.
 pub fn between(from: u64, until: u64) -> Range
     requires { from ≤ until }
     ensures { result ≡ record { base = from; size = until - from } }

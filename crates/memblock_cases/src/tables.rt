@@ -1,4 +1,4 @@
-//! The two tables of a machine, as ranges are covered one by one.
+//! Builds the two tables of a machine, range by range.
 
 use crate::ranges::{KERNEL, Part};
 use bm_base::Range;
@@ -7,12 +7,12 @@ use memblock_ranges::Tables;
 use std::alloc::Global;
 use std::test::Fail;
 
-/// The bytes of the record of the first memory of a machine, 0x1000..0x9efff of node 0.
+/// The bytes of the record of a machine's first memory, 0x1000..0x9efff of node 0.
 pub const FIRST_RECORD: [u8; 24] = [
     0, 0x10, 0, 0, 0, 0, 0, 0, 0, 0xE0, 9, 0, 0, 0, 0, 0, 0, 0, 0, 0, 0, 0, 0, 0,
 ];
 
-/// Whether the range can be covered with the node; then it is.
+/// Adds the range to the table, with this node. Returns false if that isn't allowed.
 pub fn cover(tables: &mut Tables, which: Which, base: u64, size: u64, node: u32) -> bool {
     let Some(range) = Range::new(base, size) else {
         return false;
@@ -30,7 +30,7 @@ pub fn cover(tables: &mut Tables, which: Which, base: u64, size: u64, node: u32)
     true
 }
 
-/// Whether the memory bytes of the range can become mirrored; then they are.
+/// Makes the memory of the range mirrored. Returns false if that isn't allowed.
 pub fn mirror(tables: &mut Tables, base: u64, size: u64) -> bool {
     let Some(range) = Range::new(base, size) else {
         return false;
@@ -43,13 +43,14 @@ pub fn mirror(tables: &mut Tables, base: u64, size: u64) -> bool {
     true
 }
 
-// Whether the addresses from one up to another can be covered with the node; then they are.
+// Adds the addresses of the part to the table, with its node. Returns false if that isn't allowed.
 fn cover_part(tables: &mut Tables, which: Which, part: Part) -> bool {
     let (from, until, node) = part;
     from < until && cover(tables, which, from, until - from, node)
 }
 
-/// Tables with this memory, and what is reserved of it, each from one address up to another.
+/// Returns tables with this memory and these reserved ranges, each from an address to below
+/// another.
 pub fn tables_of(alloc: Global, memory: &[Part], reserved: &[(u64, u64)]) -> Result<Tables, Fail> {
     let mut tables = Tables::new(alloc, KERNEL)?;
     for part in memory {

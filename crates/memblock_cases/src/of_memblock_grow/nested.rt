@@ -1,5 +1,6 @@
-//! Growth inside growth: the memory table finds a place, and its claim, or the release of the place that it leaves, makes the reserved
-//! table grow. The items and the heads are those of an implementation of the same rules in another language.
+//! Growth inside growth. The memory table finds a place, and the reserved table has to grow for
+//! the claim of that place, or for the free of the old one. The expected items and heads are from
+//! an implementation of the same rules in another language.
 ghost use Rattle.std.specs.Prelude.{◌+◌, ◌^◌, ◌<◌};
 
 use super::{Step, add_apart, carry_out, claim_apart};
@@ -11,8 +12,9 @@ use memblock_ranges::Head;
 use std::alloc::Global;
 use std::test::Fail;
 
-// A machine in which allocations end at 1 MiB: below lies the memory of the step, less the first 64 KiB. There are two records of
-// memory and two of claims, beside those of so many frames.
+// Returns a machine in which allocations end at 1 MiB. Below that is the memory of the step, with
+// the first 64 KiB claimed. There are two records of memory and two of claims, and those of
+// `frames` more claims.
 fn low_machine(alloc: Global, low: Step, frames: u32) -> Result<Memblock, Refusal> {
     let mut memblock = started(alloc, KERNEL)?;
     carry_out(&mut memblock, &[Step::Claim(0, 0x10000)])?;
@@ -22,7 +24,7 @@ fn low_machine(alloc: Global, low: Step, frames: u32) -> Result<Memblock, Refusa
     Ok(memblock)
 }
 
-// Whether there are so many items, and these are the last of them.
+// Tests whether the journal has `count` items, and these are the last ones.
 fn has_written(memblock: &Memblock, count: usize, last: &[Item]) -> bool {
     let items = memblock.journal().items();
     items.len() == count && items.ends_with(last)
@@ -53,7 +55,8 @@ fn added(base: u64) -> Item
     }
 }
 
-// Both tables are full. The claim of the memory table's place needs a record, so the reserved table moves first.
+// Both tables are full. The claim of the memory table's place needs a record, so the reserved
+// table moves first.
 //
 //     0x9C000             0x9E000           0xA0000
 //     |reserved, 256 .....|memory, 256 .....|
@@ -76,7 +79,8 @@ fn a_claim_makes_the_other_table_grow(rt: HostRuntime) -> Result<(), Fail> {
     Ok(())
 }
 
-// The same with two frames below 1 MiB: the memory table's place is there, and none for the reserved table. Nothing is written.
+// The same with two frames below 1 MiB: there is a place for the memory table, and none for the
+// reserved table. Nothing is written.
 #[test]
 fn a_claim_is_refused_for_the_other_table(rt: HostRuntime) -> Result<(), Fail> {
     let mut memblock = low_machine(rt.alloc(), Step::Add(0x11000, 0x2000), 126)?;
@@ -93,8 +97,8 @@ fn a_claim_is_refused_for_the_other_table(rt: HostRuntime) -> Result<(), Fail> {
     Ok(())
 }
 
-// The memory table moves for the second time. The release of its first place may need two records, and there is room for one, so
-// the reserved table moves before it.
+// The memory table moves for the second time. Freeing its first place may need two records, and
+// there is room for one, so the reserved table moves before it.
 //
 //     0x99000             0x9B000           0x9E000         0xA0000
 //     |reserved, 256 .....|memory, 512 .....|left ..........|
@@ -121,8 +125,8 @@ fn a_release_makes_the_other_table_grow(rt: HostRuntime) -> Result<(), Fail> {
     Ok(())
 }
 
-// The same with five frames below 1 MiB: nothing is left for the reserved table. The place that the memory table left stays
-// claimed, and the page is added.
+// The same with five frames below 1 MiB: there is no place for the reserved table. The old place
+// of the memory table stays claimed, and the page is added.
 //
 //     0x11000           0x14000         0x16000
 //     |memory, 512 .....|left ..........|

@@ -1,4 +1,4 @@
--- Each number is less than those behind it.
+-- Each number is below those after it.
 use Rattle.std.proofs.Common.{◌<◌, List, [], ◌∷◌, AllPairs, arith}
 use Rattle.std.specs.List.{AllByRecursion}
 use Rattle.std.proofs.lemmas.List.Elements.{All-from_recursion}
