@@ -52,7 +52,7 @@ mapped e map last runs quiet x =
     ∙ fold-append memory_after (trim_frames added) (mirror_items e.mirrors) last ∙ quiet _)
     ∙ mirrors-memory e.mirrors (trim_frames added) x ∙ ap (λ (h : Labels). mirrored_memory e.mirrors h x) trimmed_is
 
--- the same for the list that ends with the mirrored frames
+-- the memory after the list as far as the mirrored frames
 pub mirrored-first : (e : Early) (map : List (RunOf ℕ)) → AreRuns map → (x : ℕ)
     → memory_of (early_claims e.kernel e.initrd ++ (item.Limit ISA_END_ADDRESS ∷ (direction_items e.upward
     ++ (items_of_map e.limit map ++ (item.Trim ∷ mirror_items e.mirrors))))) x

@@ -21,7 +21,8 @@ abbrev pub initrd_claims : Option RangeView → List Item
 initrd_claims None = []
 initrd_claims (Some range) = item.Claim range owner.Initrd ∷ []
 
--- the kernel's image, the first 64 KiB and the initrd are claimed before memory is known (`early_reserve_memory`)
+-- the kernel's image, the first 64 KiB and the initrd are claimed before memory is known
+-- (`early_reserve_memory`)
 abbrev pub early_claims : RangeView → Option RangeView → List Item
 early_claims kernel initrd = item.Claim kernel owner.Kernel ∷ item.Claim (up_to LOW_END) owner.Low64K ∷ initrd_claims initrd
 

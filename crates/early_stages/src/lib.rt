@@ -1,7 +1,7 @@
 //! Defines what a boot does to memory before any node is known: the items that it is to write, and
 //! the memory that they give.
 //!
-//! The stages follow `setup_arch`, in this order:
+//! The steps are those of `setup_arch`. The list has them in this order:
 //!
 //! 1. The kernel's image, the first 64 KiB and the initrd are claimed (`early_reserve_memory`).
 //!    Until memory is known, allocations stay in the first MiB.

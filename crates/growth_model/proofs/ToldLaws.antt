@@ -44,7 +44,8 @@ beside-one : (w : Which) (t : Contents) (x : ℕ) → covers (bytes_of t.memory)
 beside-one which.Memory t x first second = first
 beside-one which.Reserved t x first second = second
 
--- after an edit of one table's records (`insert`, `remove`, and at the memory table `set_node`, `trim`)
+-- the bytes after an edit of one table's records (`insert`, `remove`, and for the memory table
+-- `set_node` and `trim`)
 pub edit-told : (w : Which) (old new : Contents) (records : List (RunOf LabelView)) →
     table_in w new ≡ record (table_in w old) { records = records } →
     ((x : ℕ) → covers (bytes_in w old) x ≡ false → byte_of new.store x ≡ byte_of old.store x) → StandsIn new.memory new.store →
@@ -53,7 +54,7 @@ edit-told w old new records edited elsewhere first second =
     all-told new.memory new.reserved new.store (byte_of old.store) first second
     (λ x out too. elsewhere x (ap (λ (t : Table). covers (bytes_of t) x) (sym edited) ∙ beside-one w new x out too))
 
--- after a move of one table (`relocate`)
+-- the bytes after a move of one table (`relocate`)
 pub move-told : (w : Which) (old new : Contents) → ((x : ℕ) → covers (bytes_in w old) x ≡ true → byte_of new.store x ≡ 0) →
     ((x : ℕ) → covers (bytes_in w new) x ≡ false → covers (bytes_in w old) x ≡ false → byte_of new.store x ≡ byte_of old.store x) →
     StandsIn new.memory new.store → StandsIn new.reserved new.store → (x : ℕ) →

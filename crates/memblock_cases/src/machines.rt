@@ -22,7 +22,7 @@ pub fn has_begun(memblock: &Memblock) -> bool
     memblock.journal().items().len() > 0
 }
 
-/// Returns a machine of which only the range of its kernel is known.
+/// Returns a machine about which nothing is known except the range of its kernel.
 pub fn started(alloc: Global, kernel: Range) -> Result<Memblock, Refusal>
     requires image { IsImage kernel }
     requires some { 0 < kernel.size }

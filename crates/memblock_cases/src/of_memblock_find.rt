@@ -169,8 +169,10 @@ fn an_exact_fit(rt: HostRuntime) -> Result<(), Fail> {
     Ok(())
 }
 
-// node 0       0x3000000 .. 0x4000000      0x6000000 .. 0x7FB5000
-// node 1                    0x4000000 .. 0x5FD5000
+// The unclaimed memory of each node:
+//
+//     node 0   0x3000000 .. 0x4000000, 0x6000000 .. 0x7FB5000
+//     node 1   0x4000000 .. 0x5FD5000
 #[test]
 fn a_node_border(rt: HostRuntime) -> Result<(), Fail> {
     let memory = [
@@ -205,10 +207,13 @@ fn a_node_border(rt: HostRuntime) -> Result<(), Fail> {
     Ok(())
 }
 
-// node 0       0x100000 .. 0x200000       0x400000 .. 0x4F0000, 0x4F8000 .. 0x500000
-// node 1       0x200000 .. 0x300000       0x500000 .. 0x580000, 0x581000 .. 0x600000       0x802000 .. 0x900000
-// node 2                                                 0x600000 .. 0x6FF000
-// no node                                                              0x701000 .. 0x800000
+// The unclaimed memory of each node:
+//
+//     node 0    0x100000 .. 0x200000, 0x400000 .. 0x4F0000, 0x4F8000 .. 0x500000
+//     node 1    0x200000 .. 0x300000, 0x500000 .. 0x580000, 0x581000 .. 0x600000,
+//               0x802000 .. 0x900000
+//     node 2    0x600000 .. 0x6FF000
+//     no node   0x701000 .. 0x800000
 #[test]
 fn nodes_in_turn(rt: HostRuntime) -> Result<(), Fail> {
     let memory = [

@@ -16,7 +16,7 @@ fn frames(store: &Store, head: &Head, i: u64) -> Option<RecordFrames> {
     }
 }
 
-// Returns the first frames of which a record has a byte.
+// Returns the first frames that have a byte of a record.
 fn first_claim(store: &Store, head: &Head) -> Option<Claim> {
     if has_records(store, head, u64::MAX) {
         Some(next_claim(store, head, 0, 0))

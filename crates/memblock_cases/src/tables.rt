@@ -30,7 +30,7 @@ pub fn cover(tables: &mut Tables, which: Which, base: u64, size: u64, node: u32)
     true
 }
 
-/// Makes the memory of the range mirrored. Returns false if that isn't allowed.
+/// Marks the memory of the range as mirrored. Returns false if that isn't allowed.
 pub fn mirror(tables: &mut Tables, base: u64, size: u64) -> bool {
     let Some(range) = Range::new(base, size) else {
         return false;

@@ -36,14 +36,14 @@ pub record IsUpTo (f : Labels) (from until : ℕ) (label : Option LabelView) : T
   pub stays : Stays f from until label
   pub another : f until ≢ label
 
--- r is the highest run that begins below `below`, cut to end there at most
+-- r is the highest run that begins below `below`; if it continues above, it is cut to end there
 pub record IsRunBelow (f : Labels) (below : ℕ) (r : RunOf LabelView) : Type 0 where
   pub some : 0 < r.size
   pub ends : run_end r ≤ below
   pub run : IsDownTo f r.base (run_end r) (Some r.value)
   pub behind : Stays f (run_end r) below None
 
--- r is the lowest run that ends past `from`, cut to begin there at least
+-- r is the lowest run that ends past `from`; if it begins below, it is cut to begin there
 pub record IsRunFrom (f : Labels) (from : ℕ) (r : RunOf LabelView) : Type 0 where
   pub some : 0 < r.size
   pub starts : from ≤ r.base

@@ -58,8 +58,9 @@ impl FreeRange {
     }
 }
 
-/// Returns the highest run of unclaimed memory that begins below `below`, cut to end there at
-/// most. `None` means that no address below is unclaimed memory (`__next_mem_range_rev`).
+/// Returns the highest run of unclaimed memory that begins below `below`, or `None` if no address
+/// below it is unclaimed memory (`__next_mem_range_rev`). A run that continues above `below` is
+/// cut to end there.
 pub fn prev_free(tables: &Tables, below: u64) -> Option<FreeRange>
     ensures { MatchOption result (Stays (free_in tables.now) 0 below None) (IsRunBelow (free_in tables.now) below) }
 {
@@ -81,8 +82,9 @@ fn prev_in(lists: &Lists<'_>, below: u64) -> Option<FreeRange>
     None
 }
 
-/// Returns the lowest run of unclaimed memory that ends past `from`, cut to begin there at least.
-/// `None` means that no address from there on is unclaimed memory (`__next_mem_range`).
+/// Returns the lowest run of unclaimed memory that ends past `from`, or `None` if no address from
+/// there on is unclaimed memory (`__next_mem_range`). A run that begins below `from` is cut to
+/// begin there.
 pub fn next_free(tables: &Tables, from: u64) -> Option<FreeRange>
     ensures { MatchOption result (NothingFrom from (free_in tables.now)) (IsRunFrom (free_in tables.now) from) }
 {

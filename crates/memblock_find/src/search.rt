@@ -68,7 +68,7 @@ fn find_in(lists: &Lists<'_>, query: &Query) -> Option<u64>
     None
 }
 
-/// Returns the greatest place that ends past `from` and at most at `until`, or `None`. These
+/// Returns the greatest place that ends past `from` and at or below `until`, or `None`. These
 /// addresses must have one label, or none of them is unclaimed memory. If they have one, the label
 /// must change below `from`. The window's addresses above the first frame begin at `low`.
 pub fn place_in_run(

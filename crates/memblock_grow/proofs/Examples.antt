@@ -74,7 +74,7 @@ first_claim : (IsMemblock image [] at_first (aimed 0 false) → AllowsClaim [] a
     × (AllowsClaim [] at_first (aimed 0 false) image owner.Crash → ⊥)
 first_claim = (λ whole. (image, whole, (refl, refl)), λ allowed. let who = allowed.2.1 in cc)
 
--- a range that overlaps a table may not be freed
+-- an empty range overlaps no table, so it may be freed
 away_from_both : (range : RangeView) (whole : IsMemblock image [] at_first (aimed 0 false))
     → range.size ≡ 0 → AllowsFree [] at_first (aimed 0 false) range
 away_from_both range whole none = (

@@ -79,7 +79,8 @@ pub fn relabel(tables: &mut Tables, range: Range, node: u32)
     tables_stand(tables);
 }
 
-/// Makes the memory of the range mirrored. The memory table must have room for two more records.
+/// Marks the memory of the range as mirrored. The memory table must have room for two more
+/// records.
 pub fn mirror(tables: &mut Tables, range: Range)
     requires { length tables.old.memory.records + 2 ≤ tables.old.memory.room }
     ensures memory { tables.new.memory ≡ record tables.old.memory {

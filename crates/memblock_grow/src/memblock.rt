@@ -64,9 +64,9 @@ impl Model for Memblock {
 }
 
 impl Memblock {
-    /// Creates a memblock for a machine of which only the range of the kernel's image is known.
-    /// Both tables are empty, in the last two frames of the image, and only their bytes are
-    /// prepared. The limit is 0, and searches go from the highest address down.
+    /// Creates a memblock for a machine about which nothing is known except the range of the
+    /// kernel's image. Both tables are empty, in the last two frames of the image, and only their
+    /// bytes are prepared. The limit is 0, and searches go from the highest address down.
     ///
     /// # Errors
     ///
@@ -202,10 +202,10 @@ impl Memblock {
         memory::set_node(&mut self.journal, &mut self.tables, self.aim, range, node)
     }
 
-    /// Makes the memory of the range mirrored; it keeps its nodes (`memblock_mark_mirror`). This
-    /// may split a record at both ends of the range, so the memory table may have to grow. If it
-    /// has room for two more records, and the journal for an item, the call can't fail. The range
-    /// must not be empty.
+    /// Marks the memory of the range as mirrored; it keeps its nodes (`memblock_mark_mirror`).
+    /// This may split a record at both ends of the range, so the memory table may have to grow. If
+    /// it has room for two more records, and the journal for an item, the call can't fail. The
+    /// range must not be empty.
     ///
     /// # Errors
     ///

@@ -201,8 +201,8 @@ pub fn set_node(
     Ok(())
 }
 
-/// Makes the memory of the range mirrored (`memblock_mark_mirror`). If the table has room for two
-/// more records, and the journal for an item, the call can't fail.
+/// Marks the memory of the range as mirrored (`memblock_mark_mirror`). If the table has room for
+/// two more records, and the journal for an item, the call can't fail.
 pub fn set_mirror(
     journal: &mut Journal,
     tables: &mut Tables,

@@ -94,7 +94,7 @@ pub fn set_node<T: Slots<Record>>(table: &mut T, range: &Range, node: u32)
     amend(table, range, SetNode { node });
 }
 
-/// Makes the covered bytes of the range mirrored.
+/// Marks the covered bytes of the range as mirrored.
 pub fn set_mirror<T: Slots<Record>>(table: &mut T, range: &Range)
     requires records { AreRecords (T.list table.old) }
     requires room { length (T.list table.old) + 2 ≤ T.room table.old }

@@ -64,7 +64,7 @@ pub fn set_node(store: &mut Store, head: &mut Head, range: &Range, node: u32)
     edits::set_node(&mut live, range, node);
 }
 
-/// Makes the bytes of the range that the head's table covers mirrored.
+/// Marks the bytes of the range that the head's table covers as mirrored.
 pub fn set_mirror(store: &mut Store, head: &mut Head, range: &Range)
     requires table { HasTable store.old head.old }
     requires records { AreRecords (list_in store.old head.old) }

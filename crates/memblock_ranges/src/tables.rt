@@ -186,7 +186,7 @@ impl Tables {
         lent::set_node(&mut self.store, &mut self.heads.memory, &range, node);
     }
 
-    /// Makes the memory of the range mirrored; it keeps its node (`memblock_mark_mirror`). The
+    /// Marks the memory of the range as mirrored; it keeps its node (`memblock_mark_mirror`). The
     /// memory table must have room for two more records.
     pub fn set_mirror(&mut self, range: Range)
         requires { length self.old.memory.records + 2 ≤ self.old.memory.room }

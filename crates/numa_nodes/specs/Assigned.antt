@@ -1,4 +1,5 @@
--- The nodes of memory and the data of each node (`numa_init`, `numa_register_memblks`, `alloc_node_data`).
+-- The nodes of memory and the data of each node (`numa_init`, `numa_register_memblks`,
+-- `alloc_node_data`).
 use Rattle.std.specs.Prelude.{ℕ, zero, suc, ◌+◌, ◌^◌, Bool, false, not, is_some, if◌then◌else◌, Option, Some, None, List, [], ◌∷◌, ◌++◌}
 use Rattle.bm_base.specs.Each.{each_from}
 use Rattle.address_runs.specs.Runs.{extent_of}

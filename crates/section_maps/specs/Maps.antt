@@ -1,4 +1,5 @@
--- The maps and the usage data of sections (`sparse_init_nid`, `sparse_buffer_init`, `__populate_section_memmap`).
+-- The maps and the usage data of sections (`sparse_init_nid`, `sparse_buffer_init`,
+-- `__populate_section_memmap`).
 use Rattle.std.specs.Prelude.{ℕ, ◌+◌, ◌*◌, ◌==◌, Bool, true, false, if◌then◌else◌, Some, None, List, [], ◌∷◌, ◌++◌, length}
 use Rattle.memblock_model.specs.declared.owner.Owner.TheVariants as owner
 use Rattle.growth_model.specs.declared.refusal.Refusal.{Refusal}

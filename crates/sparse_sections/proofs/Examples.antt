@@ -1,5 +1,5 @@
--- Worked examples: frames of which some are memory, records that end inside sections, sections and
--- their roots.
+-- Worked examples: memory in some frames, records that end inside sections, sections and their
+-- roots.
 use Rattle.std.proofs.Common.{◌≡◌, ℕ, true, false, Some, None, List, [], ◌∷◌, ◌++◌, refl, sym, ◌∙◌, ap, subst, arith, lit<, lit≤}
 use Rattle.address_runs.specs.Runs.{RunOf, value_at, AreRuns}
 use Rattle.memblock_model.specs.Labels.{LabelView, Labels, plain_label, with_node}

@@ -10,7 +10,7 @@ use Rattle.memblock_grow.specs.declared.section.Section.{Section}
 use Rattle.stage_model.specs.Noded.{AreOfFrames, IsNoded}
 use Rattle.sparse_sections.specs.Present.{first_label, section_label, section_of, section_for, sections_below, present, IsLowest, IsSectionAt}
 
--- the frame of which the label is found: the first one that is memory
+-- the frame whose label is found: the first one that is memory
 record IsFirst (f : Labels) (a n : ℕ) (label : LabelView) : Type 0 where
   behind : ℕ
   within : behind < n

@@ -12,7 +12,7 @@ unfoldable pub first_label : Labels → ℕ → ℕ → Option LabelView
 first_label f frame zero = None
 first_label f frame (suc n) = option_or (f (FRAME_SIZE * frame)) (first_label f (frame + 1) n)
 
--- the same for the 32,768 frames of section s
+-- the label of the first of the 32,768 frames of section s that is memory
 abbrev pub section_label : Labels → ℕ → Option LabelView
 section_label f s = first_label f (32768 * s) 32768
 
@@ -25,7 +25,7 @@ abbrev pub section_for : ℕ → Option LabelView → List Section
 section_for s None = []
 section_for s (Some label) = section_of s label.node
 
--- the sections with memory of which the number is below n
+-- the sections with memory whose number is below n
 unfoldable pub sections_below : Labels → ℕ → List Section
 sections_below f zero = []
 sections_below f (suc n) = sections_below f n ++ section_for n (section_label f n)

@@ -18,8 +18,9 @@ use std::alloc::Global;
 /// The size of a section in bytes (`SECTION_SIZE_BITS`).
 const SECTION_SIZE: u64 = 0x800_0000;
 
-/// Returns the first number, from `next` on, of a section of which the record has a byte, and one
-/// more than the last such number. The record must not be empty, and must end at or below 4 PiB.
+/// Returns the numbers of the sections that the record has bytes of: the first one, and one more
+/// than the last one. Numbers below `next` are left out. The record must not be empty, and must
+/// end at or below 4 PiB.
 fn numbers_of(region: &Region, next: u32) -> (u32, u32)
     requires some { 0 < region.now.size }
     requires reach { region.now.base + region.now.size ≤ 2 ^ 52 }

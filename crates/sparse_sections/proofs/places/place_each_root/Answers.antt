@@ -1,4 +1,4 @@
--- A section of which the root isn't placed yet is the next step.
+-- A section whose root isn't placed yet is the next step.
 use Rattle.std.proofs.Common.{◌≡◌, ℕ, false, Some, Ok, get_or, sym, ◌∙◌, ap, arith}
 use Rattle.std.proofs.lemmas.Result.{err_from_is_err_and}
 use Rattle.memblock_grow.specs.declared.section.Section.{Section}
