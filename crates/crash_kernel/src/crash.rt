@@ -13,7 +13,8 @@ pub enum Crash {
     /// No free range fits the area (the kernel logs `No suitable area found`).
     NoArea,
     /// The requested base isn't a multiple of 1 MiB, or the range there isn't entirely free memory
-    /// of one node, or would end past 2^64 - 1 (the kernel logs `memory is in use`).
+    /// of one node. A range that would end past 2^64 - 1 isn't free (the kernel logs `memory is in
+    /// use`).
     InUse,
     /// No free range below 4 GiB fits the low part, and the area was freed again (the kernel logs
     /// `Cannot reserve ..MB crashkernel low memory`).

@@ -3,9 +3,9 @@
 //!
 //! [`reserve`] takes the parsed `crashkernel=` option of `boot_options`. The size that it requests
 //! may depend on total memory. The stage searches memblock for a free range of that size and
-//! claims it. An area at or above 4 GiB also gets a low part, a second range below 4 GiB, for
-//! devices that can't address more. If no range fits the low part, the area is freed again. The
-//! outcome is a [`Crash`]. An area that doesn't fit never stops the boot.
+//! claims it. An area at or above 4 GiB also gets a low part, unless the low size is 0: a second
+//! range below 4 GiB, for devices that can't address more. If no range fits the low part, the area
+//! is freed again. The outcome is a [`Crash`]. An area that doesn't fit never stops the boot.
 //!
 //! The definitions follow the kernel function:
 //!

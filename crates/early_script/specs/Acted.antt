@@ -27,9 +27,9 @@ pub record State : Type 0 where
   pub items : List Item
   pub ids : Ids
 
--- what a line does to memory; and, unless that is refused, its outcome, the new IDs, a fill, and
--- whether memory of this program is then needed for the range of an ID or for the bytes of the
--- fill
+-- What a line does to memory. Unless that is refused, also its outcome, the new IDs, and a fill.
+-- `takes` says that memory of this program is then needed, for the range of an ID or for the bytes
+-- of the fill.
 pub record Deed : Type 0 where
   pub change : Change
   pub answer : Outcome

@@ -19,8 +19,8 @@
 //! - What a line claims, frees or fills never overlaps memblock's tables. A `reserve` that would
 //!   is refused, and no byte of a table is owned by the script.
 //! - A table moves only if a claim or a free makes it grow.
-//! - If this program is out of memory during a line, some steps of its change are written, and the
-//!   IDs are unchanged.
+//! - If this program is out of memory during a line, some steps of its change may be written, and
+//!   the IDs are unchanged.
 //! - Prepared addresses stay prepared, whatever a line returns.
 //!
 //! A law is an empty function whose contract is a proven fact. In contracts, a name means the

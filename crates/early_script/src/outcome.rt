@@ -1,5 +1,5 @@
-//! The outcome of a line. A refusal of memblock is an outcome, and the next line follows. Running
-//! out of this program's memory is none: it ends the boot.
+//! The outcome of a line. A refusal of memblock is an outcome, and the next line follows. Out of
+//! memory isn't an outcome: it ends the boot.
 
 use arrayvec::ArrayVec;
 use memblock_model::Which;

@@ -52,9 +52,9 @@ abbrev pub mirror_items : List FrameRange → List Item
 mirror_items [] = []
 mirror_items (r ∷ rs) = item.Mirror (bytes_of_frames r) ∷ mirror_items rs
 
--- memory is trimmed to whole frames (`memblock_trim_memory`), some of it is mirrored, the limit is
--- set to the end of the last usable frame (`memblock_set_current_limit`), and the first MiB is
--- claimed (`reserve_real_mode`)
+-- Memory is trimmed to whole frames (`memblock_trim_memory`), and some of it is mirrored. The
+-- limit is set to the end of the last usable frame (`memblock_set_current_limit`), and the first
+-- MiB is claimed (`reserve_real_mode`).
 abbrev pub closing_items : List FrameRange → ℕ → List Item
 closing_items mirrors end =
     item.Trim ∷ (mirror_items mirrors ++ (item.Limit end ∷ item.Claim (up_to ISA_END_ADDRESS) owner.Low1M ∷ []))

@@ -9,7 +9,7 @@ pub record Refused : Type 0 where
   pub which : Which
   pub room : ℕ
 
--- the steps of a change, each a group of items that is written as a whole or not at all, and the
+-- the steps of a change, each a group of items that is written as a whole or not at all; and the
 -- growth that was refused, if one was
 pub record Outcome : Type 0 where
   pub steps : List (List Item)

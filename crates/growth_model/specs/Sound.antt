@@ -1,5 +1,5 @@
--- What holds of the items of a boot after each call: both tables are seated (they lie in claimed
--- memory that no allocation of the script can have, and share no frame), and each has room for its
+-- What holds of the items of a boot after each call. Both tables are seated: they lie in claimed
+-- memory that no allocation of the script can have, and share no frame. Each has room for its
 -- records.
 use Rattle.std.specs.Prelude.{◌≡◌, ◌≢◌, ◌⊎◌, ℕ, ◌*◌, ◌/◌, ◌%◌, ◌≤◌, Bool, true, false, Option, Some, None, List, [], ◌∷◌}
 use Rattle.bm_base.specs.Range.{RangeView, end_of, covers}

@@ -67,7 +67,7 @@ pub fn tables_are_spelled()
 {}
 
 /// Law: if both tables are in the store afterwards, one equation gives each byte after an edit of
-/// one table's records, and one after a move of one table.
+/// one table's records. A second equation gives each byte after a move of one table.
 pub fn edits_are_told()
     ensures edited { (w : Which) (old new : Contents) (records : List (RunOf LabelView)) →
         table_in w new ≡ record (table_in w old) { records = records } →

@@ -42,7 +42,8 @@ pub fn first_claim_places_tables()
     ensures placed { (kernel : RangeView) → IsImage kernel → Seated kernel (item.Claim kernel owner.Kernel ∷ []) }
 {}
 
-/// Law: from the first claim on, both tables are seated however a claim or a free ends.
+/// Law: from the first claim on, both tables are seated however an allowed claim ends, and however
+/// the free of a range ends that overlaps no table.
 pub fn claims_keep_places()
     ensures claimed { (kernel : RangeView) (result : Result (Unit {0}) Refusal) (old new : List Item) (range : RangeView) (who : Owner) →
         IsImage kernel → end_of range ≤ 2 ^ 64 → (HasBegun old → Seated kernel old) → MayClaim kernel old range who →
@@ -51,8 +52,8 @@ pub fn claims_keep_places()
         Seated kernel old → IsAway kernel range old → Ends result old new (freed range) → Seated kernel new }
 {}
 
-/// Law: both tables stay seated however the call ends that adds memory, gives it a node or makes
-/// it mirrored, and after a trim, a new limit and a new search direction.
+/// Law: both tables stay seated however a call ends that adds memory, gives it a node or makes it
+/// mirrored. They also stay seated after a trim, a new limit and a new search direction.
 pub fn memory_keeps_places()
     ensures added { (kernel : RangeView) (result : Result (Unit {0}) Refusal) (old new : List Item) (range : RangeView) →
         Seated kernel old → Ends result old new (added range) → Seated kernel new }
@@ -106,11 +107,11 @@ pub fn growth_doubles_room()
         HasDoubled which.Memory items (after items (memory_growth items)) }
 {}
 
-/// Law: two growths of a table in a row are always enough for a claim, a free, an added range, and
-/// a range that gets a node or becomes mirrored. A range has at most one piece more than the table
-/// has records, so one growth almost makes room for the edit. The second growth makes room for it
-/// and for the records of the first. The claim of an unclaimed range isn't refused if the reserved
-/// table has room, or finds a place apart from the range.
+/// Law: two growths of a table in a row are always enough for any of the five changes. A range has
+/// at most one piece more than the table has records, so one growth almost makes room for the
+/// edit. The second growth makes room for it and for the records of the first. The claim of an
+/// unclaimed range isn't refused if the reserved table has room, or finds a place apart from the
+/// range.
 pub fn two_growths_are_enough()
     ensures claimed { (range : RangeView) (items : List Item) → IsInSpace items → Fits items → end_of range ≤ 2 ^ 64 →
         HasRoomBehind which.Reserved (new_in which.Reserved range) (reserved_growth range) items }

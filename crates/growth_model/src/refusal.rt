@@ -1,6 +1,6 @@
 //! The errors of calls that change memory. They are defined below the calls, since
-//! `specs/Ends.antt` cites them. The stages above turn them into stops, and the early script into
-//! results.
+//! `specs/Ends.antt` cites them. The stages above turn them into stops, and the early script turns
+//! them into outcomes.
 
 use bm_base::Memory;
 use memblock_model::Which;

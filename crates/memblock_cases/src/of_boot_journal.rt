@@ -81,8 +81,8 @@ fn tags(rt: HostRuntime) -> Result<(), Fail> {
     Ok(())
 }
 
-// The upper half of a frame and the next frame become mirrored, and then a part gets a node. The
-// trim keeps only the frame that has one tag.
+// The upper part of a frame and all of the next one become mirrored, and a part of that gets a
+// node. The trim keeps only a frame whose bytes all have one tag.
 #[test]
 fn mirrors(rt: HostRuntime) -> Result<(), Fail> {
     let mut journal = Journal::new(rt.alloc());

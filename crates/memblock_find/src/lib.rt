@@ -19,9 +19,9 @@
 //!
 //! A walk reads the records in place, and only those that it passes. So a search costs two binary
 //! searches and the records between the end of the window where it begins and the place that it
-//! finds. A search from the top for a node, or for mirrored memory, reads only the label of other
-//! memory. It continues where such memory ends; if it has passed several claims, a binary search
-//! finds the next one.
+//! finds. A search from the top for a node, or for mirrored memory, reads of other memory only the
+//! label. It continues at the end of the next memory that it may return. If it has passed several
+//! claims by then, a binary search finds the next one.
 #![tactic(auto)]
 
 mod bottom;

@@ -1,5 +1,6 @@
-//! The searches: first in mirrored memory (`choose_memblock_flags`); for the new place of a table
-//! that grows (`memblock_double_array`); and the frames of its old place.
+//! Searches for the best place: in mirrored memory first, and then in any
+//! (`choose_memblock_flags`). Also the frames of a table that grows (`memblock_double_array`):
+//! those of its new place and of its old one.
 ghost use Rattle.std.specs.Prelude.{◌≡◌, ◌≢◌, ℕ, ◌+◌, ◌*◌, ◌^◌, ◌<◌, ◌≤◌, SomeIff};
 ghost use Rattle.growth_model.specs.Growth.{in_whole_frames};
 ghost use Rattle.memblock_grow.specs.Places.{KnowsMirrors, best_of, mirrored_of, frames_between, frames_beside, left_frames};

@@ -26,8 +26,9 @@ use growth_model::Refusal;
 use memblock_ranges::Tables;
 
 /// Doubles the reserved table's room, at a place apart from `avoid` (`memblock_double_array`).
-/// This is one step of three items, or of two if the table was in the kernel's image. If there is
-/// no place, or this program is out of memory, nothing is written or prepared.
+/// This is one step of three items, or of two if the table was in the kernel's image. Everything
+/// that can fail comes before the first item: if there is no place, or this program is out of
+/// memory, nothing is written or prepared.
 fn grow_reserved(
     journal: &mut Journal,
     tables: &mut Tables,

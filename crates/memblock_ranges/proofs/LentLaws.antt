@@ -1,4 +1,4 @@
--- The copied bytes of a table have its records.
+-- The slice of a table's bytes has its records.
 use Rattle.std.proofs.Common.{◌≡◌, ℕ, zero, suc, ◌+◌, ◌-◌, ◌*◌, ◌<◌, ◌≤◌, List, ◌∷◌, length, get_or, take, drop, refl, sym, ◌∙◌, ap, subst, arith}
 use Rattle.std.specs.Prelude.{slice_index}
 use Rattle.std.specs.List.{slice_range}
@@ -14,7 +14,7 @@ use Rattle.memblock_ranges.specs.Lent.{runs_in, AreLent}
 use Rattle.memblock_ranges.proofs.SpellLaws.{length-records_at, get-records_at}
 use Rattle.memblock_ranges.proofs.TableSpelling.{node_field-label_of, region_back}
 
--- a part of copied bytes is a part of the bytes that they were copied from
+-- a part of a slice of bytes is a slice of the same bytes
 piece_at : (f : ℕ → ℕ) (a m x n : ℕ) → x + n ≤ m → bytes_at (slice_index (bytes_at f a m)) x n ≡ bytes_at f (a + x) n
 piece_at f a m x n within =
     told_bytes f (a + x) n (bytes_at (slice_index (bytes_at f a m)) x n) (length-bytes_at (slice_index (bytes_at f a m)) x n)
@@ -31,7 +31,7 @@ runs_at f a m x (suc count) within =
     ∙ ap (λ (rs : List (RunOf LabelView)). run_in (bytes_at f (a + x) 24) ∷ rs) (runs_at f a m (x + 24) count (omega arith)
     ∙ ap (λ (y : ℕ). records_at f y count) there)
 
--- the table's records are those of its copied bytes
+-- the table's records are those of the slice of its bytes
 pub lent_runs : (f : ℕ → ℕ) (a count : ℕ) → runs_in (bytes_at f a (24 * count)) count ≡ records_at f a count
 lent_runs f a count =
     let here : a + 0 ≡ a = omega arith in

@@ -1,4 +1,4 @@
--- The records of a table, computed from a copy of its bytes.
+-- The records of a table, computed from a slice of its bytes.
 use Rattle.std.specs.Prelude.{◌≡◌, ℕ, ◌*◌, ◌^◌, ◌<◌, List, length, slice_index}
 use Rattle.phys_store.specs.Bytes.{bytes_at}
 use Rattle.address_runs.specs.Runs.{RunOf}

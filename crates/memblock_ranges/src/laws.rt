@@ -25,8 +25,8 @@ pub fn edits_add_few_records()
         length (records_for (trim_frames f)) ≤ length (records_for f) }
 {}
 
-/// Law: a range has at most one more piece than there are records, and exactly one piece if none
-/// of it is covered.
+/// Law: a range has at most one more piece than there are records. It has exactly one piece if it
+/// isn't empty and none of it is covered.
 pub fn pieces_are_few()
     ensures few { (r : RangeView) (f : Labels) → end_of r ≤ 2 ^ 64 → NothingFrom (2 ^ 64) f →
         pieces r f ≤ length (records_for f) + 1 }

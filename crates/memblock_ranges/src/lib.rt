@@ -7,15 +7,10 @@
 //! wherever `memblock_double_array` moved it.
 //!
 //! [`Tables`] holds the bytes (a `Store`) and, for each table, a [`Head`] with its address, its
-//! room and its count. There is no second copy of a record.
-//!
-//! The calls follow these functions of memblock:
-//!
-//! - [`Tables::insert`] is `memblock_add_range`, and [`Tables::remove`] is
-//!   `memblock_remove_range`.
-//! - [`Tables::set_node`] is `memblock_set_node`, [`Tables::set_mirror`] is
-//!   `memblock_mark_mirror`, and [`Tables::trim`] is `memblock_trim_memory`.
-//! - [`Tables::relocate`] moves a table and doubles its room (`memblock_double_array`).
+//! room and its count. There is no second copy of a record. Its edits follow `memblock_add_range`,
+//! `memblock_remove_range`, `memblock_set_node`, `memblock_mark_mirror` and
+//! `memblock_trim_memory`. [`Tables::relocate`] moves a table and doubles its room
+//! (`memblock_double_array`).
 //!
 //! An edit requires that the table has room for the new records, and never allocates. Only
 //! [`Tables::new`] and [`Tables::prepare`] allocate. The layer above decides when a table grows,

@@ -55,8 +55,8 @@ pub fn read_region(bytes: &[u8]) -> Region
     }
 }
 
-/// Decodes the record at index `i`, counted from 0, of the head's table from the store's bytes. A
-/// byte that isn't prepared reads as 0.
+/// Decodes the record at index `i`, counted from 0, of the head's table. A byte that isn't
+/// prepared reads as 0.
 pub fn region_at(store: &Store, head: &Head, i: u64) -> Region
     requires { head.now.place + 24 * i + 24 < 2 ^ 64 }
     ensures { result ≡ region_in (bytes_at (byte_of store.now) (head.now.place + 24 * i) 24) }

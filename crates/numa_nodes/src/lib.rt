@@ -5,8 +5,8 @@
 //! (`numa_init`). It gives each byte of memory its node (`numa_register_memblks`), and allocates
 //! the data of each node that has memory (`alloc_node_data`). `specs/Assigned.antt` defines it as
 //! steps. There is one Node item for each run of addresses of one node, then one for each run of
-//! memory that no block of the table covers. The allocations follow. If the table isn't used, all
-//! memory gets node 0.
+//! memory that no block of the table covers. If the table isn't used, there is one Node item that
+//! gives node 0 to all addresses below the limit. The allocations follow.
 //!
 //! [`assign`] carries out the stage on a memblock and returns the [`Nodes`]. It reads the memory
 //! table twice: before the first step, for the ranges against which the table of domains is

@@ -1,5 +1,5 @@
-//! Laws of stages. That a call of memblock ends as a step is proved here, below all stages, so
-//! that the proof of a stage is about its steps and not about the growth in them.
+//! Laws of stages. That a call of memblock ends as a step is proved here, below all stages. So the
+//! proof of a stage is about its steps, and not about the growth in them.
 
 ghost use Rattle.std.specs.Prelude.{◌≡◌, ℕ, List, Result};
 ghost use Rattle.bm_base.specs.ResultSteps.{with_error};
