@@ -25,6 +25,7 @@ pub enum Spot {
 pub struct Area {
     /// The size in bytes, above 0.
     pub size: u64,
+    /// Where the area may lie.
     pub spot: Spot,
 }
 

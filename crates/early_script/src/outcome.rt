@@ -36,6 +36,7 @@ pub enum Outcome {
 /// The outcome of the line of this number.
 #[derive(Debug, Drop, PartialEq, Eq)]
 pub struct Answer {
+    /// The number of the line in the script.
     pub line: u32,
     pub outcome: Outcome,
 }

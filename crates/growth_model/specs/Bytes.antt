@@ -41,7 +41,7 @@ abbrev pub leaves : RangeView → List Item → Item → ℕ → Bool
 leaves kernel items (item.Grown w place room) x = covers (table_bytes w kernel items) x
 leaves kernel items i x = false
 
--- whether one of the further items does
+-- whether one of the further items moves a table away from the address
 abbrev pub is_left : RangeView → List Item → List Item → ℕ → Bool
 is_left kernel items [] x = false
 is_left kernel items (i ∷ is) x = leaves kernel items i x || is_left kernel (items ++ i ∷ []) is x

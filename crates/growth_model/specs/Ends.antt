@@ -8,13 +8,14 @@ use Rattle.growth_model.specs.declared.refusal.Refusal.TheVariants as refusal
 use Rattle.growth_model.specs.Outcome.{Outcome, Change, joined, after}
 use Rattle.growth_model.specs.Growth.{claimed}
 
--- the new items are the old ones and those of the first steps, `count` of them
+-- the new items are the old ones and those of the first `count` steps
 pub record IsCut (old new : List Item) (steps : List (List Item)) : Type 0 where
   pub count : ℕ
   pub within : count ≤ length steps
   pub stands : new ≡ old ++ joined (take count steps)
 
--- and at least one step is missing
+-- the new items are the old ones and those of the first `count` steps, and at least one step is
+-- missing
 pub record IsCutShort (old new : List Item) (steps : List (List Item)) : Type 0 where
   pub count : ℕ
   pub short : count < length steps

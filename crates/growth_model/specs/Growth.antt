@@ -21,7 +21,7 @@ use Rattle.growth_model.specs.Outcome.{Change, ◌>>◌, nothing, step, write, r
 abbrev pub in_whole_frames : ℕ → ℕ
 in_whole_frames n = (n + (FRAME_SIZE - 1)) / FRAME_SIZE * FRAME_SIZE
 
--- the frames from the address on that have n bytes
+-- the frames from the address on that n bytes need
 abbrev pub frames_at : ℕ → ℕ → RangeView
 frames_at place n = record { base = place; size = in_whole_frames n }
 

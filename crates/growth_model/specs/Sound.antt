@@ -1,6 +1,5 @@
 -- What holds of the items of a boot after each call. Both tables are seated: they lie in claimed
--- memory that no allocation of the script can have, and share no frame. Each has room for its
--- records.
+-- memory that no allocation of the script has, and share no frame. Each has room for its records.
 use Rattle.std.specs.Prelude.{◌≡◌, ◌≢◌, ◌⊎◌, ℕ, ◌*◌, ◌/◌, ◌%◌, ◌≤◌, Bool, true, false, Option, Some, None, List, [], ◌∷◌}
 use Rattle.bm_base.specs.Range.{RangeView, end_of, covers}
 use Rattle.bm_base.specs.declared.range.TheConstants.{FRAME_SIZE}
@@ -37,13 +36,13 @@ Clear a b = (x : ℕ) → covers a x ≡ true → covers b x ≡ true → ⊥
 abbrev pub Unclaimed : Owners → RangeView → Type 0
 Unclaimed own a = (x : ℕ) → covers a x ≡ true → own x ≡ None
 
--- both tables have seats, and share no frame
+-- each table has a seat, and they share no frame
 pub record Seats (own : Owners) (memory reserved : RangeView) : Type 0 where
   pub first : Seat own memory
   pub second : Seat own reserved
   pub apart : ShareNoFrame memory reserved
 
--- the first item claims the kernel's image, and both tables have seats
+-- the first item claims the kernel's image, and both tables are seated
 pub record Seated (kernel : RangeView) (items : List Item) : Type 0 where
   pub rest : List Item
   pub first : items ≡ item.Claim kernel owner.Kernel ∷ rest

@@ -1,8 +1,11 @@
 //! Laws of growth.
 //!
-//! Each change keeps both tables seated wherever a call that makes it ends: after its last step,
-//! at a refusal, or before a step because this program is out of memory. These laws need neither
-//! the tables' bytes nor their records.
+//! A table is *seated* if it begins with a frame, and all its bytes are claimed, none of them by
+//! an allocation of the script. Both tables are seated if each is, they share no frame, and the
+//! kernel's image was claimed first (`Seated` in `specs/Sound.antt`). Each change keeps both
+//! tables seated wherever a call that makes it ends: after its last step, at a refusal, or before
+//! a step because this program is out of memory. These laws need neither the tables' bytes nor
+//! their records.
 
 ghost use Rattle.std.specs.Prelude.{◌≡◌, ◌⊎◌, ℕ, ◌+◌, ◌*◌, ◌%◌, ◌^◌, ◌<◌, ◌≤◌, Bool, false, Option, Some, None, IsSome, List, [], ◌∷◌, ◌++◌, Result, Ok, Err};
 ghost use Rattle.bm_base.specs.Range.{RangeView, end_of};

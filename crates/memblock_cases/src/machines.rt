@@ -16,6 +16,7 @@ pub const MEMORY: Range = Range {
     size: 0x800_0000,
 };
 
+/// Tests whether the journal has an item, as most calls require.
 pub fn has_begun(memblock: &Memblock) -> bool
     ensures { IsTrue result → HasBegun memblock.now.journal.items }
 {

@@ -13,6 +13,7 @@ pub const KERNEL: Range = Range {
     size: 0x200_0000,
 };
 
+/// The first MiB of addresses.
 pub const FIRST_MIB: Range = Range {
     base: 0,
     size: 0x10_0000,
@@ -29,6 +30,7 @@ pub const IN_TURN: [Part; 4] = [
     (0x600_0000, 0x7FE_0000, 0),
 ];
 
+/// Returns the range of `size` bytes at `base`.
 pub fn bytes(base: u64, size: u64) -> Range
     requires { base + size < 2 ^ 64 }
     ensures { result ≡ record { base = base; size = size } }

@@ -12,6 +12,7 @@ use memblock_ranges::{Records, Tables};
 /// table doesn't cover them.
 #[derive(Clone, Copy)]
 pub struct Look {
+    /// The label, or `None` if the table doesn't cover the addresses.
     pub label: Option<Label>,
     /// The address at which the label may change.
     pub bound: u64,
@@ -44,6 +45,7 @@ pub fn lists_of(tables: &Tables) -> Lists<'_>
 /// The position of a walk.
 #[derive(Clone, Copy)]
 pub struct Cursor {
+    /// The address that the walk has reached.
     pub at: u64,
     pub memory: Look,
     pub reserved: Look,

@@ -19,6 +19,7 @@ use std::marker::Model;
 /// A run of unclaimed memory of one label. Contracts see a run of addresses with its label.
 #[derive(Clone, Copy, Debug, PartialEq, Eq)]
 pub struct FreeRange {
+    /// The addresses of the run.
     pub range: Range,
     /// The node, or 1,024 for none (`MAX_NUMNODES`).
     pub node: u32,

@@ -44,6 +44,10 @@ use std::marker::Model;
 
 /// The memory of a machine at boot: the journal of what happened to it, and two tables that
 /// describe what is memory and what is claimed, in the bytes of that memory (`struct memblock`).
+///
+/// The first claim must be that of the kernel's image; every other call that writes an item
+/// requires that it was made. If a call fails, the steps that it completed stay written, and the
+/// memblock can still be used.
 #[derive(Debug, Drop)]
 pub struct Memblock {
     kernel: Range,

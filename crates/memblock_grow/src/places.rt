@@ -11,8 +11,7 @@ use boot_journal::Journal;
 use memblock_find::{Mode, Query, find};
 use memblock_ranges::{FIRST_ROOM, Head, Tables};
 
-/// Returns the size in bytes of the frames that have this many bytes, or `None` if it would exceed
-/// 2^64 - 1.
+/// Rounds a number of bytes up to frames, or returns `None` if it would exceed 2^64 - 1.
 fn frames(bytes: u64) -> Option<u64>
     ensures { SomeIff result (in_whole_frames bytes < 2 ^ 64) (in_whole_frames bytes) }
 {
