@@ -46,7 +46,7 @@ fn read_map(runs: &[Run])
 fn run_ends_in_space(run: &Run)
     ensures { IsNear run.now }
 {
-    let _ = run.range;
+    let _range = run.range;
 }
 
 /// Reads each run of owners.
