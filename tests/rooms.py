@@ -1,9 +1,10 @@
 #!/usr/bin/env python3
-"""rooms.py: whether docs/ARCHITECTURE.md has each crate once, standing on what crates.txt says it stands on.
+"""rooms.py: checks that docs/ARCHITECTURE.md has each crate of crates.txt exactly once, and that its
+drawings name each; and that no crate uses one of a storey above its own.
 
-A row is `| crate | what | stands on | what it says |`; of what it stands on, crates of the repository come first, and those of the toolchain's kit
-behind `of the kit`. The two drawings above the table, of the way of the data and of its storeys, name each crate, too. Crates of
-cases are in neither.
+A row is `| crate | what it is | what the crates above may rest on |`. The drawings above the tables
+show the data flow and the storeys. A crate uses only crates of its own storey and of those below.
+Crates of cases are in neither.
 Prints a line for each difference, and how many crates there are.
 """
 
@@ -25,18 +26,19 @@ def main():
     rows = {}
     for line in text.split("\n"):
         cells = [cell.strip() for cell in line.strip("|").split("|")]
-        name = re.fullmatch(r"`(\w+)`", cells[0]) if len(cells) == 4 else None
+        name = re.fullmatch(r"`(\w+)`", cells[0]) if len(cells) == 3 else None
         if name and line.startswith("|"):
-            rows.setdefault(name.group(1), []).append(set(re.findall(r"`(\w+)`", cells[2])))
-    wrong = [f"{name}: it has {len(rows.get(name, []))} rows" for name in crates if len(rows.get(name, [])) != 1]
-    wrong += [f"{name}: there is no such crate" for name in rows if name not in crates]
-    for name, stands in crates.items():
-        for said in rows.get(name, [])[:1]:
-            wrong += [f"{name}: it stands on {other}" for other in sorted(stands - said)]
-            wrong += [f"{name}: it doesn't stand on {other}" for other in sorted(said - stands)]
+            rows[name.group(1)] = rows.get(name.group(1), 0) + 1
+    text_of_crates = text[text.index("## The crates"):text.index("## Layout of a crate")]
+    wrong = [f"{name}: it has {rows.get(name, 0)} rows" for name in crates if rows.get(name, 0) != 1]
+    wrong += [f"{name}: there is no such crate" for name in rows if name not in crates and f"| `{name}` |" in text_of_crates]
     drawn = "\n".join(line for line in text[:text.index("## The crates")].split("\n") if line.startswith("    "))
     wrong += [f"{name}: no drawing names it" for name in crates if not re.search(rf"\b{name}\b", drawn)]
     wrong += [f"{name}: it is drawn, and there is no such crate" for name in re.findall(r"\b[a-z]\w*_\w+\b", drawn) if name not in crates]
+    storeys = [set(re.findall(r"\b[a-z]\w*\b", line[25:])) & set(crates) for line in drawn[drawn.index("    saved reports"):].split("\n")]
+    height = {name: -row for row, names in enumerate(storeys) for name in names}
+    wrong += [f"{name}: it uses {other} of a storey above" for name, uses in crates.items() for other in sorted(uses)
+              if other in height and name in height and height[other] > height[name]]
     return end(f"rooms: {len(crates)} crates", wrong)
 
 
