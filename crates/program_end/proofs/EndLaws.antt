@@ -1,4 +1,4 @@
--- What a program's end says by its exit status.
+-- What follows from a program's exit status.
 use Rattle.std.proofs.Common.{◌≡◌, ◌≢◌, ℕ, List, Option, Some, None, Result, Ok, Err, refl, inl, inr, ap, arith}
 use Rattle.std.specs.Prelude.{IfSome, IsNone, IsOkAnd, ◌⊎◌}
 use Rattle.std.specs.Io.KnownBytes.{Appends}
@@ -17,7 +17,8 @@ use Rattle.program_end.specs.Line.{PutsLine}
 use Rattle.program_end.specs.Program.{Held, Program}
 use Rattle.program_end.specs.Status.{End, status_of, status_of_end}
 
--- `is` tells the status of the end, `cause` its cause and `output` what became of the output, whatever the files tell
+-- for every end: `is` gives its status, `cause` its cause, and `output` what holds of the output
+-- whether or not the files' contents are known
 module _ {W I A F C S : Type 0} (program : Program W I A) (sink : SinkOf S) (before now : List ℕ → ℕ) (accepted : Option W) (old new : S)
     (end : End (Reason I F C)) (status : ℕ) (is : status ≡ status_of_end end) (cause : EndHasCause program before now accepted end)
     (output : WritingHasCause sink old new end) where
@@ -36,7 +37,7 @@ module _ {W I A F C S : Type 0} (program : Program W I A) (sink : SinkOf S) (bef
   pub ends_wanting : status ≡ 7 → (new ≡ old) ⊎ Rose (sink.wants old) (sink.wants new)
   ends_wanting seven = grind (arith, program.statuses)
 
-  -- where the outcome of what the files hold is known
+  -- with the outcome of what the files contain
   module _ (said : Result A (Reason I F C)) (writes : Writes program (sink.written old) (sink.written new) end said) where
     pub ends_said : MayEndWith program said status
     ends_said = grind arith
@@ -58,7 +59,7 @@ module _ {W I A F C S : Type 0} (program : Program W I A) (sink : SinkOf S) (bef
     pub ends_stopped : status ≡ 6 → IsStopped said
     ends_stopped six = grind (arith, program.statuses)
 
-    -- nothing but the outside stands between a result and its writing
+    -- if no counter of the output or of a file rose, a result is written unless memory runs out
     pub ends_complete : (result : A) → said ≡ Ok result → ¬ Rose (sink.faults old) (sink.faults new)
         → ((input : I) → ¬ RoseFor program before now accepted input) → (status ≡ program.status result) ⊎ (status ≡ 7)
     ends_complete result is_said written read = grind (arith, program.statuses, read)
@@ -66,7 +67,8 @@ module _ {W I A F C S : Type 0} (program : Program W I A) (sink : SinkOf S) (bef
   pub ends_unread : status ≡ 3 → (input : I) × RoseFor program before now accepted input
   ends_unread three = grind (arith, program.statuses)
 
--- after a status that no result has the line is that of a failure that has the status and its cause, and fits the outcome
+-- a status other than 0 and 8 is that of a failure: its line was put, it has its cause, and it
+-- fits the outcome
 pub ends_told : {W I A F C E : Type 0} (program : Program W I A) (errors : SinkOf E) (line : Failure (Reason I F C) → List ℕ)
     (before now : List ℕ → ℕ) (accepted : Option W) (old new : Option (List ℕ)) (err_old err_new : E) (end : End (Reason I F C)) (status : ℕ)
     → status ≡ status_of_end end → EndHasCause program before now accepted end → IsTold errors line err_old err_new end

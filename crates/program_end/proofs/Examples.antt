@@ -1,4 +1,5 @@
--- How programs end, on small inputs: files are numbered in the order in which they are read, and so are faults and causes.
+-- How programs end, on small inputs. Inputs are numbered in the order in which they are read.
+-- Faults and causes are numbers.
 use Rattle.std.proofs.Common.{◌≡◌, ℕ, zero, suc, List, [], codes, Option, Some, None, Ok, Err, refl, inl, inr, arith}
 use Rattle.std.specs.Prelude.{Result}
 use Rattle.bm_io.specs.declared.writing.Put.TheVariants as put
@@ -18,7 +19,7 @@ use Rattle.program_end.specs.Status.{status_of, status_of_end}
 abbrev Why : Type 0
 Why = Reason ℕ ℕ ℕ
 
--- words name one file
+-- the command line names a file for input 0 only
 abbrev named : ℕ → ℕ → Option (List ℕ)
 named wanted zero = Some (codes "zp")
 named wanted (suc other) = None
@@ -32,7 +33,8 @@ text = Ok (codes "ab")
 abbrev faulty : Result (List ℕ) Why
 faulty = Err (reasons.Faulty 0 7)
 
--- the work comes to the second file where nothing is at fault, or a later file is; not where the first is, or the words are
+-- input 1 is read if there is a result or input 2 can't be read, but not if input 0 has a fault or
+-- the command line isn't accepted
 reaches_examples : ReachesFile (λ (n : ℕ). n) 1 text × ReachesFile {F = ℕ} {C = ℕ} {A = ℕ} (λ (n : ℕ). n) 1 (Err (reasons.Unread 2))
     × (ReachesFile (λ (n : ℕ). n) 1 faulty → ⊥)
     × (ReachesFile {F = ℕ} {C = ℕ} {A = ℕ} (λ (n : ℕ). n) 1 (Err reasons.Usage) → ⊥)
@@ -42,12 +44,12 @@ reason_fits : FitsReason (λ (n : ℕ). n) (reasons.Faulty 0 7) faulty × FitsRe
     × (FitsReason (λ (n : ℕ). n) reasons.Usage text → ⊥) × (FitsReason (λ (n : ℕ). n) (reasons.Unread 1) faulty → ⊥)
 reason_fits = (refl, tt, (λ same. cc same), λ comes. omega (arith, comes))
 
--- want of memory fits everything
+-- out of memory fits every outcome
 fetches_examples : FitsError (λ (n : ℕ). n) errors.Memory text × Fetches (λ (n : ℕ). n) (λ (n : ℕ). codes "ab") (Ok 7) text
     × (Fetches (λ (n : ℕ). n) (λ (n : ℕ). codes "ab") (Err (errors.Reason reasons.Usage)) text → ⊥)
 fetches_examples = (tt, refl, λ same. cc same)
 
--- before the call no fault of any name was counted; after it one of each was
+-- before the call no name has a fault, after it each has one
 abbrev before : List ℕ → ℕ
 before name = 0
 
@@ -63,7 +65,7 @@ own_examples : IsOf {I = ℕ} {F = ℕ} {C = ℕ} 1 (errors.Reason (reasons.Unre
     × (IsOfFile {I = ℕ} {F = ℕ} {C = ℕ} before before (named 3) (errors.Reason (reasons.Unread 0)) → ⊥)
 own_examples = (refl, (λ same. cc same), omega arith, λ rose. omega (arith, rose))
 
--- refused words are the cause of one reason alone; memory may run out while they are read
+-- if the command line isn't accepted, the failure is `Usage` or out of memory
 cause_examples : ReasonHasCause {F = ℕ} {C = ℕ} program before before None reasons.Usage
     × (ReasonHasCause {F = ℕ} {C = ℕ} program before before None (reasons.Faulty 0 7) → ⊥)
     × FailureHasCause {F = ℕ} {C = ℕ} program before before None (failures.NoResult errors.Memory)
@@ -71,7 +73,7 @@ cause_examples : ReasonHasCause {F = ℕ} {C = ℕ} program before before None r
     × (EndHasCause {F = ℕ} {C = ℕ} program before before None (Ok 0) → ⊥)
 cause_examples = (refl, (λ some. cc some), tt, (λ some. cc some), λ some. cc some.0)
 
--- the status of each way to end
+-- the status of each failure
 abbrev why : Why → Failure Why
 why reason = failures.NoResult (errors.Reason reason)
 
@@ -81,7 +83,7 @@ status_examples : (status_of (why reasons.Usage) ≡ 2) × (status_of (why (reas
     × (status_of_end {I = ℕ} {F = ℕ} {C = ℕ} (Ok 8) ≡ 8)
 status_examples = (refl, refl, refl, refl, refl, refl, refl, refl)
 
--- the line of each
+-- the line of each failure
 abbrev line : Failure Why → List ℕ
 line = failure_line (codes "p") (λ input. codes "zp") (λ input fault. codes "p: zp: short\n") (λ cause. codes "p: stopped\n")
 
@@ -91,27 +93,27 @@ line_examples : (line (why reasons.Usage) ≡ codes "p: usage\n") × (line (why 
     × (line (failures.NoResult errors.Memory) ≡ codes "p: out of memory\n")
 line_examples = (refl, refl, refl, refl, refl, refl, refl)
 
--- written whole, in part, and not at all
+-- the text is written whole, in part, and not at all
 writes_examples : Writes program (Some []) (Some (codes "ab")) (Ok 0) text
     × Writes program (Some []) (Some (codes "a")) (Err (failures.Output put.Failed)) text
     × Writes program (Some []) (Some []) (Err (failures.NoResult errors.Memory)) text
     × (Writes program (Some []) (Some (codes "a")) (Ok 0) text → ⊥)
 writes_examples = ((refl, refl), (1, omega arith, refl), tt, λ is. cc is.1)
 
--- an output that failed did so with a text to write
+-- the output can only fail if there is a text to write
 end_fits_examples : EndFits program (failures.Output put.Failed) text × (EndFits program (failures.Output put.Failed) faulty → ⊥)
 end_fits_examples = (tt, λ is. is)
 
--- after a result the error output and, without one, the output are as they were
+-- with a result the error output is as it was, and without one the output is
 unchanged_examples : (sink : SinkOf ℕ) → IsTold sink line 3 3 (Ok 0) × (IsTold sink line 3 4 (Ok 0) → ⊥)
     × WritingHasCause sink 3 3 (Err (why reasons.Usage)) × (WritingHasCause sink 3 4 (Err (why reasons.Usage)) → ⊥)
 unchanged_examples sink = (refl, (λ same. omega (arith, same)), refl, λ same. omega (arith, same))
 
--- an outcome is a result, a fault or a stop
+-- a fault is no stop and a result is no fault
 outcome_examples : IsFaulty faulty × (IsFaulty text → ⊥) × IsStopped {I = ℕ} {F = ℕ} {C = ℕ} {A = ℕ} (Err (reasons.Stopped 4)) × (IsStopped faulty → ⊥)
 outcome_examples = ((0, (7, refl)), (λ is. cc is.1.1), (4, refl), λ is. cc is.1)
 
--- a text ends with 0, 3, 4 or 7, and refused words with 2 or 7
+-- a result with status 0 ends with 0, 3, 4 or 7, a refused command line with 2 or 7
 may_end_examples : MayEndWith program text 0 × MayEndWith program text 3 × (MayEndWith program text 5 → ⊥)
     × MayEndWith {F = ℕ} {C = ℕ} program (Err reasons.Usage) 2 × (MayEndWith {F = ℕ} {C = ℕ} program (Err reasons.Usage) 3 → ⊥)
     × MayEndWith program faulty 5 × (MayEndWith program faulty 6 → ⊥)

@@ -1,5 +1,6 @@
--- What counts as the cause of an error, whatever the files tell. `before` and `now` are how many faults of each name were counted (`faults`
--- of `Files`) before the call and after it.
+-- Causes of errors. These facts hold whether or not the files' contents are known. `before` and
+-- `now` give for each file name its counter of faults (`faults` of `Files`), before the call and
+-- after it.
 use Rattle.std.specs.Prelude.{◌≡◌, ℕ, List, Option, Some, None, Result, Ok, Err, IsNone, IsSome}
 use Rattle.bm_io.specs.Counts.{Rose}
 use Rattle.program_end.specs.Program.{Program}
@@ -11,12 +12,13 @@ use Rattle.program_end.specs.declared.failure.NoResult.TheVariants as errors
 use Rattle.program_end.specs.declared.failure.Reason.{Reason}
 use Rattle.program_end.specs.declared.failure.Reason.TheVariants as reasons
 
--- there is a name, and its faults rose
+-- there is a name, and the counter of its faults rose
 abbrev pub RoseAt : (before now : List ℕ → ℕ) → Option (List ℕ) → Type 0
 RoseAt before now None = ⊥
 RoseAt before now (Some name) = Rose (before name) (now name)
 
--- the error is that of a file: one that couldn't be read has a name, whose faults rose
+-- the error is one of reading files: a file couldn't be read, which has a name whose faults rose;
+-- or a file has a fault; or out of memory
 abbrev pub IsOfFile : {I F C : Type 0} → (before now : List ℕ → ℕ) → (I → Option (List ℕ)) → NoResult (Reason I F C) → Type 0
 IsOfFile before now named (errors.Reason reasons.Usage) = ⊥
 IsOfFile before now named (errors.Reason (reasons.Unread input)) = RoseAt before now (named input)
@@ -24,7 +26,7 @@ IsOfFile before now named (errors.Reason (reasons.Faulty input fault)) = Unit {0
 IsOfFile before now named (errors.Reason (reasons.Stopped cause)) = ⊥
 IsOfFile before now named errors.Memory = Unit {0}
 
--- the error is that of the file of this input
+-- the error is out of memory, or the file of this input couldn't be read or has a fault
 abbrev pub IsOf : {I F C : Type 0} → I → NoResult (Reason I F C) → Type 0
 IsOf input (errors.Reason reasons.Usage) = ⊥
 IsOf input (errors.Reason (reasons.Unread other)) = other ≡ input
@@ -32,28 +34,32 @@ IsOf input (errors.Reason (reasons.Faulty other fault)) = other ≡ input
 IsOf input (errors.Reason (reasons.Stopped cause)) = ⊥
 IsOf input errors.Memory = Unit {0}
 
--- the words name a file for the input, and its faults rose
+-- the command line is accepted and names a file for the input, and the faults of this name rose
 abbrev pub RoseFor : {W I A : Type 0} → Program W I A → (before now : List ℕ → ℕ) → Option W → I → Type 0
 RoseFor program before now None input = ⊥
 RoseFor program before now (Some wanted) input = RoseAt before now (program.named wanted input)
 
--- refused words are the cause of one reason alone
+-- the reason has its cause: `Usage` comes only if the command line isn't accepted, `Unread` only
+-- if the faults of the input's file rose, the others only if the command line is accepted
 abbrev pub ReasonHasCause : {W I A F C : Type 0} → Program W I A → (before now : List ℕ → ℕ) → Option W → Reason I F C → Type 0
 ReasonHasCause program before now accepted reasons.Usage = IsNone accepted
 ReasonHasCause program before now accepted (reasons.Unread input) = RoseFor program before now accepted input
 ReasonHasCause program before now accepted (reasons.Faulty input fault) = IsSome accepted
 ReasonHasCause program before now accepted (reasons.Stopped cause) = IsSome accepted
 
--- memory may run out even while the words are read
+-- the error has its cause: out of memory needs none, since it may come even while the command line
+-- is read
 abbrev pub ErrorHasCause : {W I A F C : Type 0} → Program W I A → (before now : List ℕ → ℕ) → Option W → NoResult (Reason I F C) → Type 0
 ErrorHasCause program before now accepted (errors.Reason reason) = ReasonHasCause program before now accepted reason
 ErrorHasCause program before now accepted errors.Memory = Unit {0}
 
+-- the failure has its cause: the output can refuse a text only if the command line is accepted
 abbrev pub FailureHasCause : {W I A F C : Type 0} → Program W I A → (before now : List ℕ → ℕ) → Option W → Failure (Reason I F C) → Type 0
 FailureHasCause program before now accepted (failures.NoResult error) = ErrorHasCause program before now accepted error
 FailureHasCause program before now accepted (failures.Output refusal) = IsSome accepted
 
--- the end has a failure's cause, or the status of a result of accepted words
+-- the end has its cause: that of its failure; or the command line is accepted, and the status is
+-- that of some result
 abbrev pub EndHasCause : {W I A F C : Type 0} → Program W I A → (before now : List ℕ → ℕ) → Option W → End (Reason I F C) → Type 0
 EndHasCause {A = A} program before now accepted (Ok status) = IsSome accepted × ((result : A) × (status ≡ program.status result))
 EndHasCause program before now accepted (Err failure) = FailureHasCause program before now accepted failure

@@ -1,4 +1,5 @@
--- How a program ends: what stands in its output, and on the error output.
+-- How a program ends: what it wrote to its output and to the error output. `said` is the outcome:
+-- the result that the command line and the files give, or the reason why they give none.
 use Rattle.std.specs.Prelude.{◌≡◌, ℕ, List, Option, Result, Ok, Err, IsOkAnd, ◌⊎◌}
 use Rattle.std.specs.Io.KnownBytes.{Appends}
 use Rattle.bm_io.specs.Counts.{Rose}
@@ -14,38 +15,46 @@ use Rattle.program_end.specs.declared.failure.Failure.TheVariants as failures
 use Rattle.program_end.specs.declared.failure.Reason.{Reason}
 use Rattle.program_end.specs.declared.failure.Reason.TheVariants as reasons
 
--- what stands in the output, by what the definition comes to: the result's text, a front of it if the output failed, and else nothing
+-- how the end fits the outcome. With a status, the outcome is a result that has this status, and
+-- its text was appended. With no result, the error fits the outcome. If the output refused, the
+-- outcome is a result, and the first bytes of its text were appended (none, some or all).
 abbrev pub Writes : {W I A F C : Type 0} → Program W I A → (old new : Option (List ℕ)) → End (Reason I F C) → Result A (Reason I F C) → Type 0
 Writes program old new (Ok status) said =
     IsOkAnd said (λ result. (status ≡ program.status result) × Appends old new (program.text result))
 Writes program old new (Err (failures.NoResult error)) said = FitsError program.place error said
 Writes program old new (Err (failures.Output refusal)) said = IsOkAnd said (λ result. AppendsFront old new (program.text result))
 
--- whatever the files tell: without a result the output is as it was, and a refusal of the output has its cause
+-- what holds whether or not the files' contents are known: without a result the output is as it
+-- was; if the output refused, its faults rose; if it ran out of memory, `wants` rose, which counts
+-- that
 abbrev pub WritingHasCause : {S R : Type 0} → SinkOf S → (old new : S) → End R → Type 0
 WritingHasCause sink old new (Ok status) = Unit {0}
 WritingHasCause sink old new (Err (failures.NoResult error)) = new ≡ old
 WritingHasCause sink old new (Err (failures.Output put.Failed)) = Rose (sink.faults old) (sink.faults new)
 WritingHasCause sink old new (Err (failures.Output put.Memory)) = Rose (sink.wants old) (sink.wants new)
 
--- with a result nothing stands on the error output; else a front of the failure's line, and all of it unless the error output itself failed
+-- with a result the error output is as it was; with a failure its line was put (`PutsLine`)
 abbrev pub IsTold : {E R : Type 0} → SinkOf E → (Failure R → List ℕ) → (old new : E) → End R → Type 0
 IsTold errors line old new (Ok status) = new ≡ old
 IsTold errors line old new (Err failure) = PutsLine errors old new (line failure)
 
--- what a failure says of the outcome: if the output failed, there was a result to write
+-- how a failure fits the outcome: an error fits it, and if the output failed the outcome is a
+-- result
 abbrev pub EndFits : {W I A F C : Type 0} → Program W I A → Failure (Reason I F C) → Result A (Reason I F C) → Type 0
 EndFits program (failures.NoResult error) said = FitsError program.place error said
 EndFits program (failures.Output refusal) said = IsOkAnd said (λ result. Unit {0})
 
--- the outcome is the fault of a file, or a stop
+-- the outcome is the fault of some file
 abbrev pub IsFaulty : {I F C A : Type 0} → Result A (Reason I F C) → Type 0
 IsFaulty {I} {F} said = (input : I) × ((fault : F) × (said ≡ Err (reasons.Faulty input fault)))
 
+-- the outcome is a stop for some cause
 abbrev pub IsStopped : {I F C A : Type 0} → Result A (Reason I F C) → Type 0
 IsStopped {I} {F} {C} said = (cause : C) × (said ≡ Err (reasons.Stopped cause))
 
--- the statuses that an outcome may end with: its own, 3 or 4 if the outside fails, or 7
+-- the statuses that a program with this outcome may end with: that of the outcome; 7, for out of
+-- memory; 3, for a file that couldn't be read, unless the command line is refused; and if the
+-- outcome is a result 4, for an output that refused its text
 abbrev pub MayEndWith : {W I A F C : Type 0} → Program W I A → Result A (Reason I F C) → ℕ → Type 0
 MayEndWith program (Ok result) status = (status ≡ program.status result) ⊎ (status ≡ 3) ⊎ (status ≡ 4) ⊎ (status ≡ 7)
 MayEndWith program (Err reasons.Usage) status = (status ≡ 2) ⊎ (status ≡ 7)

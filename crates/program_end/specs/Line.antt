@@ -1,4 +1,5 @@
--- The one line on the error output.
+-- The one line on the error output. `program` is the program's name, and `file` gives the name of
+-- an input's file.
 use Rattle.std.specs.Prelude.{ℕ, List, ◌++◌, codes, ◌⊎◌}
 use Rattle.std.specs.Io.KnownBytes.{Appends}
 use Rattle.bm_io.specs.Counts.{Rose}
@@ -13,31 +14,36 @@ use Rattle.program_end.specs.declared.failure.NoResult.TheVariants as errors
 use Rattle.program_end.specs.declared.failure.Reason.{Reason}
 use Rattle.program_end.specs.declared.failure.Reason.TheVariants as reasons
 
--- a file that couldn't be read is named as the words name it
+-- the line of a file that couldn't be read; `file` is its name as on the command line
 abbrev pub unread_line : List ℕ → List ℕ → List ℕ
 unread_line program file = program ++ (codes ": cannot read " ++ (file ++ codes "\n"))
 
+-- the line of a reason; faults and causes have lines of the program's own
 abbrev pub reason_line : {I F C : Type 0} → List ℕ → (I → List ℕ) → (I → F → List ℕ) → (C → List ℕ) → Reason I F C → List ℕ
 reason_line program file fault_line cause_line reasons.Usage = program ++ codes ": usage\n"
 reason_line program file fault_line cause_line (reasons.Unread input) = unread_line program (file input)
 reason_line program file fault_line cause_line (reasons.Faulty input fault) = fault_line input fault
 reason_line program file fault_line cause_line (reasons.Stopped cause) = cause_line cause
 
+-- the line of out of memory
 abbrev pub memory_line : List ℕ → List ℕ
 memory_line program = program ++ codes ": out of memory\n"
 
+-- the line of an output that refused the text or ran out of memory
 abbrev pub refusal_line : List ℕ → Put → List ℕ
 refusal_line program put.Failed = program ++ codes ": cannot write\n"
 refusal_line program put.Memory = memory_line program
 
--- the line of a failure of the program of that name
+-- the line of a failure
 abbrev pub failure_line : {I F C : Type 0} → List ℕ → (I → List ℕ) → (I → F → List ℕ) → (C → List ℕ) → Failure (Reason I F C) → List ℕ
 failure_line program file fault_line cause_line (failures.NoResult (errors.Reason reason)) =
     reason_line program file fault_line cause_line reason
 failure_line program file fault_line cause_line (failures.NoResult errors.Memory) = memory_line program
 failure_line program file fault_line cause_line (failures.Output refusal) = refusal_line program refusal
 
--- the front of the line was appended to the output, and all of it unless the output itself failed. `sink` is what the output's kind tells
+-- what putting a line does to the output, whose traits are `sink`: it appends the first bytes of
+-- the line (`front`), and all of it (`whole`) unless the output's counter of faults or of out of
+-- memory rose
 pub record PutsLine {S : Type 0} (sink : SinkOf S) (old new : S) (line : List ℕ) : Type 0 where
   pub front : AppendsFront (sink.written old) (sink.written new) line
   pub whole : Appends (sink.written old) (sink.written new) line ⊎ Rose (sink.faults old) (sink.faults new)

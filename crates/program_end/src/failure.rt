@@ -1,4 +1,4 @@
-//! The ways in which a program doesn't end with its result, and their exit statuses.
+//! The ways in which a program fails, and their exit statuses.
 
 ghost use Rattle.std.specs.Prelude.{◌≡◌};
 ghost use Rattle.program_end.specs.Status.{reason_status, status_of, status_of_end, status_without};
@@ -6,35 +6,36 @@ ghost use Rattle.program_end.specs.Status.{reason_status, status_of, status_of_e
 use bm_base::Memory;
 use bm_io::Put;
 
-/// Why the words and the files give no result: over the input files `I`, their faults `F`, and the causes `C` for which files
-/// without a fault have no result.
+/// Why the command line and the files give no result. `I` is the type of input files and `F` that
+/// of their faults. `C` is the type of causes for which files without a fault give no result.
 #[derive(Clone, Copy, Debug, PartialEq, Eq)]
 pub enum Reason<I, F, C> {
-    /// The words aren't accepted.
+    /// The command line isn't accepted. Status 2.
     Usage,
-    /// The file of this input couldn't be read. Those before it have no fault.
+    /// The file of this input couldn't be read. The files before it have no fault. Status 3.
     Unread(I),
-    /// The file of this input has that fault. Those before it have none.
+    /// The file of this input has this fault. The files before it have none. Status 5.
     Faulty(I, F),
-    /// The files have no fault, and there is no result for that cause.
+    /// The files have no fault, but give no result for this cause. Status 6.
     Stopped(C),
 }
 
-/// Why there is no result.
+/// Why a call returns no result: a reason `R`, or out of memory.
 #[derive(Clone, Copy, Debug, PartialEq, Eq)]
 pub enum NoResult<R> {
-    /// The words and the files give none, for this reason.
+    /// The command line and the files give no result, for this reason.
     Reason(R),
-    /// The program's own memory ran out.
+    /// This program is out of memory. Status 7.
     Memory,
 }
 
-/// Why a program doesn't end with its result written.
+/// Why a program didn't write its result whole.
 #[derive(Clone, Copy, Debug, PartialEq, Eq)]
 pub enum Failure<R> {
-    /// There is no result, and nothing was written.
+    /// There is no result, and nothing was written to the output.
     NoResult(NoResult<R>),
-    /// The output refused the text, or ran out of memory.
+    /// The output refused the text (status 4), or ran out of memory (status 7). It may have taken
+    /// the first part of the text.
     Output(Put),
 }
 
@@ -52,7 +53,7 @@ impl<I: Copy, F: Copy, C: Copy> Reason<I, F, C> {
 }
 
 impl<I: Copy, F: Copy, C: Copy> NoResult<Reason<I, F, C>> {
-    /// The exit status.
+    /// Returns the exit status: 2, 3, 5 or 6 for a reason, and 7 for out of memory.
     pub fn status(self) -> u8
         ensures { result ≡ status_without self }
     {
@@ -75,7 +76,8 @@ impl<I: Copy, F: Copy, C: Copy> Failure<Reason<I, F, C>> {
     }
 }
 
-/// The exit status of a program's end: that of its result, or of its failure.
+/// Returns the exit status of a program's end: the status of the result, or that of the failure (2
+/// to 7).
 pub fn exit_status<I: Copy, F: Copy, C: Copy>(end: Result<u8, Failure<Reason<I, F, C>>>) -> u8
     ensures { result ≡ status_of_end end }
 {

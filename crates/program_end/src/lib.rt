@@ -1,11 +1,21 @@
-//! How a program over files and outputs ends.
+//! Defines how a program that reads files and writes to outputs ends. `bootmem` and `bootaudit`
+//! share this crate.
 //!
-//! `bootmem` and `bootaudit` do the same: judge their words, fetch the files that these name, work out a result, and write its
-//! text. This crate has what both say of that, for any kind of input file, fault, cause and result: the ways to fail ([`Reason`],
-//! [`NoResult`], [`Failure`]) with their exit statuses, and the line of each on the error output ([`tell_end`]).
+//! Both programs do the same: they read their command line, fetch the files that it names, compute
+//! a result, and write the result's text to the output. This crate defines what both promise about
+//! that, for any types of input file `I`, of file fault `F`, of cause `C` and of result.
 //!
-//! Two relations say how a call ends: `Fetches` (`specs/Fetches.antt`) for a call that fetches files, and `Writes` (`specs/Ends.antt`)
-//! for one that writes the result. What a program has of its own is a `Program` (`specs/Program.antt`).
+//! - [`Reason`], [`NoResult`] and [`Failure`] are the ways to fail.
+//! - [`exit_status`] is the exit status of each end: 2 to 7 for failures, 0 or 8 for a result.
+//! - [`Lines`] has the texts that differ between the programs. [`tell_end`] puts the one line of a
+//!   failure to the error output.
+//!
+//! The layer above states what its calls do by two relations. `Fetches` (`specs/Fetches.antt`)
+//! says how a call that fetches files may end, `Writes` (`specs/Ends.antt`) how a call that writes
+//! the result may end. A `Program` (`specs/Program.antt`) is what a program has of its own: the
+//! order of its input files, their names, and the text and status of a result.
+//!
+//! In contracts, a name means the definition in `specs/`.
 #![tactic(auto)]
 
 mod failure;

@@ -1,5 +1,6 @@
-//! The line of a failure on the error output. It is put in chunks, so it needs no memory. What the output answers changes nothing:
-//! the chunks go out up to the first that is refused.
+//! The line of a failure on the error output. It is put in chunks, so no memory is allocated for
+//! it. If the error output refuses a chunk, the chunks after it aren't put, and nothing else
+//! changes.
 
 ghost use Rattle.std.specs.Prelude.{◌≡◌, ℕ, List, flat_map};
 ghost use Rattle.program_end.specs.Ends.{IsTold};
@@ -8,9 +9,12 @@ ghost use Rattle.program_end.specs.Line.{PutsLine, failure_line, reason_line, re
 use crate::failure::{Failure, NoResult, Reason};
 use bm_io::{Put, Sink, put_all};
 
-/// The lines of a program's failures: what they say of its own inputs, faults and causes.
+/// The texts in which one program's lines of failures differ from another's: its name, the names
+/// of its files, and the lines of faults `F` and causes `C`.
 pub trait Lines<I, F, C> {
-    // The program's name; the name of an input's file, empty if there is none; the line of a fault of an input's file, and that of a cause.
+    // `program_name` is the program's name. `file_name` is the name of an input's file, empty if
+    // it has none. `fault_line` is the line of a fault of an input's file, and `cause_line` the
+    // line of a cause.
     ghost program_name: { List ℕ };
 
     ghost file_name: { Self → I → List ℕ };
@@ -19,24 +23,24 @@ pub trait Lines<I, F, C> {
 
     ghost cause_line: { C → List ℕ };
 
-    /// The program's name.
+    /// Returns the program's name.
     fn program() -> &'static str
         ensures { result.now ≡ program_name };
 
-    /// The name of the input's file, empty if there is none.
+    /// Returns the name of the input's file; it is empty if the input has no file.
     fn file(&self, input: I) -> &str
         ensures { result.now ≡ file_name self.now input };
 
-    /// Puts the line of a fault of the input's file.
+    /// Puts the line of this fault of the input's file.
     fn tell_fault<E: Sink>(err: &mut E, input: I, fault: F)
         ensures { PutsLine E.Sink err.old err.new (fault_line input fault) };
 
-    /// Puts the line of a cause.
+    /// Puts the line of this cause.
     fn tell_cause<E: Sink>(err: &mut E, cause: C)
         ensures { PutsLine E.Sink err.old err.new (cause_line cause) };
 }
 
-/// Puts the line of a program's end. A result has none.
+/// Puts the line of a program's failure. If the program ended with a result, nothing is put.
 pub fn tell_end<E: Sink, I: Copy, F: Copy, C: Copy, L: Lines<I, F, C>>(
     err: &mut E,
     lines: &L,
@@ -49,7 +53,7 @@ pub fn tell_end<E: Sink, I: Copy, F: Copy, C: Copy, L: Lines<I, F, C>>(
     }
 }
 
-/// Puts the line of a failure.
+/// Puts the line of this failure.
 fn tell<E: Sink, I: Copy, F: Copy, C: Copy, L: Lines<I, F, C>>(
     err: &mut E,
     lines: &L,
@@ -79,14 +83,14 @@ fn tell_reason<E: Sink, I: Copy, F: Copy, C: Copy, L: Lines<I, F, C>>(
     }
 }
 
-/// Puts the line of a file that couldn't be read.
+/// Puts the line of a file that couldn't be read. `file` is its name.
 fn tell_unread<'a, E: Sink>(err: &mut E, program: &'a str, file: &'a str)
     ensures { PutsLine E.Sink err.old err.new (unread_line program.now file.now) }
 {
     put_line(err, &[program, ": cannot read ", file, "\n"])
 }
 
-/// Puts the line of an output that refused the text.
+/// Puts the line of an output that refused the text or ran out of memory.
 fn tell_refusal<'a, E: Sink>(err: &mut E, program: &'a str, refusal: Put)
     ensures { PutsLine E.Sink err.old err.new (refusal_line program.now refusal) }
 {
@@ -96,7 +100,7 @@ fn tell_refusal<'a, E: Sink>(err: &mut E, program: &'a str, refusal: Put)
     }
 }
 
-/// Puts the chunks of a line, up to the first that is refused.
+/// Puts the chunks of a line in order, up to the first chunk that the error output refuses.
 pub fn put_line<E: Sink>(err: &mut E, chunks: &[&str])
     ensures { PutsLine E.Sink err.old err.new (flat_map (λ chunk. chunk.now) chunks.now) }
 {

@@ -1,4 +1,4 @@
--- The chunks of each line are the line.
+-- The chunks that each branch puts make up its line.
 use Rattle.program_end.proofs.telling.tell.Goals as goal
 
 pub returns-in-NoResult-Memory : goal.returns-in-NoResult-Memory

@@ -1,4 +1,4 @@
--- The chunks of the line are the line.
+-- The chunks that are put make up the line.
 use Rattle.program_end.proofs.telling.tell_reason.Goals as goal
 
 pub returns-in-Unread : goal.returns-in-Unread

@@ -1,4 +1,4 @@
--- The chunks of each line are the line.
+-- The chunks that each branch puts make up its line.
 use Rattle.program_end.proofs.telling.tell_refusal.Goals as goal
 
 pub returns-in-Failed : goal.returns-in-Failed
