@@ -1,4 +1,5 @@
--- What a boot answers, as the outcome has it: its stop is the reason for no report, and the texts of what it made are the text.
+-- How the end of a boot fits the outcome: a stop is the reason for no report, and the reports on
+-- the boot are the text.
 use Rattle.std.proofs.Common.{◌≡◌, ◌≢◌, ℕ, List, Result, Ok, Err, arith}
 use Rattle.bm_base.specs.ResultSteps.{with_error}
 use Rattle.boot_model.specs.declared.stop.Cause.{Cause}
@@ -19,7 +20,7 @@ use Rattle.boot_inputs.specs.Input.{place}
 use Rattle.program_run.specs.Outcome.{reported}
 use Rattle.program_run.specs.Stops.{no_report}
 
--- a stop of the boot has one cause
+-- a stop of the boot, other than for lack of memory, is the cause in the outcome
 pub boot_stopped : (stop : Stop) (given : Given) (reports : List Report)
     → (stop ≢ stops.Memory → with_error stop_of (told_boot given) ≡ Err stop) → FitsError place (no_report stop) (reported reports given)
 boot_stopped stop given reports stops_so = grind arith
@@ -27,7 +28,8 @@ boot_stopped stop given reports stops_so = grind arith
 pub told_is : (answer : Result Told Cause) (told : Told) → with_error stop_of answer ≡ Ok told → answer ≡ Ok told
 told_is answer told is = grind arith
 
--- a boot's tables stand at their heads, and the reports of the records there are those of what its items come to
+-- the tables in memory have the records that the boot's items give, so reports that read either
+-- are equal
 have_tables : (b : Booted) (memory : TableStands which.Memory b.journal.items b.store b.heads.memory)
     (reserved : TableStands which.Reserved b.journal.items b.store b.heads.reserved) → HaveTables b memory.table reserved.table
 have_tables b memory reserved = record {

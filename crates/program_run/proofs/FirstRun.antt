@@ -1,5 +1,5 @@
--- The first run, whole: `bootmem --report map zp`, where `zp` holds a zero page of two entries, of which the second
--- reserves the end of the first. The map follows from laws, the rest is computed.
+-- A whole run, by laws and computation: `bootmem --report map zp`. `zp` contains a zero page with
+-- two entries; the second reserves the end of the first.
 use Rattle.std.proofs.Common.{◌≡◌, ℕ, ◌-◌, ◌^◌, ◌<◌, ◌≤◌, ◌==◌, ◌&&◌, nat_lt, nat_le, if◌then◌else◌, List, [], ◌∷◌, ◌++◌, codes, Some, None, Ok, refl, sym, ap, ◌∙◌, arith}
 use Rattle.std.proofs.lemmas.Bool.Decides.{nat_tests}
 use Rattle.std.specs.Fmt.{digits}
@@ -54,7 +54,7 @@ held name = if bytes_eq name (codes "zp") then Some page else None
 abbrev given : Given
 given = record (begun Bits46 (record { base = 0x1000000; size = 0x2000000 })) { entries = ram ∷ reserved ∷ [] }
 
--- the type of each address: where both entries claim it, the greater one
+-- the type of each address; if both entries cover it, the greater type
 kind_at : ℕ → ℕ
 kind_at x = if nat_lt x 0x100000 then 0 else (if nat_lt x 0x7FE0000 then 1 else (if nat_lt x 0x8000000 then 2 else 0))
 
@@ -68,7 +68,7 @@ entries_give x = greatest_is (claims_of_entries given.entries x) (kind_at x) (sm
     (λ some. grind (arith, nat_tests))
     (λ k higher low. grind (arith, nat_tests))
 
--- each address has that claim alone
+-- each address is claimed for this type only
 IsOnly : Claims → Type 0
 IsOnly c = (x k : ℕ) → c x k ≡ (nat_lt 0 k && k == kind_at x)
 
@@ -95,7 +95,7 @@ only_claims =
     only_trimmed _ (only_settled _
     (only_gives _ (only_added _ (only_settled _ (only_gives _ (only_added _ (only_settled _ entries_give)))))))
 
--- so these are the runs of the map
+-- the runs of the map
 abbrev runs : List (RunOf ℕ)
 runs = record { base = 0x100000; size = 0x7EE0000; value = 1 } ∷ record { base = 0x7FE0000; size = 0x20000; value = 2 } ∷ []
 
@@ -115,7 +115,7 @@ map_is =
     one_list (kinds (claims given)) _ _ (map_runs (claims given) none_above)
     (record { runs = are_runs; each = λ x. sym (kinds_are x) })
 
--- RAM makes 32,480 whole frames, all of them within reach
+-- the RAM has 32,480 whole frames, all below the limit
 memory_is : (x : ℕ) → is_memory (types_below (reach given) (kinds (claims given)) x) ≡ (nat_le 0x100000 x && nat_lt x 0x7FE0000)
 memory_is x = memory_reached (reach given) (kinds (claims given)) x ∙ rw (kinds_are x) (grind (arith, nat_tests))
 
@@ -125,7 +125,7 @@ frames_are =
     ∙ count_same _ _ (2 ^ 52) (λ frame low. each_in-same (bytes_of_frame frame) _ _ (λ x from below. memory_is x))
     ∙ count_frames_between 0x100000 0x7FE0000 (2 ^ 52)
 
--- what a boot wants of them, so few items that no table grows
+-- the items that the early boot writes, so few that no table grows
 abbrev wanted : List Item
 wanted = first_items (early_of given) runs
 
@@ -135,11 +135,11 @@ few_wanted = (omega arith, omega arith, (omega arith, omega arith, (omega arith,
 wanted_is_made : carried_out wanted [] ≡ Ok wanted
 wanted_is_made = few_from_nothing wanted few_wanted
 
--- so the boot comes to memory
+-- the boot gets as far as memory
 memory_is_made : (map_judged given >>= has_memory given) ≡ Ok (record (begin_with runs no_options) { items = wanted })
 memory_is_made = rw (map_is, frames_are) (memory_made_by given (begin_with runs no_options) wanted wanted_is_made)
 
--- the words ask for the map of that page
+-- the words of the command line
 abbrev spellings : List Spelling
 spellings = apart (codes "report") (codes "map") ∷ named (codes "zp") ∷ []
 
@@ -152,7 +152,7 @@ asked = record { named = name_in (spelled_values spellings); begun = begun Bits4
 words_ask : accepted (codes "--report" ∷ codes "map" ∷ codes "zp" ∷ []) ≡ Some asked
 words_ask = accepted_as_given spellings are_spellings
 
--- and where each later stage finds its places, this is what is written
+-- if the later stages find their places, this text is written
 first_run : (made : BootSoFar) → boot given ≡ Ok made → outcome (accepted (codes "--report" ∷ codes "map" ∷ codes "zp" ∷ [])) held
     ≡ Ok (codes "0x0000000000100000..0x0000000007fdffff 1 usable\n0x0000000007fe0000..0x0000000007ffffff 2 reserved\n")
 unfolding entry_at digits initrd_of is_initrd_far

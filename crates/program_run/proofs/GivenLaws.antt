@@ -1,4 +1,5 @@
--- A made table after the files: what was refused stays so, and its entries stand for those of the files.
+-- Made tables after the files are read: an error of the files stays, and the made entries replace
+-- those of the files.
 use Rattle.std.proofs.Common.{◌≡◌, Option, Some, None, Result, Ok, arith}
 use Rattle.std.specs.Prelude.{IfSome, IsErrAnd}
 use Rattle.bm_base.specs.ResultSteps.{◌>>=◌}

@@ -1,4 +1,4 @@
--- A text that is the outcome's is that of a boot.
+-- A text of the outcome is that of one boot.
 use Rattle.std.proofs.Common.{◌≡◌, ◌≢◌, ℕ, List, Option, Some, None, IfSome, Result, Ok, Err, refl, arith}
 use Rattle.std.specs.Io.KnownBytes.{Appends}
 use Rattle.std.specs.Prelude.{IsNone, IsOkAnd, ◌⊎◌}
@@ -17,7 +17,7 @@ use Rattle.program_run.specs.Headline.{IsReported}
 use Rattle.program_run.specs.Outcome.{given_by, or_stopped, outcome, reported}
 use Rattle.program_words.specs.Words.{Wanted}
 
--- a text after an answer is that of its value
+-- a text that follows from a result follows from its value
 text_after : {A E : Type 0} (answer : Result A E) (next : A → Result (List ℕ) E) (P : List ℕ → Type 0)
     → IsOkAnd (answer >>= next) P → (a : A) × (answer ≡ Ok a) × IsOkAnd (next a) P
 text_after (Ok a) next P is = (a, refl, is)
@@ -53,7 +53,7 @@ text_written : (old new : Option (List ℕ)) (end : End Reason) (status : ℕ) (
     → Writes bootmem old new end said → status ≡ 0 → IsOkAnd said (λ text. Appends old new text)
 text_written old new end status said is writes zero = grind arith
 
--- after status 0 that was written
+-- with status 0 the reports were appended whole
 pub ran_headline : (old new : Option (List ℕ)) (accepted : Option Wanted) (end : End Reason) (status : ℕ) → status ≡ status_of_end end
     → (holds : Option Held) → IfSome holds (λ held. Writes bootmem old new end (outcome accepted held)) → status ≡ 0
     → IfSome holds (λ held. IsReported accepted held old new)
@@ -76,7 +76,7 @@ pub ran_refused : (before now : List ℕ → ℕ) (accepted : Option Wanted) (en
     → EndHasCause bootmem before now accepted end → IsNone accepted → (status ≡ 2) ⊎ (status ≡ 7)
 ran_refused before now accepted end status is cause none = grind arith
 
--- no end has the audit's second status
+-- status 8 is one of the audit, and none of `bootmem`
 pub never_eight : (before now : List ℕ → ℕ) (accepted : Option Wanted) (end : End Reason) (status : ℕ) → status ≡ status_of_end end
     → EndHasCause bootmem before now accepted end → status ≢ 8
 never_eight before now accepted end status is cause = λ eight. grind arith

@@ -1,4 +1,4 @@
--- The ways in which the program ends, and the line of each, computed.
+-- The line of each failure, computed.
 use Rattle.std.proofs.Common.{◌≡◌, codes, [], Some, None, refl}
 use Rattle.std.specs.Fmt.{digits}
 use Rattle.e820_table.specs.declared.extension.ExtFault.TheVariants as extension
@@ -19,13 +19,13 @@ use Rattle.program_run.specs.Stops.{no_report, no_report_by, no_words}
 use Rattle.program_run.specs.Line.{diagnostic_line, fault_line, thing_line, place_line, table_line, table_name, cause_line, input_line, failure_line, name_text}
 use Rattle.program_run.proofs.OutcomeExamples.{wanting}
 
--- want of memory is no reason, wherever it comes from
+-- out of memory is no reason, whichever layer it comes from
 no_report_examples : (no_report_by None ≡ errors.Memory) × (no_report_by (Some causes.NoRam) ≡ errors.Reason (reasons.Stopped causes.NoRam))
     × (no_report (stops.TooMuchRam 4294967297) ≡ errors.Reason (reasons.Stopped (causes.TooMuchRam 4294967297)))
     × (no_report stops.Memory ≡ errors.Memory) × (no_words words.Usage ≡ errors.Reason reasons.Usage) × (no_words words.Memory ≡ errors.Memory)
 no_report_examples = (refl, refl, refl, refl, refl, refl)
 
--- what is told of a fault, in each form
+-- the line of each form of diagnostic
 told_lines : (diagnostic_line (codes "zeropage") (Some (Diagnostic.Whole (codes "initrd too far")))
     ≡ codes "bootmem: zeropage: initrd too far\n")
     × (diagnostic_line (codes "efi") (Some (Diagnostic.Far (codes "descriptor") 3)) ≡ codes "bootmem: efi: descriptor 3 too far\n")
@@ -37,7 +37,7 @@ told_lines : (diagnostic_line (codes "zeropage") (Some (Diagnostic.Whole (codes 
 unfolding digits
 told_lines = (refl, refl, refl, refl, refl, refl)
 
--- the line of each way to end
+-- the line of each failure
 fault_lines : (fault_line (codes "zeropage") (faults.ZeroPage (zero.EntryTooFar 3))
     ≡ codes "bootmem: zeropage: entry 3 too far\n")
     × (fault_line (codes "e820ext") (faults.Extension (extension.EntryTooFar 3071)) ≡ codes "bootmem: e820ext: entry 3071 too far\n")

@@ -1,4 +1,4 @@
--- What the program comes to, on small files.
+-- The outcome for small files.
 use Rattle.std.proofs.Common.{◌≡◌, ℕ, if◌then◌else◌, List, [], ◌∷◌, codes, Option, Some, None, Ok, Err, refl}
 use Rattle.std.specs.Prelude.{replicate}
 use Rattle.std.specs.Str.{bytes_eq}
@@ -29,11 +29,12 @@ wanting zero_page = record {
   made = None;
 }
 
--- one file, a zero page that is too short
+-- the one file `short` contains a zero page that is too short
 abbrev held : Held
 held name = if bytes_eq name (codes "short") then Some (replicate 4095 0) else None
 
--- refused words, whatever is held; and a zero page that is missing, or has a fault
+-- a refused command line, whatever the files contain; then a zero page that is missing, and one
+-- with a fault
 refused_words : (h : Held) → outcome None h ≡ Err reasons.Usage
 refused_words h = refl
 
@@ -42,7 +43,7 @@ refused_pages : (outcome (Some (wanting (codes "no"))) held ≡ Err (reasons.Unr
     ≡ Err (reasons.Faulty inputs.ZeroPage (faults.ZeroPage zero.WrongLength)))
 refused_pages = (refl, refl)
 
--- a made table in place of the files' entries
+-- inputs whose entries a made table replaces
 abbrev of_files : Given
 of_files = record (begun Bits46 (record { base = 0x1000000; size = 0x2000000 })) {
   entries = low_ram ∷ low_ram ∷ low_ram ∷ [];
@@ -50,7 +51,8 @@ of_files = record (begun Bits46 (record { base = 0x1000000; size = 0x2000000 }))
   extension = low_ram ∷ [];
 }
 
--- two entries are the first two, and nothing is left for the extension; without a number the files' entries stay
+-- a made table of two entries leaves none for the extension; without a made table the files'
+-- entries stay
 made_examples : (h : Held)
     → (with_made (Some 2) of_files ≡ record of_files { entries = low_ram ∷ high_ram ∷ []; initrd = None; extension = [] })
     × (with_made None of_files ≡ of_files)
@@ -63,7 +65,7 @@ made_examples : (h : Held)
 unfolding entries_behind
 made_examples h = (refl, refl, refl)
 
--- the parts of that definition
+-- the steps of `outcome`
 parts_examples : (or_stopped {A = ℕ} (Ok 7) ≡ Ok 7) × (or_stopped {A = ℕ} (Err causes.NoRam) ≡ Err (reasons.Stopped causes.NoRam))
 parts_examples = (refl, refl)
 

@@ -1,4 +1,4 @@
--- Inputs that are refused are refused in the outcome.
+-- An error of the inputs fits the outcome.
 use Rattle.std.proofs.Common.{◌≡◌, ◌≢◌, ℕ, List, Option, Some, None, Result, Ok, Err, arith}
 use Rattle.std.specs.Prelude.{IfSome, IsErrAnd, IsNone}
 use Rattle.bm_base.specs.ResultSteps.{◌>>=◌}
@@ -17,7 +17,7 @@ use Rattle.program_run.specs.Bootmem.{bootmem}
 use Rattle.program_run.specs.Outcome.{given_by, outcome, reported}
 use Rattle.program_run.specs.Stops.{no_words}
 
--- and where an input's file is reached it is reached there
+-- if a file is read for the inputs, it is read for the outcome
 refused_after : (error : NoInputs) (said : Result Given Reason) (reports : List Report) → FitsError place error said
     → FitsError place error (said >>= reported reports)
 refused_after error said reports fits = grind arith
@@ -32,14 +32,14 @@ pub fetches_none : {X : Type 0} (view : X → List ℕ) (r : Result X NoInputs) 
 fetches_none view r None wanted error is fits = tt
 fetches_none view r (Some held) wanted error is fits = grind (arith, inputs_fit held wanted error fits)
 
--- words that were read are accepted
+-- a command line that was read is accepted
 pub are_accepted : (accepted : Option Wanted) (wanted : Wanted) → or_refused accepted ≡ Ok wanted → accepted ≡ Some wanted
 are_accepted accepted wanted is = grind arith
 
 pub never_refused : (accepted : Option Wanted) (wanted : Wanted) → or_refused accepted ≡ Ok wanted → IsNone accepted → ⊥
 never_refused accepted wanted is none = grind arith
 
--- and those that weren't are refused, or memory ran out
+-- a command line that wasn't read is refused, or memory ran out
 pub words_cause : (before now : List ℕ → ℕ) (accepted : Option Wanted) (error : WordError)
     → (error ≢ words.Memory → or_refused accepted ≡ Err error) → ErrorHasCause bootmem before now accepted (no_words error)
 words_cause before now accepted error is = grind arith

@@ -1,4 +1,4 @@
--- The boot as a program over files: what is written is the text of its reports.
+-- `bootmem` as a program over files: its result is the text of its reports, with status 0.
 use Rattle.std.specs.Prelude.{ℕ, List}
 use Rattle.std.proofs.Common.{refl, inl}
 use Rattle.boot_inputs.specs.declared.input.Input.{Input}

@@ -1,4 +1,4 @@
--- What status 0 says, where the files tell what they hold and the output what was written.
+-- What status 0 promises if the files' contents and the bytes written so far are known.
 use Rattle.std.specs.Prelude.{◌≡◌, ℕ, List, Option, Some, Ok}
 use Rattle.std.specs.Io.KnownBytes.{Appends}
 use Rattle.program_end.specs.Program.{Held}
@@ -8,8 +8,10 @@ use Rattle.debugfs_reports.specs.ReportList.{text_of}
 use Rattle.program_run.specs.Outcome.{given_by}
 use Rattle.program_words.specs.Words.{Wanted}
 
--- the reports that the words ask for were written whole, of the one boot that the words and the bytes determine; and in it each usable
--- frame is touched by a claim with a recorded owner or in exactly one block, no other frame is in any, and each block is whole and maximal
+-- the requested reports were appended whole, made of the one boot that the command line and the
+-- files' bytes determine. In it each usable frame is touched by a claim with a recorded owner, or
+-- is in exactly one block (`each`). No other frame is in a block (`others`). Each block is whole,
+-- and maximal.
 pub record IsReported (accepted : Option Wanted) (held : Held) (old new : Option (List ℕ)) : Type 0 where
   pub wanted : Wanted
   pub given : Given

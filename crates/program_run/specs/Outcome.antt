@@ -1,4 +1,5 @@
--- What the program comes to, from the words and from what each name holds.
+-- The outcome of the program: what the command line and the contents of the files determine.
+-- `held` gives the bytes of each file.
 use Rattle.std.specs.Prelude.{ℕ, List, drop, take, Option, Some, None, Result, Ok, Err}
 use Rattle.bm_base.specs.ResultSteps.{◌>>=◌, with_error}
 use Rattle.e820_table.specs.Made.{made_entries}
@@ -13,12 +14,12 @@ use Rattle.program_end.specs.declared.failure.Reason.TheVariants as reasons
 use Rattle.program_end.specs.Fetches.{or_usage}
 use Rattle.program_words.specs.Words.{Wanted}
 
--- a boot that stops is the reason
+-- the value, or the cause of the stop as a reason
 abbrev pub or_stopped : {A : Type 0} → Result A Cause → Result A Reason
 or_stopped answer = with_error reasons.Stopped answer
 
--- where the words ask for a made input, its first 128 entries stand for those of the zero page and the others for those of the extension,
--- and there is no initrd
+-- the inputs with a made table, if the command line asks for one: its first 128 entries replace
+-- those of the zero page, the others those of the extension, and there is no initrd
 abbrev pub with_made : Option ℕ → Given → Given
 with_made None given = given
 with_made (Some count) given = record given {
@@ -27,19 +28,19 @@ with_made (Some count) given = record given {
   extension = drop 128 (made_entries count);
 }
 
--- what the boot is given, by the words and by the files that they name
+-- the inputs of the boot, as the command line and its files give them
 abbrev pub given_by : Held → Wanted → Result Given Reason
 given_by held wanted = do
   given ← inputs_of held wanted.named wanted.begun
   Ok (with_made wanted.made given)
 
--- the text of the reports of what the boot makes of the inputs
+-- the text of the reports on a boot with these inputs
 abbrev pub reported : List Report → Given → Result (List ℕ) Reason
 reported reports given = do
   told ← or_stopped (told_boot given)
   Ok (text_of reports told)
 
--- what the program comes to: the text that it writes, or why there is none
+-- the outcome of the program: the text that it writes, or the reason why there is none
 abbrev pub outcome : Option Wanted → Held → Result (List ℕ) Reason
 outcome accepted held = do
   wanted ← or_usage accepted

@@ -1,5 +1,5 @@
-//! What the boot is given: what the named files say, and where the words ask for a made table, that in place of the zero
-//! page's and the extension's.
+//! The inputs of the boot: what the named files contain, or a made table in place of the entries
+//! of the zero page and of the extension.
 
 ghost use Rattle.std.specs.Prelude.{◌≡◌, ◌<◌, IfErr, IfOk, IfSome, IsErr, IsSomeAnd, Some};
 ghost use Rattle.boot_model.specs.View.{inputs_view};
@@ -19,7 +19,14 @@ use e820_table::made;
 use program_words::Wanted;
 use std::alloc::Global;
 
-/// Reads the files that the words name, and makes the table that they ask for. The first refusal of a file is the answer.
+/// Reads the files that the command line names, in their order. If the command line asks for a
+/// made table, its entries replace those of the zero page and of the extension.
+///
+/// # Errors
+///
+/// - `Reason::Unread` if a file can't be read, and `Reason::Faulty` if one has a fault. The first
+///   such file ends the call.
+/// - `Memory` if this program is out of memory.
 pub fn read_given<F: Files>(
     alloc: Global,
     wanted: &Wanted<'_>,
@@ -37,7 +44,8 @@ pub fn read_given<F: Files>(
     }
 }
 
-/// What the boot is given by the words themselves.
+/// Returns the inputs that the command line itself gives, to which the files add. Fails only if
+/// out of memory.
 fn begun_by(alloc: Global, wanted: &Wanted<'_>) -> Result<Inputs, NoInputs>
     ensures begun { IfOk result (λ inputs. inputs_view inputs ≡ (wanted_view wanted.now).begun) }
     ensures only { IfErr result (λ error. error ≡ errors.Memory) }
@@ -48,7 +56,9 @@ fn begun_by(alloc: Global, wanted: &Wanted<'_>) -> Result<Inputs, NoInputs>
     }
 }
 
-/// The inputs with a made table of so many entries in place of those that the files give, where one is asked for.
+/// Returns `inputs`; if `entries` is a number (2 to 3000), a made table with so many entries
+/// replaces those of the zero page and of the extension. Runs out of memory only for more than 128
+/// entries.
 fn with_made(alloc: Global, inputs: Inputs, entries: Option<u32>) -> Result<Inputs, Memory>
     requires few { IfSome entries AreEntries }
     ensures made { IfOk result (λ given. inputs_view given ≡ with_made entries (inputs_view inputs)) }
@@ -60,7 +70,8 @@ fn with_made(alloc: Global, inputs: Inputs, entries: Option<u32>) -> Result<Inpu
     }
 }
 
-/// The inputs with a made table of so many entries in place of those that the files give. It has no initrd.
+/// Replaces the entries of the zero page and of the extension by a made table of `count` entries
+/// (2 to 3000). The inputs then have no initrd. Runs out of memory only for more than 128 entries.
 fn with_entries(alloc: Global, inputs: Inputs, count: u32) -> Result<Inputs, Memory>
     requires few { AreEntries count }
     ensures made { IfOk result (λ given. inputs_view given ≡ with_made (Some count) (inputs_view inputs)) }

@@ -1,15 +1,21 @@
-//! The whole program over any files, output and error output.
+//! The program `bootmem` over any files, output and error output.
 //!
-//! What it answers is a definition, `outcome` of `specs/Outcome.antt`: from the words to
-//! what they ask for (`program_words`), from the files' bytes to the inputs (`boot_inputs`), from those to what
-//! the boot makes (`boot_model`), and from that to the text of the reports (`debugfs_reports`), each
-//! step by cases. [`run`] answers what it says, but where the outside fails: a file that couldn't be
-//! read, an output that refused, want of memory. The first two have their cause in a count of the
-//! object that was handed in. How the program ends, and the line of each failure, is that of any program over files
-//! (`program_end`), of which this one is `bootmem` (`specs/Bootmem.antt`).
+//! [`run`] reads the command line and the files that it names, boots with them, and writes the
+//! reports. The definition `outcome` (`specs/Outcome.antt`) says what it writes, in four steps.
+//! The command line gives what is asked for (`program_words`), the files' bytes give the inputs
+//! (`boot_inputs`), the inputs give the memory after the boot (`boot_model`), and that gives the
+//! text of the reports (`debugfs_reports`).
 //!
-//! The program on the system's files and streams is `bootmem_cli`. [`read_given`] and [`no_report`] are for whoever boots without a
-//! report (`bootmem_c`).
+//! The layer above may rest on this: `run` does what `outcome` says, unless a file can't be read,
+//! the output refuses the text, or this program is out of memory. For the first two a counter of
+//! the object that was passed in rose. How a program ends, and which line a failure puts, is
+//! defined for any program over files (`program_end`); this one is `bootmem`
+//! (`specs/Bootmem.antt`).
+//!
+//! `bootmem_cli` runs it on the files and streams of the operating system. [`read_given`] and
+//! [`no_report`] serve a caller that boots without writing reports (`bootmem_c`).
+//!
+//! In contracts, a name means the definition in `specs/`.
 #![tactic(auto)]
 
 mod failure;

@@ -1,5 +1,5 @@
-//! The whole program over any files and outputs. It is generic over them, so one contract speaks of those in
-//! memory, with which tests run it, and of the system's, which `main` hands in (`bootmem_cli`).
+//! The whole program over any files and outputs. Since it is generic, one contract covers the
+//! files in memory of the tests and those of the operating system (`bootmem_cli`).
 
 ghost use Rattle.std.specs.Prelude.{◌≡◌, ◌≢◌, ℕ, List, Some, Ok, IfErr, IfSome, IsNone, IsOkAnd, ◌⊎◌, flat_map};
 ghost use Rattle.std.specs.Io.KnownBytes.{Appends};
@@ -36,16 +36,25 @@ use program_end::{exit_status, tell_end};
 use program_words::{Wanted, WordError, read_words};
 use std::alloc::Global;
 
-/// The whole program: reads the files that the words name, boots with them, and writes the reports.
-/// `words` are those after the program's name, of which [`program_words::read_words`] says what they may be. Answers the
-/// exit status.
+/// Reads the files that the command line names, boots with them, and writes the reports to `out`.
+/// `words` are the words after the program's name; [`program_words::read_words`] says which are
+/// accepted. Returns the exit status:
 ///
-/// If `outcome` is a text, that is written. If it is a reason for no report, nothing is, and the
-/// line of the reason goes to `err`. Three answers come from elsewhere: 3 if a named file couldn't
-/// be read, 4 if `out` failed, and 7 if memory ran out. What `err` answers changes no status.
+/// - 0: the reports were written whole.
+/// - 2: the command line isn't accepted; no file was read.
+/// - 3: a file that the command line names couldn't be read.
+/// - 4: `out` refused the text.
+/// - 5: a file has a fault.
+/// - 6: the boot stops for a cause, such as a map without a usable frame.
+/// - 7: out of memory.
 ///
-/// `holds` is what each file contains, where the type of `files` can say so, as files in memory do. For the system's files it is
-/// `None`: then the clauses on the outcome say nothing, and what is proved is that the same generic body runs.
+/// With status 0 nothing is put to `err`, and otherwise the one line of the failure. If `err`
+/// refuses it, the status stays the same. With 2, 3, 5 and 6 nothing is put to `out`. With 4 and 7
+/// `out` may have the first part of the text.
+///
+/// `holds` gives what each file contains, if the type of `files` knows it, as that of files in
+/// memory does. For the files of the operating system it is `None`. The clauses on `outcome` then
+/// say nothing, but it is the same generic code that runs.
 pub fn run<F: Files, S: Sink, E: Sink>(
     alloc: Global,
     words: &[String],
@@ -53,27 +62,28 @@ pub fn run<F: Files, S: Sink, E: Sink>(
     out: &mut S,
     err: &mut E,
 ) -> u8
-    // When each status comes, whatever the files tell. Refused words give 2, or 7 if memory runs out while
-    // they are read.
+    // When each status comes, even if the files' contents are unknown. A refused command line
+    // gives 2, or 7 if out of memory.
     ensures usage { result ≡ 2 → IsNone (accepted (texts words.now)) }
     ensures refused { IsNone (accepted (texts words.now)) → (result ≡ 2) ⊎ (result ≡ 7) }
     ensures unread { result ≡ 3 → (input : AnyInput)
         × RoseFor bootmem (F.faults files.old) (F.faults files.new) (accepted (texts words.now)) input }
     ensures unwritten { result ≡ 4 → Rose (S.faults out.old) (S.faults out.new) }
 
-    // What stays as it was, whatever the files tell: the files and the output with refused words, and the output
-    // if there is no text.
+    // What stays as it was, even if the files' contents are unknown: the files and `out` if the
+    // command line is refused, and `out` if there is no text.
     ensures unfetched { IsNone (accepted (texts words.now)) → files.new ≡ files.old }
     ensures unput { IsNone (accepted (texts words.now)) → out.new ≡ out.old }
     ensures early { (result ≡ 2) ⊎ (result ≡ 3) ⊎ (result ≡ 5) ⊎ (result ≡ 6) → out.new ≡ out.old }
     ensures wanting { result ≡ 7 → (out.new ≡ out.old) ⊎ Rose (S.wants out.old) (S.wants out.new) }
 
-    // The headline: after status 0 the text of the one boot that the bytes determine was written, and in it each
-    // usable frame is touched by a claim with a recorded owner or in exactly one block, and no other frame is in any.
+    // The headline. With status 0 the text of the one boot that the bytes determine was written.
+    // In this boot each usable frame is touched by a claim with a recorded owner, or is in exactly
+    // one block; no other frame is in a block.
     ensures headline { result ≡ 0 → IfSome (F.holds files.old) (λ held.
         IsReported (accepted (texts words.now)) held (S.written out.old) (S.written out.new)) }
 
-    // Where the files tell what they hold: the status and the output are those of the outcome.
+    // If the files' contents are known, the status and the output are those of the outcome.
     ensures answers { IfSome (F.holds files.old) (λ held.
         MayEndWith bootmem (outcome (accepted (texts words.now)) held) result) }
     ensures written { result ≡ 0 → IfSome (F.holds files.old) (λ held.
@@ -91,7 +101,8 @@ pub fn run<F: Files, S: Sink, E: Sink>(
     ensures stopped { result ≡ 6 → IfSome (F.holds files.old) (λ held.
         IsStopped (outcome (accepted (texts words.now)) held)) }
 
-    // Nothing but the outside stands between a text and its writing.
+    // If no counter of the output or of a file rose, a text of the outcome is written unless the
+    // program is out of memory.
     ensures complete { IfSome (F.holds files.old) (λ held. (text : List ℕ)
         → outcome (accepted (texts words.now)) held ≡ Ok text
         → ¬ Rose (S.faults out.old) (S.faults out.new)
@@ -99,8 +110,8 @@ pub fn run<F: Files, S: Sink, E: Sink>(
         → ¬ RoseFor bootmem (F.faults files.old) (F.faults files.new) (accepted (texts words.now)) input)
         → (result ≡ 0) ⊎ (result ≡ 7)) }
 
-    // What stands on the error output: nothing, or the line of a failure that has the status, has
-    // its cause, and is that of the outcome.
+    // What `err` has: nothing with status 0, else the line of a failure with this status. The
+    // failure has its cause and fits the outcome.
     ensures silent { result ≡ 0 → err.new ≡ err.old }
     ensures line { result ≢ 0 → (failure : AnyFailure AnyReason) × (result ≡ status_of failure)
         × PutsLine E.Sink err.old err.new (failure_line (accepted (texts words.now)) failure)
@@ -112,7 +123,8 @@ pub fn run<F: Files, S: Sink, E: Sink>(
     exit_status(end)
 }
 
-/// The program up to its end, of which the line is told.
+/// Runs the program and puts the line of its failure. Returns the status of its result, or the
+/// failure.
 fn run_to_end<F: Files, S: Sink, E: Sink>(
     alloc: Global,
     words: &[String],
@@ -148,7 +160,7 @@ fn run_to_end<F: Files, S: Sink, E: Sink>(
     }
 }
 
-/// Why words that weren't read give no report.
+/// Returns why a command line that couldn't be read gives no report.
 fn no_words(error: WordError) -> NoReport
     ensures { result ≡ no_words error }
 {
@@ -158,7 +170,7 @@ fn no_words(error: WordError) -> NoReport
     }
 }
 
-/// Writes the reports that are asked for, once all of them are there. Answers status 0.
+/// Writes the requested reports, once all of their texts are made. Returns status 0.
 fn write_reports<F: Files, S: Sink>(
     alloc: Global,
     wanted: &Wanted<'_>,
@@ -175,7 +187,7 @@ fn write_reports<F: Files, S: Sink>(
     Ok(0)
 }
 
-/// The texts of the reports that are asked for.
+/// Returns the texts of the requested reports, in the order of the list.
 fn make_texts<F: Files>(
     alloc: Global,
     wanted: &Wanted<'_>,
@@ -191,7 +203,8 @@ fn make_texts<F: Files>(
     boot_texts(alloc, inputs, wanted.list)
 }
 
-/// The texts of a list of reports, of what the boot makes of the inputs.
+/// Boots with these inputs and returns the texts of the listed reports. `list` has the names of
+/// reports, separated by commas.
 fn boot_texts(alloc: Global, inputs: Inputs, list: &str) -> Result<Vec<Vec<u8>>, NoReport>
     ensures fetches { Fetches place (λ texts. flat_map (λ text. text.items) texts.items) result
         (reported (reports_in list.now) (inputs_view inputs)) }

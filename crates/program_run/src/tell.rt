@@ -1,4 +1,4 @@
-//! The lines of the boot's failures.
+//! The lines of `bootmem`'s failures.
 
 ghost use Rattle.std.specs.Prelude.{◌≡◌};
 ghost use Rattle.std.specs.Option.{option_map};
@@ -15,7 +15,8 @@ use memblock_model::Which;
 use program_end::{Lines, put_line};
 use program_words::Wanted;
 
-/// The lines of the boot that the words ask for, where they are accepted.
+/// The lines of `bootmem`'s failures. `wanted` is the accepted command line, which names the
+/// files; `None` if the command line isn't accepted.
 #[derive(Clone, Copy)]
 pub struct BootmemLines<'a, 'w> {
     pub wanted: Option<&'a Wanted<'w>>,
@@ -50,7 +51,8 @@ impl<'a, 'w> Lines<Input, Fault, Cause> for BootmemLines<'a, 'w> {
     }
 }
 
-/// The line of a fault of the input of that name. A reader's want of memory is none (`bytes_want_no_memory`), so it never comes.
+/// Puts the line of a fault of the input `name`. The last branch is never taken, since out of
+/// memory is no fault of a file's bytes (`bytes_want_no_memory`).
 fn tell_fault<E: Sink>(err: &mut E, name: &'static str, fault: Fault)
     ensures { PutsLine E.Sink err.old err.new (fault_line name.now fault) }
 {
@@ -100,7 +102,7 @@ fn tell_cause<E: Sink>(err: &mut E, cause: Cause)
     }
 }
 
-/// The line of a thing that found no place.
+/// Puts the line of a boot that stopped because `what` found no place.
 fn tell_place<E: Sink>(err: &mut E, what: What)
     ensures { PutsLine E.Sink err.old err.new (place_line what) }
 {
@@ -113,7 +115,8 @@ fn tell_place<E: Sink>(err: &mut E, what: What)
     }
 }
 
-/// The line of a numbered thing that found no place.
+/// Puts the line of a boot that stopped because a numbered thing found no place. `number` is that
+/// of its node, root or section.
 fn tell_thing<'a, E: Sink>(err: &mut E, name: &'a str, number: u32)
     ensures { PutsLine E.Sink err.old err.new (thing_line name.now number) }
 {
@@ -125,7 +128,7 @@ fn tell_thing<'a, E: Sink>(err: &mut E, name: &'a str, number: u32)
     )
 }
 
-/// The name of a table of memblock.
+/// Returns the name of a table of memblock.
 fn table_name(which: Which) -> &'static str
     ensures { result.now ≡ table_name which }
 {
@@ -135,7 +138,7 @@ fn table_name(which: Which) -> &'static str
     }
 }
 
-/// The line of a table that found no place, of so many records.
+/// Puts the line of a boot that stopped because a table found no place for `room` records.
 fn tell_table<'a, E: Sink>(err: &mut E, name: &'a str, room: u64)
     ensures { PutsLine E.Sink err.old err.new (table_line name.now room) }
 {

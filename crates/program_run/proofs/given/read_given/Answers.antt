@@ -1,4 +1,5 @@
--- Files that are refused are refused whatever table is made; else it stands in what they give.
+-- An error of the files stays whichever table is made; otherwise the made table replaces the
+-- files' entries.
 use Rattle.boot_model.specs.View.{inputs_view}
 use Rattle.program_words.specs.View.{wanted_view}
 use Rattle.program_run.proofs.GivenLaws.{given_none, given_some}

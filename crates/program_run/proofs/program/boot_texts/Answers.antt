@@ -1,4 +1,4 @@
--- A stop is the boot's, and the texts are those of what the boot made.
+-- A stop is the boot's; the texts are those of the boot.
 use Rattle.std.proofs.Common.{◌∙◌, refl}
 use Rattle.e820_usable.proofs.FramesLaws.{runs_ascend}
 use Rattle.program_run.proofs.BootedLaws.{items_shown, items_stand, told_is}

@@ -1,4 +1,5 @@
--- Inputs that are refused are the reason for no report, and else the boot of the inputs is reported.
+-- An error of the inputs is the reason for no report; otherwise the reports are on a boot with
+-- these inputs.
 use Rattle.program_words.specs.View.{wanted_view}
 use Rattle.program_run.proofs.RunLaws.{fetches_none}
 use Rattle.program_run.proofs.program.make_texts.Goals as goal

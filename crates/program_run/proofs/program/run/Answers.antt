@@ -1,4 +1,4 @@
--- The clauses on refused words, the headline, the outcome and the line, from what is known of the end.
+-- The clauses of `run` follow from how its end fits the outcome.
 use Rattle.program_end.proofs.EndLaws.{ends_told}
 use Rattle.program_words.specs.Words.{accepted, texts}
 use Rattle.program_run.specs.Bootmem.{bootmem}

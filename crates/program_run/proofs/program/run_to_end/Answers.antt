@@ -1,4 +1,5 @@
--- Accepted words end as their reports do; of others nothing is fetched or put.
+-- An accepted command line ends as its reports do. For a refused one no file is fetched and
+-- nothing is put.
 use Rattle.program_run.proofs.RunLaws.{are_accepted, never_refused, words_cause, words_fit}
 use Rattle.program_run.proofs.program.run_to_end.Goals as goal
 

@@ -1,4 +1,4 @@
--- The chunks of each line are the line.
+-- The chunks that each branch puts make up its line.
 use Rattle.program_run.proofs.tell.tell_cause.Goals as goal
 
 pub returns-in-TooMuchRam : goal.returns-in-TooMuchRam

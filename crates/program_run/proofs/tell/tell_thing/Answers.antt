@@ -1,4 +1,4 @@
--- The chunks of the line are the line.
+-- The chunks that are put make up the line.
 use Rattle.program_run.proofs.tell.tell_thing.Goals as goal
 
 pub returns : goal.returns
