@@ -1,4 +1,4 @@
--- What the command makes of arguments that no word uses: one that has a default gets it.
+-- The values of arguments that no word has: the default, if there is one.
 use Rattle.std.proofs.Common.{◌≡◌, ℕ, ◌&&◌, ◌||◌, Bool, true, false, List, [], ◌∷◌, ◌++◌, Option, Some, None, codes, refl, ap, ◌∙◌, map, if◌then◌else◌, slice_get, arith, inl, inr}
 use Rattle.std.specs.Prelude.{fold}
 use Rattle.std.specs.List.{list_all, list_any}
@@ -34,12 +34,12 @@ some_value values none other = grind arith
 abbrev own_default : Rule → Values
 own_default rule argument = if bytes_eq rule.id argument then slice_get rule.defaults 0 else None
 
--- the default by the first of these rules that has one
+-- the default of the argument, in the first of the rules that gives one
 abbrev default_by : List Rule → Values
 default_by [] argument = None
 default_by (rule ∷ some) argument = option_or (own_default rule argument) (default_by some argument)
 
--- what isn't found in some rows is found in one that is added
+-- an added row gives the value of an argument that the rows before don't have
 found_more : (rows : List Row) (row : Row) (argument value : List ℕ) → are_full rows ≡ true → slice_get row.values 0 ≡ Some value
     → value_in (rows ++ row ∷ []) argument ≡ option_or (value_in rows argument) (if bytes_eq row.id argument then Some value else None)
 found_more [] row argument value full is = grind arith
@@ -71,7 +71,7 @@ default_row rule values = record {
   reading = reading_by rule;
 }
 
--- one rule, and all of them
+-- what the default of one rule adds to the rows
 record Adds (rule : Rule) (rows now : List Row) : Type 0 where
   full : are_full now ≡ true
   values : (argument : List ℕ) → value_in now argument ≡ option_or (value_in rows argument) (own_default rule argument)
@@ -116,7 +116,7 @@ defaulted (rule ∷ some) rows argument full =
 abbrev nothing : Option (List ℕ)
 nothing = None
 
--- the rules are those of the table, and that of the name; a flag alone has a default
+-- the rules are those of the options, then that of the name; only flags have a default
 rules_are : rules ≡ map option_of options ++ name_rule ∷ []
 unfolding program
 rules_are = refl
@@ -153,7 +153,7 @@ defaults_pass (rule ∷ some) rows none =
     rw (either_none (has_row rule.id rows || is_empty rule.defaults) (pass rule) (ap (first_or []) none))
     (defaults_pass some (with_default rows rule) (ap behind_first none))
 
--- an argument that no row is of has the value of one that no spelling has
+-- an argument without a row has the value of one that no spelling has
 pub as_unspelled : (argument : List ℕ) → default_by rules argument ≡ unspelled argument
 as_unspelled argument = rw rules_are (unspelled_by options argument all_off)
 

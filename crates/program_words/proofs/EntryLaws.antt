@@ -1,4 +1,4 @@
--- Numbers of decimal digits alone, and what `parse` makes of them.
+-- Numbers of decimal digits, and the result of `parse` for them.
 use Rattle.std.proofs.Common.{◌≡◌, ℕ, ◌<◌, ◌^◌, Bool, true, false, List, [], ◌∷◌, ◌&&◌, None, Err, refl, rules, sym, arith, if◌then◌else◌, Some}
 use Rattle.std.proofs.lemmas.Grind.{common_steps}
 use Rattle.std.specs.Str.Parse.{ParsesUnsigned, digits_value}
@@ -16,7 +16,7 @@ refused : (digits : Bool) (text : List ℕ) → are_entries (digits_value 10 tex
 refused false text beyond = refl
 refused true text beyond = rw beyond refl
 
--- digits that `parse` refuses are none, or write a number of more than 32 bits
+-- decimal digits that `parse` refuses are an empty text, or a number of more than 32 bits
 pub not_parsed : (text : List ℕ) → ParsesUnsigned {E = Unit {0}} 32 10 text (Err (tt {0})) → are_digits text ≡ true → None ≡ entries_in text
 not_parsed [] parses digits = refl
 not_parsed (b ∷ bs) parses digits =

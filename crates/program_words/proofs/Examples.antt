@@ -17,7 +17,7 @@ use Rattle.program_words.specs.Range.{if_in_space, range_in}
 use Rattle.program_words.specs.Spelling.{Spelling, apart, argument_in, dashed, flag, spelled_values, is_flag, is_option, is_plain, joined, named, spelled, spelled_for, text_in, unspelled, words_of}
 use Rattle.program_words.specs.Words.{Values, Wanted, accepted, argument_of, asked_by, begun_by, has_source, is_on, list_asked, list_in, name_in, provided, value_in, width_in}
 
--- what words ask for, apart from the names of files by input
+-- what a command line asks for, with the names of files listed
 record Asked : Type 0 where
   zero_page : Option (List ℕ)
   extension : Option (List ℕ)
@@ -64,15 +64,15 @@ map_of_zp = record {
   made = None;
 }
 
--- `bootmem --report map zp`, and the same with the name in front and the value behind `=`
--- the name alone: the report that is given where none is asked for
+-- `bootmem --report map zp`; the name first and the value after `=`; the name alone, for the
+-- default report
 named_words : (asked (codes "--report" ∷ codes "map" ∷ codes "zp" ∷ []) ≡ Some map_of_zp)
     × (asked (codes "zp" ∷ codes "--report=map" ∷ []) ≡ Some map_of_zp)
     × (asked (codes "zp" ∷ []) ≡ Some (record map_of_zp { reports = reports.Buddyinfo ∷ [] }))
 unfolding program clap_on_literals
 named_words = (refl, refl, refl)
 
--- every option, in two forms
+-- all inputs, options in both forms
 all_words : asked (codes "--cmdline=-c" ∷ codes "--kernel" ∷ codes "16M,0x200000" ∷ codes "--script" ∷ codes "s" ∷ codes "zp" ∷
     codes "--e820ext" ∷ codes "e" ∷
     codes "--srat=t" ∷ codes "--slit=d" ∷ codes "--pages" ∷ codes "p" ∷ codes "--efi=m" ∷
@@ -93,7 +93,7 @@ all_words : asked (codes "--cmdline=-c" ∷ codes "--kernel" ∷ codes "16M,0x20
 unfolding program clap_on_literals
 all_words = refl
 
--- both flags, and two mirrored ranges of which one is no whole frame
+-- both flags, and two mirrored ranges, one without a whole frame
 flag_words : asked (codes "--bottom-up" ∷ codes "--mirror" ∷ codes "4095,8193:1,4096" ∷ codes "zp" ∷ codes "--report=map"
     ∷ codes "--la57" ∷ [])
     ≡ Some (record map_of_zp {
@@ -102,24 +102,23 @@ flag_words : asked (codes "--bottom-up" ∷ codes "--mirror" ∷ codes "4095,819
 unfolding program clap_on_literals
 flag_words = refl
 
--- an image that lies out of reach of 46 bits is taken with page tables of five levels
+-- an image at 2^46 is accepted only with page tables of five levels
 wide_kernel : (accepted (codes "--kernel" ∷ codes "0x400000000000,0x2000" ∷ codes "zp" ∷ []) ≡ None)
     × (asked (codes "--la57" ∷ codes "--kernel" ∷ codes "0x400000000000,0x2000" ∷ codes "--report=map" ∷ codes "zp" ∷ [])
     ≡ Some (record map_of_zp { begun = begun Bits52 (record { base = 0x400000000000; size = 0x2000 }) }))
 unfolding program clap_on_literals
 wide_kernel = (refl, refl)
 
--- a made table in place of a zero page
--- behind `--` a word is a name
+-- a made table in place of a zero page; after `--` any word is a name
 made_words : (asked (codes "--make" ∷ codes "007" ∷ codes "--report" ∷ codes "map" ∷ [])
     ≡ Some (record map_of_zp { zero_page = None; made = Some 7 }))
     × (asked (codes "--report=map" ∷ codes "--" ∷ codes "-zp" ∷ []) ≡ Some (record map_of_zp { zero_page = Some (codes "-zp") }))
 unfolding program clap_on_literals
 made_words = (refl, refl)
 
--- refused by the command: an option twice, an option without a value, a value with a hyphen in a word of its own, two names, an option
--- that there isn't, one in short
--- a flag twice, one with a value, in the next word or behind `=`, and one cut short
+-- refused by the command: an option twice, one without a value, a value that begins with a hyphen
+-- in a word of its own, two names, an unknown option, an abbreviated one; a flag twice, with a
+-- value in the next word or after `=`, abbreviated. The empty value is taken.
 faults_of_words : (is_faultless (codes "--report=map" ∷ codes "--report=map" ∷ codes "zp" ∷ []) ≡ false)
     × (is_faultless (codes "zp" ∷ codes "--report" ∷ []) ≡ false)
     × (is_faultless (codes "--cmdline" ∷ codes "-c" ∷ codes "zp" ∷ []) ≡ false) × (is_faultless (codes "zp" ∷ codes "zp" ∷ []) ≡ false)
@@ -131,8 +130,8 @@ faults_of_words : (is_faultless (codes "--report=map" ∷ codes "--report=map" �
 unfolding program clap_on_literals
 faults_of_words = (refl, refl, refl, refl, refl, refl, refl, refl, refl, refl, refl, refl)
 
--- the command takes these, and what they ask for is refused: neither a zero page nor a number, both, an extension beside a number, an
--- empty list, a kernel below the first MiB
+-- taken by the command, but refused: no source of entries, two sources, a made table with an
+-- extension, an empty list of reports, a kernel below 1 MiB
 refused_for_what_they_ask : (is_faultless [] ≡ true) × (accepted [] ≡ None)
     × (accepted (codes "--make=5" ∷ codes "--report=map" ∷ codes "zp" ∷ []) ≡ None)
     × (accepted (codes "--make=5" ∷ codes "--report=map" ∷ codes "--e820ext=e" ∷ []) ≡ None)
@@ -153,7 +152,8 @@ found_examples : (value_in (matches_of program (codes "--script" ∷ codes "s" �
 unfolding program clap_on_literals
 found_examples = (refl, refl, refl)
 
--- values by pairs: a number and an extension, a zero page and an extension, an extension alone
+-- three sets of values: a made table and an extension, a zero page and an extension, an extension
+-- alone
 abbrev with_number : Values
 with_number = spelled_values (apart (codes "make") (codes "5") ∷ joined (codes "e820ext") (codes "e") ∷ [])
 
@@ -180,7 +180,7 @@ begun_examples : (begun_by Bits52 default_kernel (record { base = 4096; size = 8
     × (provided false ≡ None)
 begun_examples = (refl, refl, refl)
 
--- decimal digits alone, leading zeros among them, from 2 to 3,000
+-- digits only, and 2 to 3000 entries, leading zeros included
 digit_examples : (are_digits (codes "0123456789") ≡ true) × (are_digits [] ≡ true) × (are_digits (codes "+5") ≡ false)
     × (are_digits (codes "0x5") ≡ false) × (are_entries 1 ≡ false) × (are_entries 2 ≡ true) × (are_entries 3000 ≡ true)
     × (are_entries 3001 ≡ false)
@@ -191,8 +191,8 @@ entry_examples : (entries_in (codes "2") ≡ Some 2) × (entries_in (codes "0003
     × (entries_of (Some (codes "5")) ≡ Some (Some 5)) × (entries_of (Some (codes "1")) ≡ None)
 entry_examples = (refl, refl, refl, refl, refl, refl, refl, refl, refl)
 
--- the least image, and the last one; one frame too few, half a frame, and a frame too far, which isn't too far for 52 bits
--- one comma, and a size on each side of it that takes all that stands there
+-- the lowest and the highest image; one frame too small, not whole frames, one frame too high for
+-- 46 bits but not for 52; then texts of other forms, and the default
 kernel_examples : (kernel_in Bits46 (codes "1M,8K") ≡ Some (record { base = 0x100000; size = 8192 }))
     × (kernel_in Bits46 (codes "0x3FFFFFFFE000,8192") ≡ Some (record { base = 0x3FFFFFFFE000; size = 8192 }))
     × (kernel_in Bits46 (codes "1M,4K") ≡ None) × (kernel_in Bits46 (codes "0x100800,32M") ≡ None)
@@ -205,7 +205,7 @@ kernel_examples : (kernel_in Bits46 (codes "1M,8K") ≡ Some (record { base = 0x
     × (if_kernel Bits46 (record { base = 0; size = 0x2000000 }) ≡ None)
 kernel_examples = (refl, refl, refl, refl, refl, refl, refl, refl, refl, refl, refl, refl, refl, refl, refl)
 
--- spelling
+-- the parts of spellings
 abbrev three_spellings : List Spelling
 three_spellings = apart (codes "report") (codes "map") ∷ named (codes "zp") ∷ joined (codes "script") (codes "-s") ∷ []
 
@@ -213,7 +213,8 @@ spelled_examples : (dashed (codes "make") ≡ codes "--make") × (words_of (join
     × (spelled three_spellings ≡ codes "--report" ∷ codes "map" ∷ codes "zp" ∷ codes "--script=-s" ∷ [])
 spelled_examples = (refl, refl, refl)
 
--- a value goes with an option, and none with a flag; a flag that no spelling has is off, and another option isn't there
+-- options have a value, flags don't; a flag that no spelling has is `false`, an option then has no
+-- value
 kind_examples : (has_value Set ≡ true) × (has_value SetTrue ≡ false) × (is_switch SetTrue ≡ true) × (is_switch SetFalse ≡ false)
 kind_examples = (refl, refl, refl, refl)
 
@@ -231,14 +232,15 @@ width_examples : (width_in (spelled_values (flag (codes "la57") ∷ [])) ≡ Bit
     × (is_on (spelled_values (flag (codes "la57") ∷ [])) (codes "bottom-up") ≡ false)
 width_examples = (refl, refl, refl, refl)
 
--- ranges: what is spelled so, up to the last address; one more isn't, nor another form
+-- ranges up to the last address, one that is too long, and other forms
 range_examples : (range_in (codes "4K,0x1000") ≡ Some (record { base = 4096; size = 4096 }))
     × (range_in (codes "0xFFFFFFFFFFFFEFFF,4096") ≡ Some (record { base = 0xFFFFFFFFFFFFEFFF; size = 4096 }))
     × (range_in (codes "0xFFFFFFFFFFFFF000,4096") ≡ None) × (range_in (codes "4K") ≡ None) × (range_in (codes "4K,4K,4K") ≡ None)
     × (if_in_space (record { base = 2 ^ 64 - 1; size = 0 }) ≡ Some (record { base = 2 ^ 64 - 1; size = 0 }))
 range_examples = (refl, refl, refl, refl, refl, refl)
 
--- lists: one piece, two of which one has no whole frame, no piece, an empty one at the end
+-- lists with one piece, with two (one without a whole frame), with none, and with an empty one at
+-- the end
 frames_of_lists : (pieces_in (codes "1,2:3,4") ≡ codes "1,2" ∷ codes "3,4" ∷ []) × (are_pieces (codes "64M,16M") ≡ true)
     × (are_pieces [] ≡ false) × (are_pieces (codes "64M,16M:") ≡ false)
     × (frames_by (codes "64M,16M") ≡ Some (record { base = 0x4000000; size = 0x1000000 })) × (mirrors_of None ≡ Some [])
@@ -246,7 +248,7 @@ frames_of_lists : (pieces_in (codes "1,2:3,4") ≡ codes "1,2" ∷ codes "3,4" �
     × (mirrors_of (Some (codes "4K,4K")) ≡ Some (record { base = 4096; size = 4096 } ∷ []))
 frames_of_lists = (refl, refl, refl, refl, refl, refl, refl, refl, refl)
 
--- 64 pieces are few enough, 65 aren't
+-- 64 pieces are accepted, 65 refused
 abbrev some_pieces : ℕ → List ℕ
 some_pieces zero = codes "0,0"
 some_pieces (suc more) = codes "0,0:" ++ some_pieces more

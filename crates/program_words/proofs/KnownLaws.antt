@@ -1,5 +1,6 @@
--- What the command knows of its arguments, and what is known of plain words: the facts by which words that are spelled are walked
--- over, without the command itself being opened again. Each is computed once for the whole table of options.
+-- What the command knows of its arguments, and what is known of plain words. With these facts the
+-- walk over spelled words is proved without unfolding the command. Each is computed once for all
+-- options.
 use Rattle.std.proofs.Common.{◌≡◌, ℕ, ◌==◌, Bool, true, false, ◌&&◌, List, [], ◌∷◌, ◌++◌, codes, Option, Some, None, map, refl, ap, subst, arith, inl, inr}
 use Rattle.std.specs.List.{list_any}
 use Rattle.std.specs.Str.{bytes_eq}
@@ -31,7 +32,7 @@ name_rule = with_index 1 (filled (positional_rule zero_page))
 abbrev pub joined_word : List ℕ → List ℕ → List ℕ
 joined_word name value = dashed name ++ (codes "=" ++ value)
 
--- an option: how its word is read, and where it is found
+-- how an option's word is read, and which rule it finds
 pub record Known (option : Listed) : Type 0 where
   pub not_end : bytes_eq (dashed option.0) (codes "--") ≡ false
   pub long_word : long_of (dashed option.0) ≡ Some (option.0, None)
@@ -42,7 +43,7 @@ pub record Known (option : Listed) : Type 0 where
   pub itself : bytes_eq option.0 option.0 ≡ true
   pub no_name : bytes_eq option.0 zero_page ≡ false
 
--- the same at once, so that it is computed at once
+-- the fields of `Known` as one tuple, so that one computation gives all
 abbrev Looked : Type 0
 Looked =
     Bool × Option (List ℕ × Option (List ℕ)) × (List ℕ → Bool) × (List ℕ → Option (List ℕ × Option (List ℕ))) × Option Rule × Option Rule
@@ -88,11 +89,12 @@ all_looked : map looked options ≡ map hoped options
 unfolding program
 all_looked = refl
 
--- the first of a list, and the others
+-- the first of a list
 abbrev pub first_or : {X : Type 0} → X → List X → X
 first_or other [] = other
 first_or other (x ∷ xs) = x
 
+-- the rest of a list
 abbrev pub behind_first : {X : Type 0} → List X → List X
 behind_first [] = []
 behind_first (x ∷ xs) = xs
@@ -117,7 +119,7 @@ known name is = known_in has_value Set (λ some is. grind arith) options name al
 pub flag_known : (name : List ℕ) → is_flag name ≡ true → Known (name, SetTrue)
 flag_known name is = known_in is_switch SetTrue (λ some is. grind arith) options name all_looked is
 
--- the name of the zero page, and the command as a whole
+-- the rule of the zero page's name, and the settings of the whole command
 pub name_by_index : arg_by_index rules 1 ≡ Some name_rule
 unfolding program
 name_by_index = refl

@@ -1,4 +1,4 @@
--- What the command makes of words that are spelled: it takes them, and finds the value of each spelling.
+-- The command takes words that are spelled by the grammar, and finds the value of each spelling.
 use Rattle.std.proofs.Common.{◌≡◌, ℕ, true, false, List, [], ◌∷◌, refl, inl, ap, ◌∙◌, map, arith}
 use Rattle.std.specs.Prelude.{fold}
 use Rattle.clap.specs.Faults.{check_fault}
@@ -16,7 +16,7 @@ check_passes : (rows : List Row) → check_fault shape rows false ≡ []
 unfolding program
 check_passes rows = refl
 
--- ---- the whole
+-- ---- all spellings
 
 found : (ss : List Spelling) (argument : List ℕ) → value_in (map row_of ss) argument ≡ spelled_for ss argument
 found [] argument = refl

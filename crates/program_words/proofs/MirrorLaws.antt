@@ -1,20 +1,20 @@
--- What is left of a list of ranges.
+-- What remains of a list of ranges.
 use Rattle.std.proofs.Common.{◌≡◌, ◌∙◌, ℕ, ◌+◌, Bool, ◌&&◌, is_some, nat_le, List, [], ◌∷◌, ◌++◌, Option, Some, None, length, append_assoc, refl, ap}
 use Rattle.std.specs.List.{filter_map, list_all}
 use Rattle.bm_base.specs.Range.{RangeView}
 use Rattle.program_words.specs.Mirrors.{frames_by}
 use Rattle.program_words.specs.Range.{range_in}
 
--- how much there is to do: none behind the last piece, else one more than the bytes that are left
+-- the measure of the loops: 0 after the last piece, else one more than the remaining bytes
 abbrev pub left : Option (List ℕ) → ℕ
 left None = 0
 left (Some text) = length text + 1
 
--- behind some pieces these are the last ones of a list of 64 at most, and each is a range
+-- `before` pieces and these are at most 64, and each of these writes a range
 abbrev pub judged : ℕ → List (List ℕ) → Bool
 judged before pieces = nat_le (before + length pieces) 64 && list_all (λ piece. is_some (range_in piece)) pieces
 
--- the frames of the first piece that is left stand behind those so far
+-- the frames of the next piece come after those found so far
 pub frames_onward : (found : List RangeView) (frames : RangeView) (piece : List ℕ) (pieces rest : List (List ℕ)) → pieces ≡ piece ∷ rest
     → Some frames ≡ frames_by piece → (found ++ frames ∷ []) ++ filter_map frames_by rest ≡ found ++ filter_map frames_by pieces
 frames_onward found frames piece pieces rest are is =

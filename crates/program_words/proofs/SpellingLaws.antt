@@ -1,5 +1,5 @@
--- The walk over words that are spelled as spellings: it stands between two spellings with one value waiting at most, settles it at the next
--- word, and ends with a row for each spelling.
+-- The walk of `clap` over spelled words. Between two spellings at most one value is pending; the
+-- next word settles it. At the end there is a row for each spelling.
 use Rattle.std.proofs.Common.{◌≡◌, ℕ, Bool, true, false, ◌&&◌, List, [], ◌∷◌, ◌++◌, Some, None, refl, inl, inr, sym, ap, map, ◌∙◌, arith}
 use Rattle.std.specs.Prelude.{◌⊎◌, fold}
 use Rattle.std.specs.Str.{bytes_eq}
@@ -25,7 +25,7 @@ resting position h = record {
   stopped = None;
 }
 
--- an option waits for its value, with all before it settled
+-- the option's value is the next word; all words before are settled
 abbrev waiting_for : ℕ → List ℕ → Held → Walk
 waiting_for position name h = record {
   held = record (settled rules h) { pending = Some (name, []) };
@@ -35,15 +35,15 @@ waiting_for position name h = record {
   stopped = None;
 }
 
--- a value waits beside its argument
+-- the value is pending for its argument
 abbrev with_value : List ℕ → List ℕ → Held → Held
 with_value argument value h = record (settled rules h) { pending = Some (argument, value ∷ []) }
 
--- a flag, too, waits for nothing
+-- after a flag nothing is pending
 abbrev pub with_flag : List ℕ → Held → Held
 with_flag name h = record h { rows = used (option_of (name, SetTrue)) [] (settled rules h).rows; pending = None }
 
--- a value behind `=` waits for nothing
+-- after a value that follows `=` nothing is pending
 abbrev with_joined : List ℕ → List ℕ → Held → Held
 with_joined name value h = record h { rows = used (option_of (name, Set)) (value ∷ []) (settled rules h).rows; pending = None }
 
@@ -70,7 +70,7 @@ module _ (position : ℕ) (h : Held) where
   unfolding walked
   flag_walks name k = rw (k.not_end, k.long_word, k.by_long) refl
 
-  -- the faults of each turn
+  -- no turn has a fault
   option_turn : (name : List ℕ) → Known (name, Set) → settle_fault rules false h ≡ []
       → turn_fault shape [] (resting position h) (dashed name) ≡ []
   option_turn name k settles = rw (k.not_end, k.long_word, k.by_long, once, settles) refl
@@ -95,7 +95,7 @@ name_turn : (name : List ℕ) (h : Held) → Plain name → settle_fault rules f
 name_turn name h p settles =
     rw (p.not_end, p.no_long, p.no_short, name_by_index, once, settles, and_false (is_pending name_rule h.pending)) refl
 
--- ---- what stands between two spellings
+-- ---- between two spellings
 
 abbrev pub row_of : Spelling → Row
 row_of s = record {
@@ -106,11 +106,12 @@ row_of s = record {
   reading = reading_by name_rule;
 }
 
--- no spelling is of the argument
+-- no spelling has this argument
 abbrev pub IsNew : List ℕ → List Spelling → Type 0
 IsNew argument ss = spelled_for ss argument ≡ None
 
--- what waits may be settled, and then each spelling so far has its row; before a name the walk is at the first place of names
+-- what is pending can be settled, and then each spelling so far has its row; while there is no
+-- name, the walk is at the first position of names
 pub record Stands (earlier : List Spelling) (position : ℕ) (h : Held) : Type 0 where
   pub rows : settled_rows rules h.pending h.rows ≡ map row_of earlier
   pub settles : settle_fault rules false h ≡ []
@@ -120,7 +121,7 @@ no_row : (argument : List ℕ) (earlier : List Spelling) → IsNew argument earl
 no_row argument [] new = refl
 no_row argument (s ∷ ss) new = grind (arith, no_row argument ss)
 
--- a spelling at the end
+-- one more spelling at the end
 new_before : (argument : List ℕ) (ss : List Spelling) (s : Spelling) → IsNew argument (ss ++ s ∷ []) → IsNew argument ss
 new_before argument [] s none = refl
 new_before argument (first ∷ ss) s none = grind (arith, new_before argument ss s)
@@ -134,7 +135,7 @@ not_new : (ss : List Spelling) (name : List ℕ) → IsNew zero_page (ss ++ name
 not_new [] name none = cc
 not_new (first ∷ ss) name none = grind (arith, not_new ss name)
 
--- what has no row gets one at the end
+-- an argument without a row gets one at the end
 pub no_row_changed : (id : List ℕ) (change : Row → List Row) (missing rows : List Row) → has_row id rows ≡ false
     → at_row id change missing rows ≡ rows ++ missing
 no_row_changed id change missing [] none = refl
@@ -150,7 +151,7 @@ rows_more earlier s new =
     rw left (no_row_changed (argument_in s) (more_values CommandLine (text_in s ∷ [])) (row_of s ∷ []) rows none
     ∙ sym (map-append row_of earlier (s ∷ [])))
 
--- ---- one spelling on
+-- ---- one spelling
 
 pub record Goes (earlier : List Spelling) (s : Spelling) (position : ℕ) (h : Held) : Type 0 where
   pub now : Held
@@ -228,9 +229,9 @@ goes earlier (named name) position h is new stands =
       fault = λ rest. rw (at_first, name_turn name h p stands.settles, to_rest) refl;
     }
 
--- ---- over all spellings
+-- ---- from spelling to spelling
 
--- no argument has a spelling on both sides
+-- no argument has a spelling both before and after
 abbrev pub Past : List Spelling → List Spelling → Type 0
 Past earlier later = (argument : List ℕ) → IsNew argument earlier ⊎ IsNew argument later
 

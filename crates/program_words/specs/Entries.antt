@@ -1,28 +1,29 @@
--- How many entries a made table has, by the value of `--make`.
+-- The number of entries of a made table, from the value of `--make`.
 use Rattle.std.specs.Prelude.{ℕ, ◌≤◌, Bool, ◌&&◌, nat_le, if◌then◌else◌, List, Option, Some, None}
 use Rattle.std.specs.Char.{is_ascii_digit}
 use Rattle.std.specs.List.{list_all}
 use Rattle.std.specs.Option.{option_map}
 use Rattle.std.specs.Str.Parse.{digits_value}
 
--- two at least, as in a zero page, and no more than 3,000, a bound of this project's own that leaves room in the kernel's table
+-- at least 2, as in a zero page, and at most 3000, a bound of this project that leaves room in the
+-- kernel's table
 abbrev pub AreEntries : ℕ → Type 0
 AreEntries count = (2 ≤ count) × (count ≤ 3000)
 
--- the same as a test
+-- `AreEntries` as a test
 abbrev pub are_entries : ℕ → Bool
 are_entries count = nat_le 2 count && nat_le count 3000
 
--- decimal digits alone, of which there may be none
+-- all bytes are decimal digits; the empty text passes
 abbrev pub are_digits : List ℕ → Bool
 are_digits text = list_all is_ascii_digit text
 
--- a value of decimal digits alone, whose number is in these bounds
+-- the number that the text writes in decimal digits, if it is within these bounds
 abbrev pub entries_in : List ℕ → Option ℕ
 entries_in text =
     if are_digits text && are_entries (digits_value 10 text) then Some (digits_value 10 text) else None
 
--- the number, where the option is given; none where it isn't; refused where the value is
+-- the number of entries: `Some None` without a value, `None` if the value is refused
 abbrev pub entries_of : Option (List ℕ) → Option (Option ℕ)
 entries_of None = Some None
 entries_of (Some text) = option_map (λ count. Some count) (entries_in text)

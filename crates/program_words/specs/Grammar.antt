@@ -1,25 +1,28 @@
--- The words after the program's name as the words of one command of `clap`. What that command makes of words is the
--- definition of the port: `fault_of`, whether it refuses them, and `matches_of`, what it finds for each argument.
+-- The words after the program's name as those of one command of `clap`. The port defines which
+-- words the command refuses (`fault_of`), and what it finds for each argument (`matches_of`).
 use Rattle.std.specs.Prelude.{ℕ, ◌==◌, Bool, true, false, List, [], ◌∷◌, Some, codes, fold, length}
 use Rattle.clap.specs.Words.{App, Rule, fault_of, new_app, new_rule, with_rule}
 use Rattle.clap.specs.declared.builder.action.ArgAction.{ArgAction}
 use Rattle.clap.specs.declared.builder.action.ArgAction.TheVariants.{Set, SetTrue}
 
--- an option, by its name and what its word does: with `Set` a value goes with it, `--NAME VALUE` or `--NAME=VALUE`; with `SetTrue` it is a
--- flag, `--NAME`
+-- an option: its name and its action. With `Set` it has a value, `--NAME VALUE` or `--NAME=VALUE`;
+-- with `SetTrue` it is a flag, `--NAME`.
 abbrev pub Listed : Type 0
 Listed = List ℕ × ArgAction
 
+-- the option as an argument of `clap`
 abbrev pub option_rule : Listed → Rule
 option_rule option = record (new_rule option.0) { long = Some option.0; action = Some option.1 }
 
+-- the command with one more option
 abbrev pub with_option : App → Listed → App
 with_option command option = with_rule command (option_rule option)
 
--- a word that belongs to no option
+-- a positional argument of `clap`: a word that belongs to no option
 abbrev pub positional_rule : List ℕ → Rule
 positional_rule name = record (new_rule name) { action = Some Set }
 
+-- the command with one more positional argument
 abbrev pub with_positional : App → List ℕ → App
 with_positional command name = with_rule command (positional_rule name)
 
@@ -41,25 +44,27 @@ options =
     ∷ (codes "make", Set)
     ∷ []
 
--- a value goes with the word, or it is a flag's
+-- the option has a value
 abbrev pub has_value : ArgAction → Bool
 has_value Set = true
 has_value _ = false
 
+-- the option is a flag
 abbrev pub is_switch : ArgAction → Bool
 is_switch SetTrue = true
 is_switch _ = false
 
--- a command without arguments, without `--help` and `--version`, whose first word isn't the program's name
+-- a command without arguments, without `--help` and `--version`, whose words don't begin with the
+-- program's name
 abbrev pub bare_app : App
 bare_app = record (new_app (codes "bootmem")) {
   top = record (new_app (codes "bootmem")).top { no_binary_name = true; disable_help_flag = true; disable_version_flag = true };
 }
 
--- the program: its options, and the name of the zero page, none of which has to be given
+-- the program: its options and the name of the zero page, none of them mandatory
 unfoldable pub program : App
 program = with_positional (fold with_option bare_app options) (codes "ZEROPAGE")
 
--- the command finds no fault in the words
+-- the command takes the words
 abbrev pub is_faultless : List (List ℕ) → Bool
 is_faultless words = length (fault_of program words) == 0

@@ -1,15 +1,15 @@
--- Ranges of addresses as words have them.
+-- Ranges of addresses as the command line writes them.
 use Rattle.std.specs.Prelude.{ℕ, ◌^◌, if◌then◌else◌, nat_lt, List, Option, Some, None}
 use Rattle.bm_base.specs.Range.{RangeView, end_of}
 use Rattle.bm_base.specs.OptionSteps.{◌>>=◌}
 use Rattle.text_words.specs.Parts.{split_once}
 use Rattle.boot_options.specs.MapOptions.{whole_size}
 
--- the address behind its last byte is one of 64 bits
+-- the range, if its base plus its size is at most 2^64 - 1
 abbrev pub if_in_space : RangeView → Option RangeView
 if_in_space range = if nat_lt (end_of range) (2 ^ 64) then Some range else None
 
--- `BASE,SIZE`: two sizes with a comma between and nothing else
+-- the range that `BASE,SIZE` writes: two sizes with one comma between and nothing else
 abbrev pub range_in : List ℕ → Option RangeView
 range_in text = do
   halves ← split_once 44 text

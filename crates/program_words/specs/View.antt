@@ -1,4 +1,4 @@
--- What accepted words ask for, as the definitions have it.
+-- What contracts see of a `Wanted`.
 use Rattle.clap.specs.Words.{found_of, rows_of}
 use Rattle.debugfs_reports.specs.ReportList.{reports_in}
 use Rattle.program_words.specs.declared.wanted.Wanted.{Wanted as WantedBy}

@@ -1,17 +1,18 @@
-//! How many entries a made table has, by the value of `--make`. The bounds are part of what is accepted here, so
-//! that `made` of `e820_table`, which asks for them, needs no test of its own.
+//! The number of entries of a made table, from the value of `--make`. `made` of `e820_table`
+//! requires a number within these bounds, so they are checked here.
 
 ghost use Rattle.std.specs.Prelude.{◌≡◌, IfSome, IsTrue};
 ghost use Rattle.std.specs.Option.{option_copied};
 ghost use Rattle.program_words.specs.Entries.{AreEntries, are_digits, entries_in, entries_of};
 
-/// The fewest entries of a made table.
+/// The least number of entries of a made table.
 const FEWEST_ENTRIES: u32 = 2;
 
-/// The most entries of a made table.
+/// The greatest number of entries of a made table.
 const MOST_ENTRIES: u32 = 3000;
 
-/// The number, where the option is given; `None` exactly where its value is refused.
+/// Returns the number of entries if the option has a value. Returns `Some(None)` without a value,
+/// and `None` exactly if the value is refused.
 pub fn entries_of(value: Option<&str>) -> Option<Option<u32>>
     ensures value { result ≡ entries_of (option_copied value.entry) }
     ensures facts { IfSome result (λ made. IfSome made AreEntries) }
@@ -22,7 +23,7 @@ pub fn entries_of(value: Option<&str>) -> Option<Option<u32>>
     }
 }
 
-/// The number that the digits write, where it is one of entries.
+/// Returns the number that the text writes in decimal digits, if it is from 2 to 3000.
 fn read_entries(text: &str) -> Option<u32>
     ensures value { result ≡ entries_in text.now }
     ensures facts { IfSome result AreEntries }
@@ -40,7 +41,7 @@ fn read_entries(text: &str) -> Option<u32>
     }
 }
 
-/// Whether the text has decimal digits alone.
+/// Returns whether all bytes of the text are decimal digits; the empty text passes.
 fn are_digits(text: &str) -> bool
     ensures { result ≡ are_digits text.now }
 {

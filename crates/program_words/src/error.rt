@@ -1,17 +1,17 @@
-//! Why words give nothing to do. Want of memory is apart from refused words, since `clap` takes memory for what it
-//! finds: it may come whatever the words are.
+//! Why a command line can't be used. Out of memory is apart from refused words, since `clap`
+//! allocates memory for its matches: it may come for any command line.
 
 ghost use Rattle.std.specs.Prelude.{◌≡◌};
 
 use bm_base::Memory;
 use std::alloc::AllocError;
 
-/// Why the words weren't read.
+/// Why reading the command line failed.
 #[derive(Clone, Copy, Debug, PartialEq, Eq)]
 pub enum WordError {
-    /// The words aren't accepted.
+    /// The command line isn't accepted.
     Usage,
-    /// The program's own memory ran out.
+    /// This program is out of memory.
     Memory,
 }
 

@@ -1,5 +1,6 @@
-//! The program as a command of `clap`, and what that command makes of words. Every call of `clap` is made here:
-//! what the other files see of its matches is the value of an argument by its name.
+//! The program as a command of `clap`, and the matches that this command finds. All calls of
+//! `clap` are in this file. The other files see only the values of arguments, by the argument's
+//! name.
 
 ghost use Rattle.std.specs.Prelude.{◌≡◌, ◌≢◌, IfOk, OnOk, IsErrOf, [], fold};
 ghost use Rattle.std.specs.Option.{option_copied};
@@ -15,7 +16,7 @@ use clap::error::ErrorKind;
 use clap::{Arg, ArgAction, ArgMatches, Command};
 use std::alloc::Global;
 
-/// The options by name, and what the word of each does: with [`ArgAction::Set`] a value goes with it, with
+/// The name and action of each option. With [`ArgAction::Set`] an option has a value, with
 /// [`ArgAction::SetTrue`] it is a flag.
 const OPTIONS: [(&str, ArgAction); 13] = [
     ("la57", ArgAction::SetTrue),
@@ -33,7 +34,12 @@ const OPTIONS: [(&str, ArgAction); 13] = [
     ("make", ArgAction::Set),
 ];
 
-/// What the command finds for each argument in the words.
+/// Returns the values that the command finds for its arguments in the words.
+///
+/// # Errors
+///
+/// - [`WordError::Usage`] if the command refuses the words.
+/// - [`WordError::Memory`] if this program is out of memory.
 pub fn match_words<'w>(alloc: Global, words: &'w [String]) -> Result<ArgMatches<'w>, WordError>
     ensures matches { IfOk result (λ matches.
         rows_of (found_of matches) ≡ matches_of program (texts words.entry.now)) }
@@ -47,7 +53,7 @@ pub fn match_words<'w>(alloc: Global, words: &'w [String]) -> Result<ArgMatches<
     }
 }
 
-/// The error of words that `clap` refuses, or of its want of memory.
+/// Returns the error for an error of `clap`: out of memory, or refused words for any other kind.
 fn error_of(kind: ErrorKind) -> WordError
     ensures { result ≡ errors.Usage → kind ≢ error_kinds.OutOfMemory }
 {
@@ -57,21 +63,21 @@ fn error_of(kind: ErrorKind) -> WordError
     }
 }
 
-/// The value that was found for an argument, if there is one.
+/// Returns the value that was found for an argument, if there is one.
 pub fn value_of<'w>(matches: &ArgMatches<'w>, name: &str) -> Option<&'w str>
     ensures { option_copied result ≡ first_of name.now (rows_of (found_of matches.now)) }
 {
     matches.get_str(name)
 }
 
-/// Whether the words have a flag: the value that was found for it is `true` then, else `false`.
+/// Returns whether the command line has the flag: `clap` finds `true` for it then, else `false`.
 pub fn is_on(matches: &ArgMatches<'_>, flag: &str) -> bool
     ensures { result ≡ is_on (value_in (rows_of (found_of matches.now))) flag.now }
 {
     value_of(matches, flag) == Some("true")
 }
 
-/// The command: its options, and the name of the zero page.
+/// Returns the command: its options and the name of the zero page. Fails only if out of memory.
 fn program<'w>(alloc: Global) -> Result<Command<'w>, Memory>
     ensures { IfOk result (λ command. app_of command ≡ program) }
 {
@@ -79,8 +85,8 @@ fn program<'w>(alloc: Global) -> Result<Command<'w>, Memory>
     with_positional(alloc, command, "ZEROPAGE")
 }
 
-/// The command without arguments, which has no `--help` and no `--version`, and whose first word isn't
-/// the program's name.
+/// Returns the command without arguments. It has no `--help` and no `--version`, and its words
+/// don't begin with the program's name.
 fn bare_app<'w>(alloc: Global) -> Command<'w>
     ensures { app_of result ≡ bare_app }
 {
@@ -90,7 +96,7 @@ fn bare_app<'w>(alloc: Global) -> Command<'w>
         .disable_version_flag(true)
 }
 
-/// The command with these options, in their order.
+/// Returns the command with these options added in their order. Fails only if out of memory.
 fn with_options<'w>(
     alloc: Global,
     command: Command<'w>,
@@ -108,7 +114,7 @@ fn with_options<'w>(
     Ok(made)
 }
 
-/// The command with one more option: its word begins with two hyphens.
+/// Returns the command with one more option, written `--NAME`. Fails only if out of memory.
 fn with_option<'w>(
     alloc: Global,
     command: Command<'w>,
@@ -121,7 +127,8 @@ fn with_option<'w>(
     Ok(command.arg(option)?)
 }
 
-/// The command with a word that belongs to no option.
+/// Returns the command with a positional argument: a word that belongs to no option. Fails only if
+/// out of memory.
 fn with_positional<'w>(
     alloc: Global,
     command: Command<'w>,

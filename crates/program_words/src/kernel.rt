@@ -1,5 +1,5 @@
-//! Where the kernel's image lies, by the value of `--kernel`. A range where no image may lie is refused here, with
-//! the words, so that no stage of the boot has to stop for it.
+//! The range of the kernel's image, from the value of `--kernel`. A range in which no image may
+//! lie is refused here, so no stage of the boot has to stop for it.
 
 ghost use Rattle.std.specs.Prelude.{◌≡◌, IfSome};
 ghost use Rattle.std.specs.Option.{option_copied};
@@ -10,14 +10,15 @@ use crate::range::read_range;
 use bm_base::{Range, Width};
 use boot_model::is_kernel;
 
-/// The kernel's image where `--kernel` isn't given: 32 MiB from 16 MiB on (`CONFIG_PHYSICAL_START`).
+/// The range of the kernel's image without `--kernel`: 32 MiB from 16 MiB on
+/// (`CONFIG_PHYSICAL_START`).
 const DEFAULT_KERNEL: Range = Range {
     base: 0x100_0000,
     size: 0x200_0000,
 };
 
-/// Where the kernel lies, by the value of `--kernel` if there is one; `None` exactly where the value is
-/// refused. It lies below the limit of the width.
+/// Returns the range of the kernel's image: the default if there is no value. It ends at or below
+/// the limit of the width. Returns `None` exactly if the value is refused.
 pub fn kernel_of(value: Option<&str>, width: Width) -> Option<Range>
     ensures value { result ≡ kernel_of width (option_copied value.entry) }
     ensures facts { IfSome result (IsKernel width) }
@@ -28,7 +29,7 @@ pub fn kernel_of(value: Option<&str>, width: Width) -> Option<Range>
     }
 }
 
-/// The range that `BASE,SIZE` says, where a kernel's image may lie there.
+/// Returns the range that `BASE,SIZE` writes, if a kernel's image may lie there.
 fn read_kernel(text: &[u8], width: Width) -> Option<Range>
     ensures value { result ≡ kernel_in width text.now }
     ensures facts { IfSome result (IsKernel width) }

@@ -1,21 +1,29 @@
-//! The words after the program's name: which are accepted, and what they ask for.
+//! Reads the command line of `bootmem`: the words after the program's name.
 //!
-//! The words are those of one command of `clap` ([`program`]): eleven options with one value each, two
-//! flags, and the name of the zero page, none of which has to be given. Which words that command takes, and what it
-//! finds for each argument, is the port's own definition; nothing is read a second time here
-//! (`specs/Grammar.antt`).
+//! The command line is that of one command of `clap` ([`program`]). It has eleven options with one
+//! value each, two flags, and the name of the zero page. None of them is mandatory for `clap`.
+//! Which words the command takes, and what value it finds for each argument, is the port's own
+//! definition; this crate doesn't define it a second time (`specs/Grammar.antt`).
 //!
-//! [`read_words`] then judges what was found: where the first entries come from, the kernel's range, the
-//! names of reports, the number of a made table's entries, the ranges of mirrored memory. Its answer is that of `accepted`
-//! (`specs/Words.antt`): [`WordError::Usage`] exactly where the words are refused, and want of memory
-//! ([`WordError::Memory`]) apart from it, since `clap` takes memory for its matches.
+//! [`read_words`] then checks the values: where the first entries come from, the kernel's range,
+//! the names of reports, the number of entries of a made table, and the ranges of mirrored memory.
+//! `accepted` (`specs/Words.antt`) defines its result: [`WordError::Usage`] exactly if the command
+//! line is refused. [`WordError::Memory`] may come for any command line, since `clap` allocates
+//! its matches.
 //!
-//! [`Wanted`] is what accepted words ask for. It knows the name of each input's file (`Names`), so it is
-//! handed to `read_inputs` as it stands.
+//! [`Wanted`] is what an accepted command line asks for. It also gives the name of each input's
+//! file (`Names`), so `read_inputs` takes it directly.
 //!
-//! The layer above may rest on this: the kernel's range is one where an image may lie, each name in the
-//! list is a report's, the number of entries is in its bounds, mirrored ranges are whole frames, and there is one
-//! source of entries.
+//! The layer above may rest on this about a `Wanted`:
+//!
+//! - A kernel image may lie in the kernel's range.
+//! - Each name in the list of reports is that of a report.
+//! - A made table has 2 to 3000 entries.
+//! - Mirrored ranges are whole frames.
+//! - The first entries come either from a zero page or from a made table.
+//!
+//! A law is an empty function whose contract is a proven fact. In contracts, a name means the
+//! definition in `specs/`.
 #![tactic(auto)]
 
 mod entries;

@@ -1,5 +1,6 @@
-//! Which memory is mirrored, by the value of `--mirror`. Memory is mirrored by whole frames, so each range is cut to those that
-//! lie whole in it. The list is judged before memory is taken for its ranges, so want of memory hides no refusal.
+//! Mirrored memory, from the value of `--mirror`. Whole frames are mirrored, so each range is cut
+//! to the frames that lie whole in it. The list is checked before memory is allocated for its
+//! ranges, so a refused list is never reported as out of memory.
 
 ghost use Rattle.std.specs.Prelude.{◌≡◌, IfOk, IfSome, IsErrOf, IsSome};
 ghost use Rattle.std.specs.List.{All};
@@ -16,14 +17,16 @@ use boot_model::mirrors_are_whole_frames;
 use std::alloc::Global;
 use text_words::{Separators, next_part};
 
-/// The most ranges that the list may have.
+/// The greatest number of ranges in the list.
 const MOST_RANGES: usize = 64;
 
-/// The mirrored ranges, in the order of the list; none where the option isn't given.
+/// Returns the mirrored ranges in the order of the list, each cut to whole frames. Ranges without
+/// a whole frame are left out. Without a value the result is empty.
 ///
 /// # Errors
 ///
-/// [`WordError::Usage`] exactly where the value is refused, and [`WordError::Memory`] only where it isn't.
+/// - [`WordError::Usage`] exactly if the list is refused.
+/// - [`WordError::Memory`] if this program is out of memory; never for a refused list.
 pub fn mirrors_of(alloc: Global, value: Option<&str>) -> Result<Vec<Range>, WordError>
     ensures value { Answers WordError.Memory (λ ranges. ranges.items) result
         (or_refused (mirrors_of (option_copied value.entry))) }
@@ -39,7 +42,7 @@ pub fn mirrors_of(alloc: Global, value: Option<&str>) -> Result<Vec<Range>, Word
     Ok(read_mirrors(alloc, list.as_bytes())?)
 }
 
-/// Whether the list has one range to 64, with a colon between each two.
+/// Returns whether the list has 1 to 64 ranges, separated by colons.
 fn are_pieces(list: &[u8]) -> bool
     ensures { result ≡ are_pieces list.now }
 {
@@ -56,7 +59,8 @@ fn are_pieces(list: &[u8]) -> bool
     true
 }
 
-/// The frames of each range of the list that has some.
+/// Returns the whole frames of each range of the list, leaving out ranges without one. Fails only
+/// if out of memory.
 fn read_mirrors(alloc: Global, list: &[u8]) -> Result<Vec<Range>, Memory>
     ensures value { IfOk result (λ ranges. ranges.items ≡ mirrors_in list.now) }
     ensures facts { IfOk result (λ ranges. All IsMirror ranges.items) }
@@ -73,7 +77,8 @@ fn read_mirrors(alloc: Global, list: &[u8]) -> Result<Vec<Range>, Memory>
     Ok(mirrors)
 }
 
-/// The frames that lie whole in the range that the piece says.
+/// Returns the frames that lie whole in the range that the piece writes, if it writes a range that
+/// has some.
 fn read_frames(piece: &[u8]) -> Option<Range>
     ensures value { result ≡ frames_by piece.now }
     ensures facts { IfSome result IsMirror }

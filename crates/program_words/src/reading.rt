@@ -1,5 +1,5 @@
-//! From words to what they ask for. The command knows the options and not what they mean: what the values say, and
-//! that the first entries have one source, is judged here, behind it.
+//! From the words to what they ask for. `clap` knows the options but not the meaning of their
+//! values. What the values mean is checked here, after `clap` has taken the words.
 
 ghost use Rattle.std.specs.Prelude.{◌≡◌, IsErrOf, IsSome};
 ghost use Rattle.std.specs.Option.{option_copied, option_map};
@@ -20,27 +20,29 @@ use clap::ArgMatches;
 use debugfs_reports::are_reports;
 use std::alloc::Global;
 
-/// The reports where `--report` isn't given.
+/// The list of reports without `--report`.
 const DEFAULT_LIST: &str = "buddyinfo";
 
-/// What the words after the program's name ask for.
+/// Returns what the words after the program's name ask for.
 ///
-/// The options are `--mirror LIST`, `--cmdline F`, `--e820ext F`, `--srat F`, `--script F`, `--pages F`, `--slit F`, `--efi F`,
-/// `--kernel BASE,SIZE`, `--report LIST` and `--make N`, also as `--NAME=VALUE`, and the flags `--la57` and
-/// `--bottom-up`, each at most once, in any order; and ZEROPAGE at any place. There is ZEROPAGE, or `--make` with neither ZEROPAGE nor `--e820ext`.
+/// The options with a value are `--mirror LIST`, `--cmdline F`, `--e820ext F`, `--srat F`,
+/// `--script F`, `--pages F`, `--slit F`, `--efi F`, `--kernel BASE,SIZE`, `--report LIST` and
+/// `--make N`. They may also be written `--NAME=VALUE`. The flags are `--la57` and `--bottom-up`.
+/// Each may be given at most once, in any order, and ZEROPAGE may stand anywhere. ZEROPAGE must be
+/// given, unless `--make` is; `--make` goes with neither ZEROPAGE nor `--e820ext`.
 ///
 /// # Errors
 ///
-/// [`WordError::Usage`] exactly where the words aren't accepted, and [`WordError::Memory`] where memory
-/// is wanting, which may come whatever the words are.
+/// - [`WordError::Usage`] exactly if the words aren't accepted, unless memory runs out first.
+/// - [`WordError::Memory`] if this program is out of memory, which may happen for any words.
 pub fn read_words<'w>(alloc: Global, words: &'w [String]) -> Result<Wanted<'w>, WordError>
     ensures { Answers WordError.Memory wanted_view result (or_refused (accepted (texts words.entry.now))) }
 {
     asked_by(alloc, match_words(alloc, words)?)
 }
 
-/// Whether the first entries have one source: they are made, or a zero page is named, which an extension
-/// may go on.
+/// Returns whether the first entries have one source: they are made, or come from a zero page, to
+/// which an extension may add.
 fn has_source(matches: &ArgMatches<'_>) -> bool
     ensures { result ≡ has_source (value_in (rows_of (found_of matches.now))) }
 {
@@ -53,7 +55,8 @@ fn has_source(matches: &ArgMatches<'_>) -> bool
     }
 }
 
-/// The width that the words ask for: page tables of five levels where they have the flag.
+/// Returns the width of addresses: 52 bits with the flag `--la57` (page tables of five levels),
+/// else 46.
 fn width_in(matches: &ArgMatches<'_>) -> Width
     ensures { result ≡ width_in (value_in (rows_of (found_of matches.now))) }
 {
@@ -64,7 +67,13 @@ fn width_in(matches: &ArgMatches<'_>) -> Width
     }
 }
 
-/// What the values that were found ask for. Memory is wanting only for mirrored ranges, where nothing is refused.
+/// Returns what the values that were found ask for.
+///
+/// # Errors
+///
+/// - [`WordError::Usage`] exactly if a value is refused, or the first entries don't have one
+///   source.
+/// - [`WordError::Memory`] if this program is out of memory; never if anything is refused.
 fn asked_by<'w>(alloc: Global, matches: ArgMatches<'w>) -> Result<Wanted<'w>, WordError>
     ensures value { Answers WordError.Memory wanted_view result
         (or_refused (asked_by (value_in (rows_of (found_of matches.entry))))) }
@@ -90,7 +99,7 @@ fn asked_by<'w>(alloc: Global, matches: ArgMatches<'w>) -> Result<Wanted<'w>, Wo
     })
 }
 
-/// The list of reports that is asked for; each name in it is a report's.
+/// Returns the list of requested reports, if each name in it is that of a report.
 fn list_in<'w>(matches: &ArgMatches<'w>) -> Option<&'w str>
     ensures { option_copied result ≡ list_in (value_in (rows_of (found_of matches.now))) }
 {

@@ -1,5 +1,6 @@
-//! What the words ask for, where they are accepted. It stands apart from what reads them, since the
-//! bounds of the kernel's range, of mirrored ranges and of the number of entries are part of the type.
+//! What an accepted command line asks for. The type is apart from the code that reads it, since
+//! its invariant keeps the bounds of the kernel's range, of mirrored ranges and of the number of
+//! entries.
 
 ghost use Rattle.std.specs.Prelude.{◌≡◌, IfSome};
 ghost use Rattle.std.specs.List.{All};
@@ -16,23 +17,24 @@ use boot_model::Inputs;
 use clap::ArgMatches;
 use std::alloc::Global;
 
-/// What accepted words ask for. The names of files and of reports stay in the words, and the names of
-/// files are looked up in what `clap` found.
+/// What an accepted command line asks for. The names of files and of reports stay in the words;
+/// the name of a file is looked up in the matches that `clap` found.
 #[derive(Debug, Drop)]
 pub struct Wanted<'w> {
-    /// What was found for each argument.
+    /// The values that were found for the arguments.
     pub(crate) matches: ArgMatches<'w>,
-    /// The reports: names with a comma between each two.
+    /// The reports: names, separated by commas.
     pub list: &'w str,
-    /// How far addresses reach.
+    /// The width of addresses.
     pub(crate) width: Width,
-    /// Which memory is mirrored: whole frames, in the order of the words.
+    /// The mirrored memory: ranges of whole frames, in the order of the list.
     pub(crate) mirrors: Vec<Range>,
-    /// Whether places are looked for from below.
+    /// Whether memblock's searches go from the lowest address up, instead of from the highest
+    /// down.
     pub(crate) upward: bool,
-    /// Where the kernel lies.
+    /// The range of the kernel's image.
     pub(crate) kernel: Range,
-    /// How many entries are made, where they are made in place of a zero page.
+    /// The number of entries of a made table, if one is made in place of a zero page.
     pub made: Option<u32>,
     ghost kernel_fits: { IsKernel width kernel },
     ghost mirrors_fit: { All IsMirror mirrors.items },
@@ -44,7 +46,8 @@ impl Wanted<'_> {
     ghost use Rattle.boot_model.specs.View.{inputs_view};
     ghost use Rattle.program_words.specs.View.{wanted_view};
 
-    /// What a boot is given by the words, to which each file adds.
+    /// Returns the inputs of the boot that the command line itself gives, to which each file adds.
+    /// Fails only if out of memory.
     pub fn begun(&self, alloc: Global) -> Result<Inputs, Memory>
         ensures { IfOk result (λ inputs. inputs_view inputs ≡ (wanted_view self.now).begun) }
     {
@@ -65,7 +68,7 @@ impl<'w> Names for Wanted<'w> {
     }
 }
 
-/// The argument that names the input's file.
+/// Returns the argument that names the input's file.
 fn argument_of(input: Input) -> &'static str
     ensures { result.now ≡ argument_of input }
 {

@@ -1,4 +1,4 @@
--- Digits that `parse` refuses write no number of entries.
+-- Digits that `parse` refuses give no number of entries.
 use Rattle.std.proofs.Common.{rules}
 use Rattle.program_words.proofs.EntryLaws.{not_parsed}
 use Rattle.program_words.proofs.entries.read_entries.Goals as goal

@@ -1,4 +1,4 @@
--- The command is the definition's, so what `clap` says of the one holds of the other.
+-- The command is the defined one, so what `clap` promises for it holds for the definition.
 use Rattle.std.proofs.Common.{◌∙◌, ap, sym, subst, inl, inr, Result, Ok, Err}
 use Rattle.clap.specs.Words.{IsAmong, fault_of, is_simple, is_simple_and_free, matches_of}
 use Rattle.program_words.specs.Words.{texts}

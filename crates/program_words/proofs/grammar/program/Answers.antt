@@ -1,4 +1,4 @@
--- Each step is that of the definition, and the last goes on from the one before it.
+-- Each step is that of the definition, and follows the one before it.
 use Rattle.std.proofs.Common.{◌≡◌, ◌∙◌, ap, codes, fold}
 use Rattle.std.proofs.lemmas.Result.{IfOk-weaker}
 use Rattle.clap.specs.Words.{app_of}

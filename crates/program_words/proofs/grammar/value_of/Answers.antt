@@ -1,4 +1,4 @@
--- The first value of an entry is the first value of its row.
+-- The first value of a match is the first value of its row.
 use Rattle.std.proofs.Common.{◌∙◌}
 use Rattle.clap.specs.Words.{found_of}
 use Rattle.clap.proofs.WalkLemmas.{first_value-rows}

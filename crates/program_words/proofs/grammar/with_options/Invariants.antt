@@ -1,4 +1,4 @@
--- The command so far with the options that are left is the command with all of them.
+-- The command so far with the remaining options added is the command with all of them.
 use Rattle.std.proofs.Common.{◌≡◌, fold, length}
 use Rattle.clap.specs.Words.{app_of}
 use Rattle.program_words.specs.Grammar.{with_option}

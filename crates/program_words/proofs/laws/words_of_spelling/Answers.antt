@@ -1,4 +1,4 @@
--- By the walk over such words.
+-- By the walk over spelled words.
 use Rattle.program_words.proofs.MatchedLaws.{accepted_as_given}
 use Rattle.program_words.proofs.laws.words_of_spelling.Goals as goal
 

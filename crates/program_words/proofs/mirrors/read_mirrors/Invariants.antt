@@ -1,4 +1,4 @@
--- The ranges so far and those of the pieces that are left are those of all pieces.
+-- The frames found so far and those of the remaining pieces are those of the whole list.
 use Rattle.std.proofs.Common.{◌≡◌, ◌++◌}
 use Rattle.std.specs.List.{All, filter_map}
 use Rattle.std.specs.Option.{option_map}

@@ -1,4 +1,4 @@
--- What the words say of mirrors and of the direction stands in what is begun with.
+-- The mirrored frames and the direction of searches are those of the command line.
 use Rattle.program_words.proofs.wanted.Wanted.begun.Goals as goal
 
 pub invariant_of-inputs-2-clause-mirrors_fit : goal.invariant_of-inputs-2-clause-mirrors_fit
