@@ -1,4 +1,4 @@
--- What the verdict `Sound` says, fault by fault.
+-- What the verdict `Sound` means, for each kind of fault.
 use Rattle.std.proofs.Common.{◌≡◌, ℕ, zero, suc, ◌+◌, ◌*◌, ◌/◌, ◌^◌, ◌<◌, ◌≤◌, ◌&&◌, ◌||◌, Bool, true, false, not, nat_lt, List, [], ◌∷◌, length, get_or, map, Option, Some, None, refl, sym, ap, ◌∙◌, inl, inr, arith}
 use Rattle.std.proofs.Math.Bool.{and-false}
 use Rattle.std.proofs.lemmas.Bool.{cases_Bool, cases_lt, and_parts}
@@ -19,7 +19,7 @@ use Rattle.boot_audit.specs.Verdicts.{first_fault, first_line, is_free, is_lost,
 use Rattle.boot_audit.proofs.LineLaws.{covers_below}
 use Rattle.boot_audit.proofs.SweepLaws.{least_none}
 
--- no line that passes
+-- if no line passes the test, none of the blocks does
 pub no_line : (p : Block → Bool) (n : ℕ) (bs : List Block) → first_line p n bs ≡ None
     → (k : ℕ) (d : Block) → k < length bs → p (get_or bs k d) ≡ false
 no_line p n [] none k d inside = absurd (omega arith)
@@ -42,7 +42,7 @@ first_none p n (b ∷ bs) each =
     let here : p b ≡ false = each 0 b (omega arith) in
     rw here (first_none p (n + 1) bs (λ k d inside. each (suc k) d (omega arith)))
 
--- no number below the bound passes
+-- if there is no least number below the bound, none passes
 pub none_least : (p : ℕ → Bool) (n : ℕ) → least_below p n ≡ None → (f : ℕ) → f < n → p f ≡ false
 unfolding least_below
 none_least p zero none f below = absurd (omega arith)
@@ -58,7 +58,7 @@ none_least p (suc n) none f below =
     neither m true None is = cc
     neither m false None is = (refl, refl)
 
--- how many disjoint blocks have a frame
+-- a frame that is in no block is in 0 of them
 pub none_with : (bs : List Block) (f : ℕ) → in_a_block bs f ≡ false → blocks_with bs f ≡ 0
 none_with [] f out = refl
 none_with (b ∷ bs) f out = by_first (covers (frames_of_block b) f) (in_a_block bs f) refl out (none_with bs f)
@@ -87,7 +87,7 @@ one_with (b ∷ bs) f order in_it = by_first (covers (frames_of_block b) f) refl
         rw (is, none) refl
     by_first false is some rest = rw is (rest some)
 
--- frames are numbers below 2^40
+-- usable frames are below 2^40
 usable_near : (limit : ℕ) (lines : List MapLine) (f : ℕ) → limit ≤ 2 ^ 52 → is_usable limit lines f ≡ true → f < 2 ^ 40
 unfolding is_usable
 usable_near limit lines f near usable =
@@ -114,7 +114,7 @@ in_block_near (b ∷ bs) f fit in_it =
         omega arith
     by_first false is some rest = rest some
 
--- no fault is none of five
+-- without a fault none of the five kinds was found
 abbrev AllNone : Option ℕ → Option ℕ → Option ℕ → Option ℕ → Option ℕ → Type 0
 AllNone m z f l x = (m ≡ None) × (z ≡ None) × (f ≡ None) × (l ≡ None) × (x ≡ None)
 
@@ -132,7 +132,7 @@ not_false false is = cc
 
 module _ (limit : ℕ) (lines : List MapLine) (owners : List RangeView) (bs : List Block) (near : limit ≤ 2 ^ 52)
     (order : AscendApart (map frames_of_block bs)) (fit : (k : ℕ) (d : Block) → k < length bs → IsBlock (get_or bs k d)) where
-  -- a usable frame where none is lost, and none in a block isn't free
+  -- a usable frame, if no frame is lost and each frame in a block is free
   touched_or_one : (f : ℕ) (untouched in_it : Bool) → is_untouched owners f ≡ untouched → in_a_block bs f ≡ in_it
       → is_usable limit lines f ≡ true → is_not_free limit lines owners bs f ≡ false → is_lost limit lines owners bs f ≡ false
       → IsTouchedOrInOne owners bs f

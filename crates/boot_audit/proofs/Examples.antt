@@ -12,7 +12,7 @@ use Rattle.boot_audit.specs.Verdicts.{first_fault, first_line, least_below}
 abbrev block_at : ℕ → ℕ → Block
 block_at at order = record { node = 0; zone = zones.Dma; order = order; at = at }
 
--- RAM and the kernel's own memory count, ACPI's tables don't
+-- RAM and memory that the kernel keeps count as memory, ACPI's tables don't
 ram : is_memory 128 ≡ true
 ram = refl
 
@@ -26,7 +26,7 @@ aligned = refl
 misaligned : is_aligned (block_at 4096 1) ≡ false
 misaligned = refl
 
--- the two frames below 16 MiB are of its zone, and a block across it isn't
+-- the two frames below 16 MiB are in zone DMA; a block across 16 MiB isn't
 below : is_in_zone (block_at 0xFFE000 1) ≡ true
 unfolding is_in_zone each_in each_from
 below = refl
@@ -39,7 +39,7 @@ across = refl
 parent : parent_of (block_at 8192 1) ≡ record { base = 0; size = 4 }
 parent = refl
 
--- two pairs beside one another could be joined, and one alone couldn't; nor could two of different nodes
+-- two pairs side by side could merge; one alone couldn't, nor could two of different nodes
 pairs : could_join (block_at 0 1 ∷ block_at 8192 1 ∷ []) (block_at 8192 1) ≡ true
 unfolding could_join each_in each_from
 pairs = refl
@@ -52,18 +52,18 @@ other_node : could_join (record { node = 1; zone = zones.Dma; order = 1; at = 0 
 unfolding could_join each_in each_from
 other_node = refl
 
--- a frame is in one block, or in none
+-- a frame in one block, and one in none
 in_one : blocks_with (block_at 0 1 ∷ block_at 8192 1 ∷ []) 3 ≡ 1
 in_one = refl
 
 in_none : blocks_with (block_at 0 1 ∷ block_at 8192 1 ∷ []) 4 ≡ 0
 in_none = refl
 
--- lines are numbered from 1, and the first that passes is named
+-- lines are counted from 1; the first that passes is returned
 second_line : first_line (λ b. nat_lt 0 b.at) 1 (block_at 0 1 ∷ block_at 8192 1 ∷ []) ≡ Some 2
 second_line = refl
 
--- the least number that passes
+-- the least number that passes, if there is one below the bound
 least : least_below (λ n. nat_lt 2 n) 6 ≡ Some 3
 unfolding least_below
 least = refl
@@ -72,14 +72,14 @@ none_below : least_below (λ n. nat_lt 2 n) 3 ≡ None
 unfolding least_below
 none_below = refl
 
--- the faults in their order
+-- of several faults, the first kind decides
 lost_first : first_fault None None None (Some 7) (Some 1) ≡ verdicts.Lost 7
 lost_first = refl
 
 misaligned_first : first_fault (Some 2) (Some 1) None (Some 7) (Some 1) ≡ verdicts.Misaligned 2
 misaligned_first = refl
 
--- bytes from 1 on up to 8192 have one whole frame, and up to 8191 none
+-- the bytes from 1 up to 8192 have one whole frame, those up to 8191 none
 one_whole : first_whole 1 8192 ≡ Some 1
 one_whole = refl
 

@@ -1,4 +1,4 @@
--- What the bytes of a frame tell of it.
+-- What the bytes of a frame say about the frame.
 use Rattle.std.proofs.Common.{◌≡◌, ◌≢◌, ℕ, ◌+◌, ◌*◌, ◌/◌, ◌%◌, ◌^◌, ◌<◌, ◌≤◌, ◌&&◌, ◌||◌, Bool, true, false, not, nat_le, nat_lt, if◌then◌else◌, Option, Some, None, List, [], ◌∷◌, refl, sym, ap, ◌∙◌, arith}
 use Rattle.std.proofs.Math.Bool.{and-false}
 use Rattle.std.proofs.Math.Nat.{mul_assoc, div-add-mod}
@@ -15,7 +15,7 @@ use Rattle.boot_audit.specs.Sweep.{in_block_byte, is_free_byte, state_at, state_
 use Rattle.boot_audit.specs.Verdicts.{first_line, is_free, is_lost, is_not_free}
 use Rattle.boot_audit.proofs.SweepLaws.{Tells}
 
--- a multiple of frames begins at a frame
+-- n frames that begin at a multiple of 4096: their bytes are those whose frame is one of the n
 at_frame : (a m n f x : ℕ) → a ≡ 4096 * m → x / 4096 ≡ f
     → (nat_le a x && nat_lt x (a + 4096 * n)) ≡ (nat_le (a / 4096) f && nat_lt f (a / 4096 + n))
 at_frame a m n f x is frame = grind (arith, nat_tests)
@@ -46,7 +46,7 @@ blocks_byte (b ∷ bs) n f x aligned frame =
     aligned_first true line others is = (refl, is)
     aligned_first false line others is = cc
 
--- what a state says
+-- what each state says of a byte
 lost_says : (free blocked : Bool) → state_by free blocked ≡ states.Lost → (free ≡ true) × (blocked ≡ false)
 lost_says true true is = cc
 lost_says true false is = (refl, refl)
@@ -154,14 +154,14 @@ module _ (limit : ℕ) (map_lines : List MapLine) (owners : List RangeView) wher
       free_true = λ f none. free_by f (in_a_block blocks f) refl none;
     }
 
--- what four tests of a byte say of it
+-- the state of a byte, from four tests
 pub around : (limit : ℕ) (map_lines : List MapLine) (owners : List RangeView) (blocks : List Block) (x : ℕ) (below inside owned held : Bool)
     → nat_lt x limit ≡ below → in_memory map_lines x ≡ inside → is_owned owners x ≡ owned → in_block_byte blocks x ≡ held
     → state_at limit map_lines owners blocks x ≡ state_by ((below && inside) && not owned) held
 unfolding state_at
 around limit map_lines owners blocks x below inside owned held first second third fourth = rw (first, second, third, fourth) refl
 
--- the same lists from an address on
+-- the state of a byte is the same by lists that agree on it
 pub same_state : (limit : ℕ) (runs map_lines : List MapLine) (left owners : List RangeView) (rest blocks : List Block) (x : ℕ)
     → in_memory runs x ≡ in_memory map_lines x → is_owned left x ≡ is_owned owners x → in_block_byte rest x ≡ in_block_byte blocks x
     → state_at limit map_lines owners blocks x ≡ state_at limit runs left rest x

@@ -1,4 +1,4 @@
--- What ascending lines say of a byte below, in and behind the first of them.
+-- What ascending lines say of a byte below, in and above the first of them.
 use Rattle.std.proofs.Common.{◌≡◌, ℕ, ◌<◌, ◌≤◌, ◌&&◌, ◌||◌, Bool, true, false, List, [], ◌∷◌, map, refl, ap, ◌∙◌, arith}
 use Rattle.std.proofs.lemmas.Bool.Decides.{nat_tests}
 use Rattle.bm_base.specs.Range.{RangeView, covers, end_of}
@@ -51,7 +51,7 @@ module _ {L : Type 0} (counts : L → Bool) (extent : L → RangeView) where
       let out : covers (extent l) x ≡ false = covers_past (extent l) x past in
       ap (λ (c : Bool). either (counts l) c (says counts extent ls x)) out ∙ first_false (counts l) (says counts extent ls x)
 
-  -- the same of a list that is known to begin with a line
+  -- the facts above, for a list that is known to begin with a line
   pub seen_before : (lines : List L) (l : L) (ls : List L) → lines ≡ l ∷ ls → AscendApart (map extent lines)
       → (x : ℕ) → x < (extent l).base → says counts extent lines x ≡ false
   seen_before lines l ls is order x before =

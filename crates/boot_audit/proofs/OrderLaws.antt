@@ -1,4 +1,4 @@
--- Blocks whose bytes are ascending have ascending frames.
+-- If the blocks' bytes are ascending, so are their frames.
 use Rattle.std.proofs.Common.{ℕ, ◌+◌, ◌*◌, ◌/◌, ◌^◌, ◌≤◌, List, [], ◌∷◌, map, arith}
 use Rattle.bm_base.specs.Range.{end_of}
 use Rattle.audit_lines.specs.Blocks.{Block, bytes_of_block}

@@ -1,4 +1,4 @@
--- What the status of the audit says of memory.
+-- What the status of the audit says about memory.
 use Rattle.std.proofs.Common.{◌≡◌, ℕ, List, Option, Some, None, Result, Ok, arith}
 use Rattle.std.specs.Prelude.{IfSome, ◌⊎◌}
 use Rattle.bm_io.specs.Counts.{Rose}
@@ -18,20 +18,21 @@ use Rattle.boot_audit.specs.Reason.{Reason}
 use Rattle.boot_audit.specs.Words.{Wanted}
 use Rattle.boot_audit.proofs.HeadlineLaws.{conserved_sound, sound_conserved}
 
--- no other verdict has status 0
+-- status 0 comes only with the verdict `Sound`
 sound_said : (old new : Option (List ℕ)) (end : End Reason) (status : ℕ) (said : Result Verdict Reason) → status ≡ status_of_end end
     → Writes bootaudit old new end said → status ≡ 0 → said ≡ Ok verdicts.Sound
 sound_said old new end status said is writes zero = grind arith
 
 module _ (accepted : Option Wanted) (end : End Reason) (status : ℕ) (is : status ≡ status_of_end end) where
-  -- after status 0 memory was conserved
+  -- with status 0 memory was conserved
   pub ran_headline : (old new : Option (List ℕ)) (holds : Option Held)
       → IfSome holds (λ held. Writes bootaudit old new end (outcome accepted held)) → status ≡ 0 → IfSome holds (IsConservedBy accepted)
   ran_headline old new None writes zero = tt
   ran_headline old new (Some held) writes zero =
       sound_conserved accepted held (sound_said old new end status (outcome accepted held) is writes zero)
 
-  -- and where it was, and the outside didn't fail, the status is 0, or memory ran out
+  -- if memory was conserved and neither a file nor the output failed, the status is 0, or 7 if out
+  -- of memory
   pub ran_conserved : {S : Type 0} (sink : SinkOf S) (old new : S) (before now : List ℕ → ℕ)
       → EndHasCause bootaudit before now accepted end → WritingHasCause sink old new end → (holds : Option Held)
       → IfSome holds (λ held. Writes bootaudit (sink.written old) (sink.written new) end (outcome accepted held))

@@ -1,4 +1,4 @@
--- One sweep over the bytes: what is known of the frames so far.
+-- The sweep over the bytes: what it knows of the frames so far.
 use Rattle.std.proofs.Common.{◌≡◌, ◌≢◌, ℕ, zero, suc, ◌+◌, ◌*◌, ◌/◌, ◌^◌, ◌<◌, ◌≤◌, Bool, true, false, nat_lt, Option, Some, None, refl, sym, ap, ◌∙◌, inl, inr, arith}
 use Rattle.std.proofs.lemmas.Bool.{cases_lt}
 use Rattle.std.proofs.lemmas.Bool.Decides.{nat_tests}
@@ -7,7 +7,7 @@ use Rattle.boot_audit.specs.declared.sweep.State.TheVariants as states
 use Rattle.boot_audit.specs.Sweep.{carried, first_whole}
 use Rattle.boot_audit.specs.Verdicts.{least_below, least_frame, or_this}
 
--- the least number that passes
+-- if no number passes there is no least one; the next lemma is for a number that passes
 pub least_none : (p : ℕ → Bool) (n : ℕ) → ((f : ℕ) → f < n → p f ≡ false) → least_below p n ≡ None
 unfolding least_below
 least_none p zero none = refl
@@ -29,21 +29,22 @@ least_some p (suc n) k below here first =
           rw (none, passes) (ap (λ (m : ℕ). Some m) same)
     ]
 
--- what the states of its bytes tell of a frame
+-- what the states of its bytes say about a frame
 pub record Tells (st : ℕ → State) (lost not_free : ℕ → Bool) : Type 0 where
   pub lost_true : (f : ℕ) → ((x : ℕ) → 4096 * f ≤ x → x < 4096 * f + 4096 → st x ≡ states.Lost) → lost f ≡ true
   pub lost_false : (f x : ℕ) → 4096 * f ≤ x → x < 4096 * f + 4096 → st x ≢ states.Lost → lost f ≡ false
   pub free_false : (f x : ℕ) → 4096 * f ≤ x → x < 4096 * f + 4096 → st x ≡ states.NotFree → not_free f ≡ true
   pub free_true : (f : ℕ) → ((x : ℕ) → 4096 * f ≤ x → x < 4096 * f + 4096 → st x ≢ states.NotFree) → not_free f ≡ false
 
--- no frame that begins before `from` is lost, all bytes from there on are, and they make no frame yet
+-- no frame that begins before `from` is lost; all bytes from `from` up to `at` are lost, but have
+-- no whole frame yet
 pub record IsOpen (st : ℕ → State) (lost : ℕ → Bool) (from at : ℕ) : Type 0 where
   pub ordered : from ≤ at
   pub before : (f : ℕ) → 4096 * f < from → lost f ≡ false
   pub all : (x : ℕ) → from ≤ x → x < at → st x ≡ states.Lost
   pub none : (f : ℕ) → from ≤ 4096 * f → at < 4096 * f + 4096
 
--- the frame is the least that is lost
+-- k is the least lost frame
 pub record IsLeast (lost : ℕ → Bool) (k : ℕ) : Type 0 where
   pub near : k < 2 ^ 40
   pub here : lost k ≡ true
@@ -105,7 +106,7 @@ module _ (st : ℕ → State) (lost not_free : ℕ → Bool) (tells : Tells st l
     none = λ f above. omega arith;
   }
 
-  -- a piece more
+  -- after one more piece
   pub carried_on : (from at until : ℕ) (old : Option ℕ) (s : State) → at < until → until ≤ 2 ^ 52
       → ((x : ℕ) → at ≤ x → x < until → st x ≡ s) → SoFar st lost from at old
       → SoFar st lost (carried old from until s).1 until (carried old from until s).0
@@ -122,7 +123,7 @@ module _ (st : ℕ → State) (lost not_free : ℕ → Bool) (tells : Tells st l
   carried_near from until old states.Sound low near = near
   carried_near from until old states.NotFree low near = near
 
-  -- the end of all addresses
+  -- at the end of all addresses
   pub lost_at_end : (from at : ℕ) (found : Option ℕ) → 2 ^ 52 ≤ at → SoFar st lost from at found → found ≡ least_frame lost
   lost_at_end from at None end known = sym (least_none lost (2 ^ 40) (λ f small.
       elim (cases_lt (4096 * f) from) as (λ _. lost f ≡ false) [
@@ -134,14 +135,14 @@ module _ (st : ℕ → State) (lost not_free : ℕ → Bool) (tells : Tells st l
   pub none_at_end : (at : ℕ) → 2 ^ 52 ≤ at → ((x : ℕ) → x < at → st x ≢ states.NotFree) → None ≡ least_frame not_free
   none_at_end at end none = sym (least_none not_free (2 ^ 40) (λ f small. tells.free_true f (λ x above below. none x (omega arith))))
 
-  -- the first byte that is in a block and isn't free
+  -- the first byte that is in a block but not free is in the least such frame
   pub first_not_free : (at : ℕ) → at < 2 ^ 52 → ((x : ℕ) → x < at → st x ≢ states.NotFree) → st at ≡ states.NotFree
       → Some (at / 4096) ≡ least_frame not_free
   first_not_free at near none here =
       sym (least_some not_free (2 ^ 40) (at / 4096) (omega arith) (tells.free_false (at / 4096) at (omega arith) (omega arith) here)
       (λ f below. tells.free_true f (λ x above under. none x (omega arith))))
 
--- a number that is the least below a bound is below it
+-- the least number below a bound is below it
 near_by : (n k : ℕ) (passes : Bool) (before : Option ℕ) → ((j : ℕ) → before ≡ Some j → j < n) → or_this n passes before ≡ Some k → k < suc n
 near_by n k passes (Some j) low is = let under : j < n = low j refl in let same : j ≡ k = cc in omega arith
 near_by n k true None low is = let same : n ≡ k = cc in omega arith

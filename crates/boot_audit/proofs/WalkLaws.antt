@@ -1,4 +1,4 @@
--- One walk over ascending blocks: what is known of the frames in front.
+-- The walk over ascending blocks: what it knows of the frames before.
 use Rattle.std.proofs.Common.{◌≡◌, ℕ, ◌+◌, ◌-◌, ◌<◌, ◌≤◌, ◌==◌, ◌&&◌, ◌||◌, Bool, true, false, nat_le, nat_lt, if◌then◌else◌, List, [], ◌∷◌, ◌++◌, map, Option, Some, None, refl, sym, ap, ◌∙◌, subst, inl, inr, arith, append_assoc}
 use Rattle.std.proofs.Math.Nat.{mod-lt}
 use Rattle.std.proofs.lemmas.Nat.{pow_pos}
@@ -22,7 +22,7 @@ first b = (frames_of_block b).base
 abbrev end : Block → ℕ
 end b = end_of (frames_of_block b)
 
--- kin is the same in any order
+-- to have the same node and zone is symmetric and transitive; first for zones
 zone_same : (a b c : Zone) → same_zone a b ≡ true → same_zone b c ≡ same_zone a c
 zone_same zones.Dma zones.Dma c is = refl
 zone_same zones.Dma32 zones.Dma32 c is = refl
@@ -57,12 +57,13 @@ kin_same b c d kin =
     let node : b.node ≡ c.node = (Decides-eqb b.node c.node).0 parts.0 in
     rw (node, zone_same b.zone c.zone d.zone parts.1) refl
 
--- each test of a list whose tests agree
+-- blocks of the same node and zone give the same frames
 kin_lists : (b c : Block) → are_kin b c ≡ true → (blocks : List Block) (f : ℕ) → in_kin c blocks f ≡ in_kin b blocks f
 kin_lists b c kin [] f = refl
 kin_lists b c kin (d ∷ ds) f = rw (kin_same b c d kin, kin_lists b c kin ds f) refl
 
--- the others, from a frame up to another
+-- if the test of cover passes, each frame from `at` up to `until` is in a block of this node and
+-- zone
 fills_true : (b : Block) (at until : ℕ) (cs : List Block) → StartFrom at (map frames_of_block cs) → AscendApart (map frames_of_block cs)
     → fills b at until cs ≡ true → (f : ℕ) → at ≤ f → f < until → in_kin b cs f ≡ true
 fills_true b at until [] start order is f above below = absurd (grind (arith, nat_tests))
@@ -81,7 +82,7 @@ fills_true b at until (c ∷ cs) start order is f above below =
       | inr stops ↦ let wrong : ◌≡◌ {A = Bool} false true = rw stops at more in cc
     ]
 
--- where they don't, some frame is in no kin
+-- a frame from `at` up to `until` that is in no such block; there is one if the test fails
 abbrev IsGap : Block → ℕ → ℕ → List Block → Type 0
 IsGap b at until cs = (y : ℕ) × (at ≤ y) × (y < until) × (in_kin b cs y ≡ false)
 
@@ -117,8 +118,8 @@ fills_false b at until (c ∷ cs) start order is =
           ]
     ]
 
--- what is known of the blocks in front: none has a frame from `at` on; a frame of the last one is in that one alone; and
--- its kin go back to `from`, and no further
+-- what is known of the blocks up to `last`: none has a frame above `last`; a frame of `last` is in
+-- `last` only; and the run that ends with it begins at `from`
 record IsFront (front : List Block) (last : Block) (from : ℕ) : Type 0 where
   pub some : first last < end last
   pub low : from ≤ first last
@@ -175,7 +176,7 @@ kin_itself b = rw ((Decides-eqb b.node b.node).1 refl) (zone_itself b.zone)
 some_frame : (b : Block) → first b < end b
 some_frame b = let some = pow_pos b.order in omega arith
 
--- one block more in front
+-- one more block: after a gap or with another node or zone
 front_new : (front : List Block) (b : Block) → ((c : Block) (f : ℕ) → first b ≤ f → in_kin c front f ≡ false)
     → ((f : ℕ) → f + 1 ≡ first b → in_kin b front f ≡ false) → IsFront (front ++ (b ∷ [])) b (first b)
 front_new front b none apart = record {
@@ -234,7 +235,7 @@ next_front front (Some last) from b known start =
     by_test false is =
         front_new front b (λ c f above. known.behind c f (omega arith)) (λ f one. front_apart front last b from f known start is one)
 
--- whether a block could be joined, by the kin in front and behind
+-- the block could merge, by the frames before and after it
 parent_low : (b : Block) → (parent_of b).base ≤ first b
 parent_low b = omega arith
 
@@ -287,7 +288,7 @@ module _ (b : Block) (front bs : List Block) (from : ℕ) (known : IsFront front
       ap (λ (u : Bool). nat_lt b.order 10 && u)
       (each_is (nat_le from (parent_of b).base) (fills b (end b) (end_of (parent_of b)) bs) refl refl)
 
--- the first line whose block joins is the first that could be joined
+-- the first line for which the walk says so is the first that could merge
 abbrev line_by : Bool → ℕ → Option ℕ → Option ℕ
 line_by passes line others = if passes then Some line else others
 

@@ -12,7 +12,7 @@ use Rattle.boot_audit.specs.Frames.{frames_of_block, is_in_zone, same_zone}
 abbrev zone_by : Bool → Bool → Zone
 zone_by dma dma32 = if dma then zones.Dma else (if dma32 then zones.Dma32 else zones.Normal)
 
--- what a zone asks of a frame, in two tests
+-- the test of a zone, from two tests of a frame
 abbrev zone_test : Zone → Bool → Bool → Bool
 zone_test zones.Dma dma dma32 = dma
 zone_test zones.Dma32 dma dma32 = not dma && dma32
@@ -45,7 +45,7 @@ between zone low frame high above below first last =
     zone_is zone frame
     ∙ tests_between zone low frame high above below (sym (zone_is zone low) ∙ first) (sym (zone_is zone high) ∙ last)
 
--- so the first and the last frame of a block tell
+-- so it is enough to test the first and the last frame of a block
 pub ends_tell : (b : Block) (first last : ℕ) (r : Bool) → first ≡ (frames_of_block b).base → last + 1 ≡ end_of (frames_of_block b)
     → first ≤ last → same_zone (zone_of first) b.zone ≡ true → r ≡ same_zone (zone_of last) b.zone → r ≡ is_in_zone b
 unfolding is_in_zone

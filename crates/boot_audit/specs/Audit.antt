@@ -10,13 +10,13 @@ use Rattle.boot_audit.specs.Reason.{Reason}
 use Rattle.boot_audit.specs.Status.{verdict_status, verdict_statuses}
 use Rattle.boot_audit.specs.Words.{Wanted, name_of}
 
--- the order in which the reports are read
+-- the position of each report in the order in which they are read
 abbrev pub place : Report → ℕ
 place reports.Map = 0
 place reports.Owners = 1
 place reports.Blocks = 2
 
--- words name a file for each report
+-- an accepted command line names a file for each report
 abbrev pub bootaudit : Program Wanted Report Verdict
 bootaudit = record {
   place = place;
@@ -26,6 +26,6 @@ bootaudit = record {
   statuses = verdict_statuses;
 }
 
--- the outcome is another verdict than `Sound`
+-- the outcome is a verdict other than `Sound`. `said` is the outcome.
 abbrev pub IsUnsound : Result Verdict Reason → Type 0
 IsUnsound said = (verdict : Verdict) × ((said ≡ Ok verdict) × (verdict ≢ verdicts.Sound))

@@ -1,4 +1,4 @@
--- What it means that memory was conserved, by three reports.
+-- Conserved memory, as three reports show it.
 use Rattle.std.specs.Prelude.{◌≡◌, ℕ, ◌+◌, ◌<◌, true, false, if◌then◌else◌, List, [], ◌∷◌, ◌⊎◌}
 use Rattle.std.specs.List.{All}
 use Rattle.bm_base.specs.Range.{RangeView, covers}
@@ -14,25 +14,27 @@ abbrev pub blocks_with : List Block → ℕ → ℕ
 blocks_with [] frame = 0
 blocks_with (b ∷ bs) frame = if covers (frames_of_block b) frame then blocks_with bs frame + 1 else blocks_with bs frame
 
--- a frame is touched and in no block, or untouched and in exactly one
+-- the frame is touched and in no block, or untouched and in exactly one
 abbrev pub IsTouchedOrInOne : List RangeView → List Block → ℕ → Type 0
 IsTouchedOrInOne owners blocks frame =
     ((is_untouched owners frame ≡ false) × (blocks_with blocks frame ≡ 0))
     ⊎ ((is_untouched owners frame ≡ true) × (blocks_with blocks frame ≡ 1))
 
--- a block is aligned and in its zone, and couldn't be joined to its parent
+-- the block is aligned, lies in its zone, and couldn't merge with its buddy
 pub record IsSoundBlock (blocks : List Block) (b : Block) : Type 0 where
   pub aligned : is_aligned b ≡ true
   pub in_zone : is_in_zone b ≡ true
   pub maximal : could_join blocks b ≡ false
 
+-- memory was conserved, by these lines, below the limit
 pub record AreConserved (limit : ℕ) (map_lines : List MapLine) (owners : List RangeView) (blocks : List Block) : Type 0 where
-  -- each usable frame is touched or in exactly one block, and not both
+  -- each usable frame is either touched or in exactly one block
   pub frames : (frame : ℕ) → is_usable limit map_lines frame ≡ true → IsTouchedOrInOne owners blocks frame
   -- each frame of a block is usable and untouched
   pub others : (frame : ℕ) → 0 < blocks_with blocks frame
       → (is_usable limit map_lines frame ≡ true) × (is_untouched owners frame ≡ true)
   pub each : All (IsSoundBlock blocks) blocks
 
+-- memory was conserved, by the saved lines
 abbrev pub IsConserved : Saved → Width → Type 0
 IsConserved saved width = AreConserved (reach_of width) saved.map.items saved.owners.items saved.blocks.items

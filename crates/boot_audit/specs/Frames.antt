@@ -1,5 +1,5 @@
--- What saved reports say of a frame, and of a block. Each frame is judged by itself, byte by byte; no list is walked in step
--- with another.
+-- What saved reports say of a frame and of a block. Each frame is tested on its own, byte by byte,
+-- with no order of the lines.
 use Rattle.std.specs.Prelude.{ℕ, ◌+◌, ◌-◌, ◌*◌, ◌/◌, ◌%◌, ◌^◌, ◌==◌, ◌&&◌, ◌||◌, Bool, true, false, not, nat_lt, List}
 use Rattle.std.specs.List.{list_any}
 use Rattle.bm_base.specs.Range.{RangeView, covers}
@@ -12,23 +12,24 @@ use Rattle.bm_base.specs.declared.range.TheConstants.{FRAME_SIZE}
 use Rattle.audit_lines.specs.Blocks.{Block}
 use Rattle.audit_lines.specs.declared.lines.MapLine.{MapLine}
 
--- RAM, or memory of the kernel's own (`enum e820_type`: E820_TYPE_RAM, E820_TYPE_RESERVED_KERN)
+-- RAM, or memory that the kernel keeps for itself (`enum e820_type`: E820_TYPE_RAM,
+-- E820_TYPE_RESERVED_KERN)
 abbrev pub is_memory : ℕ → Bool
 is_memory kind = (kind == 1) || (kind == 128)
 
--- a line of the map has the byte as memory
+-- the byte is in a line of the map whose type is memory
 abbrev pub in_memory : List MapLine → ℕ → Bool
 in_memory map x = list_any (λ l. is_memory l.kind && covers l.range x) map
 
--- somebody has the byte
+-- the byte has an owner
 abbrev pub is_owned : List RangeView → ℕ → Bool
 is_owned owners x = list_any (λ r. covers r x) owners
 
--- each byte of the frame lies below the limit, in a line of memory
+-- each byte of the frame is below the limit and in a line whose type is memory
 unfoldable pub is_usable : ℕ → List MapLine → ℕ → Bool
 is_usable limit map frame = each_in (bytes_of_frame frame) (λ x. nat_lt x limit && in_memory map x)
 
--- nobody has a byte of the frame
+-- no byte of the frame has an owner
 unfoldable pub is_untouched : List RangeView → ℕ → Bool
 is_untouched owners frame = each_in (bytes_of_frame frame) (λ x. not (is_owned owners x))
 
@@ -40,10 +41,11 @@ frames_of_block b = record { base = b.at / FRAME_SIZE; size = 2 ^ b.order }
 abbrev pub in_a_block : List Block → ℕ → Bool
 in_a_block blocks frame = list_any (λ b. covers (frames_of_block b) frame) blocks
 
--- the block's address is a multiple of its size
+-- the block's address is a multiple of its size in bytes
 abbrev pub is_aligned : Block → Bool
 is_aligned b = b.at % (FRAME_SIZE * 2 ^ b.order) == 0
 
+-- the two zones are the same
 abbrev pub same_zone : Zone → Zone → Bool
 same_zone zones.Dma zones.Dma = true
 same_zone zones.Dma32 zones.Dma32 = true
@@ -54,21 +56,23 @@ same_zone a b = false
 unfoldable pub is_in_zone : Block → Bool
 is_in_zone b = each_in (frames_of_block b) (λ frame. same_zone (zone_of frame) b.zone)
 
--- the aligned set of twice as many frames that has the block's (`__find_buddy_pfn`)
+-- the aligned set of twice as many frames that contains the block (its buddy is the other half,
+-- `__find_buddy_pfn`)
 abbrev pub parent_of : Block → RangeView
 parent_of b = record {
   base = b.at / FRAME_SIZE - b.at / FRAME_SIZE % 2 ^ (b.order + 1);
   size = 2 ^ (b.order + 1);
 }
 
--- the two blocks are of one node and one zone
+-- the two blocks have the same node and zone
 abbrev pub are_kin : Block → Block → Bool
 are_kin b c = (b.node == c.node) && same_zone b.zone c.zone
 
--- the frame is in a block of the list that is of the block's node and zone
+-- the frame is in a block of the list that has the node and zone of block `b`
 abbrev pub in_kin : Block → List Block → ℕ → Bool
 in_kin b blocks frame = list_any (λ c. are_kin b c && covers (frames_of_block c) frame) blocks
 
--- the block is of an order below the greatest, and each frame of its parent is in blocks of its node and zone
+-- the block could merge with its buddy: its order is below 10, the greatest, and blocks of its
+-- node and zone cover its parent
 unfoldable pub could_join : List Block → Block → Bool
 could_join blocks b = nat_lt b.order 10 && each_in (parent_of b) (in_kin b blocks)

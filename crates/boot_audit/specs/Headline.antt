@@ -1,4 +1,4 @@
--- What status 0 says, where the files tell what they hold.
+-- What status 0 promises if the files' contents are known.
 use Rattle.std.specs.Prelude.{◌≡◌, Option, Some, Ok}
 use Rattle.bm_base.specs.Width.{reach_of}
 use Rattle.program_end.specs.Program.{Held}
@@ -6,7 +6,8 @@ use Rattle.boot_audit.specs.Conserved.{AreConserved}
 use Rattle.boot_audit.specs.Outcome.{Lines, lines_of}
 use Rattle.boot_audit.specs.Words.{Wanted}
 
--- the words have their form, the three texts are well-formed, and by their lines memory was conserved
+-- the command line is accepted, the three texts are well-formed, and memory was conserved by their
+-- lines
 pub record IsConservedBy (accepted : Option Wanted) (held : Held) : Type 0 where
   pub wanted : Wanted
   pub lines : Lines

@@ -16,14 +16,15 @@ use Rattle.boot_audit.specs.declared.verdict.Verdict.TheVariants as verdicts
 use Rattle.boot_audit.specs.Reason.{Reason}
 use Rattle.boot_audit.specs.Words.{Wanted, name_of}
 
--- a line of `blocks`, numbered from 1
+-- a fault of a block, with its line in `blocks`, counted from 1
 abbrev pub block_text : ℕ → List ℕ → List ℕ
 block_text line what = codes "not sound: block at line " ++ (decimal line ++ what)
 
--- a frame, told by the address of its first byte
+-- a fault of a frame, with the address of its first byte
 abbrev pub frame_text : ℕ → List ℕ → List ℕ
 frame_text frame what = codes "not sound: frame " ++ (hex_text (FRAME_SIZE * frame) ++ what)
 
+-- the text of a verdict
 abbrev pub verdict_text : Verdict → List ℕ
 verdict_text verdicts.Sound = codes "sound\n"
 verdict_text (verdicts.Misaligned line) = block_text line (codes " misaligned\n")
@@ -32,32 +33,35 @@ verdict_text (verdicts.NotFree frame) = frame_text frame (codes " not free\n")
 verdict_text (verdicts.Lost frame) = frame_text frame (codes " lost\n")
 verdict_text (verdicts.NotMaximal line) = block_text line (codes " not maximal\n")
 
--- the word for a report
+-- the name of a report
 abbrev pub word_for : Report → List ℕ
 word_for reports.Map = codes "map"
 word_for reports.Owners = codes "owners"
 word_for reports.Blocks = codes "blocks"
 
--- a fault of a line of the report, numbered from 1
+-- a fault of a line of the report, counted from 1
 abbrev pub numbered_line : List ℕ → ℕ → List ℕ → List ℕ
 numbered_line name line what = codes "bootaudit: " ++ (name ++ (codes ": line " ++ (decimal line ++ (codes ": " ++ (what ++ codes "\n")))))
 
+-- the line of a line's fault
 abbrev pub line_fault_line : List ℕ → LineFault → List ℕ
 line_fault_line name (line_faults.Form line) = numbered_line name line (codes "form")
 line_fault_line name (line_faults.Order line) = numbered_line name line (codes "order")
 
+-- the line of a fault of the report `name`
 abbrev pub fault_line : List ℕ → Fault → List ℕ
 fault_line name faults.TooLong = codes "bootaudit: " ++ (name ++ codes ": too long\n")
 fault_line name (faults.Line fault) = line_fault_line name fault
 
+-- the line of a fault of the report
 abbrev pub report_line : Report → Fault → List ℕ
 report_line report fault = fault_line (word_for report) fault
 
--- there is no cause to be told
+-- there is no cause, so this text is never put
 abbrev pub cause_line : NoCause → List ℕ
 cause_line cause = []
 
--- the name of a report's file as the words give it, which is empty where they are refused
+-- the name of the report's file on the command line, empty if that is refused
 abbrev pub name_text : Option Wanted → Report → List ℕ
 name_text None report = []
 name_text (Some wanted) report = name_of wanted report
@@ -65,5 +69,6 @@ name_text (Some wanted) report = name_of wanted report
 abbrev pub program_name : List ℕ
 program_name = codes "bootaudit"
 
+-- the line of a failure
 abbrev pub failure_line : Option Wanted → Failure Reason → List ℕ
 failure_line accepted failure = end_line program_name (name_text accepted) report_line cause_line failure

@@ -1,4 +1,5 @@
--- What an audit comes to, from the words and from what each name holds.
+-- The outcome of the audit: what the command line and the contents of the files determine. `held`
+-- gives the bytes of each file.
 use Rattle.std.specs.Prelude.{ℕ, nat_lt, if◌then◌else◌, List, length, Option, Some, None, Result, Ok, Err}
 use Rattle.bm_base.specs.Range.{RangeView}
 use Rattle.bm_base.specs.ResultSteps.{◌>>=◌, with_error}
@@ -18,7 +19,8 @@ use Rattle.boot_audit.specs.Reason.{Reason}
 use Rattle.boot_audit.specs.Verdicts.{verdict_on}
 use Rattle.boot_audit.specs.Words.{Wanted}
 
--- the lines of a report, of the bytes that its name holds, which are at most 512 MiB
+-- the lines of a report, from the bytes of its file (`None` if there is no such file), which may
+-- be at most 512 MiB
 abbrev pub lines_by : {L : Type 0} → (ℕ → List ℕ → Option L) → (L → RangeView) → Report → Option (List ℕ) → Result (List L) Reason
 lines_by form extent report None = Err (reasons.Unread report)
 lines_by form extent report (Some bytes) =
@@ -31,6 +33,7 @@ pub record Lines : Type 0 where
   pub owners : List RangeView
   pub blocks : List Block
 
+-- the lines of the three files, or the reason of the first that has none
 abbrev pub lines_of : Held → Wanted → Result Lines Reason
 lines_of held wanted = do
   map_lines ← lines_by map_in (λ l. l.range) reports.Map (held wanted.map_name)
@@ -38,10 +41,11 @@ lines_of held wanted = do
   blocks ← lines_by block_in bytes_of_block reports.Blocks (held wanted.blocks_name)
   Ok (record { map_lines = map_lines; owners = owners; blocks = blocks })
 
+-- the verdict on these lines, for the width of the command line
 abbrev pub verdict_by : Wanted → Lines → Verdict
 verdict_by wanted lines = verdict_on (reach_of wanted.width) lines.map_lines lines.owners lines.blocks
 
--- what an audit comes to: the verdict on what the three names hold, or why there is none
+-- the outcome of the audit: the verdict on the three files, or the reason why there is none
 abbrev pub outcome : Option Wanted → Held → Result Verdict Reason
 outcome accepted held = do
   wanted ← or_usage accepted

@@ -1,4 +1,4 @@
--- The verdict on saved reports: the first of five faults that there is.
+-- The verdict on saved reports: the first fault, of five kinds.
 use Rattle.std.specs.Prelude.{ℕ, zero, suc, ◌+◌, ◌^◌, ◌<◌, ◌&&◌, Bool, not, if◌then◌else◌, List, [], ◌∷◌, Option, Some, None}
 use Rattle.bm_base.specs.Range.{RangeView}
 use Rattle.bm_base.specs.Width.{reach_of}
@@ -10,12 +10,12 @@ use Rattle.boot_audit.specs.declared.verdict.Verdict.{Verdict}
 use Rattle.boot_audit.specs.declared.verdict.Verdict.TheVariants as verdicts
 use Rattle.boot_audit.specs.Frames.{could_join, in_a_block, is_aligned, is_in_zone, is_untouched, is_usable}
 
--- the number of the first line that passes the test, where the first line has the number n
+-- the number of the first line that passes the test; the first of these lines has number n
 abbrev pub first_line : (Block → Bool) → ℕ → List Block → Option ℕ
 first_line p n [] = None
 first_line p n (b ∷ bs) = if p b then Some n else first_line p (n + 1) bs
 
--- the first number that there is
+-- the number found so far, else n if it passes
 abbrev pub or_this : ℕ → Bool → Option ℕ → Option ℕ
 or_this n passes (Some m) = Some m
 or_this n passes None = if passes then Some n else None
@@ -25,22 +25,23 @@ unfoldable pub least_below : (ℕ → Bool) → ℕ → Option ℕ
 least_below p zero = None
 least_below p (suc n) = or_this n (p n) (least_below p n)
 
--- the least frame that passes the test; addresses end at 2^52
+-- the least frame that passes the test. Addresses are below 2^52, so frames are below 2^40.
 abbrev pub least_frame : (ℕ → Bool) → Option ℕ
 least_frame p = least_below p (2 ^ 40)
 
--- a frame that is usable and untouched
+-- the frame is usable and untouched
 abbrev pub is_free : ℕ → List MapLine → List RangeView → ℕ → Bool
 is_free limit map owners frame = is_usable limit map frame && is_untouched owners frame
 
--- a frame that is in a block, and isn't free; and the other way round
+-- the frame is in a block, but not free
 abbrev pub is_not_free : ℕ → List MapLine → List RangeView → List Block → ℕ → Bool
 is_not_free limit map owners blocks frame = in_a_block blocks frame && not (is_free limit map owners frame)
 
+-- the frame is free, but in no block
 abbrev pub is_lost : ℕ → List MapLine → List RangeView → List Block → ℕ → Bool
 is_lost limit map owners blocks frame = is_free limit map owners frame && not (in_a_block blocks frame)
 
--- the first fault that there is
+-- the verdict that names the first fault found, in the order of the arguments
 abbrev pub first_fault : Option ℕ → Option ℕ → Option ℕ → Option ℕ → Option ℕ → Verdict
 first_fault (Some line) misplaced taken lost parted = verdicts.Misaligned line
 first_fault None (Some line) taken lost parted = verdicts.WrongZone line
@@ -49,6 +50,7 @@ first_fault None None None (Some frame) parted = verdicts.Lost frame
 first_fault None None None None (Some line) = verdicts.NotMaximal line
 first_fault None None None None None = verdicts.Sound
 
+-- the verdict on lines of the three reports, for addresses below the limit
 abbrev pub verdict_on : ℕ → List MapLine → List RangeView → List Block → Verdict
 verdict_on limit map owners blocks =
     first_fault
@@ -58,10 +60,11 @@ verdict_on limit map owners blocks =
     (least_frame (is_lost limit map owners blocks))
     (first_line (could_join blocks) 1 blocks)
 
+-- the verdict on the saved lines
 abbrev pub verdict_of : Saved → Width → Verdict
 verdict_of saved width = verdict_on (reach_of width) saved.map.items saved.owners.items saved.blocks.items
 
--- the frame that a verdict names is one below 2^40
+-- if the verdict has a frame, it is below 2^40
 abbrev pub IsNear : Verdict → Type 0
 IsNear (verdicts.NotFree frame) = frame < 2 ^ 40
 IsNear (verdicts.Lost frame) = frame < 2 ^ 40

@@ -1,9 +1,10 @@
--- The values of the program, as contracts see them.
+-- What contracts see of the program's values.
 use Rattle.boot_audit.specs.declared.saved.Saved.{Saved}
 use Rattle.boot_audit.specs.declared.words.Names.{Names}
 use Rattle.boot_audit.specs.Outcome.{Lines}
 use Rattle.boot_audit.specs.Words.{Wanted}
 
+-- what contracts see of an accepted command line
 abbrev pub wanted_view : Names → Wanted
 wanted_view names = record {
   width = names.width;
@@ -12,5 +13,6 @@ wanted_view names = record {
   blocks_name = names.blocks.now;
 }
 
+-- what contracts see of the saved lines
 abbrev pub saved_lines : Saved → Lines
 saved_lines saved = record { map_lines = saved.map.items; owners = saved.owners.items; blocks = saved.blocks.items }

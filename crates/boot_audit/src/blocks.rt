@@ -1,4 +1,4 @@
-//! What each block is by itself: at a multiple of its size, and in its zone.
+//! Tests of single blocks: its address is a multiple of its size, and it lies in its zone.
 
 ghost use Rattle.std.specs.Prelude.{◌≡◌, ◌^◌, ◌<◌, length, not};
 ghost use Rattle.audit_lines.specs.Blocks.{IsBlock};
@@ -9,7 +9,7 @@ ghost use Rattle.bm_base.specs.Range.{end_of};
 use audit_lines::BlockLine;
 use bm_base::{FRAME_SIZE, Zone, zone_of};
 
-/// The line of the first block that isn't at a multiple of its size.
+/// Returns the first line, counted from 1, whose block isn't at a multiple of its size.
 pub fn first_misaligned(blocks: &[BlockLine]) -> Option<u32>
     requires { length blocks.now < 2 ^ 32 }
     ensures { result ≡ first_line (λ b. not (is_aligned b)) 1 blocks.now }
@@ -22,7 +22,7 @@ pub fn first_misaligned(blocks: &[BlockLine]) -> Option<u32>
     None
 }
 
-/// The line of the first block that isn't in its zone as a whole.
+/// Returns the first line, counted from 1, whose block has a frame outside its zone.
 pub fn first_in_wrong_zone(blocks: &[BlockLine]) -> Option<u32>
     requires { length blocks.now < 2 ^ 32 }
     ensures { result ≡ first_line (λ b. not (is_in_zone b)) 1 blocks.now }
@@ -41,7 +41,8 @@ fn is_aligned(block: &BlockLine) -> bool
     block.at % (FRAME_SIZE << block.order) == 0
 }
 
-/// Whether each frame of the block is in its zone. Zones are intervals, so the first and the last frame tell.
+/// Returns whether each frame of the block is in its zone. Zones are intervals, so it is enough to
+/// test the first and the last frame.
 fn is_in_zone(block: &BlockLine) -> bool
     ensures { result ≡ is_in_zone block.now }
 {
@@ -50,7 +51,7 @@ fn is_in_zone(block: &BlockLine) -> bool
     same_zone(zone_of(first), block.zone) && same_zone(zone_of(last), block.zone)
 }
 
-/// Whether the zones are the same.
+/// Returns whether the two zones are the same.
 pub fn same_zone(first: Zone, second: Zone) -> bool
     ensures { result ≡ same_zone first second }
 {
@@ -61,7 +62,7 @@ pub fn same_zone(first: Zone, second: Zone) -> bool
     }
 }
 
-/// The number of the block's first frame.
+/// Returns the number of the block's first frame.
 pub fn first_frame(block: &BlockLine) -> u64
     ensures value { result ≡ (frames_of_block block.now).base }
     ensures small { result < 2 ^ 52 }
@@ -69,7 +70,7 @@ pub fn first_frame(block: &BlockLine) -> u64
     block.at / FRAME_SIZE
 }
 
-/// The number of the frame behind its last one.
+/// Returns the number of the frame after the block's last one.
 pub fn end_frame(block: &BlockLine) -> u64
     ensures value { result ≡ end_of (frames_of_block block.now) }
     ensures behind { (frames_of_block block.now).base < result }

@@ -1,4 +1,4 @@
-//! The saved reports, what is wrong with them, and the ways in which the audit ends without a verdict.
+//! The saved reports, their faults, and the ways in which the audit ends without a verdict.
 
 ghost use Rattle.std.specs.Prelude.{◌≡◌};
 ghost use Rattle.boot_audit.specs.Line.{word_for};
@@ -7,10 +7,10 @@ ghost use Rattle.boot_audit.specs.Status.{verdict_status};
 use crate::verdict::Verdict;
 use audit_lines::LineFault;
 
-/// A saved report, in the order in which they are read.
+/// A saved report. The audit reads them in this order.
 #[derive(Clone, Copy, Debug, PartialEq, Eq)]
 pub enum Report {
-    /// The finished map of memory.
+    /// The map of memory after the boot has accepted it.
     Map,
     /// The reserved memory that has an owner.
     Owners,
@@ -18,30 +18,30 @@ pub enum Report {
     Blocks,
 }
 
-/// What is wrong with a saved report.
+/// A fault of a saved report.
 #[derive(Clone, Copy, Debug, PartialEq, Eq)]
 pub enum Fault {
-    /// It has more than 536,870,912 bytes.
+    /// The file contains more than 536,870,912 bytes.
     TooLong,
-    /// Its lowest line that has a fault.
+    /// The fault of the first line that has one.
     Line(LineFault),
 }
 
-/// Why well-formed reports have no verdict: there is no such cause.
+/// The causes for which well-formed reports have no verdict: there is none.
 #[derive(Clone, Copy, Debug, PartialEq, Eq)]
 pub enum NoCause {}
 
-/// Why the words and the files give no verdict.
+/// Why the command line and the files give no verdict.
 pub type Reason = program_end::Reason<Report, Fault, NoCause>;
 
-/// Why there is no verdict.
+/// Why there is no verdict: a reason, or out of memory.
 pub type NoVerdict = program_end::NoResult<Reason>;
 
-/// Why the audit doesn't end with a verdict.
+/// Why the audit didn't write its verdict whole.
 pub type Failure = program_end::Failure<Reason>;
 
 impl Report {
-    /// The word for it on the error output.
+    /// Returns the report's name on the error output.
     pub fn word(self) -> &'static str
         ensures { result.now ≡ word_for self }
     {
@@ -53,7 +53,7 @@ impl Report {
     }
 }
 
-/// The exit status of a verdict: 0 for `Sound`, 8 for any other.
+/// Returns the exit status of a verdict: 0 for `Sound`, 8 for every other.
 pub fn verdict_status(verdict: Verdict) -> u8
     ensures { result ≡ verdict_status verdict }
 {

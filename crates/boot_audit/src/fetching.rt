@@ -1,4 +1,4 @@
-//! The three reports are fetched and read one after another.
+//! Fetches and reads the three reports, one after another.
 
 ghost use Rattle.std.specs.Prelude.{◌≡◌, ◌<◌, ◌≤◌, ◌^◌, ℕ, List, Some, length, map, IfErr, IfOk, IfSome, IsErrOf};
 ghost use Rattle.audit_lines.specs.Blocks.{bytes_of_block};
@@ -20,10 +20,17 @@ use bm_base::Range;
 use bm_io::{Fetch, Files};
 use std::alloc::Global;
 
-/// The bytes that a saved report has at most.
+/// The greatest number of bytes of a saved report: 512 MiB.
 const LIMIT: u64 = 536_870_912;
 
-/// What was saved, of the three files that the words name. The first file that can't be read or has a fault is the answer.
+/// Fetches the three files that the command line names and returns their lines. In each report the
+/// lines are ascending and disjoint.
+///
+/// # Errors
+///
+/// - `Reason::Unread` if a file can't be read, and `Reason::Faulty` if it contains more than 512
+///   MiB or a line has a fault. The first such file ends the call.
+/// - `Memory` if this program is out of memory.
 pub fn fetch_saved<F: Files>(
     alloc: Global,
     files: &mut F,
@@ -47,7 +54,8 @@ pub fn fetch_saved<F: Files>(
     })
 }
 
-/// The lines of a report, of the file of that name.
+/// Fetches the file `name` and returns the lines of this report. Errors are those of
+/// [`fetch_saved`], for this file.
 fn fetch_lines<F: Files, L: ReportLine>(
     alloc: Global,
     files: &mut F,

@@ -1,8 +1,10 @@
-//! Blocks that could be joined to their parents, the aligned sets of twice as many frames.
+//! Finds blocks that could merge with their buddies. A block's *parent* is the aligned set of
+//! twice as many frames that contains it. A block could merge if blocks of its node and zone cover
+//! the whole parent.
 //!
-//! The blocks are ascending and disjoint. So the frames before a block that are in blocks of its node and zone, without a
-//! gap, go back to where a run of such blocks began, which is known on the way; and those behind it are in the blocks that
-//! follow, which are looked at up to the parent's end.
+//! The blocks are ascending and disjoint. Before a block, the frames that are covered without a
+//! gap go back to where a run of such blocks began. The loop keeps this frame. After the block,
+//! the frames are covered by the next blocks, which are read up to the parent's end.
 
 ghost use Rattle.std.specs.Prelude.{◌≡◌, ◌+◌, ◌^◌, ◌<◌, length, map};
 ghost use Rattle.audit_lines.specs.Lines.{AscendApart};
@@ -14,7 +16,8 @@ ghost use Rattle.bm_base.specs.Range.{end_of};
 use crate::blocks::{end_frame, first_frame, same_zone};
 use audit_lines::BlockLine;
 
-/// The line of the first block of an order below 10 whose parent's frames are all in blocks of its node and zone.
+/// Returns the first line, counted from 1, whose block could merge: its order is below 10, and
+/// blocks of its node and zone cover its parent.
 pub fn first_joinable(blocks: &[BlockLine]) -> Option<u32>
     requires order { AscendApart (map frames_of_block blocks.now) }
     requires few { length blocks.now < 2 ^ 32 }
@@ -32,7 +35,9 @@ pub fn first_joinable(blocks: &[BlockLine]) -> Option<u32>
     None
 }
 
-/// The frame from which kin go up to the block without a gap.
+/// Returns the first frame of the run of blocks of one node and zone, without a gap, that ends
+/// with `block`. `last` is the block before, and `from` the first frame of the run that ends with
+/// it.
 fn run_start(last: Option<BlockLine>, from: u64, block: &BlockLine) -> u64
     ensures { result ≡ run_start last from block.now }
 {
@@ -42,21 +47,22 @@ fn run_start(last: Option<BlockLine>, from: u64, block: &BlockLine) -> u64
     }
 }
 
-/// Whether the second block follows the first without a gap and is of its node and zone.
+/// Returns whether `block` begins where `before` ends and has the same node and zone.
 fn goes_on(before: &BlockLine, block: &BlockLine) -> bool
     ensures { result ≡ goes_on before.now block.now }
 {
     end_frame(before) == first_frame(block) && are_kin(before, block)
 }
 
-/// Whether the blocks are of one node and one zone.
+/// Returns whether the blocks have the same node and zone.
 fn are_kin(first: &BlockLine, second: &BlockLine) -> bool
     ensures { result ≡ are_kin first.now second.now }
 {
     first.node == second.node && same_zone(first.zone, second.zone)
 }
 
-/// Whether the kin in front and those among the others have the block's parent.
+/// Returns whether the block could merge with its buddy. `from` is the first frame of the run that
+/// ends with the block, and `others` are the blocks after it.
 fn joins(from: u64, block: &BlockLine, others: &[BlockLine]) -> bool
     ensures { result ≡ joins from block.now others.now }
 {
@@ -69,7 +75,8 @@ fn joins(from: u64, block: &BlockLine, others: &[BlockLine]) -> bool
     from <= parent && fills(block, parent + size, others)
 }
 
-/// Whether the others go on from the block to the frame, without a gap, and are all of its node and zone.
+/// Returns whether `others` cover all frames from the block's end up to frame `until`, without a
+/// gap and with blocks of its node and zone.
 fn fills(block: &BlockLine, until: u64, others: &[BlockLine]) -> bool
     ensures { result ≡ fills block.now (end_of (frames_of_block block.now)) until others.now }
 {

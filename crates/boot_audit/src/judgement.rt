@@ -14,8 +14,9 @@ use crate::sweep::sweep;
 use crate::verdict::Verdict;
 use bm_base::{Memory, Width};
 
-/// The verdict on saved reports, where physical addresses have that width. Takes no memory, so it never answers that
-/// memory is wanting. A frame that the verdict names is below 2^40.
+/// Returns the verdict on saved reports, for physical addresses of this width: `Sound`, or the
+/// first fault, in the order of the other variants of [`Verdict`]. It allocates nothing, so it
+/// never fails. A frame in the verdict is below 2^40.
 pub fn judge(saved: &Saved, width: Width) -> Result<Verdict, Memory>
     requires map_order { AscendApart (map (λ l. l.range) saved.now.map.items) }
     requires owner_order { AscendApart (map (λ r. r) saved.now.owners.items) }
@@ -43,7 +44,7 @@ pub fn judge(saved: &Saved, width: Width) -> Result<Verdict, Memory>
     }
 }
 
-/// A law: the verdict is `Sound` exactly where memory was conserved.
+/// Law: the verdict is `Sound` exactly if memory was conserved, by the lines of these reports.
 pub fn sound_is_conserved(saved: &Saved, width: Width)
     requires order { AscendApart (map bytes_of_block saved.now.blocks.items) }
     requires fit { All IsBlock saved.now.blocks.items }

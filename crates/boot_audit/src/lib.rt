@@ -1,12 +1,23 @@
-//! An audit of saved reports: whether memory was conserved, by the reports `map`, `owners` and `blocks` of one boot.
+//! Audits saved reports: was memory conserved, by the reports `map`, `owners` and `blocks` of one
+//! boot?
 //!
-//! [`judge`] gives the verdict on the lines of the reports (`specs/Verdicts.antt`), frame by frame and block by block, and
-//! [`sound_is_conserved`] says what `Sound` promises. [`audit`] is the whole program over any files, output and error
-//! output: it fetches the three reports that the words name, reads them (`audit_lines`), and writes the verdict. What it
-//! answers is a definition, `outcome` of `specs/Outcome.antt`, but where the outside fails: a file that couldn't be read,
-//! an output that refused, want of memory.
+//! Memory was *conserved* if each usable frame is either touched by an owner or in exactly one
+//! free block, and no other frame is in a block. Also, each block must be aligned, lie in its
+//! zone, and not be able to merge with its buddy (`specs/Conserved.antt`).
 //!
-//! The program on the system's files and streams is `bootaudit`.
+//! - [`judge`] gives the verdict on the lines of the reports: `Sound`, or the first fault
+//!   (`specs/Verdicts.antt`).
+//! - [`sound_is_conserved`] is a law: the verdict is `Sound` exactly if memory was conserved. A
+//!   law is an empty function whose contract is a proven fact.
+//! - [`audit`] is the program `bootaudit` over any files, output and error output. It reads the
+//!   three reports that the command line names (`audit_lines`), and writes the verdict. `outcome`
+//!   (`specs/Outcome.antt`) defines what it writes.
+//!
+//! The layer above may rest on this: `audit` does what `outcome` says, unless a file can't be
+//! read, the output refuses the text, or this program is out of memory. `bootaudit` runs it on the
+//! files and streams of the operating system.
+//!
+//! In contracts, a name means the definition in `specs/`.
 #![tactic(auto)]
 
 mod blocks;

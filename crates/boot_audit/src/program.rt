@@ -37,10 +37,24 @@ use bm_io::{Files, Sink};
 use program_end::{exit_status, tell_end};
 use std::alloc::Global;
 
-/// The whole program: reads the three saved reports that the words name, `[--la57] MAP OWNERS BLOCKS`, and writes whether
-/// memory was conserved. `words` are those after the program's name. Answers the exit status: 0 where the verdict is
-/// `Sound` and 8 where it is another one, with its text on `out` by one put; else nothing is written to `out`, unless it
-/// fails in the midst, and the line of the failure goes to `err`. What `err` answers changes no status.
+/// Reads the three saved reports that the command line `[--la57] MAP OWNERS BLOCKS` names, and
+/// writes to `out` whether memory was conserved. `words` are the words after the program's name.
+/// Returns the exit status:
+///
+/// - 0: the verdict is `Sound`; its text was written.
+/// - 2: the command line isn't accepted; no file was read.
+/// - 3: a file that the command line names couldn't be read.
+/// - 4: `out` refused the text.
+/// - 5: a file contains more than 512 MiB, or a line has a fault.
+/// - 7: out of memory.
+/// - 8: the verdict is another one; its text was written.
+///
+/// With status 0 and 8 nothing is put to `err`, and otherwise the one line of the failure. If
+/// `err` refuses it, the status stays the same. The text of a verdict goes to `out` by one put.
+/// With 2, 3 and 5 nothing is put to `out`; with 4 and 7 it may have the first part of the text.
+///
+/// `holds` gives what each file contains, if the type of `files` knows it. If it is `None`, the
+/// clauses on `outcome` say nothing.
 pub fn audit<F: Files, S: Sink, E: Sink>(
     alloc: Global,
     words: &[String],
@@ -48,22 +62,23 @@ pub fn audit<F: Files, S: Sink, E: Sink>(
     out: &mut S,
     err: &mut E,
 ) -> u8
-    // When each status comes, whatever the files tell. Refused words give 2, and nothing else does.
+    // When each status comes, even if the files' contents are unknown. Status 2 comes exactly if
+    // the command line is refused.
     ensures usage { (result ≡ 2) ↔ IsNone (accepted (map string_bytes words.now)) }
     ensures unread { result ≡ 3 → (report : AnyReport)
         × RoseFor bootaudit (F.faults files.old) (F.faults files.new) (accepted (map string_bytes words.now)) report }
     ensures unwritten { result ≡ 4 → Rose (S.faults out.old) (S.faults out.new) }
 
-    // What stays as it was, whatever the files tell: the files and the output with refused words, and the output
-    // where no verdict came to be.
+    // What stays as it was, even if the files' contents are unknown: the files if the command line
+    // is refused, and `out` if there is no verdict.
     ensures unfetched { IsNone (accepted (map string_bytes words.now)) → files.new ≡ files.old }
     ensures early { (result ≡ 2) ⊎ (result ≡ 3) ⊎ (result ≡ 5) → out.new ≡ out.old }
     ensures wanting { result ≡ 7 → (out.new ≡ out.old) ⊎ Rose (S.wants out.old) (S.wants out.new) }
 
-    // The headline, where the files tell what they hold: 0 comes exactly where the words have their form, the three texts
-    // are well-formed, each usable frame is touched or in exactly one block and not both, each frame of a block is usable
-    // and untouched, and each block is aligned, in its zone, and couldn't be joined to its parent. Faults of the outside
-    // and want of memory stand apart.
+    // The headline, if the files' contents are known. With status 0 the command line is accepted,
+    // the three texts are well-formed, and memory was conserved by their lines. If all this holds,
+    // and no counter of faults rose, of `out` or of a file, the status is 0, or 7 if out of
+    // memory.
     ensures headline { result ≡ 0 → IfSome (F.holds files.old) (IsConservedBy (accepted (map string_bytes words.now))) }
     ensures conserved { IfSome (F.holds files.old) (λ held. IsConservedBy (accepted (map string_bytes words.now)) held
         → ¬ Rose (S.faults out.old) (S.faults out.new)
@@ -71,7 +86,7 @@ pub fn audit<F: Files, S: Sink, E: Sink>(
         → ¬ RoseFor bootaudit (F.faults files.old) (F.faults files.new) (accepted (map string_bytes words.now)) report)
         → (result ≡ 0) ⊎ (result ≡ 7)) }
 
-    // Where the files tell what they hold: the status and the output are those of the outcome.
+    // If the files' contents are known, the status and the output are those of the outcome.
     ensures answers { IfSome (F.holds files.old) (λ held.
         MayEndWith bootaudit (outcome (accepted (map string_bytes words.now)) held) result) }
     ensures sound { result ≡ 0 → IfSome (F.holds files.old) (λ held.
@@ -91,7 +106,8 @@ pub fn audit<F: Files, S: Sink, E: Sink>(
         ⊎ IsOkAnd (outcome (accepted (map string_bytes words.now)) held)
         (λ verdict. AppendsFront (S.written out.old) (S.written out.new) (verdict_text verdict))) }
 
-    // Nothing but the outside stands between a verdict and its writing.
+    // If no counter of faults rose, of `out` or of a file, a verdict of the outcome is written
+    // unless the program is out of memory.
     ensures complete { IfSome (F.holds files.old) (λ held. (verdict : AnyVerdict)
         → outcome (accepted (map string_bytes words.now)) held ≡ Ok verdict
         → ¬ Rose (S.faults out.old) (S.faults out.new)
@@ -99,8 +115,8 @@ pub fn audit<F: Files, S: Sink, E: Sink>(
         → ¬ RoseFor bootaudit (F.faults files.old) (F.faults files.new) (accepted (map string_bytes words.now)) report)
         → (result ≡ verdict_status verdict) ⊎ (result ≡ 7)) }
 
-    // What stands on the error output: nothing with a verdict, else the line of a failure that has the status, has its
-    // cause, and is that of the outcome.
+    // What `err` has: nothing with a verdict, else the line of a failure with this status. The
+    // failure has its cause and fits the outcome.
     ensures silent { (result ≡ 0) ⊎ (result ≡ 8) → err.new ≡ err.old }
     ensures line { result ≢ 0 → result ≢ 8 → (failure : AnyFailure AnyReason) × (result ≡ status_of failure)
         × PutsLine E.Sink err.old err.new (failure_line (accepted (map string_bytes words.now)) failure)
@@ -114,7 +130,7 @@ pub fn audit<F: Files, S: Sink, E: Sink>(
     exit_status(end)
 }
 
-/// Writes the verdict, once it is there as text. Answers its exit status.
+/// Writes the verdict, once its whole text is made. Returns its exit status.
 fn write_verdict<F: Files, S: Sink>(
     alloc: Global,
     names: &Option<Names<'_>>,
@@ -135,7 +151,7 @@ fn write_verdict<F: Files, S: Sink>(
     Ok(verdict_status(verdict))
 }
 
-/// The verdict on the three files that the words name.
+/// Returns the verdict on the three files that the command line names.
 fn find_verdict<F: Files>(
     alloc: Global,
     names: &Option<Names<'_>>,

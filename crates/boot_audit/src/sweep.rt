@@ -1,7 +1,8 @@
-//! The first byte that is in a block and isn't free, and the first frame that is lost, by one sweep over the three lists.
+//! Finds the first byte that is in a block but not free, and the first frame that is lost, by one
+//! sweep over the three lists.
 //!
-//! At each address the first line of each list tells what all bytes are up to where a line begins or ends. So no list of
-//! free memory is made, and no frame is looked at by itself.
+//! At each address, the first remaining line of each list decides for all bytes up to where a line
+//! begins or ends. So the sweep makes no list of free memory, and takes no step per frame.
 
 ghost use Rattle.std.specs.Prelude.{◌≡◌, ◌^◌, ◌<◌, ◌≤◌, ◌&&◌, Bool, true, not, nat_lt, ℕ, map, None, IsNone};
 ghost use Rattle.audit_lines.specs.Blocks.{bytes_of_block};
@@ -15,46 +16,47 @@ use crate::saved::Saved;
 use audit_lines::{BlockLine, MapLine};
 use bm_base::{FRAME_SIZE, Range};
 
-/// The address behind the last one that a block can have.
+/// The address at which the sweep ends; each block ends at or below it.
 const END: u64 = 1 << 52;
 
-/// What a byte is.
+/// What the sweep says of a byte.
 #[derive(Clone, Copy, Debug, PartialEq, Eq)]
 pub enum State {
-    /// In a block and free, or neither.
+    /// It is in a block and free, or in no block and not free.
     Sound,
-    /// In a block, and not free.
+    /// It is in a block, but not free.
     NotFree,
-    /// Free, and in no block.
+    /// It is free, but in no block.
     Lost,
 }
 
-/// What the sweep found: frames.
+/// The frames that the sweep found.
 #[derive(Clone, Copy)]
 pub struct Swept {
     /// The least frame in a block that isn't free.
     pub not_free: Option<u64>,
-    /// The least frame that is free and in no block.
+    /// The least frame that is free and in no block; `None` if `not_free` has a frame.
     pub lost: Option<u64>,
 }
 
-/// A line that tells something of its bytes.
+/// A line of a report, with its range of addresses.
 pub trait Line: Copy {
-    // its addresses
+    // the range of the line's addresses
     ghost extent: { Self → RangeView };
 
-    // whether it counts
+    // whether the sweep considers the line
     ghost counted: { Self → Bool };
 
-    /// The address of its first byte.
+    /// Returns the address of the line's first byte.
     fn base(&self) -> u64
         ensures { result ≡ (extent self.now).base };
 
-    /// The address behind its last byte.
+    /// Returns the address after the line's last byte.
     fn end(&self) -> u64
         ensures { result ≡ end_of (extent self.now) };
 
-    /// Whether it counts.
+    /// Returns whether the sweep considers the line: a map line counts only if its type is memory
+    /// (1 or 128), other lines always.
     fn counts(&self) -> bool
         ensures { result ≡ counted self.now };
 }
@@ -120,7 +122,7 @@ impl Line for BlockLine {
     }
 }
 
-/// What the lines say of the bytes from an address on, and how far.
+/// Whether the bytes from some address up to address `until` are in a line that counts.
 #[derive(Clone, Copy)]
 struct Sight {
     inside: bool,
@@ -153,7 +155,7 @@ fn look<L: Line>(lines: &[L], at: u64) -> Sight
     }
 }
 
-/// The lines that end behind the address.
+/// Returns the lines without those at the beginning that end at or below address `at`.
 fn passed<L: Line>(lines: &[L], at: u64) -> &[L]
     requires { AscendApart (map L.extent lines.now) }
     ensures order { AscendApart (map L.extent result.now) }
@@ -170,14 +172,14 @@ fn passed<L: Line>(lines: &[L], at: u64) -> &[L]
     rest
 }
 
-/// What all bytes from an address on are, and how far.
+/// The state that all bytes from some address up to address `until` have.
 #[derive(Clone, Copy)]
 struct Piece {
     state: State,
     until: u64,
 }
 
-/// Whether the bytes from the address on lie below the limit, and how far.
+/// Returns whether the bytes from address `at` on are below the limit, and how far that is so.
 fn look_at_limit(limit: u64, at: u64) -> Sight
     requires { at < 2 ^ 52 }
     ensures forward { at < result.until }
@@ -215,7 +217,8 @@ fn state_by(free: bool, in_block: bool) -> State
     }
 }
 
-/// What the bytes from the address on are, by the lines that end behind it.
+/// Returns the state of the bytes from address `at` on, and how far it stays the same. In each
+/// list the first line must end above `at`.
 fn look_around(
     limit: u64,
     runs: &[MapLine],
@@ -249,7 +252,7 @@ fn look_around(
     }
 }
 
-/// The first whole frame of the bytes from `from` up to `until`.
+/// Returns the first frame that lies whole in the bytes from address `from` up to `until`.
 fn first_whole(from: u64, until: u64) -> Option<u64>
     requires { from ≤ 2 ^ 52 }
     ensures { result ≡ first_whole from until }
@@ -261,7 +264,8 @@ fn first_whole(from: u64, until: u64) -> Option<u64>
     Some(frame)
 }
 
-/// The first lost frame, where the bytes from `from` on are lost, and from where they are once the piece is known.
+/// Returns the first lost frame so far, and the address from which all bytes up to the piece's end
+/// are lost. `lost` and `from` are these two before the piece.
 fn carried(lost: Option<u64>, from: u64, piece: Piece) -> (Option<u64>, u64)
     requires { from ≤ 2 ^ 52 }
     ensures { result ≡ carried lost from piece.until piece.state }
@@ -273,7 +277,7 @@ fn carried(lost: Option<u64>, from: u64, piece: Piece) -> (Option<u64>, u64)
     (lost, piece.until)
 }
 
-/// Both least frames. The blocks are aligned.
+/// Returns the least frame of each fault, for addresses below `limit`. The blocks must be aligned.
 pub fn sweep(saved: &Saved, limit: u64) -> Swept
     requires map_order { AscendApart (map (λ l. l.range) saved.now.map.items) }
     requires owner_order { AscendApart (map (λ r. r) saved.now.owners.items) }

@@ -13,7 +13,8 @@ use bm_io::Sink;
 use itoa::Buffer;
 use program_end::{Lines, put_line};
 
-/// The lines of the audit of the files of these names, where the words give some.
+/// The lines of the audit's failures. `names` is the accepted command line; `None` if it isn't
+/// accepted.
 #[derive(Clone, Copy)]
 pub struct AuditLines<'a, 'w> {
     pub names: &'a Option<Names<'w>>,
@@ -48,7 +49,7 @@ impl<'a, 'w> Lines<Report, Fault, NoCause> for AuditLines<'a, 'w> {
     }
 }
 
-/// The line of a fault of the report of that word.
+/// Puts the line of a fault of the report `word`.
 fn tell_fault<'a, E: Sink>(err: &mut E, word: &'a str, fault: Fault)
     ensures { PutsLine E.Sink err.old err.new (fault_line word.now fault) }
 {
@@ -67,7 +68,7 @@ fn tell_line_fault<E: Sink>(err: &mut E, word: &str, fault: LineFault)
     }
 }
 
-/// The line of a line of the report, numbered from 1.
+/// Puts the line of a fault in line number `line` of the report, counted from 1.
 fn tell_line<'a, E: Sink>(err: &mut E, word: &'a str, line: u64, what: &'a str)
     ensures { PutsLine E.Sink err.old err.new (numbered_line word.now line what.now) }
 {

@@ -1,4 +1,4 @@
-//! The text of a verdict, whole, so that it goes out by one put.
+//! The texts of verdicts. Each is made whole, so that one put writes it.
 
 ghost use Rattle.std.specs.Prelude.{◌≡◌, ◌<◌, ◌^◌, IfOk};
 ghost use Rattle.boot_audit.specs.Line.{block_text, frame_text, verdict_text};
@@ -8,7 +8,7 @@ use crate::verdict::Verdict;
 use bm_base::{FRAME_SIZE, Memory, put_dec, put_hex, put_text};
 use std::alloc::Global;
 
-/// The text of the verdict, with its newline.
+/// Returns the text of the verdict, with its newline. Fails only if out of memory.
 pub fn verdict_text(alloc: Global, verdict: Verdict) -> Result<Vec<u8>, Memory>
     requires { IsNear verdict }
     ensures { IfOk result (λ text. text.items ≡ verdict_text verdict) }
@@ -31,7 +31,8 @@ fn sound_text(alloc: Global) -> Result<Vec<u8>, Memory>
     Ok(text)
 }
 
-/// The text on a line of `blocks`, numbered from 1.
+/// Returns the text of a fault of the block at line number `line`, counted from 1. Fails only if
+/// out of memory.
 fn block_text(alloc: Global, line: u32, what: &[u8]) -> Result<Vec<u8>, Memory>
     ensures { IfOk result (λ text. text.items ≡ block_text line what.now) }
 {
@@ -42,7 +43,8 @@ fn block_text(alloc: Global, line: u32, what: &[u8]) -> Result<Vec<u8>, Memory>
     Ok(text)
 }
 
-/// The text on a frame, which is told by the address of its first byte.
+/// Returns the text of a fault of a frame; it has the address of the frame's first byte. Fails
+/// only if out of memory.
 fn frame_text(alloc: Global, frame: u64, what: &[u8]) -> Result<Vec<u8>, Memory>
     requires { frame < 2 ^ 40 }
     ensures { IfOk result (λ text. text.items ≡ frame_text frame what.now) }

@@ -1,4 +1,4 @@
-//! The words of the program: `[--la57] MAP OWNERS BLOCKS`.
+//! The command line of `bootaudit`: `[--la57] MAP OWNERS BLOCKS`.
 
 ghost use Rattle.std.specs.Prelude.{◌≡◌, map, string_bytes};
 ghost use Rattle.std.specs.Option.{option_map};
@@ -8,7 +8,7 @@ ghost use Rattle.boot_audit.specs.View.{wanted_view};
 use crate::failure::Report;
 use bm_base::Width;
 
-/// What the words name.
+/// What an accepted command line names.
 #[derive(Clone, Copy)]
 pub struct Names<'w> {
     /// The width of physical addresses: 52 bits with `--la57`, else 46.
@@ -22,7 +22,7 @@ pub struct Names<'w> {
 }
 
 impl<'w> Names<'w> {
-    /// The name of a report's file.
+    /// Returns the name of the report's file.
     pub fn of(&self, report: Report) -> &'w str
         ensures { result.now ≡ name_of (wanted_view self.now) report }
     {
@@ -34,7 +34,7 @@ impl<'w> Names<'w> {
     }
 }
 
-/// What the words name; `None` exactly where they have another form.
+/// Returns what the words name, `None` exactly if they aren't accepted.
 pub fn read_names(words: &[String]) -> Option<Names<'_>>
     ensures { option_map wanted_view result ≡ accepted (map string_bytes words.now) }
 {
@@ -64,7 +64,7 @@ fn names_in(width: Width, words: &[String]) -> Option<Names<'_>>
     })
 }
 
-/// Whether the word doesn't begin with `-`.
+/// Returns whether the word can be a file's name: it doesn't begin with `-`. The empty word can.
 fn is_name(word: &str) -> bool
     ensures { result ≡ is_name word.now }
 {

@@ -1,4 +1,4 @@
--- The clauses that speak of the headline and of the line, from what is known of the end.
+-- The clauses about the headline and the line follow from how the end fits the outcome.
 use Rattle.std.specs.Option.{option_map}
 use Rattle.program_end.proofs.EndLaws.{ends_told}
 use Rattle.boot_audit.specs.Audit.{bootaudit}

@@ -1,4 +1,4 @@
--- The chunks of the line are the line.
+-- The chunks that are put make up the line.
 use Rattle.boot_audit.proofs.tell.tell_line.Goals as goal
 
 pub returns : goal.returns
