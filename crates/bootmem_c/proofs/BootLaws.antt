@@ -1,4 +1,4 @@
--- What a boot of lent words and files comes to, and how it fails, by the outcome.
+-- How a boot with lent words and files ends, by the outcome.
 use Rattle.std.proofs.Common.{◌≡◌, ◌≢◌, ℕ, List, Option, Some, None, Result, Ok, Err, refl, subst, sym, arith}
 use Rattle.std.specs.Prelude.{IfErr}
 use Rattle.bm_base.specs.ResultSteps.{with_error}
@@ -23,7 +23,7 @@ use Rattle.bootmem_c.specs.Boots.{FailsAs, IsBoot}
 use Rattle.bootmem_c.specs.Fetches.{LentState, faults_at}
 use Rattle.bootmem_c.proofs.ExactLaws.{fails_as}
 
--- what was given, and what it boots to, is of the call
+-- the inputs and what they boot to are those of the call
 pub is_boot : (files lent : List MemFileView) (wanted : Wanted) (given : Given) (told : Told) → files ≡ lent
     → given_by (file_bytes files) wanted ≡ Ok given → with_error stop_of (told_boot given) ≡ Ok told
     → IsBoot (Some wanted) (file_bytes lent) told
@@ -41,7 +41,7 @@ is_boot files lent wanted given told same inputs boots =
       maximal = blocks_maximal given told is;
     }
 
--- a file that is refused
+-- an error of the files is that of the outcome
 pub inputs_failed : {X : Type 0} (r : Result X NoInputs) (error : NoInputs) (old new : LentState) (lent : List MemFileView) (wanted : Wanted)
     → r ≡ Err error → old.files ≡ lent → FitsError place error (given_by (file_bytes old.files) wanted)
     → IsOfFile (faults_at old) (faults_at new) wanted.named error
@@ -54,7 +54,7 @@ inputs_failed r error old new lent wanted is same fits cause =
         → ErrorHasCause bootmem (faults_at old) (faults_at new) (Some wanted) error
     of_words error cause = grind arith
 
--- a stop of the boot
+-- a stop of the boot is that of the outcome
 stop_by : (cause : Option Cause) (said : Result (List ℕ) Reason) → FitsError place (no_report_by cause) said
     → FailsAs (no_report_by cause) said
 stop_by None said fits = tt

@@ -1,4 +1,4 @@
--- A file that can't be read is the outcome's: nothing but its not being lent keeps it from being read.
+-- A file that can't be read is the one in the outcome: reading fails only if the file isn't lent.
 use Rattle.std.proofs.Common.{◌≡◌, ◌≢◌, ℕ, ◌<◌, List, [], ◌∷◌, Option, Some, None, Result, Ok, Err, refl, inl, inr, ap, arith, ◌∙◌}
 use Rattle.std.specs.Prelude.{◌⊎◌}
 use Rattle.bm_base.specs.ResultSteps.{◌>>=◌}
@@ -25,7 +25,7 @@ use Rattle.bootmem_c.specs.Boots.{FailsAs}
 use Rattle.bootmem_c.specs.Fetches.{LentState, faults_at}
 use Rattle.bootmem_c.proofs.FetchLaws.{rose_unheld}
 
--- the input has its file in the list, and those before it come before it in the order of work
+-- the input is in the list, and those before it in the list have lower positions
 abbrev Has : Input → List InputFile → Type 0
 Has input [] = ⊥
 Has input (file ∷ files) = (file.input ≡ input) ⊎ ((place file.input < place input) × Has input files)
@@ -33,7 +33,7 @@ Has input (file ∷ files) = (file.input ≡ input) ⊎ ((place file.input < pla
 has : (input : Input) → Has input input_files
 has = grind arith
 
--- a file's step refuses that file
+-- if the file's step fails, its reason is one of this file
 abbrev Refuses : Input → Result Given Reason → Type 0
 Refuses input (Ok given) = Unit {0}
 Refuses input (Err reason) = IsOf {F = Fault} {C = Cause} input (errors.Reason reason)
@@ -52,7 +52,7 @@ step_is held file given None = tt
 step_is held file given (Some name) =
     unread_is (held name) file.input _ (λ bytes. faulty_is file.input (within file.limit bytes >>= λ read. file.says read given))
 
--- the first file that can't be read is refused, where the work comes to it
+-- if the files before are read, the reason is the first file that can't be read
 behind : (input : Input) (file : InputFile) (rest : Given → Result Given Reason) → place file.input < place input
     → ((given : Given) → ReachesFile place input (rest given) → rest given ≡ Err (reasons.Unread input))
     → (step : Result Given Reason) → Refuses file.input step → ReachesFile place input (step >>= rest)
@@ -80,7 +80,7 @@ unread_at held named input name is none (file ∷ files) given (inr more) comes 
     behind input file (given_in held named files) more.0 (λ given. unread_at held named input name is none files given more.1)
     (file_step held named file given) (step_is held file given (named file.input)) comes
 
--- the same of the outcome
+-- if the input's file is read for the outcome, it is read for the inputs
 comes_to : (input : Input) (wanted : Wanted) (said : Result Given Reason)
     → ReachesFile place input ((said >>= λ given. Ok (with_made wanted.made given)) >>= reported wanted.reports)
     → ReachesFile place input said
@@ -94,7 +94,7 @@ unread_outcome held wanted input name is none reaches =
     (comes_to input wanted (inputs_of held wanted.named wanted.begun) reaches) in
     ap (λ (s : Result Given Reason). (s >>= λ given. Ok (with_made wanted.made given)) >>= reported wanted.reports) said
 
--- a file whose count of misses rose isn't lent
+-- if the counter of a file rose, it isn't lent
 unheld : (old new : LentState) (named : Option (List ℕ)) → RoseAt (faults_at old) (faults_at new) named
     → (name : List ℕ) × (named ≡ Some name) × (file_bytes old.files name ≡ None)
 unheld old new None rose = absurd rose

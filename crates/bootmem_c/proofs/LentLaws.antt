@@ -1,4 +1,4 @@
--- The list of lent files as the program has it, and as contracts see it.
+-- The list of lent files in the code, and as contracts see it.
 use Rattle.std.proofs.Common.{◌≡◌, ℕ, suc, ◌+◌, ◌<◌, Bool, true, false, cond, List, [], ◌∷◌, ◌++◌, length, map, take, get_or, Some, find, String, string_bytes, Global, refl, sym, ap, subst, ◌∙◌, arith}
 use Rattle.std.specs.List.{All}
 use Rattle.std.specs.Option.{option_map}
@@ -12,7 +12,7 @@ use Rattle.bootmem_c.specs.declared.crossing.File.{File}
 use Rattle.bootmem_c.specs.Fetches.{is_lent_as}
 use Rattle.bootmem_c.specs.Lent.{lent_files, lent_word, lent_words}
 
--- one more file in front of those of which it is known
+-- one more file before those for which it is known
 file_in_front : (f : File) (fs : List File) (name : List ℕ) (named : Bool)
     → option_map (λ f. f.bytes.now) (find (is_lent_as name) fs) ≡ file_bytes (lent_files fs) name
     → option_map (λ f. f.bytes.now) (cond named (Some f) (find (is_lent_as name) fs))
@@ -48,7 +48,7 @@ utf8_more words i d below is so_far =
     subst (All IsUtf8) (sym (word_more words i d below))
     (All-push IsUtf8 (take i (lent_words words)) _ so_far is)
 
--- a word that isn't UTF-8 is one of all
+-- a word that isn't UTF-8 is one of all words
 pub not_all : (words : List Bytes) (i : ℕ) (d : Bytes) → i < length words → ¬ IsUtf8 (get_or words i d).bytes.now
     → ¬ All IsUtf8 (lent_words words)
 not_all words i d below isnt all =

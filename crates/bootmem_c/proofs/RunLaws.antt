@@ -1,4 +1,4 @@
--- What a run over lent words and files leaves, by the outcome.
+-- The outputs of a run over lent words and files, by the outcome.
 use Rattle.std.proofs.Common.{◌≡◌, ◌≢◌, ℕ, zero, suc, Bool, true, false, List, [], ◌∷◌, ◌++◌, Option, Some, Result, Ok, Err, String, string_bytes, Global, map, refl, inl, inr, ap, arith, subst, sym, ◌∙◌}
 use Rattle.std.specs.Prelude.{◌⊎◌, IsOkAnd, if◌then◌else◌}
 use Rattle.std.specs.List.{All}
@@ -35,7 +35,7 @@ use Rattle.bootmem_c.specs.Taken.{Written, wants_of, whole_text}
 use Rattle.bootmem_c.specs.contracts.text_sink.TextSinkSink.TheImpl.{ghosts as text_sink}
 use Rattle.bootmem_c.proofs.ExactLaws.{fails_as}
 
--- words that are all UTF-8, by the test
+-- if all words are UTF-8, the test says so
 pub are-utf8 : (words : List (List ℕ)) → All IsUtf8 words → are_utf8 words ≡ true
 are-utf8 [] all = refl
 are-utf8 (word ∷ words) all =
@@ -55,7 +55,7 @@ text_is_zero : (said : Result (List ℕ) Reason) (P : List ℕ → Type 0) → I
 text_is_zero (Ok text) P is = refl
 text_is_zero (Err reason) P is = absurd is
 
--- what the run says of its failure, whose line has this of it
+-- what the run says of its failure; `Told` says which line it put
 abbrev IsFailure : (old new : LentState) → Option Wanted → ℕ → (Failure Reason → Type 0) → Type 0
 IsFailure old new accepted status Told =
     (failure : Failure Reason) × (status ≡ status_of failure) × Told failure
@@ -82,7 +82,7 @@ ran_status old new accepted P Told (suc n) unwritten written line =
     let told = line (λ is. omega (arith, is)) in
     rw told.1 (status_by old new accepted told.0 (λ four. no_rise (unwritten (told.1 ∙ four))) told.3 told.4)
 
--- the text that was reported is the outcome's
+-- the text of the reports is that of the outcome
 told_text : (reports : List Report) (answer : Result Told Cause) (told : Told) (P : List ℕ → Type 0) → answer ≡ Ok told
     → P (text_of reports told) → IsOkAnd (or_stopped answer >>= λ told. Ok (text_of reports told)) P
 told_text reports answer told P is holds =
@@ -111,7 +111,7 @@ appended l0 l1 line short empty not_short (inl is) = rw empty at is
 appended l0 l1 line short empty not_short (inr (inl rose)) = absurd (no_rise rose)
 appended l0 l1 line short empty not_short (inr (inr rose)) = absurd (no_rise (rw (not_short, short) at rose))
 
--- a line in memory is whole, unless memory was wanting for it
+-- a line in memory is whole, unless memory ran out for it
 whole_by : (short : Bool) (l0 l1 : Written) (line : List ℕ) → l1.is_short ≡ short → l0.text ≡ [] → l0.is_short ≡ false
     → PutsLine text_sink l0 l1 line → (whole_text l1 ≡ line) ⊎ (whole_text l1 ≡ [])
 whole_by true l0 l1 line short empty not_short told = inr (rw short refl)
@@ -145,7 +145,7 @@ ran_line old new accepted l0 l1 status unwritten empty not_short line some other
     line_ends old new accepted told.0 l0 l1 (λ four. no_rise (unwritten (told.1 ∙ four))) (λ seven. other (told.1 ∙ seven)) empty not_short
     told.2 told.3 told.4
 
--- words that were taken, and files that are lent, are those of the call
+-- the words that were read, and the lent files, are those of the call
 pub same_asked : (taken : List (String Global)) (words : List (List ℕ)) → map string_bytes taken ≡ words → All IsUtf8 words
     → accepted (texts taken) ≡ asked words
 same_asked taken words are all = ap accepted are ∙ rw (are-utf8 words all) refl
@@ -155,7 +155,7 @@ pub same_outcome : (one other : Option Wanted) (files lent : List MemFileView) �
 same_outcome one other files lent same kept =
     ap (λ (a : Option Wanted). outcome a (file_bytes files)) same ∙ ap (λ (f : List MemFileView). outcome other (file_bytes f)) kept
 
--- words that aren't all UTF-8 ask for nothing
+-- if a word isn't UTF-8, the words aren't accepted
 not_utf8 : (words : List (List ℕ)) (b : Bool) → are_utf8 words ≡ b → ¬ All IsUtf8 words → are_utf8 words ≡ false
 not_utf8 words true is other = absurd (other (all-utf8 words is))
 not_utf8 words false is other = is

@@ -1,4 +1,4 @@
--- The boot of a call that hands over values, and how such a call fails.
+-- The boot behind a call that returns values, and the ways in which such a call fails.
 use Rattle.std.specs.Prelude.{◌≡◌, ℕ, List, Option, Some, Result, Ok, Err}
 use Rattle.program_end.specs.Program.{Held}
 use Rattle.boot_model.specs.Boot.{Given, Told, told_boot}
@@ -8,8 +8,9 @@ use Rattle.program_end.specs.declared.failure.NoResult.TheVariants as errors
 use Rattle.program_run.specs.Outcome.{given_by}
 use Rattle.program_words.specs.Words.{Wanted}
 
--- what is told is of the one boot that the words and the bytes determine; and in it each usable frame is touched by a claim with a
--- recorded owner or in exactly one block, no other frame is in any, and each block is whole and maximal
+-- `told` is what the one boot made that the words and the files' bytes determine. In it each
+-- usable frame is touched by a claim with a recorded owner, or is in exactly one block (`each`).
+-- No other frame is in a block (`others`). Each block is whole, and maximal.
 pub record IsBoot (accepted : Option Wanted) (held : Held) (told : Told) : Type 0 where
   pub wanted : Wanted
   pub given : Given
@@ -21,7 +22,7 @@ pub record IsBoot (accepted : Option Wanted) (held : Held) (told : Told) : Type 
   pub whole : BlocksAreWhole given told
   pub maximal : BlocksAreMaximal given told
 
--- the reason is that of the outcome, or memory ran out
+-- the reason is that of the outcome `said`; out of memory fits every outcome
 abbrev pub FailsAs : NoInputs → Result (List ℕ) Reason → Type 0
 FailsAs (errors.Reason reason) said = said ≡ Err reason
 FailsAs errors.Memory said = Unit {0}

@@ -1,4 +1,4 @@
--- What a call of the program comes to, by the words and the files that are lent to it.
+-- The outcome of a call, from the words and files that are lent to it.
 use Rattle.std.specs.Prelude.{ℕ, Bool, true, if◌then◌else◌, ◌&&◌, List, [], ◌∷◌, Option, None, Result, Ok, Err}
 use Rattle.std.specs.Str.{is_utf8}
 use Rattle.bm_io.specs.MemFiles.{file_bytes}
@@ -13,27 +13,30 @@ use Rattle.bootmem_c.specs.declared.crossing.Bytes.{Bytes}
 use Rattle.bootmem_c.specs.declared.crossing.File.{File}
 use Rattle.bootmem_c.specs.Lent.{lent_files, lent_words}
 
+-- each word is UTF-8
 abbrev pub are_utf8 : List (List ℕ) → Bool
 are_utf8 [] = true
 are_utf8 (word ∷ words) = is_utf8 word && are_utf8 words
 
--- what the words ask for, where each is UTF-8 and they are accepted
+-- what the words ask for, if each is UTF-8 and they are accepted
 abbrev pub asked : List (List ℕ) → Option Wanted
 asked words = if are_utf8 words then accepted words else None
 
--- the text that is written, or why there is none
+-- the outcome: the text that is written, or the reason why there is none
 abbrev pub outcome_of : List Bytes → List File → Result (List ℕ) Reason
 outcome_of words files = outcome (asked (lent_words words)) (file_bytes (lent_files files))
 
+-- the exit status of an outcome
 abbrev pub status_said : Result (List ℕ) Reason → ℕ
 status_said (Ok text) = 0
 status_said (Err reason) = reason_status reason
 
--- the line of an outcome, which a text has none of; nor do words that aren't UTF-8
+-- the line of an outcome: empty for a text
 abbrev pub line_by : Option Wanted → Result (List ℕ) Reason → List ℕ
 line_by accepted (Ok text) = []
 line_by accepted (Err reason) = failure_line accepted (failures.NoResult (errors.Reason reason))
 
+-- the line of the call's outcome: empty for a text, and also if a word isn't UTF-8
 abbrev pub line_said : List Bytes → List File → List ℕ
 line_said words files =
     if are_utf8 (lent_words words) then line_by (asked (lent_words words)) (outcome_of words files) else []

@@ -1,4 +1,4 @@
--- What comes of a fetch of a lent file.
+-- The result of fetching a lent file.
 use Rattle.std.specs.Prelude.{◌≡◌, ℕ, ◌-◌, ◌^◌, ◌<◌, Bool, List, length, min, Some, is_some, if◌then◌else◌, Result, Ok, Err, Vec}
 use Rattle.std.specs.Str.{bytes_eq}
 use Rattle.std.specs.declared.alloc.Global.{Global}
@@ -7,27 +7,27 @@ use Rattle.bm_io.specs.declared.reading.Fetch.TheVariants as fetch
 use Rattle.bm_io.specs.MemFiles.{MemFileView, file_bytes}
 use Rattle.bootmem_c.specs.declared.crossing.File.{File}
 
--- the files, and how many fetches missed
+-- the lent files, and how many fetches failed because no file had the name
 pub record LentState : Type 0 where
   pub files : List MemFileView
   pub misses : ℕ
 
--- whether the file has the name
+-- the file has the name
 abbrev pub is_lent_as : List ℕ → File → Bool
 is_lent_as name file = bytes_eq file.name.now name
 
--- how many misses an answer is
+-- how much the result of a fetch adds to `misses`
 abbrev pub misses_of : Result (Vec ℕ Global) Fetch → ℕ
 misses_of (Ok bytes) = 0
 misses_of (Err fetch.Failed) = 1
 misses_of (Err fetch.TooLong) = 0
 misses_of (Err fetch.Memory) = 0
 
--- how many fetches of the name failed: the misses, which are below 2^32; a name that is held never fails, and has a count that
--- these can't reach
+-- the counter of a name's faults. It is the number of misses (below 2^32) if the name isn't lent.
+-- It is 2^64 - 2 for a lent name, whose fetches never fail; no counter here is greater.
 abbrev pub faults_at : LentState → List ℕ → ℕ
 faults_at state name = if is_some (file_bytes state.files name) then 2 ^ 64 - 2 else min state.misses (2 ^ 32)
 
--- the name is held and has more bytes than the limit
+-- the name is lent, and its file contains more bytes than the limit
 abbrev pub IsLonger : List MemFileView → List ℕ → ℕ → Type 0
 IsLonger files name limit = (bytes : List ℕ) × (file_bytes files name ≡ Some bytes) × (limit < length bytes)

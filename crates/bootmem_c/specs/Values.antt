@@ -1,4 +1,4 @@
--- What a boot made, as values that cross to C.
+-- What a boot made, as values for C.
 use Rattle.std.specs.Prelude.{◌≡◌, ℕ, List, ◌++◌, map, take, drop, length, Option, Some, None}
 use Rattle.address_runs.specs.Runs.{RunOf}
 use Rattle.bm_base.specs.Range.{RangeView}
@@ -13,23 +13,26 @@ use Rattle.bootmem_c.specs.declared.values.CrashArea.{CrashArea}
 use Rattle.bootmem_c.specs.declared.values.FreeBlock.{FreeBlock}
 use Rattle.bootmem_c.specs.declared.values.MapRun.{MapRun}
 
--- so many values are told; as many of them as the room has places for stand at its front, and what lies behind them is as it was
+-- `told` is the number of all values. The buffer begins with as many of them as it has room for,
+-- and the rest of it is as it was.
 pub record AreTaken {T : Type 0} (values old new : List T) (told : ℕ) : Type 0 where
   pub count : told ≡ length values
   pub front : new ≡ take (length old) values ++ drop (length values) old
 
--- a run of the map: where it lies, in bytes, and its type
+-- a run of the map: its range in bytes and its type
 abbrev pub run_value : RunOf ℕ → MapRun
 run_value run = record { base = run.base; size = run.size; kind = run.value }
 
+-- the runs of the map that the boot made
 abbrev pub map_values : Told → List MapRun
 map_values told = map run_value told.map
 
--- the crash area and its low part, in bytes; what there is none of has size 0
+-- one part of the crash area; base and size are 0 if there is none
 abbrev pub part_value : Option RangeView → RangeView
 part_value None = record { base = 0; size = 0 }
 part_value (Some part) = part
 
+-- the crash area from its main and its low part
 abbrev pub parts_value : Option RangeView → Option RangeView → CrashArea
 parts_value main low = record {
   base = (part_value main).base;
@@ -38,6 +41,7 @@ parts_value main low = record {
   low_size = (part_value low).size;
 }
 
+-- the crash area of each outcome of the reservation; only `At` has one
 abbrev pub area_value : Crash → CrashArea
 area_value crash.Nothing = parts_value None None
 area_value (crash.At main low) = parts_value (Some main) low
@@ -51,9 +55,10 @@ zone_value zone.Dma = 0
 zone_value zone.Dma32 = 1
 zone_value zone.Normal = 2
 
--- a free block: its first frame, its order, its node and its zone
+-- a free block: its first frame, order, node and zone
 abbrev pub block_value : Block → FreeBlock
 block_value b = record { first = b.first; order = b.order; node = b.node; zone = zone_value b.zone }
 
+-- the free blocks of the boot
 abbrev pub block_values : Told → List FreeBlock
 block_values told = map block_value (told_blocks told)

@@ -1,4 +1,4 @@
-//! The boot of words and files that the caller lends, with no report: for whoever wants what it made as values.
+//! Boots with words and files that the caller lends, without writing reports.
 
 ghost use Rattle.std.specs.Prelude.{Some, IfOk, IfErr};
 ghost use Rattle.bm_io.specs.MemFiles.{file_bytes};
@@ -19,7 +19,13 @@ use program_run::{NoReport, Reason, no_report, read_given};
 use program_words::{Wanted, WordError, read_words};
 use std::alloc::Global;
 
-/// What the boot makes of the words and files. It fails as the whole program does, or for want of memory.
+/// Returns what the boot with these words and files made.
+///
+/// # Errors
+///
+/// - A reason exactly as the outcome has it: the words aren't UTF-8 or aren't accepted, a file
+///   isn't lent or has a fault, or the boot stops.
+/// - `Memory` if this program is out of memory.
 pub fn boot_lent(alloc: Global, words: &[Bytes<'_>], files: &[File<'_>]) -> Result<Booted, NoReport>
     ensures boots { IfOk result (λ booted.
         IsBoot (asked (lent_words words.now)) (file_bytes (lent_files files.now)) (booted_view booted)) }
@@ -32,7 +38,8 @@ pub fn boot_lent(alloc: Global, words: &[Bytes<'_>], files: &[File<'_>]) -> Resu
     }
 }
 
-/// The same over words that are texts.
+/// Returns what the boot with these words, which are UTF-8, and these files made. Errors are those
+/// of [`boot_lent`].
 fn boot_texts(alloc: Global, words: &[String], files: &[File<'_>]) -> Result<Booted, NoReport>
     ensures boots { IfOk result (λ booted.
         IsBoot (accepted (texts words.now)) (file_bytes (lent_files files.now)) (booted_view booted)) }
@@ -46,7 +53,8 @@ fn boot_texts(alloc: Global, words: &[String], files: &[File<'_>]) -> Result<Boo
     }
 }
 
-/// The same behind accepted words.
+/// Returns what the boot with these accepted words and these files made. Errors are those of
+/// [`boot_lent`].
 fn boot_wanted(alloc: Global, wanted: &Wanted<'_>, files: &[File<'_>]) -> Result<Booted, NoReport>
     ensures boots { IfOk result (λ booted.
         IsBoot (Some (wanted_view wanted.now)) (file_bytes (lent_files files.now)) (booted_view booted)) }

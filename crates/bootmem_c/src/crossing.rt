@@ -1,16 +1,17 @@
-//! What crosses from C and back, as `include/bootmem.h` declares it: a slice is a pointer and a length.
+//! The types that `include/bootmem.h` declares for words, files and texts. A slice is passed as a
+//! pointer and a length.
 
 ghost use Rattle.std.specs.Prelude.{◌≤◌, length};
 ghost use Rattle.bootmem_c.specs.Taken.{IsFront, IsTaken};
 
-/// Bytes that the caller lends: a word.
+/// The bytes of a word that the caller lends.
 #[repr(C)]
 #[derive(Clone, Copy)]
 pub struct Bytes<'a> {
     pub bytes: &'a [u8],
 }
 
-/// A file that the caller lends, under a name.
+/// A file that the caller lends: its name and the bytes that it contains.
 #[repr(C)]
 #[derive(Clone, Copy)]
 pub struct File<'a> {
@@ -18,7 +19,8 @@ pub struct File<'a> {
     pub bytes: &'a [u8],
 }
 
-/// Room that the caller lends for a text, and how many bytes the text has.
+/// A buffer that the caller lends for a text (`room`), and the text's length in bytes (`needed`),
+/// which the call sets.
 #[repr(C)]
 #[derive(Drop)]
 pub struct Text<'a> {
@@ -26,8 +28,8 @@ pub struct Text<'a> {
     pub needed: usize,
 }
 
-/// Puts the text into the room where it fits, and tells its length in any case. What lies behind the text stays, and
-/// where it doesn't fit the whole room.
+/// Copies the text to the beginning of the buffer if it fits, and sets `needed` to its length. The
+/// bytes after the text stay as they were; if the text doesn't fit, all bytes do.
 pub fn hand_over(text: &[u8], out: &mut Text<'_>)
     ensures { IsTaken text.now out.old out.new }
 {
@@ -37,7 +39,7 @@ pub fn hand_over(text: &[u8], out: &mut Text<'_>)
     }
 }
 
-/// Puts the text at the front of the room.
+/// Copies the text to the beginning of the buffer. It must fit.
 fn put_front(text: &[u8], room: &mut [u8])
     requires { length text.now ≤ length room.old }
     ensures { IsFront text.now room.old room.new }

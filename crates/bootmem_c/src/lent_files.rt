@@ -1,4 +1,4 @@
-//! Files that the caller lends, as the program fetches them.
+//! The files that the caller lends, as the program fetches them.
 
 ghost use Rattle.std.specs.Prelude.{◌≡◌, ℕ, ◌+◌, ◌-◌, ◌^◌, ◌<◌, ◌≤◌, ◌↔◌, List, length, Option, Some, OnOk, IfOk, IsErrOf, IsNone, find};
 ghost use Rattle.std.specs.Option.{option_copied};
@@ -11,7 +11,7 @@ use bm_io::{Fetch, Files};
 use std::alloc::Global;
 use std::marker::Model;
 
-/// Files that the caller lends. Of two of one name the first counts.
+/// Files that the caller lends. If two have the same name, the first counts.
 #[derive(Drop)]
 pub struct LentFiles<'a> {
     files: &'a [File<'a>],
@@ -42,15 +42,22 @@ impl<'a> LentFiles<'a> {
 impl<'a> Files for LentFiles<'a> {
     ghost holds = { λ s. Some (file_bytes s.files) };
 
-    // Of a name that isn't held the misses are counted. A name that is held has a count that no file's can rise
-    // above, so whoever sees a count that rose knows that the name isn't held.
+    // For a name that isn't lent, this is the number of fetches that failed. For one that is lent,
+    // it is always 2^64 - 2, and no counter here is greater. So if a counter rose, its name isn't
+    // lent.
     ghost faults = { λ s name. faults_at s name };
 
-    // The count of bytes stands at its last value.
+    // The counter of bytes stays at its greatest value.
     ghost taken = { λ s. 2 ^ 64 - 1 };
 
-    /// `Failed` comes only where the name isn't held, and `TooLong` exactly where it is, with more bytes than `limit`.
-    /// Where 2^32 - 1 fetches missed, the next one that misses is told as want of memory: its count has no room.
+    /// Returns a copy of the file's bytes.
+    ///
+    /// # Errors
+    ///
+    /// - `Failed` only if no file of this name is lent.
+    /// - `TooLong` exactly if the file contains more than `limit` bytes.
+    /// - `Memory` if this program is out of memory, and also if 2^32 - 1 fetches have failed and
+    ///   one more would.
     fn fetch(&mut self, alloc: Global, name: &str, limit: u64) -> Result<Vec<u8>, Fetch>
         ensures bounded { IfOk result (λ bytes. length bytes.items ≤ limit) }
         ensures told { IfOk result (λ bytes. file_bytes self.old.files name.now ≡ Some bytes.items) }
@@ -78,7 +85,7 @@ impl<'a> Files for LentFiles<'a> {
     }
 }
 
-/// The bytes of the first file of the name.
+/// Returns the bytes of the first file with this name, if there is one.
 fn bytes_named<'a>(files: &'a [File<'a>], name: &str) -> Option<&'a [u8]>
     ensures { option_copied result ≡ file_bytes (lent_files files.now) name.now }
 {

@@ -1,10 +1,20 @@
-//! `libbootmem`: the program from C, as one call over bytes in memory.
+//! `libbootmem`: the program `bootmem` as calls from C, over bytes in memory.
 //!
-//! A static library's exports, which `include/bootmem.h` declares. [`run::bootmem_run`] is `run` of `program_run` over words and
-//! files that the caller lends, with its clauses said of those bytes; [`version::bootmem_version`] is a number. [`told::bootmem_map`],
-//! [`told::bootmem_crash`] and [`told::bootmem_blocks`] hand over what the boot of those words and files made, and answer the same status;
-//! `boots` boots for them without a report. What crosses is in `crossing` and `values`. `LentFiles` and `TextSink` are the files and the outputs that `run` is handed: they fail only where a file
-//! isn't lent, and for want of memory, so the status of a call is that of its outcome, or 7.
+//! `include/bootmem.h` declares these exports of a static library:
+//!
+//! - [`run::bootmem_run`] is `run` of `program_run`, over words and files that the caller lends.
+//!   It writes the reports as text.
+//! - [`told::bootmem_map`], [`told::bootmem_crash`] and [`told::bootmem_blocks`] return what the
+//!   boot of these words and files made, as values.
+//! - [`version::bootmem_version`] returns the library's version.
+//!
+//! All but the last return the exit status of `bootmem`: that of the outcome, or 7 if out of
+//! memory. Since the files (`LentFiles`) and the outputs (`TextSink`) are in memory, a file can be
+//! read exactly if it is lent, and an output never refuses a text. So a caller may rest on this:
+//! unless memory runs out, the result depends on the words and files only.
+//!
+//! `crossing` and `values` have the types that are passed from and to C, `boots` boots without
+//! writing reports. In contracts, a name means the definition in `specs/`.
 #![tactic(auto)]
 
 mod boots;

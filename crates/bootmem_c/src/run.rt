@@ -14,8 +14,9 @@ use crate::words::{NoTexts, words_in};
 use program_run::run;
 use std::alloc::Global;
 
-/// The whole program: `words` are those after the program's name, and a file is what `files` has under its name. The
-/// reports go to `out`, the line of a failure to `err`. Answers the exit status, which is that of the outcome or 7.
+/// Runs `bootmem`: `words` are the words after the program's name, and `files` the files that they
+/// may name. The reports go to `out`, the line of a failure to `err`. Returns the exit status:
+/// that of the outcome (0, 2, 3, 5 or 6), or 7 if out of memory.
 #[unsafe(no_mangle)]
 pub extern "C" fn bootmem_run(
     alloc: Global,
@@ -24,17 +25,18 @@ pub extern "C" fn bootmem_run(
     out: &mut Text<'_>,
     err: &mut Text<'_>,
 ) -> u8
-    // The status is that of the one outcome that words and files determine, or memory was wanting.
+    // The status is that of the one outcome that words and files determine, or 7.
     ensures status { (result ≡ status_said (outcome_of words.now files.now)) ⊎ (result ≡ 7) }
 
-    // After status 0 `out` has the outcome's text, which is that of the boot, with the headline's four facts; after another
-    // one it has none.
+    // With status 0 `out` has the text of the outcome, and the four facts of the headline hold for
+    // it. With any other status `out` has the empty text.
     ensures written { result ≡ 0 → IsOkAnd (outcome_of words.now files.now) (λ text. IsTaken text out.old out.new) }
     ensures headline { result ≡ 0 → (text : List ℕ) × IsTaken text out.old out.new
         × IsReported (asked (lent_words words.now)) (file_bytes (lent_files files.now)) (Some []) (Some text) }
     ensures unwritten { result ≢ 0 → IsTaken [] out.old out.new }
 
-    // After status 0 `err` has no line; after another one but 7 it has that of the outcome, or none where memory was wanting.
+    // With status 0 `err` has the empty text. With any other status but 7 it has the line of the
+    // outcome, or the empty text if memory ran out for the line.
     ensures silent { result ≡ 0 → IsTaken [] err.old err.new }
     ensures line { result ≢ 0 → result ≢ 7
         → IsTaken (line_said words.now files.now) err.old err.new ⊎ IsTaken [] err.old err.new }
@@ -47,7 +49,7 @@ pub extern "C" fn bootmem_run(
     status
 }
 
-/// The program over the lent words and files.
+/// Runs the program over the lent words and files, with empty outputs. Returns the exit status.
 fn run_lent(
     alloc: Global,
     words: &[Bytes<'_>],
@@ -73,7 +75,7 @@ fn run_lent(
     }
 }
 
-/// The reports, where the status is 0.
+/// Returns the reports if the status is 0, else the empty text.
 fn text_after(status: u8, report: &TextSink) -> &[u8]
     ensures written { status ≡ 0 → result.now ≡ report.now.text }
     ensures unwritten { status ≢ 0 → result.now ≡ [] }

@@ -1,4 +1,4 @@
-//! A text in memory, as the program writes it.
+//! A text in memory that the program writes.
 
 ghost use Rattle.std.specs.Prelude.{◌≡◌, true, false, [], ◌++◌, Some, OnOk, OnErr, IsErrOf};
 ghost use Rattle.bootmem_c.specs.Taken.{wants_of, whole_text};
@@ -7,7 +7,7 @@ use bm_io::{Put, Sink};
 use std::alloc::Global;
 use std::marker::Model;
 
-/// A text that grows by what is put. It fails for want of memory alone.
+/// A text to which each put appends. A put fails only if this program is out of memory.
 #[derive(Drop)]
 pub struct TextSink {
     text: Vec<u8>,
@@ -33,14 +33,14 @@ impl TextSink {
         }
     }
 
-    /// What was put so far.
+    /// Returns the text so far.
     pub fn text(&self) -> &[u8]
         ensures { result.now ≡ self.now.text }
     {
         self.text.as_slice()
     }
 
-    /// The text, or none of it where memory was wanting for a part.
+    /// Returns the text, or the empty text if memory ran out for one of its parts.
     pub fn whole(&self) -> &[u8]
         ensures { result.now ≡ whole_text self.now }
     {
@@ -56,7 +56,7 @@ impl Sink for TextSink {
 
     ghost faults = { λ s. 0 };
 
-    // None before memory was wanting, and from then on the last value.
+    // 0 until memory runs out, and from then on the greatest value.
     ghost wants = { λ s. wants_of s };
 
     fn put(&mut self, chunk: &[u8]) -> Result<(), Put>

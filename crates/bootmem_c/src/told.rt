@@ -1,6 +1,7 @@
-//! What the boot makes, as values: the map, the crash area and the free blocks, for a caller who wants no text.
+//! What the boot made, as values: the map, the crash area and the free blocks.
 //!
-//! Each export takes the words and files of `bootmem_run`, and answers the status that this would, whatever reports the words ask for.
+//! Each export takes the words and files of `bootmem_run` and returns the same status, except that
+//! either may run out of memory. The reports that the words ask for make no difference.
 
 ghost use Rattle.std.specs.Prelude.{◌≡◌, ◌≢◌, ◌⊎◌, [], None, IfOk, IfErr};
 ghost use Rattle.bm_io.specs.MemFiles.{file_bytes};
@@ -18,7 +19,9 @@ use crate::values::{
 use program_run::NoReport;
 use std::alloc::Global;
 
-/// The runs of the map, ascending.
+/// Writes the runs of the map to `out`, ascending. Returns the exit status: that of the outcome,
+/// or 7 if out of memory. With a status other than 0, `out.count` is 0 and the buffer stays as it
+/// was.
 #[unsafe(no_mangle)]
 pub extern "C" fn bootmem_map(
     alloc: Global,
@@ -44,7 +47,9 @@ pub extern "C" fn bootmem_map(
     }
 }
 
-/// The crash area, with its low part.
+/// Writes the crash area and its low part to `out`. Returns the exit status: that of the outcome,
+/// or 7 if out of memory. A part that the boot didn't reserve has base and size 0, and so do both
+/// with a status other than 0.
 #[unsafe(no_mangle)]
 pub extern "C" fn bootmem_crash(
     alloc: Global,
@@ -70,7 +75,9 @@ pub extern "C" fn bootmem_crash(
     }
 }
 
-/// The free blocks at the handover, ascending by their first frames.
+/// Writes the free blocks after the handover to `out`, ascending by their first frames. Returns
+/// the exit status: that of the outcome, or 7 if out of memory. With a status other than 0,
+/// `out.count` is 0 and the buffer stays as it was.
 #[unsafe(no_mangle)]
 pub extern "C" fn bootmem_blocks(
     alloc: Global,
@@ -96,7 +103,8 @@ pub extern "C" fn bootmem_blocks(
     }
 }
 
-/// The runs of the map of the boot that words and files determine.
+/// Returns the runs of the map of the boot with these words and files. Errors are those of
+/// [`boot_lent`].
 fn map_lent(alloc: Global, words: &[Bytes<'_>], files: &[File<'_>]) -> Result<Vec<MapRun>, NoReport>
     ensures runs { IfOk result (λ runs. (told : Told)
         × IsBoot (asked (lent_words words.now)) (file_bytes (lent_files files.now)) told
@@ -107,7 +115,8 @@ fn map_lent(alloc: Global, words: &[Bytes<'_>], files: &[File<'_>]) -> Result<Ve
     Ok(map_values(alloc, &booted.map)?)
 }
 
-/// The free blocks of the boot that words and files determine.
+/// Returns the free blocks of the boot with these words and files. Errors are those of
+/// [`boot_lent`].
 fn blocks_lent(
     alloc: Global,
     words: &[Bytes<'_>],

@@ -1,4 +1,4 @@
-//! What crosses to C as values, as `include/bootmem.h` declares it: what a boot made, and room for it.
+//! The types that `include/bootmem.h` declares for what a boot made, and for buffers of them.
 
 ghost use Rattle.std.specs.Prelude.{◌≡◌, IfOk, None, map};
 ghost use Rattle.bootmem_c.specs.Values.{AreTaken, area_value, block_value, parts_value, run_value, zone_value};
@@ -9,11 +9,11 @@ use crash_kernel::Crash;
 use e820_model::Run;
 use std::alloc::Global;
 
-/// A run of the map.
+/// A run of the map: a range whose addresses all have the same type.
 #[repr(C)]
 #[derive(Clone, Copy)]
 pub struct MapRun {
-    /// The first address, in bytes.
+    /// The first address.
     pub base: u64,
     /// The number of bytes.
     pub size: u64,
@@ -21,7 +21,8 @@ pub struct MapRun {
     pub kind: u32,
 }
 
-/// Room that the caller lends for runs of the map, and how many there are.
+/// A buffer that the caller lends for runs of the map (`room`), and the number of all runs
+/// (`count`), which the call sets.
 #[repr(C)]
 #[derive(Drop)]
 pub struct MapRuns<'a> {
@@ -29,7 +30,7 @@ pub struct MapRuns<'a> {
     pub count: usize,
 }
 
-/// The crash area and its low part, in bytes. What there is none of has size 0.
+/// The crash area and its low part, in bytes. A part that isn't reserved has base and size 0.
 #[repr(C)]
 #[derive(Clone, Copy)]
 pub struct CrashArea {
@@ -39,20 +40,21 @@ pub struct CrashArea {
     pub low_size: u64,
 }
 
-/// A free block: `2^order` frames of a node and in a zone.
+/// A free block: 2^order frames of one node and zone.
 #[repr(C)]
 #[derive(Clone, Copy)]
 pub struct FreeBlock {
     /// The number of its first frame.
     pub first: u64,
-    /// From 0 to 10.
+    /// The order, 0 to 10.
     pub order: u32,
     pub node: u32,
-    /// The zone's number (`enum zone_type`).
+    /// The number of the zone (`enum zone_type`): 0, 1 or 2.
     pub zone: u32,
 }
 
-/// Room that the caller lends for free blocks, and how many there are.
+/// A buffer that the caller lends for free blocks (`room`), and the number of all free blocks
+/// (`count`), which the call sets.
 #[repr(C)]
 #[derive(Drop)]
 pub struct FreeBlocks<'a> {
@@ -73,7 +75,7 @@ impl MapRun {
 }
 
 impl CrashArea {
-    /// No area.
+    /// Returns the value for no crash area.
     pub fn none() -> CrashArea
         ensures { result ≡ parts_value None None }
     {
@@ -101,7 +103,7 @@ impl CrashArea {
     }
 }
 
-/// The number of the zone.
+/// Returns the number of the zone (`enum zone_type`).
 fn zone_number(zone: Zone) -> u32
     ensures { result ≡ zone_value zone }
 {
@@ -125,21 +127,22 @@ impl FreeBlock {
     }
 }
 
-/// The runs as values.
+/// Returns the runs as values for C. Fails only if out of memory.
 pub fn map_values(alloc: Global, runs: &[Run]) -> Result<Vec<MapRun>, Memory>
     ensures { IfOk result (λ values. values.items ≡ map run_value runs.now) }
 {
     Ok(runs.iter().map(MapRun::of).collect(alloc)?)
 }
 
-/// The blocks as values.
+/// Returns the blocks as values for C. Fails only if out of memory.
 pub fn block_values(alloc: Global, blocks: &[Block]) -> Result<Vec<FreeBlock>, Memory>
     ensures { IfOk result (λ values. values.items ≡ map block_value blocks.now) }
 {
     Ok(blocks.iter().map(FreeBlock::of).collect(alloc)?)
 }
 
-/// Puts as many of the values at the front of the room as it has places for, and answers how many there are. What lies behind them stays.
+/// Copies values to the beginning of the buffer, as many as it has room for, and returns the
+/// number of all values. The rest of the buffer stays as it was.
 pub fn fill<T: Copy>(values: &[T], room: &mut [T]) -> usize
     ensures { AreTaken values.now room.old room.new result }
 {

@@ -7,12 +7,12 @@ ghost use Rattle.bootmem_c.specs.Lent.{lent_words};
 use crate::crossing::Bytes;
 use std::alloc::{AllocError, AllocFailed, Global};
 
-/// Why words aren't texts.
+/// Why reading lent words failed.
 #[derive(Clone, Copy, Debug, PartialEq, Eq)]
 pub enum NoTexts {
     /// One of them isn't UTF-8.
     NotUtf8,
-    /// The memory ran out.
+    /// This program is out of memory.
     Memory,
 }
 
@@ -38,7 +38,12 @@ impl<T: Drop> From<AllocFailed<T>> for NoTexts {
     }
 }
 
-/// The words as texts.
+/// Returns the words as strings.
+///
+/// # Errors
+///
+/// - [`NoTexts::NotUtf8`] only if a word isn't UTF-8.
+/// - [`NoTexts::Memory`] if this program is out of memory.
 pub fn words_in(alloc: Global, words: &[Bytes<'_>]) -> Result<Vec<String>, NoTexts>
     ensures texts { IfOk result (λ texts. map string_bytes texts.items ≡ lent_words words.now) }
     ensures utf8 { IfOk result (λ texts. All IsUtf8 (lent_words words.now)) }
@@ -51,7 +56,7 @@ pub fn words_in(alloc: Global, words: &[Bytes<'_>]) -> Result<Vec<String>, NoTex
     Ok(texts)
 }
 
-/// The word as a text.
+/// Returns the word as a string. Errors are those of [`words_in`].
 fn text_in(alloc: Global, word: &[u8]) -> Result<String, NoTexts>
     ensures text { IfOk result (λ text. string_bytes text ≡ word.now) }
     ensures utf8 { IfOk result (λ text. IsUtf8 word.now) }

@@ -1,4 +1,4 @@
--- What is said of the words that were taken is said of the call.
+-- What holds of the words that were read holds of the call's words.
 use Rattle.std.proofs.Common.{◌≡◌, ◌∙◌, Option, Err, ap, map, string_bytes, subst}
 use Rattle.std.specs.Prelude.{IfErr, IfOk}
 use Rattle.bm_io.specs.MemFiles.{file_bytes}
@@ -12,7 +12,7 @@ use Rattle.bootmem_c.specs.Lent.{lent_files, lent_words}
 use Rattle.bootmem_c.proofs.RunLaws.{nothing_said, same_asked}
 use Rattle.bootmem_c.proofs.boots.boot_lent.Goals as goal
 
--- the words that were taken ask for what the call's do
+-- the words that were read ask for what the call's words ask for
 asks : (c : goal.After-drop-texts) → accepted (texts c.deref.result.now) ≡ asked (lent_words c.args.words.now)
 asks c =
     same_asked c.deref.result.now (lent_words c.args.words.now) (ap (map string_bytes) c.deref.ensures.value ∙ c.in-Ok.ensures.texts)

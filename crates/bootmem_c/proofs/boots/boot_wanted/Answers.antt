@@ -1,4 +1,5 @@
--- Inputs that are refused and a boot that stops are the outcome's, and else the boot is that of the inputs.
+-- An error of the files and a stop of the boot are those of the outcome; otherwise the boot is
+-- that of the inputs.
 use Rattle.std.proofs.Common.{◌∙◌, Err, ap}
 use Rattle.std.proofs.lemmas.Result.{err_from_is_err_and}
 use Rattle.boot_inputs.specs.Reason.{NoInputs}

@@ -1,4 +1,4 @@
--- What the run says of the words that were taken and of the lent files is said of the call.
+-- What the run says of the words that were read and of the lent files holds of the call.
 use Rattle.std.proofs.Common.{◌≡◌, ◌∙◌, ℕ, List, [], Some, Option, Result, Err, ap, inl, map, string_bytes, subst, sym}
 use Rattle.std.specs.Prelude.{◌⊎◌}
 use Rattle.bm_io.specs.MemFiles.{MemFileView, file_bytes}
@@ -13,7 +13,7 @@ use Rattle.bootmem_c.specs.Taken.{whole_text}
 use Rattle.bootmem_c.proofs.RunLaws.{line_asked, nothing_asked, ran_line, ran_reported, ran_status, reported_text, same_asked, same_outcome}
 use Rattle.bootmem_c.proofs.run.run_lent.Goals as goal
 
--- the words that were taken ask for what the call's do
+-- the words that were read ask for what the call's words ask for
 asks : (c : goal.After-drop-texts) → accepted (texts c.deref.result.now) ≡ asked (lent_words c.args.words.now)
 asks c =
     same_asked c.deref.result.now (lent_words c.args.words.now) (ap (map string_bytes) c.deref.ensures.value ∙ c.in-Ok.ensures.texts)

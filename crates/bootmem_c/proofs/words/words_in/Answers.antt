@@ -1,4 +1,4 @@
--- One more word, or the first that isn't UTF-8; behind the last one all are taken.
+-- One more word, or the first that isn't UTF-8; after the last one all are read.
 use Rattle.std.proofs.Common.{◌≡◌, ap, arith, subst, Err}
 use Rattle.std.specs.List.{All}
 use Rattle.std.specs.Str.{IsUtf8}
