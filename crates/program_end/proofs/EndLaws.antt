@@ -59,7 +59,8 @@ module _ {W I A F C S : Type 0} (program : Program W I A) (sink : SinkOf S) (bef
     pub ends_stopped : status ≡ 6 → IsStopped said
     ends_stopped six = grind (arith, program.statuses)
 
-    -- if no counter of the output or of a file rose, a result is written unless memory runs out
+    -- if no counter of faults rose, of the output or of a file, a result is written unless
+    -- memory runs out
     pub ends_complete : (result : A) → said ≡ Ok result → ¬ Rose (sink.faults old) (sink.faults new)
         → ((input : I) → ¬ RoseFor program before now accepted input) → (status ≡ program.status result) ⊎ (status ≡ 7)
     ends_complete result is_said written read = grind (arith, program.statuses, read)

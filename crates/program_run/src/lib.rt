@@ -7,10 +7,10 @@
 //! text of the reports (`debugfs_reports`).
 //!
 //! The layer above may rest on this: `run` does what `outcome` says, unless a file can't be read,
-//! the output refuses the text, or this program is out of memory. For the first two a counter of
-//! the object that was passed in rose. How a program ends, and which line a failure puts, is
-//! defined for any program over files (`program_end`); this one is `bootmem`
-//! (`specs/Bootmem.antt`).
+//! the output refuses the text, or this program is out of memory. In the first two cases a counter
+//! of faults rose, that of the file's name or that of the output. How a program ends, and which
+//! line a failure puts, is defined for any program over files (`program_end`); this one is
+//! `bootmem` (`specs/Bootmem.antt`).
 //!
 //! `bootmem_cli` runs it on the files and streams of the operating system. [`read_given`] and
 //! [`no_report`] serve a caller that boots without writing reports (`bootmem_c`).

@@ -101,8 +101,8 @@ pub fn run<F: Files, S: Sink, E: Sink>(
     ensures stopped { result ≡ 6 → IfSome (F.holds files.old) (λ held.
         IsStopped (outcome (accepted (texts words.now)) held)) }
 
-    // If no counter of the output or of a file rose, a text of the outcome is written unless the
-    // program is out of memory.
+    // If no counter of faults rose, of `out` or of a file, a text of the outcome is written
+    // unless the program is out of memory.
     ensures complete { IfSome (F.holds files.old) (λ held. (text : List ℕ)
         → outcome (accepted (texts words.now)) held ≡ Ok text
         → ¬ Rose (S.faults out.old) (S.faults out.new)
