@@ -119,7 +119,8 @@ failed_put = record {
 no_cause : Puts held_sink before_failure before_failure (Err put.Failed) (codes "cd") → ⊥
 no_cause puts = let rose = puts.failed refl in omega (arith, rose)
 
--- an output may count a fault, retry and append everything, with the result Ok. Running out of memory is always reported
+-- an output may count a fault, retry and append everything, with the result Ok. Running out of
+-- memory is always reported
 tried_again : Puts held_sink before_failure behind_failure (Ok tt) (codes "c")
 tried_again = record {
   whole = refl;

@@ -26,7 +26,7 @@ left_more chunk rest k left small =
     ∙ drop-drop k (length chunk - length rest) chunk
     ∙ sym (ap (λ (n : ℕ). drop n chunk) (gone_more chunk rest k left small))
 
--- the bytes so far and k more of the rest are the front of the chunk
+-- the bytes so far and k more of the rest are the first bytes of the chunk
 pub front_more : (old mid new : Option (List ℕ)) (chunk rest : List ℕ) (k : ℕ)
     → Appends old mid (take (length chunk - length rest) chunk) → rest ≡ drop (length chunk - length rest) chunk
     → k ≤ length rest → Appends mid new (take k rest)

@@ -1,5 +1,5 @@
--- A put and a fetch as sequences of calls of the operating system. `writes`, `reads` and `opens` stand for one call each, as `RawWriter`,
--- `RawReader` and `RawFiles` have them.
+-- A put and a fetch as sequences of calls of the operating system. `writes`, `reads` and `opens`
+-- stand for one call each, as `RawWriter`, `RawReader` and `RawFiles` have them.
 use Rattle.std.specs.Prelude.{◌≡◌, ℕ, ◌+◌, ◌<◌, ◌≤◌, List, [], ◌++◌, length, drop, Option, Some, None, Result, Ok, Err, ◌⊎◌, Vec}
 use Rattle.std.specs.declared.alloc.Global.{Global}
 use Rattle.bm_io.specs.declared.reading.Fetch.{Fetch}
@@ -7,7 +7,8 @@ use Rattle.bm_io.specs.declared.reading.Fetch.TheVariants as fetch
 use Rattle.bm_io.specs.declared.writing.Put.{Put}
 use Rattle.bm_io.specs.declared.writing.Put.TheVariants as put
 
--- the stream took that many of the first bytes, by writes that each were offered all remaining bytes and took some of them
+-- the stream took that many of the first bytes, by writes that each were offered all remaining
+-- bytes and took some of them
 pub data HasTaken {W : Type 0} (writes : W → List ℕ → Option ℕ → W → Type 0) (bytes : List ℕ) (before : W) : ℕ → W → Type 0 where
   nothing_taken : HasTaken writes bytes before 0 before
   took : {k n : ℕ} {mid after : W} → HasTaken writes bytes before k mid
@@ -19,7 +20,8 @@ pub data HasGiven {F : Type 0} (reads : F → Option (List ℕ) → F → Type 0
   gave : {given bytes : List ℕ} {mid after : F} → HasGiven reads before given mid
       → reads mid (Some bytes) after → 0 < length bytes → HasGiven reads before (given ++ bytes) after
 
--- the result of a put: Ok once all bytes were taken, Failed at the first write that failed or took nothing
+-- the result of a put: Ok once all bytes were taken, Failed at the first write that failed or took
+-- nothing
 abbrev pub IsPutBy : {W : Type 0} → (W → List ℕ → Option ℕ → W → Type 0) → W → List ℕ → Result (Unit {0}) Put → W → Type 0
 IsPutBy writes before bytes (Ok done) after = HasTaken writes bytes before (length bytes) after
 IsPutBy {W} writes before bytes (Err put.Failed) after =
@@ -27,8 +29,9 @@ IsPutBy {W} writes before bytes (Err put.Failed) after =
     × (writes mid (drop k bytes) None after ⊎ writes mid (drop k bytes) (Some 0) after)
 IsPutBy writes before bytes (Err put.Memory) after = ⊥
 
--- the result of reading a file up to a limit, and `taken`, the number of bytes read: Ok at a read that gives nothing, Failed at the first that
--- fails, TooLong at the first that exceeds the limit, Memory after any read that gave bytes
+-- the result of reading a file up to a limit, and `taken`, the number of bytes read: Ok at a read
+-- that gives nothing, Failed at the first that fails, TooLong at the first that exceeds the limit,
+-- Memory after any read that gave bytes
 abbrev pub IsReadBy : {F : Type 0} → (F → Option (List ℕ) → F → Type 0) → F → ℕ → Result (Vec ℕ Global) Fetch → ℕ → F → Type 0
 IsReadBy {F} reads before limit (Ok bytes) taken after =
     (end : F) × HasGiven reads before bytes.items end × (length bytes.items ≤ limit) × reads end (Some []) after
@@ -42,7 +45,8 @@ IsReadBy {F} reads before limit (Err fetch.TooLong) taken after =
 IsReadBy reads before limit (Err fetch.Memory) taken after =
     (given : List ℕ) × HasGiven reads before given after × (0 < length given) × (length given ≤ limit) × (taken ≡ length given)
 
--- the result of a fetch, and the number of bytes read: the file couldn't be opened, or was opened and read
+-- the result of a fetch, and the number of bytes read: the file couldn't be opened, or was opened
+-- and read
 abbrev pub IsFetchedBy : {D F : Type 0} → (D → List ℕ → Option F → D → Type 0) → (F → Option (List ℕ) → F → Type 0)
     → D → List ℕ → ℕ → Result (Vec ℕ Global) Fetch → ℕ → D → Type 0
 IsFetchedBy {D} {F} opens reads before name limit answer taken after =

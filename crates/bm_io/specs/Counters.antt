@@ -1,7 +1,8 @@
 -- What contracts see of the adapters to the operating system.
 use Rattle.std.specs.Prelude.{ℕ}
 
--- what contracts see of a `RealFiles`: the files, the number of failed fetches of any name, and the number of bytes read
+-- what contracts see of a `RealFiles`: the files, the number of failed fetches of any name, and
+-- the number of bytes read
 pub record RealFilesView (D : Type 0) : Type 0 where
   pub files : D
   pub faults : ℕ

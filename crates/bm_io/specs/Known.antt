@@ -1,4 +1,5 @@
--- What is known of bytes outside the program: those of a stream or of files may be unknown (`None`).
+-- What is known of bytes outside the program: those of a stream or of files may be unknown
+-- (`None`).
 use Rattle.std.specs.Prelude.{◌≡◌, ℕ, ◌<◌, ◌≤◌, List, [], length, take, Option, Some, None, IfSome}
 use Rattle.std.specs.Io.KnownBytes.{Keeps, Appends, Consumes, IsAtEnd}
 

@@ -11,8 +11,8 @@ pub record MemFileView : Type 0 where
   pub name : List ℕ
   pub bytes : List ℕ
 
--- what contracts see of a `MemFiles`: the files, the numbers of the calls that are to fail, and the numbers of calls, of failed calls and
--- of bytes read
+-- what contracts see of a `MemFiles`: the files, the numbers of the calls that are to fail, and
+-- the numbers of calls, of failed calls and of bytes read
 pub record MemFilesView : Type 0 where
   pub files : List MemFileView
   pub failing : List ℕ
@@ -55,7 +55,8 @@ fetch_failures (Err fetch.Failed) = 1
 fetch_failures (Err fetch.TooLong) = 0
 fetch_failures (Err fetch.Memory) = 0
 
--- the number of bytes that a result counts as read: all of the file's if it was returned or too long
+-- the number of bytes that a result counts as read: all of the file's if it was returned or too
+-- long
 abbrev pub bytes_taken : Result (Vec ℕ Global) Fetch → Option (List ℕ) → ℕ
 bytes_taken answer None = 0
 bytes_taken (Ok given) (Some bytes) = length bytes

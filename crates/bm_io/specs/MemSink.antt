@@ -3,8 +3,8 @@ use Rattle.std.specs.Prelude.{ℕ, List, Result, Ok, Err}
 use Rattle.bm_io.specs.declared.writing.Put.{Put}
 use Rattle.bm_io.specs.declared.writing.Put.TheVariants as put
 
--- what contracts see of a `MemSink`: the bytes so far, the numbers of the calls that are to fail, and the numbers of calls, of failed
--- calls and of calls that ran out of memory
+-- what contracts see of a `MemSink`: the bytes so far, the numbers of the calls that are to fail,
+-- and the numbers of calls, of failed calls and of calls that ran out of memory
 pub record MemSinkView : Type 0 where
   pub written : List ℕ
   pub failing : List ℕ

@@ -1,4 +1,4 @@
--- What a put did, or several one after another.
+-- The effect of a put, or of several puts in a row.
 use Rattle.std.specs.Prelude.{◌≡◌, ℕ, ◌≤◌, List, Result, OnOk, OnErr, IsErrOf, ◌⊎◌}
 use Rattle.std.specs.Io.KnownBytes.{Appends}
 use Rattle.bm_io.specs.Counts.{Rose}
@@ -7,16 +7,16 @@ use Rattle.bm_io.specs.declared.writing.Put.{Put}
 use Rattle.bm_io.specs.declared.writing.Put.TheVariants as put
 use Rattle.bm_io.specs.declared.writing.Sink.{Ghosts as SinkOf}
 
--- the answer of an output to those bytes, as `Sink::put` gives it: `sink` is what its kind tells, `old` and `new` are the
--- output before and now
+-- the contract of `Sink::put` for these bytes: `answer` is the result, `old` and `new` are the
+-- output before and after, and `sink` has the ghost members of its type
 pub record Puts {S : Type 0} (sink : SinkOf S) (old new : S) (answer : Result (Unit {0}) Put) (bytes : List ℕ) : Type 0 where
-  -- after Ok all of the bytes were appended, after a refusal a front of them
+  -- with Ok all bytes were appended, with an error the first of them (none, some or all)
   pub whole : OnOk answer (Appends (sink.written old) (sink.written new) bytes)
   pub front : OnErr answer (AppendsFront (sink.written old) (sink.written new) bytes)
-  -- each refusal has its cause
+  -- the cause of each error
   pub failed : IsErrOf answer put.Failed → Rose (sink.faults old) (sink.faults new)
   pub wanting : IsErrOf answer put.Memory → Rose (sink.wants old) (sink.wants new)
-  -- a want is counted only at Memory, and no count falls
+  -- `wants` rises only with `Memory`, and no counter falls
   pub no_want : IsErrOf answer put.Memory ⊎ (sink.wants new ≡ sink.wants old)
   pub faults_stay : sink.faults old ≤ sink.faults new
   pub wants_stay : sink.wants old ≤ sink.wants new

@@ -1,45 +1,49 @@
-//! What the program writes: an output that takes bytes in chunks.
+//! The trait of what the program writes to: an output that takes bytes in chunks.
 //!
-//! One trait serves the report and the error line alike. It is apart from what implements it for
-//! the same reason as `Files`: the layers above know this contract alone.
+//! Both the report and the line of an error are written to such an output.
 ghost use Rattle.std.specs.Prelude.{◌≡◌, ℕ, ◌^◌, ◌<◌, ◌≤◌, List, Option, OnOk, OnErr, IsErrOf, ◌⊎◌};
 ghost use Rattle.std.specs.Io.KnownBytes.{Appends};
 ghost use Rattle.bm_io.specs.Counts.{Rose};
 ghost use Rattle.bm_io.specs.Known.{AppendsFront};
 
-/// Why a chunk wasn't written whole.
+/// Why an output didn't take a whole chunk.
 #[derive(Clone, Copy, Debug, PartialEq, Eq)]
 pub enum Put {
-    /// The output refused it.
+    /// The output refused the chunk.
     Failed,
-    /// The output's own memory ran out.
+    /// The output, which is in this program's memory, ran out of it.
     Memory,
 }
 
 /// An output that takes bytes in chunks.
 pub trait Sink {
-    // The bytes so far, where the object tells them.
+    // The bytes written so far, or `None` if unknown.
     ghost written: { Self → Option (List ℕ) };
 
-    // How many faults there were. An object may count one that it got over by itself.
+    // The number of faults. It may include faults that a retry overcame.
     ghost faults: { Self → ℕ };
 
-    // How many puts answered that memory is wanting.
+    // The number of puts that failed with `Memory`.
     ghost wants: { Self → ℕ };
 
-    /// Appends the chunk. After an `Err` the front of it stands there, however long.
+    /// Appends the chunk.
+    ///
+    /// # Errors
+    ///
+    /// `Failed` if the output refused the chunk, and `Memory` if it ran out of memory. In both
+    /// cases the first bytes of the chunk were appended: none, some or all.
     fn put(&mut self, chunk: &[u8]) -> Result<(), Put>
         ensures whole { OnOk result (Appends (written self.old) (written self.new) chunk.now) }
         ensures front { OnErr result (AppendsFront (written self.old) (written self.new) chunk.now) }
 
-        // When each refusal comes.
+        // The cause of each error.
         ensures failed { IsErrOf result Put.Failed → Rose (faults self.old) (faults self.new) }
         ensures wanting { IsErrOf result Put.Memory → Rose (wants self.old) (wants self.new) }
 
-        // A want is counted only at `Memory`.
+        // `wants` rises only with `Memory`.
         ensures no_want { IsErrOf result Put.Memory ⊎ (wants self.new ≡ wants self.old) }
 
-        // No count falls or passes its last value.
+        // No counter falls or exceeds 2^64 - 1.
         ensures faults_stay { faults self.old ≤ faults self.new }
         ensures faults_fit { faults self.new < 2 ^ 64 }
         ensures wants_stay { wants self.old ≤ wants self.new }
