@@ -1,4 +1,4 @@
--- What the line of a block says of it, where the block is whole and maximal.
+-- What the line of a block says, if the block is whole and maximal.
 use Rattle.std.proofs.Common.{◌≡◌, ℕ, ◌+◌, ◌-◌, ◌*◌, ◌/◌, ◌%◌, ◌^◌, ◌<◌, ◌≤◌, ◌==◌, Bool, true, false, ◌&&◌, ◌||◌, nat_lt, List, [], ◌∷◌, map, Some, refl, sym, ◌∙◌, ap, subst, inl, inr, arith}
 use Rattle.std.specs.List.{All}
 use Rattle.std.proofs.Math.Nat.{mul_assoc, div-add-mod, mul-mod_right}
@@ -27,7 +27,7 @@ zone_same zones.Dma = refl
 zone_same zones.Dma32 = refl
 zone_same zones.Normal = refl
 
--- the address of a multiple is a multiple
+-- if a frame's number is a multiple of s, its address is one of s frames
 by_frames : (n s : ℕ) → n % s ≡ 0 → (4096 * n) % (4096 * s) ≡ 0
 by_frames n s whole =
     let parts : s * (n / s) + n % s ≡ n = div-add-mod n s in
@@ -38,7 +38,7 @@ by_frames n s whole =
 pub aligned_told : (b : Block) → b.first % 2 ^ b.order ≡ 0 → is_aligned (told_block b) ≡ true
 aligned_told b whole = eq-eqb ((4096 * b.first) % (4096 * 2 ^ b.order)) 0 (by_frames b.first (2 ^ b.order) whole)
 
--- a block of the list that is of the node and the zone, and has the frame
+-- a block of the list that has the frame, and has the node and zone of `b`
 record HasKin (b : Block) (bs : List Block) (frame : ℕ) : Type 0 where
   pub block : Block
   pub listed : Lists bs block
@@ -71,7 +71,7 @@ kin_found b (c ∷ cs) frame found =
 
 module _ (given : Given) (items : List Item) (bs : List Block) (whole : (b : Block) → Lists bs b → IsWhole given items b)
     (maximal : (b : Block) → Lists bs b → IsMaximal given items b) where
-  -- what has kin is free for the block
+  -- a frame in such a block is free for block `b`
   kin_free : (b : Block) (frame : ℕ) → HasKin b bs frame → IsFreeFor given items b frame
   kin_free b frame kin =
       let free : IsFreeFor given items kin.block frame = (whole kin.block kin.listed).frames frame kin.inside in

@@ -1,4 +1,4 @@
--- What a boot tells can be told by lines, where its runs are what the program's types hold.
+-- The boot can be printed as lines if its runs are as the program's types ensure.
 use Rattle.std.proofs.Common.{◌≡◌, ℕ, ◌+◌, ◌^◌, ◌<◌, Some, List, [], ◌∷◌, drop, get_or, length, Ok, refl, sym, ◌∙◌, ap, subst, inl, inr, arith}
 use Rattle.std.specs.List.{All}
 use Rattle.std.proofs.lemmas.Bool.{cases_lt}
@@ -18,20 +18,20 @@ use Rattle.memblock_model.specs.declared.owner.Owner.{Owner}
 use Rattle.audit_laws.specs.Told.{CanBeTold, IsNear, IsNearOwner}
 use Rattle.audit_laws.proofs.SavedLaws.{map_runs}
 
--- one element more, in front of those that are left
+-- one more element before those that remain
 pub one_more : {X : Type 0} (P : X → Type 0) (xs : List X) (i : ℕ) (x d : X) → i < length xs → x ≡ get_or xs i d → P x
     → All P (drop (i + 1) xs) → All P (drop i xs)
 one_more {X} P xs i x d few is here rest =
     subst (λ (ys : List X). All P ys) (sym (drop_more xs i d few)) (All-cons P (get_or xs i d) (drop (i + 1) xs) (subst P is here) rest)
 
--- runs that end below 2^64 give nothing from there on
+-- runs that end below 2^64 have no value from there on
 nothing_past : {X : Type 0} (rs : List (RunOf X)) → All IsNear rs → NothingFrom (2 ^ 64) (value_at rs)
 nothing_past [] near x far = refl
 nothing_past (r ∷ rs) near x far =
     let end : r.base + r.size < 2 ^ 64 = All-head IsNear r rs near in
     rw (behind r x (omega (arith, end, far))) (nothing_past rs (All-tail IsNear r rs near) x far)
 
--- a list of runs whose values are types, and which end below 2^64, can be told
+-- runs of types that end below 2^64 can be printed as lines
 runs_told : (rs : List (RunOf ℕ)) → AreRuns rs → ((x k : ℕ) → value_at rs x ≡ Some k → (0 < k) × (k < 2 ^ 32)) → All IsNear rs
     → All IsToldRun rs
 runs_told [] runs types near = All-nil IsToldRun

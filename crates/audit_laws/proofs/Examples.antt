@@ -1,11 +1,12 @@
--- Runs that the program's types hold, and one that they don't; a text that is held whole, and one that isn't.
+-- Runs that the program's types can have and runs that they can't; a file that contains a text,
+-- and one that isn't there.
 use Rattle.std.proofs.Common.{ℕ, ◌-◌, ◌^◌, Some, None, [], ◌∷◌, refl, arith}
 use Rattle.address_runs.specs.Runs.{RunOf}
 use Rattle.memblock_model.specs.declared.owner.Owner.TheVariants as owners
 use Rattle.audit_laws.specs.Saved.{IsSaved}
 use Rattle.audit_laws.specs.Told.{IsNear, IsNearOwner}
 
--- the last frame below 2^64 but one, and the last one
+-- a run that ends 4096 below 2^64, and one that ends at it
 abbrev run_at : ℕ → RunOf ℕ
 run_at base = record { base = base; size = 4096; value = 2 }
 

@@ -1,4 +1,4 @@
--- What lines say of a frame, and what the runs and blocks say of it that they tell.
+-- What lines say about a frame, and what their runs and blocks say about it.
 use Rattle.std.proofs.Common.{◌≡◌, ℕ, ◌+◌, ◌*◌, ◌/◌, ◌^◌, ◌≤◌, ◌<◌, ◌==◌, Bool, true, false, ◌&&◌, ◌||◌, not, nat_lt, is_some, cond, List, [], ◌∷◌, map, refl, sym, ◌∙◌, ap, inl, inr, arith}
 use Rattle.std.proofs.Math.Bool.{and_comm}
 use Rattle.std.proofs.lemmas.Bool.{and_from, and_parts, cases_Bool}
@@ -24,14 +24,14 @@ use Rattle.boot_audit.specs.Frames.{frames_of_block, in_memory, is_owned, is_unt
 abbrev or_of : Bool → Bool → Bool
 or_of a b = a || b
 
--- a byte lies in memory by the lines where it does by the runs
+-- a byte is in memory by the lines exactly if it is by the runs
 memory_told : (runs : List (RunOf ℕ)) (x : ℕ) → in_memory (map told_run runs) x ≡ lies_in_memory runs x
 memory_told [] x = refl
 memory_told (r ∷ rs) x =
     ap (λ (b : Bool). or_of b (in_memory (map told_run rs) x)) (and_comm (r.value == 1 || r.value == 128) (lies_in r x))
     ∙ ap (or_of (lies_in r x && (r.value == 1 || r.value == 128))) (memory_told rs x)
 
--- so a frame is usable by the ones where it is by the others
+-- so a frame is usable by the lines exactly if it is by the runs
 pub told_usable : (limit : ℕ) (runs : List (RunOf ℕ)) (frame : ℕ) → is_usable limit (map told_run runs) frame ≡ true
     → IsUsableBy limit runs frame
 unfolding is_usable
@@ -56,7 +56,7 @@ usable_told limit runs frame usable =
     and_from (nat_lt x limit) (in_memory (map told_run runs) x) low
     (memory_told runs x ∙ usable.1 x (frame_covers frame x above below)))
 
--- somebody has a byte by the lines where a run gives it an owner
+-- a byte has an owner by the lines exactly if a run gives it one
 owned_told : (rs : List (RunOf Owner)) (x : ℕ) → is_owned (map extent_of rs) x ≡ is_some (value_at rs x)
 owned_told [] x = refl
 owned_told (r ∷ rs) x =
@@ -69,7 +69,7 @@ module _ (items : List Item) (rs : List (RunOf Owner)) (runs : IsRunsOf (owner_o
   owned_by : (x : ℕ) → is_owned (map extent_of rs) x ≡ is_some (owner_of items x)
   owned_by x = owned_told rs x ∙ ap is_some (runs.each x)
 
-  -- so a frame is untouched by the ones where it is by the others
+  -- so a frame is untouched by the lines exactly if it is by the runs
   pub untouched_told : (frame : ℕ) → IsUntouched items frame → is_untouched (map extent_of rs) frame ≡ true
   unfolding is_untouched
   untouched_told frame bare =
@@ -83,7 +83,7 @@ module _ (items : List Item) (rs : List (RunOf Owner)) (runs : IsRunsOf (owner_o
       each_in-fails (bytes_of_frame frame) (λ x. not (is_owned (map extent_of rs) x)) touched.byte ends.0 ends.1
       (ap not (owned_by touched.byte ∙ ap is_some touched.owned))
 
--- a block has the frame by its line where it has it
+-- the line of a block has a frame exactly if the block has it
 at_first : (first : ℕ) → (4096 * first) / 4096 ≡ first
 at_first first = omega arith
 
@@ -93,7 +93,7 @@ frames_told b = ap (λ (n : ℕ). let e : RangeView = record { base = n; size = 
 pub frame_told : (b : Block) (frame : ℕ) → covers (frames_of_block (told_block b)) frame ≡ has_frame b frame
 frame_told b frame = ap (λ (e : RangeView). covers e frame) (frames_told b)
 
--- so as many have it
+-- so the numbers of blocks that have it are equal
 pub counted_told : (bs : List Block) (frame : ℕ) → blocks_with (map told_block bs) frame ≡ blocks_of_told bs frame
 counted_told [] frame = refl
 counted_told (b ∷ bs) frame =

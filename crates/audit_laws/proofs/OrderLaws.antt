@@ -1,4 +1,4 @@
--- What a boot tells ascends, without meeting, and there are few of it.
+-- The lines of a boot are ascending and disjoint, and there are fewer than 2^64.
 use Rattle.std.proofs.Common.{◌≡◌, ℕ, ◌+◌, ◌-◌, ◌*◌, ◌%◌, ◌^◌, ◌<◌, ◌≤◌, true, nat_lt, if◌then◌else◌, Bool, false, Option, Some, None, List, [], ◌∷◌, length, map, Ok, refl, sym, ◌∙◌, ap, inl, inr, arith}
 use Rattle.std.specs.List.{All}
 use Rattle.std.proofs.lemmas.Bool.{cases_lt}
@@ -26,13 +26,13 @@ use Rattle.conservation.specs.Headline.{told_blocks}
 use Rattle.conservation.proofs.CountLaws.{in_block}
 use Rattle.conservation.proofs.HeadlineLaws.{below, is_told}
 
--- runs ascend
+-- runs are ascending and disjoint
 pub runs_ascend : {X : Type 0} (rs : List (RunOf X)) → AreRuns rs → AscendApart (map extent_of rs)
 runs_ascend [] runs = tt
 runs_ascend (r ∷ []) runs = (tt, tt)
 runs_ascend (r ∷ (s ∷ ss)) runs = (runs.1.0, runs_ascend (s ∷ ss) runs.2)
 
--- ranges that ascend up to an end, each of some bytes, are no more than there are bytes
+-- disjoint ranges below an end, none of them empty, are no more than there are bytes
 few_from : {X : Type 0} (end at : ℕ) (rs : List (RunOf X)) → at ≤ end → StartFrom at (map extent_of rs) → AscendApart (map extent_of rs)
     → All (λ r. (0 < r.size) × (end_of (extent_of r) ≤ end)) rs → at + length rs ≤ end
 few_from end at [] low start order all = omega (arith, low)
@@ -63,7 +63,7 @@ last_frame b whole =
     (both_tests b.first (b.first + 2 ^ b.order - 1) (b.first + 2 ^ b.order) (omega (arith, some)) (omega (arith, some)))
 
 module _ (f : Frames) where
-  -- of two blocks the one ends before the other begins
+  -- of two blocks, one ends before the other begins
   blocks_apart : (b c : Block) → IsBlock f b → IsBlock f c → b.first < c.first → b.first + 2 ^ b.order ≤ c.first
   blocks_apart b c one other less =
       elim (cases_lt c.first (b.first + 2 ^ b.order)) as (λ _. b.first + 2 ^ b.order ≤ c.first) [
@@ -89,7 +89,7 @@ module _ (f : Frames) where
   blocks_ascend = ascend_told 0 (blocks_of f) (listed_ascends f) (listed_sound f)
 
   module _ (near : NothingFrom MAX_FRAMES f) where
-    -- a free frame is one below 2^40
+    -- a free frame is below 2^40
     free_near : (frame node : ℕ) → f frame ≡ Some node → frame < 2 ^ 40
     free_near frame node free =
         elim (cases_lt frame MAX_FRAMES) as (λ _. frame < 2 ^ 40) [
@@ -118,7 +118,7 @@ module _ (f : Frames) where
         let few : 0 + length (blocks_of f) ≤ 2 ^ 40 = few_blocks 0 (blocks_of f) (omega arith) (listed_ascends f) (listed_sound f) in
         omega (arith, few)
 
--- a node that a frame is handed over with is one below 1,024
+-- the node that a frame is handed over with is below 1024
 below_low : (n m : ℕ) (small : Bool) → nat_lt m 1024 ≡ small → (if small then Some m else None) ≡ Some n → n < 1024
 below_low n m true test is =
     let same : m ≡ n = cc in
@@ -143,7 +143,7 @@ unfolding free_node_in
 handed_low items frame n is =
     if_low _ (node_of_frame (memory_of items) frame) n (label_low (memory_of items (4096 * frame)) n) is
 
--- each block can be told
+-- each block can be printed as a line
 module _ (given : Given) (told : Told) (ends : told_boot given ≡ Ok told) where
   block_told : (b : Block) → Lists (told_blocks told) b → IsToldBlock b
   block_told b listed =

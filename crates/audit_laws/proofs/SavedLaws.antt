@@ -1,4 +1,4 @@
--- Three reports of a boot are read as what it tells, and audit as sound.
+-- The reports of a boot are read back as its lines, and pass the audit.
 use Rattle.std.proofs.Common.{◌≡◌, ℕ, nat_lt, false, List, length, map, Option, Some, Ok, refl, sym, subst, arith}
 use Rattle.std.proofs.lemmas.Bool.Decides.{nat_tests}
 use Rattle.bm_base.specs.Range.{RangeView}
@@ -32,7 +32,7 @@ use Rattle.audit_laws.specs.Told.{CanBeTold}
 use Rattle.audit_laws.proofs.OrderLaws.{blocks_ascend, blocks_few, blocks_told, few_runs, runs_ascend}
 use Rattle.audit_laws.proofs.ValueLaws.{lines_conserved, owner_runs}
 
--- a text that is held whole is read
+-- the text of a file that contains it whole is read
 read_saved : {L : Type 0} (form : ℕ → List ℕ → Option L) (extent : L → RangeView) (report : Saved) (held : Option (List ℕ)) (text : List ℕ)
     (lines : List L) → IsSaved held text → report_of form extent text ≡ Ok lines → lines_by form extent report held ≡ Ok lines
 read_saved form extent report held text lines is read =

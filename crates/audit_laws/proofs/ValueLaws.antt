@@ -1,4 +1,4 @@
--- What a boot tells of its map, its owners and its blocks is conserved, as an audit judges lines.
+-- The lines of a boot's map, owners and blocks show that memory was conserved.
 use Rattle.std.proofs.Common.{◌≡◌, ℕ, ◌^◌, ◌<◌, List, map, Ok, inl, inr, subst, ◌∙◌}
 use Rattle.address_runs.specs.Edits.{NothingFrom}
 use Rattle.address_runs.specs.Runs.{IsRunsOf, extent_of}
@@ -16,7 +16,7 @@ use Rattle.boot_audit.specs.Conserved.{AreConserved, IsTouchedOrInOne}
 use Rattle.audit_laws.proofs.BlockLaws.{blocks_sound}
 use Rattle.audit_laws.proofs.FrameLaws.{counted_told, told_usable, touched_told, untouched_told, usable_told}
 
--- the runs of owners give each byte's
+-- the runs of owners give the owner of each byte
 pub owner_runs : (items : List Item) → NothingFrom (2 ^ 64) (owner_of items) → IsRunsOf (owner_of items) (owner_runs_of items)
 unfolding owner_runs_of
 owner_runs items ends = by_address same_owner owner_tells (owner_of items) ends

@@ -1,4 +1,4 @@
--- Files that hold three reports of one boot.
+-- Files that contain three reports of one boot.
 use Rattle.std.specs.Prelude.{◌≡◌, ℕ, ◌≤◌, List, length, Option, Some}
 use Rattle.program_end.specs.Program.{Held}
 use Rattle.boot_audit.specs.Words.{Wanted}
@@ -6,12 +6,14 @@ use Rattle.boot_model.specs.Boot.{Told}
 use Rattle.debugfs_reports.specs.Report.{report_text}
 use Rattle.debugfs_reports.specs.declared.report.Report.TheVariants as reports
 
--- what is held is the whole text, which is as long as an audit reads: at most 512 MiB
+-- the file contains the whole text, which is at most 512 MiB, the greatest size that an audit
+-- reads
 pub record IsSaved (held : Option (List ℕ)) (text : List ℕ) : Type 0 where
   pub holds : held ≡ Some text
   pub short : length text ≤ 536870912
 
--- the three names hold the reports of the boot, and addresses are as wide as there
+-- the three files contain the reports of the boot, and the audit's width of addresses is that of
+-- the boot
 pub record AreSaved (held : Held) (wanted : Wanted) (told : Told) : Type 0 where
   pub width : wanted.width ≡ told.width
   pub map : IsSaved (held wanted.map_name) (report_text reports.Map told)

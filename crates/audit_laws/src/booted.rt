@@ -1,5 +1,6 @@
-//! The laws for what a boot made: that its reports can be told is so by the types of its fields. Of a value that is read
-//! its type's range is known, so each run is read once.
+//! The law for the value that the code's boot returns. The types of its fields bound its addresses
+//! and numbers. A proof knows the range of a field's type once the code reads the field, so the
+//! functions here read each run.
 
 ghost use Rattle.std.specs.Prelude.{◌≡◌, Some, Ok};
 ghost use Rattle.std.specs.List.{All};
@@ -18,8 +19,8 @@ use boot_model::Booted;
 use e820_model::Run;
 use memblock_model::{Owner, OwnerRun};
 
-/// A law: where the names of an audit's words hold the three reports of what a boot made, as `bootmem` prints them, memory was
-/// conserved by them, and the audit comes to `Sound`.
+/// Law: if the files that an audit names contain the three reports of this boot, as `bootmem`
+/// prints them, then memory was conserved by them, and the outcome of the audit is `Sound`.
 pub fn booted_reports_are_sound(booted: &Booted)
     ghost given: { Given }
     requires { told_boot given ≡ Ok (booted_view booted.now) }
@@ -33,7 +34,7 @@ pub fn booted_reports_are_sound(booted: &Booted)
     read_owners(booted.journal.owners());
 }
 
-/// Reads each run of a map.
+/// Law: each run of a map ends below 2^64.
 fn read_map(runs: &[Run])
     ensures { All IsNear runs.now }
 {
@@ -49,7 +50,7 @@ fn run_ends_in_space(run: &Run)
     let _range = run.range;
 }
 
-/// Reads each run of owners.
+/// Law: each run of an owner ends below 2^64, and the owner's number, if it has one, has 32 bits.
 fn read_owners(runs: &[OwnerRun])
     ensures { All IsNearOwner runs.now }
 {
@@ -58,14 +59,14 @@ fn read_owners(runs: &[OwnerRun])
     }
 }
 
-/// Reads a run of an owner.
+/// Law: a run of an owner ends below 2^64, and the owner's number, if it has one, has 32 bits.
 fn read_owner(run: &OwnerRun)
     ensures { IsNearOwner run.now }
 {
     read_name(run.owner);
 }
 
-/// Reads the number of an owner that has one.
+/// Law: the number of an owner, if it has one, has 32 bits.
 fn read_name(owner: Owner)
     ensures { IsToldName owner }
 {

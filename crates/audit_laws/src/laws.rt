@@ -1,4 +1,5 @@
-//! What a boot tells of its map, its owners and its blocks is conserved: as lines, and as texts that are read again.
+//! The lines of a boot's map, owners and blocks show that memory was conserved: as lines, and as
+//! texts that are read back.
 
 ghost use Rattle.std.specs.Prelude.{◌≡◌, ◌^◌, Some, Ok, map};
 ghost use Rattle.address_runs.specs.Edits.{NothingFrom};
@@ -21,17 +22,18 @@ ghost use Rattle.debugfs_reports.specs.Report.{report_text};
 ghost use Rattle.debugfs_reports.specs.declared.report.Report.TheVariants as reports;
 ghost use Rattle.memblock_model.specs.Items.{owner_of, owner_runs_of};
 
-/// A law: by the lines that tell its map, its owners and its blocks each boot that isn't stopped conserves memory: each
-/// usable frame is touched or in exactly one block, each frame of a block is usable and untouched, and each block is
-/// aligned, in its zone, and couldn't be joined to its parent. Nobody has an address from 2^64 on.
+/// Law: the lines of a successful boot's map, owners and blocks show that memory was conserved,
+/// provided no address from 2^64 on has an owner. Each usable frame is touched or in exactly one
+/// block, and each frame of a block is usable and untouched. Each block is aligned, lies in its
+/// zone, and couldn't merge with its buddy.
 pub fn told_lines_are_conserved()
     ensures { (given : Given) (told : Told) → told_boot given ≡ Ok told → NothingFrom (2 ^ 64) (owner_of told.items)
         → AreConserved (reach_told told) (map told_run told.map) (map extent_of (owner_runs_of told.items))
         (map told_block (told_blocks told)) }
 {}
 
-/// A law: the three reports of each boot that isn't stopped, and whose addresses and numbers are those of the program's
-/// types, are read as these lines.
+/// Law: the three reports of a successful boot are read back as its lines, provided its addresses
+/// and numbers are in the ranges of the program's types.
 pub fn told_reports_are_read()
     ensures map { (given : Given) (told : Told) → told_boot given ≡ Ok told → CanBeTold told
         → report_of map_in (λ l. l.range) (report_text reports.Map told) ≡ Ok (map told_run told.map) }
@@ -41,8 +43,8 @@ pub fn told_reports_are_read()
         → report_of block_in bytes_of_block (report_text reports.Blocks told) ≡ Ok (map told_block (told_blocks told)) }
 {}
 
-/// A law: where the names of an audit's words hold the three reports of such a boot, as it printed them, memory was
-/// conserved by them; so the audit comes to `Sound`.
+/// Law: if the files that an audit names contain the three reports of such a boot, then memory was
+/// conserved by them, and the outcome of the audit is `Sound`.
 pub fn saved_reports_are_sound()
     ensures conserved { (given : Given) (told : Told) → told_boot given ≡ Ok told → CanBeTold told
         → (held : Held) (wanted : Wanted) → AreSaved held wanted told → IsConservedBy (Some wanted) held }

@@ -1,9 +1,19 @@
-//! That what a boot prints is sound, as an audit judges it: laws over the definition of the boot (`boot_model`), the texts
-//! of its reports (`debugfs_reports`) and the verdict on them (`boot_audit`).
+//! Proves that the reports of every boot pass the audit: if `bootmem` prints them and `bootaudit`
+//! reads them, the verdict is `Sound`.
 //!
-//! The four facts of a boot (`conservation`) speak of what happened to memory; the audit's (`specs/Conserved.antt` of
-//! `boot_audit`) of lines that were read. Here the ones come from the others. What the lines of three reports have to be
-//! told as is in `specs/Told.antt`, and which files hold them in `specs/Saved.antt`.
+//! The laws connect the definition of the boot (`boot_model`), the texts of its reports
+//! (`debugfs_reports`) and the verdict on lines (`boot_audit`). The four facts of a boot
+//! (`conservation`) speak of what happened to memory. Those of the audit (`specs/Conserved.antt`
+//! of `boot_audit`) speak of lines that were read. Here the second are proved from the first.
+//!
+//! - [`told_lines_are_conserved`]: the lines of a boot show that memory was conserved.
+//! - [`told_reports_are_read`]: the printed reports are read back as these lines.
+//! - [`saved_reports_are_sound`]: files that contain these reports get the verdict `Sound`.
+//! - [`booted_reports_are_sound`]: the same for the value that the code's boot returns.
+//!
+//! `specs/Told.antt` defines which boots can be printed as lines, and `specs/Saved.antt` which
+//! files contain their reports. A law is a function whose contract is a proven fact: it has no
+//! effect. In contracts, a name means the definition in `specs/`.
 #![tactic(auto)]
 
 mod booted;

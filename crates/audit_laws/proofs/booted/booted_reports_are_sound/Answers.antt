@@ -1,4 +1,4 @@
--- By what was read of its runs, what the boot tells can be told.
+-- The boot can be printed as lines, by the runs that were read.
 use Rattle.std.proofs.Common.{ℕ, List, Some, subst}
 use Rattle.std.specs.List.{All}
 use Rattle.address_runs.specs.Runs.{IsRunsOf, RunOf}

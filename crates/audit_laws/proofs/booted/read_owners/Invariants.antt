@@ -1,4 +1,4 @@
--- The runs so far end below 2^64, with numbers of 32 bits: all of them do where the others do.
+-- The runs so far end below 2^64, with numbers of 32 bits; so all do if the remaining ones do.
 use Rattle.std.proofs.Common.{drop}
 use Rattle.std.specs.List.{All}
 use Rattle.audit_laws.specs.Told.{IsNearOwner}
