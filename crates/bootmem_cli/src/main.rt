@@ -1,18 +1,20 @@
-//! `bootmem`: what an x86-64 Linux 6.1 kernel makes of the firmware's memory map, before its buddy
-//! lists.
+//! `bootmem`: what an x86-64 Linux 6.1 kernel makes of the firmware's memory map, up to its free
+//! lists of pages.
 //!
-//! The program reads the zero page that a boot loader hands over, and where they are named the E820
-//! extension, the command line of the kernel, the firmware's tables of domains and of distances, its own
-//! map of memory, and scripts of early allocations and of requests to the page allocator; it boots with
-//! them up to the handover, and prints reports of it: `bootmem [OPTION..] ZEROPAGE`, or `--make N` in place of
-//! ZEROPAGE for a table of N entries that a generator makes (bootmem(1) has the options). [`run`] of
-//! `program_run` is the whole of it over any files, output and error output, with the contract; `main` hands
-//! it those of the system.
+//! The program reads the zero page that a boot loader passes. If they are named, it also reads the
+//! E820 extension, the kernel's command line, and three tables of the firmware: SRAT, SLIT and EFI
+//! memory map. Two kinds of script add early allocations, and requests to the page allocator. It
+//! boots with these inputs up to the handover to the page allocator, and prints reports on the
+//! result: `bootmem [OPTION..] ZEROPAGE`. `--make N` in place of ZEROPAGE generates a table of N
+//! entries. bootmem(1) lists the options.
 //!
-//! Exit statuses: 0 written, 2 the words are refused, 3 a file couldn't be read, 4 the output
-//! failed, 5 an input has a fault, 6 the boot stops, 7 out of memory. All but 0 put one line on the
-//! error output; where the words themselves can't be collected, `main` ends without one, with 2 for
-//! a word that isn't UTF-8 and with 7 for want of memory.
+//! [`run`] of `program_run` is the whole program over any files, output and error output, and has
+//! the contract. `main` calls it with those of the operating system.
+//!
+//! Exit statuses: 0, the reports were written; 2, the command line isn't accepted; 3, a file
+//! couldn't be read; 4, the output failed; 5, an input has a fault; 6, the boot stops; 7, out of
+//! memory. All but 0 put one line to the error output. If `main` can't collect the command line,
+//! it returns without a line: 2 for a word that isn't UTF-8, and 7 if out of memory.
 #![tactic(auto)]
 
 use bm_io::{RealFiles, StdSink};
