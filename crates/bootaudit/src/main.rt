@@ -1,13 +1,17 @@
-//! `bootaudit`: whether memory was conserved, by the saved reports `map`, `owners` and `blocks` of one boot.
+//! `bootaudit`: whether memory was conserved, by the saved reports `map`, `owners` and `blocks` of
+//! one boot.
 //!
-//! The program reads three reports in the form in which `bootmem` prints them, be they its own or another's, and prints
-//! `sound`, or the first fault that there is: `bootaudit [--la57] MAP OWNERS BLOCKS`. [`audit`] of `boot_audit` is the
-//! whole of it over any files, output and error output, with the contract; `main` hands it those of the system.
+//! The program reads three reports in the form in which `bootmem` prints them; any other program
+//! may have written them. It prints `sound`, or the first fault: `bootaudit [--la57] MAP OWNERS
+//! BLOCKS`.
 //!
-//! Exit statuses: 0 memory was conserved, 8 it wasn't; 2 the words are refused, 3 a file couldn't be read, 4 the output
-//! failed, 5 a report has a fault, 7 out of memory. All of the last five put one line on the error output; where the
-//! words themselves can't be collected, `main` ends without one, with 2 for a word that isn't UTF-8 and with 7 for want
-//! of memory.
+//! [`audit`] of `boot_audit` is the whole program over any files, output and error output, and has
+//! the contract. `main` calls it with those of the operating system.
+//!
+//! Exit statuses: 0, memory was conserved; 8, it wasn't; 2, the command line isn't accepted; 3, a
+//! file couldn't be read; 4, the output failed; 5, a report has a fault; 7, out of memory. With 0
+//! and 8 nothing is put to the error output, with the others one line. If `main` can't collect the
+//! command line, it returns without a line: 2 for a word that isn't UTF-8, and 7 if out of memory.
 #![tactic(auto)]
 
 use bm_io::{RealFiles, StdSink};
