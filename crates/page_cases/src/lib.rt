@@ -1,4 +1,8 @@
-//! Worked cases of the page allocator after the handover with its index, of the lists of zones, and of the texts of both: tests alone.
+//! Worked cases of the page allocator after the handover, with its index, of the lists of zones,
+//! and of the texts of both. This crate has only tests.
+//!
+//! Each module has the cases of the crate that it is named after. It calls that crate by its
+//! public names and knows only what the contracts say.
 #![tactic(auto)]
 
 #[cfg(test)]

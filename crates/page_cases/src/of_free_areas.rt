@@ -1,4 +1,5 @@
-//! The index of two blocks, where a frame leaves the first one and comes back; by hand as `expand` and `__free_one_page` do it.
+//! The index of two blocks: a frame is allocated from the first one and freed again. The expected
+//! values were worked out by hand from `expand` and `__free_one_page`.
 
 use bm_base::{Memory, Zone};
 use frame_blocks::{Block, FrameRun};
@@ -6,7 +7,8 @@ use free_areas::Areas;
 use std::alloc::Global;
 use std::test::Fail;
 
-// The frames from 1 MiB to 4 MiB are free: a block of order 8, and one of order 9.
+// Returns the index of the free frames from 1 MiB to 4 MiB: a block of order 8, and one of order
+// 9.
 fn three_mebibytes(alloc: Global) -> Result<Areas, Memory> {
     let run = FrameRun {
         first: 0x100,
@@ -16,7 +18,7 @@ fn three_mebibytes(alloc: Global) -> Result<Areas, Memory> {
     Areas::of(alloc, &[run])
 }
 
-// The order and the first frame of the block that serves a request of each order.
+// Returns, for each order of a request, the order and the first frame of the block that serves it.
 fn served(areas: &Areas) -> [Option<(u32, u64)>; 11] {
     let mut served = [None; 11];
     for order in 0..11 {

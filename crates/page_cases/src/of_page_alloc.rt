@@ -1,4 +1,5 @@
-//! A page script on the frames from 1 MiB to 4 MiB, which are two blocks of node 0; and the first fault of a script.
+//! A page script on the frames from 1 MiB to 4 MiB, which are two blocks of node 0; and the first
+//! fault of a script.
 
 ghost use Rattle.std.specs.Prelude.{◌<◌, ◌^◌, length};
 
@@ -9,14 +10,15 @@ use slit_zonelists::{Lists, run_lines};
 use std::alloc::Global;
 use std::test::Fail;
 
-// The frames from 1 MiB to 4 MiB are free: a block of order 8, and one of order 9.
+// Returns an allocator with the free frames from 1 MiB to 4 MiB: a block of order 8, and one of
+// order 9.
 fn three_mebibytes(alloc: Global) -> Result<Pages, Memory> {
     let mut buddy = Buddy::new(alloc);
     buddy.free_frames(0x100, 0x300, 0)?;
     Ok(Pages::new(alloc, buddy))
 }
 
-// What comes of the lines of a page script.
+// Runs a page script and returns the outcome of each line that is a request.
 fn run(alloc: Global, pages: &mut Pages, text: &[u8]) -> Result<Vec<PageAnswer>, Fail>
     requires { length text.now < 2 ^ 32 }
 {

@@ -1,5 +1,5 @@
-//! The SLIT of a machine of three domains, as its firmware gives it; each fault of such bytes; what the lists of its nodes are; and requests
-//! near a node.
+//! The SLIT of a machine of three domains, as its firmware gives it; each fault of a SLIT; the
+//! lists of zones of the machine's nodes; and requests near a node.
 
 ghost use Rattle.std.specs.Prelude.{◌≡◌, IfOk, length};
 ghost use Rattle.slit_zonelists.specs.Matrix.{matrix, IsSquare};
@@ -12,12 +12,12 @@ use std::alloc::Global;
 use std::test::Fail;
 use zone_spans::Span;
 
-/// The table of `examples/srat-slit`.
+/// The SLIT of `examples/srat-slit`.
 const THREE_DOMAINS: [u8; 53] =
     *b"SLIT5\0\0\0\x01\x90CORPUSBOOTMEM \x01\0\0\0TEST\x01\0\0\0\x03\0\0\0\0\0\0\0\x0a\x1e\x14\x1e\x0a\x14\x14\x14\x0a";
 
-/// A table of one domain, with its first byte, its stated length, its checksum, and the lowest and the highest byte of its number of
-/// domains.
+/// Returns a table of one domain, with this first byte of the signature, stated length and
+/// checksum. `low` and `high` are the lowest and the highest byte of its number of domains.
 fn one_domain(first: u8, stated: u8, checksum: u8, low: u8, high: u8) -> [u8; 45] {
     let mut bytes = [0; 45];
     bytes[0] = first;
@@ -32,7 +32,7 @@ fn one_domain(first: u8, stated: u8, checksum: u8, low: u8, high: u8) -> [u8; 45
     bytes
 }
 
-/// Three domains with these distances.
+/// Returns a table of three domains with these distances.
 fn three(alloc: Global, cells: &[u8]) -> Result<Slit, Memory>
     requires { length cells.now ≡ 9 }
     ensures { IfOk result (λ slit. IsSquare (matrix slit)) }
@@ -43,7 +43,7 @@ fn three(alloc: Global, cells: &[u8]) -> Result<Slit, Memory>
     })
 }
 
-/// Two zones of node 0, and one each of nodes 1 and 2.
+/// Returns two zones of node 0, and one each of nodes 1 and 2.
 fn four_zones() -> [Span; 4] {
     [
         span(0, Zone::Dma),
@@ -84,7 +84,8 @@ fn a_machine_of_three_domains(rt: HostRuntime) -> Result<(), Fail> {
     Ok(())
 }
 
-/// Each fault where the one behind it holds, too; the last by a number of domains whose square is 1 modulo 2^64.
+/// In each case the faults after the expected one are present, too. In the last, the number of
+/// domains has the square 1 modulo 2^64.
 #[test]
 fn the_first_fault_is_told(rt: HostRuntime) {
     let alloc = rt.alloc();
@@ -127,7 +128,8 @@ fn a_bad_cell_and_what_goes_first(rt: HostRuntime) -> Result<(), Fail> {
     Ok(())
 }
 
-/// Another way back; node 1 is of a domain that the table hasn't, and node 3 of none and without memory.
+/// The distances of a pair may differ by direction. Node 1 has a domain that isn't in the table;
+/// node 3 has none, and no memory.
 #[test]
 fn distances_of_domains(rt: HostRuntime) -> Result<(), Fail> {
     let slit = three(rt.alloc(), &[10, 40, 15, 30, 10, 25, 12, 13, 10])?;

@@ -1,4 +1,5 @@
-//! The texts of the page script and of the zone lists, put once each with memory to spare: each outcome, and each use of the distances.
+//! The texts of the page script and of the lists of zones: each outcome, and each use of the
+//! distances.
 
 ghost use Rattle.std.specs.Prelude.{◌≡◌, IfOk, length};
 ghost use Rattle.std.specs.Option.{ForSome};
@@ -32,7 +33,7 @@ fn each_outcome(rt: HostRuntime) -> Result<(), Fail> {
     Ok(())
 }
 
-/// Two domains with these distances.
+/// Returns a table of two domains with these distances.
 fn two(alloc: Global, cells: &[u8]) -> Result<Slit, Memory>
     requires { length cells.now ≡ 4 }
     ensures { IfOk result (λ slit. IsSquare (matrix slit)) }
@@ -53,7 +54,7 @@ fn span(node: u32, zone: Zone) -> Span {
     }
 }
 
-/// The text of the lists of these zones.
+/// Returns the text of the lists of these zones.
 fn text_of(
     alloc: Global,
     slit: Option<&Slit>,
@@ -68,7 +69,7 @@ fn text_of(
     Ok(text)
 }
 
-// Each use without a zone; and the lists of two nodes, the first of which has two zones.
+// Each use of the table without a zone; then the lists of two nodes, the first with two zones.
 #[test]
 fn each_use(rt: HostRuntime) -> Result<(), Fail> {
     let alloc = rt.alloc();
