@@ -1,5 +1,5 @@
-//! The audit over files in memory: the reports of a virtual machine of 128 MiB, of which one line is changed at a time, and
-//! what each object of the outside does to it.
+//! The program `audit` over files in memory: the reports of a virtual machine of 128 MiB, with one
+//! line changed at a time, and with calls that fail.
 
 ghost use Rattle.std.specs.Prelude.{◌≡◌, IfOk, string_bytes};
 ghost use Rattle.bm_io.specs.MemFiles.{file_views, HaveOwnNames};
@@ -10,7 +10,7 @@ use std::alloc::Global;
 use std::process::Abort;
 use std::test::Fail;
 
-/// The report `map`, line by line.
+/// The lines of the report `map`.
 const MAP: [&str; 7] = [
     "0x0000000000000000..0x0000000000000fff 2 reserved\n",
     "0x0000000000001000..0x000000000009fbff 1 usable\n",
@@ -21,7 +21,7 @@ const MAP: [&str; 7] = [
     "0x00000000fffc0000..0x00000000ffffffff 2 reserved\n",
 ];
 
-/// The report `owners`.
+/// The lines of the report `owners`.
 const OWNERS: [&str; 7] = [
     "   0: 0x0000000000000000..0x00000000000fffff low-1m\n",
     "   1: 0x0000000001000000..0x0000000002ffffff kernel\n",
@@ -32,7 +32,7 @@ const OWNERS: [&str; 7] = [
     "   6: 0x0000000007fb5000..0x0000000007fdffff node-data 0\n",
 ];
 
-/// The report `blocks`.
+/// The lines of the report `blocks`.
 const BLOCKS: [&str; 31] = [
     "node 0 zone DMA order 8 0x0000000000100000\n",
     "node 0 zone DMA order 9 0x0000000000200000\n",
@@ -67,7 +67,7 @@ const BLOCKS: [&str; 31] = [
     "node 0 zone DMA32 order 0 0x0000000007fae000\n",
 ];
 
-/// What became of an audit: the status, the output and the error output.
+/// The end of an audit: the status, the output and the error output.
 #[derive(Drop)]
 struct Ended {
     status: u8,
@@ -76,7 +76,8 @@ struct Ended {
 }
 
 impl Ended {
-    /// Whether the status is this one, and the output and the error output hold these texts.
+    /// Returns whether the audit ended with this status, this text on the output and this line on
+    /// the error output.
     fn is(&self, status: u8, text: &str, line: &str) -> bool {
         self.status == status
             && self.out.written() == text.as_bytes()
@@ -84,13 +85,13 @@ impl Ended {
     }
 }
 
-/// A line of a report, by its number from 1, that reads so instead.
+/// A changed line: the report's name, the line's number from 1, and its new text.
 type Change<'a> = (&'a str, usize, &'a str);
 
-/// No line is another one.
+/// No line is changed.
 const SAME: Change<'static> = ("", 0, "");
 
-/// The file of the report of that name, with the change where it is that report's.
+/// Returns the file of the report `name`, with the change if it is one of this report.
 fn file(alloc: Global, name: &str, lines: &[&str], change: Change<'_>) -> Result<MemFile, Fail>
     ensures { IfOk result (λ file. string_bytes file.name ≡ name.now) }
 {
@@ -109,7 +110,7 @@ fn file(alloc: Global, name: &str, lines: &[&str], change: Change<'_>) -> Result
     })
 }
 
-/// The three reports, `map`, `owners` and `blocks`.
+/// Returns the three reports `map`, `owners` and `blocks`.
 fn files_of(alloc: Global, change: Change<'_>) -> Result<Vec<MemFile>, Fail>
     ensures { IfOk result (λ files. HaveOwnNames (file_views files.items)) }
 {
@@ -119,7 +120,8 @@ fn files_of(alloc: Global, change: Change<'_>) -> Result<Vec<MemFile>, Fail>
     Ok(vec![in alloc; map, owners, blocks]?)
 }
 
-/// Audits on these words, where the numbered fetches and the numbered calls of the two outputs fail.
+/// Audits with these words. `failing` has the numbers of the calls that fail: of fetches, of puts
+/// to the output, and of puts to the error output.
 fn audit_on(
     alloc: Global,
     words: &[&str],
@@ -144,11 +146,11 @@ const NAMED: [&str; 3] = ["map", "owners", "blocks"];
 /// No call fails.
 const NONE: [&[u64]; 3] = [&[], &[], &[]];
 
-/// The words; the numbers of the fetches, of the puts and of the lines that fail; the status, the output and the error
-/// output that are wanted.
+/// The words, the numbers of the calls that fail (as in [`audit_on`]), and the expected status,
+/// output and error output.
 type Row<'a> = (&'a [&'a str], [&'a [u64]; 3], u8, &'a str, &'a str);
 
-/// Compares an audit for each row.
+/// Runs an audit for each row and compares its end.
 fn compare(rt: &impl Abort, alloc: Global, rows: &[Row<'_>]) -> Result<(), Fail> {
     for (words, failing, status, text, error) in rows {
         let ended = audit_on(alloc, words, SAME, *failing)?;
@@ -225,7 +227,7 @@ fn what_fails(rt: HostRuntime) -> Result<(), Fail> {
             "sou",
             "bootaudit: cannot write\n",
         ),
-        // the verdict is put in one chunk
+        // the verdict is put in one chunk, so there is no second put
         (&NAMED, [&[], &[2], &[]], 0, "sound\n", ""),
         (&NAMED, [&[], &[1], &[1]], 4, "sou", "boot"),
         (
@@ -240,7 +242,7 @@ fn what_fails(rt: HostRuntime) -> Result<(), Fail> {
     compare(&rt, rt.alloc(), &rows)
 }
 
-/// Compares an audit for each changed line, with the status, the output and the error output that are wanted.
+/// Runs an audit for each changed line and compares its status, output and error output.
 fn compare_changes(
     rt: &impl Abort,
     alloc: Global,
@@ -255,7 +257,7 @@ fn compare_changes(
 
 #[test]
 fn verdicts(rt: HostRuntime) -> Result<(), Fail> {
-    // the block of order 9 at 2 MiB in halves, of one node and of two
+    // the block of order 9 at 2 MiB cut in two, of one node and of two
     let halves =
         "node 0 zone DMA order 8 0x0000000000200000\nnode 0 zone DMA order 8 0x0000000000300000\n";
     let of_two =
@@ -386,7 +388,7 @@ fn faults(rt: HostRuntime) -> Result<(), Fail> {
             "",
             "bootaudit: map: line 2: order\n",
         ),
-        // the last line lacks its newline
+        // the last line without its newline
         (
             (
                 "map",
