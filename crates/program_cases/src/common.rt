@@ -1,4 +1,5 @@
-//! Entries and runs of the map, a zero page, a file in memory and a boot, each of what a case gives.
+//! Values that the cases of several crates share: entries and runs of a map, a zero page, a file
+//! in memory and a boot.
 
 ghost use Rattle.std.specs.Prelude.{◌≡◌, ◌+◌, ◌^◌, ◌<◌, ◌≤◌, length, IfOk, string_bytes};
 ghost use Rattle.e820_model.specs.Claims.{EntriesFit, HaveTypes};
@@ -26,7 +27,7 @@ pub const KERNEL: Range = Range {
     size: 0x200_0000,
 };
 
-/// The first page, once it is the BIOS's.
+/// The first page, after the BIOS's areas have been trimmed.
 pub const FIRST_PAGE: Run = Run {
     range: Range {
         base: 0,
@@ -35,7 +36,7 @@ pub const FIRST_PAGE: Run = Run {
     kind: 2,
 };
 
-/// The RAM of the first 640 KiB behind the first page.
+/// The RAM of the first 640 KiB after the first page.
 pub const FIRST_640K: Run = Run {
     range: Range {
         base: 0x1000,
@@ -44,7 +45,7 @@ pub const FIRST_640K: Run = Run {
     kind: 1,
 };
 
-/// An SRAT of no entries, of revision 1.
+/// An SRAT of revision 1 without entries.
 pub const SMALLEST_SRAT: [u8; 48] = [
     b'S', b'R', b'A', b'T', 48, 0, 0, 0, 1, 0x95, // signature, length, revision, checksum
     0, 0, 0, 0, 0, 0, 0, 0, 0, 0, 0, 0, 0, 0, 0, 0, 0, 0, 0, 0, 0, 0, 0, 0, 0, 0, 0, 0, 0, 0, 0, 0,
@@ -57,14 +58,14 @@ pub fn entry(addr: u64, size: u64, kind: u32) -> Entry
     Entry { addr, size, kind }
 }
 
-/// RAM with a reserved range inside.
+/// Returns RAM with a reserved range inside.
 pub fn nested() -> [Entry; 2]
     ensures { EntriesFit result }
 {
     [entry(0, 0x800_0000, 1), entry(0x20_0000, 0x10_0000, 2)]
 }
 
-/// A virtual machine of 128 MiB.
+/// Returns the entries of a virtual machine of 128 MiB.
 pub fn machine() -> [Entry; 6]
     ensures { EntriesFit result }
 {
@@ -97,7 +98,7 @@ pub fn put_entry(bytes: &mut [u8], offset: usize, entry: Entry)
     LittleEndian::write_u32(&mut bytes[offset + 16..], entry.kind);
 }
 
-/// A zero page that states `count` entries, of which the first two are given.
+/// Returns a zero page that states `count` entries and has these as its first two.
 pub fn page(count: u8, first: Entry, second: Entry) -> [u8; 4096] {
     let mut bytes = [0; 4096];
     bytes[0x1e8] = count;
@@ -106,7 +107,7 @@ pub fn page(count: u8, first: Entry, second: Entry) -> [u8; 4096] {
     bytes
 }
 
-/// The file of that name and of these bytes.
+/// Returns a file with this name and these bytes.
 pub fn file(alloc: Global, name: &str, bytes: &[u8]) -> Result<MemFile, Fail>
     ensures { IfOk result (λ file. string_bytes file.name ≡ name.now) }
 {
@@ -116,7 +117,7 @@ pub fn file(alloc: Global, name: &str, bytes: &[u8]) -> Result<MemFile, Fail>
     })
 }
 
-/// The extension's entries of a boot.
+/// Sets the entries of the extension.
 pub fn put_entries(inputs: &mut Inputs, entries: Vec<Entry>)
     requires { EntriesFit entries.items }
 {
@@ -129,7 +130,7 @@ fn put_options(inputs: &mut Inputs, options: Options)
     inputs.options = options;
 }
 
-/// The boot of these entries, which come as an extension, and of this line.
+/// Boots with these entries, which come as an extension, and with this command line of the kernel.
 pub fn booted(alloc: Global, entries: &[Entry], line: &[u8]) -> Result<Result<Booted, Stop>, Fail>
     requires { EntriesFit entries.now }
     ensures { IfOk result (λ answer. IfOk answer (λ booted. TablesStand booted)) }

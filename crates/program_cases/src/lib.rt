@@ -1,9 +1,10 @@
-//! Worked cases of what comes in, bytes, texts, files and words, of the map that it makes, of the boot and of the program over all of
-//! it.
+//! Worked cases of everything that is read (bytes, texts, files and words), of the map of memory,
+//! of the boot, and of the program `bootmem`.
 //!
-//! Each module has the cases of the crate that it is named for, called as any other crate calls it: by its public names, and by
-//! what its contracts say alone. The tests of a crate are proved with the crate, so those that need no more than that stand here, and
-//! a crate that stands is proved once.
+//! Each module has the cases of the crate that it is named after. It calls that crate as any other
+//! crate does, by its public names, and knows only what the contracts say. The tests of a crate
+//! are proved with the crate. So tests that need no more than its contracts are here, and proving
+//! a crate doesn't repeat them.
 #![tactic(auto)]
 
 #[cfg(test)]

@@ -1,4 +1,5 @@
-//! Numbers in reports and ranges at the end of numbers, multiples, and numbers that are read, by values from outside.
+//! Numbers in reports and ranges at the end of numbers, multiples, and numbers that are read. The
+//! expected values come from outside the program.
 
 use bm_base::{
     NumFault, Range, Zone, put_dec, put_hex, put_text, read_number, read_size, round_down,
@@ -27,7 +28,7 @@ fn ranges_end_below_two_to_64(rt: HostRuntime) {
     assert!(rt; Range::between(1, u64::MAX) == Range::new(1, u64::MAX - 1));
 }
 
-/// All addresses but the first and the last.
+/// All addresses except the first and the last.
 const WIDE: Range = Range {
     base: 1,
     size: u64::MAX - 1,

@@ -1,5 +1,5 @@
-//! Which files are fetched, and in what order. No clause can count fetches, so the numbers of those that fail do
-//! it here.
+//! The order in which files are fetched. No clause can count fetches, so these tests do, by the
+//! numbers of the calls that fail.
 
 ghost use Rattle.std.specs.Prelude.{IfOk};
 ghost use Rattle.bm_io.specs.MemFiles.{file_views, HaveOwnNames};
@@ -89,8 +89,9 @@ fn files_of(alloc: Global, held: &Held<'_>) -> Result<Vec<MemFile>, Fail>
     Ok(vec![in alloc; zp, ext, cmd, srat, script, pages, slit, efi]?)
 }
 
-/// Reads the files, where the fetches of those numbers fail, and compares the refusal. One fetch more fails then: its number is the last of
-/// those, so as many were made as go before it.
+/// Reads the files, with the fetches numbered in `failing` planned to fail, and compares the
+/// error. One more fetch must then fail. Its number is the last of `failing`, so reading made one
+/// fetch fewer than that.
 fn expect(
     rt: &impl Abort,
     alloc: Global,
@@ -124,7 +125,7 @@ const SMALLEST_SLIT: [u8; 45] = [
     1, 0, 0, 0, 0, 0, 0, 0, 10, // localities, and the distance
 ];
 
-/// Files without a fault, but for the zero page.
+/// Files without a fault, except the zero page.
 const HELD: Held<'static> = Held {
     zp: b"",
     ext: &[0, 0, 0, 0, 0, 0, 0, 0, 1, 0, 0, 0, 0, 0, 0, 0],
@@ -147,7 +148,8 @@ const ALL: Eight<'static> = Eight {
     efi: "efi",
 };
 
-/// Each file is fetched once, in this order: where that fetch fails its file is unread and none further is fetched, and there is no ninth.
+/// Each file is fetched once, in this order. If its fetch fails, the file is unread and no file
+/// after it is fetched. There is no ninth fetch.
 #[test]
 fn files_in_their_order(rt: HostRuntime) -> Result<(), Fail> {
     let mut zp = [0; 4096];
@@ -170,7 +172,7 @@ fn files_in_their_order(rt: HostRuntime) -> Result<(), Fail> {
     Ok(())
 }
 
-/// Behind a file that is refused none is fetched: that number is the next fetch's.
+/// No file is fetched after one with a fault: the number in each row is that of the next fetch.
 #[test]
 fn refused_file_is_the_last(rt: HostRuntime) -> Result<(), Fail> {
     let mut zp = [0; 4096];
@@ -242,7 +244,7 @@ fn refused_file_is_the_last(rt: HostRuntime) -> Result<(), Fail> {
     Ok(())
 }
 
-/// A zero page whose initrd has one byte more than ends with the last frame below 2^64.
+/// A zero page whose initrd ends one byte past 2^64 - 4096, so its last frame would end at 2^64.
 #[test]
 fn initrd_too_far(rt: HostRuntime) -> Result<(), Fail> {
     let mut zp = [0; 4096];

@@ -1,5 +1,6 @@
-//! Lines as files hold them, read with ample memory: worked examples as tables. What one map option or one value of
-//! `crashkernel=` says, and the edges of sizes and types, are among the proved examples of `boot_options`.
+//! Command lines of the kernel as files contain them: worked examples as tables. The proved
+//! examples of `boot_options` have single map options, single values of `crashkernel=`, and the
+//! edges of sizes and types.
 
 use bm_base::Range;
 use boot_options::{CrashRange, OptionFault, Options, read_options};
@@ -9,7 +10,8 @@ use std::test::Fail;
 
 const MIB: u64 = 1 << 20;
 
-/// How many edits a line gives, whether it turns the SRAT off, and whether it adds the EFI map.
+/// Returns the number of edits in a line, whether it turns the SRAT off, and whether it adds the
+/// EFI map.
 fn read_count(alloc: Global, line: &[u8]) -> Result<(usize, bool, bool), OptionFault> {
     let options = read_options(alloc, line)?;
     Ok((options.edits.len(), options.numa_off, options.add_efi))
@@ -153,7 +155,7 @@ fn edits_in_the_order_of_the_line(rt: HostRuntime) -> Result<(), Fail> {
     Ok(())
 }
 
-/// The crash area that a line asks for: how many ranges, the last of them and the base, and the sizes
+/// The requested crash area: the number of ranges, the last of them and the base; then the sizes
 /// of the high and the low form.
 type Area = (Option<(usize, CrashRange, u64)>, Option<u64>, Option<u64>);
 

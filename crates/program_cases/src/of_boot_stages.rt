@@ -1,4 +1,5 @@
-//! The boot on maps that overlap, are edited and stop it, by runs from outside, and what it does to memory.
+//! The boot on maps that overlap, are edited or stop it, and what it does to memory. The expected
+//! runs come from outside the program.
 
 ghost use Rattle.std.specs.List.{All};
 ghost use Rattle.e820_model.specs.Claims.{EntriesFit};
@@ -36,7 +37,7 @@ fn expect(
 #[test]
 fn maps_and_stops(rt: HostRuntime) -> Result<(), Fail> {
     let alloc = rt.alloc();
-    // edits act on a settled table: no RAM comes out from under the reserved range
+    // edits act on a settled table: removing the reserved range uncovers no RAM
     expect(
         &rt,
         alloc,
@@ -51,7 +52,7 @@ fn maps_and_stops(rt: HostRuntime) -> Result<(), Fail> {
     )?;
     let whole = [FIRST_PAGE, FIRST_640K, run(0x10_0000, 0x7F0_0000, 1)];
     expect(&rt, alloc, &nested(), b"memmap=1M%0x200000-2+1", Ok(&whole))?;
-    // the virtual machine: its own map, RAM up to 64 MiB, and a map of the user's own
+    // the virtual machine: its own map, RAM up to 64 MiB, and a map from the command line
     let own = [
         FIRST_PAGE,
         run(0x1000, 0x9_EC00, 1),
@@ -84,8 +85,9 @@ fn maps_and_stops(rt: HostRuntime) -> Result<(), Fail> {
     expect(&rt, alloc, &vast, b"", Err(too_much))
 }
 
-// The items of that machine: the first claims, two runs of RAM, of which the first ends within a frame, the limit at the end
-// of the second; then node 0 for all of it, and the places of its data and of one section.
+// The journal of the virtual machine's boot. It begins with the first claims. Of the two runs of
+// RAM the first ends within a frame; the limit is the end of the second. All of it is on node 0,
+// whose data and one section then find places.
 const JOURNAL: &str = "1: claim kernel 0x0000000001000000..0x0000000002ffffff\n\
                        2: claim low-64k 0x0000000000000000..0x000000000000ffff\n\
                        3: limit 0x0000000000100000\n\
@@ -101,7 +103,7 @@ const JOURNAL: &str = "1: claim kernel 0x0000000001000000..0x0000000002ffffff\n\
                        13: claim usage 0 0x0000000007faffc0..0x0000000007faffe7\n\
                        14: claim map 0 0x0000000007c00000..0x0000000007dfffff\n";
 
-// With 16 MiB of it mirrored the places lie in these.
+// With 16 MiB mirrored, the places are in mirrored memory.
 const MIRRORED: &str = "1: claim kernel 0x0000000001000000..0x0000000002ffffff\n\
                         2: claim low-64k 0x0000000000000000..0x000000000000ffff\n\
                         3: limit 0x0000000000100000\n\
@@ -118,7 +120,8 @@ const MIRRORED: &str = "1: claim kernel 0x0000000001000000..0x0000000002ffffff\n
                         14: claim usage 0 0x0000000004fcffc0..0x0000000004fcffe7\n\
                         15: claim map 0 0x0000000004c00000..0x0000000004dfffff\n";
 
-// From below the places lie behind the first MiB, and the map behind the kernel's image.
+// With searches from the lowest address up, the places are just above the first MiB. The map of
+// the section is above the kernel's image.
 const UPWARD: &str = "1: claim kernel 0x0000000001000000..0x0000000002ffffff\n\
                       2: claim low-64k 0x0000000000000000..0x000000000000ffff\n\
                       3: limit 0x0000000000100000\n\
@@ -135,7 +138,7 @@ const UPWARD: &str = "1: claim kernel 0x0000000001000000..0x0000000002ffffff\n\
                       14: claim usage 0 0x0000000000130000..0x0000000000130027\n\
                       15: claim map 0 0x0000000003000000..0x00000000031fffff\n";
 
-// With 128 MiB at 64 TiB besides, and addresses of 52 bits: the table of roots is 1 MiB.
+// With another 128 MiB at 64 TiB and addresses of 52 bits, the table of roots has 1 MiB.
 const WIDE: &str = "1: claim kernel 0x0000000001000000..0x0000000002ffffff\n\
                     2: claim low-64k 0x0000000000000000..0x000000000000ffff\n\
                     3: limit 0x0000000000100000\n\
@@ -153,7 +156,7 @@ const WIDE: &str = "1: claim kernel 0x0000000001000000..0x0000000002ffffff\n\
                     15: claim usage 0 0x0000400007ed2f80..0x0000400007ed2fcf\n\
                     16: claim map 0 0x0000400007a00000..0x0000400007dfffff\n";
 
-// The same machine with 128 MiB at 64 TiB besides.
+// Returns the virtual machine's entries, with another 128 MiB at 64 TiB.
 fn wide_machine() -> [Entry; 7]
     ensures { EntriesFit result }
 {
@@ -174,7 +177,7 @@ fn put_mirrors(inputs: &mut Inputs, mirrors: Vec<Range>)
     inputs.mirrors = mirrors;
 }
 
-// The journal of the boot of these entries, and of what is given besides.
+// Boots with these inputs and entries, and compares the journal.
 fn expect_journal(
     rt: &impl Abort,
     alloc: Global,
@@ -199,7 +202,7 @@ fn journals_of_a_virtual_machine(rt: HostRuntime) -> Result<(), Fail> {
     let alloc = rt.alloc();
     let narrow = Inputs::begun(alloc, Width::Bits46, KERNEL);
     expect_journal(&rt, alloc, narrow, &machine(), JOURNAL)?;
-    // what lies at 64 TiB is out of reach of 46 bits
+    // memory at 64 TiB is beyond addresses of 46 bits
     let narrow = Inputs::begun(alloc, Width::Bits46, KERNEL);
     expect_journal(&rt, alloc, narrow, &wide_machine(), JOURNAL)?;
     let wide = Inputs::begun(alloc, Width::Bits52, KERNEL);

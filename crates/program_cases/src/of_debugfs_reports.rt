@@ -1,4 +1,5 @@
-//! The reports of a boot whose map has two runs of one type side by side, as a caller's map may have and that of a boot has not.
+//! The reports of a boot whose map has two adjacent runs of one type. A caller may have such a
+//! map; that of a boot never has.
 
 ghost use Rattle.e820_usable.specs.Ascend.{Ascend};
 
@@ -7,7 +8,7 @@ use debugfs_reports::{Report, render};
 use e820_model::Run;
 use std::test::Fail;
 
-/// The map of the machine, with its greatest run in two.
+/// Returns the map of the machine, with its largest run cut in two.
 fn split_map() -> [Run; 8]
     ensures { Ascend result }
 {
@@ -23,7 +24,7 @@ fn split_map() -> [Run; 8]
     ]
 }
 
-/// Its text has a line for each of both.
+/// The text of this map, with a line for each of the two parts.
 const MAP: &str = "0x0000000000000000..0x0000000000000fff 2 reserved\n\
                    0x0000000000001000..0x000000000009fbff 1 usable\n\
                    0x000000000009fc00..0x000000000009ffff 2 reserved\n\
@@ -33,7 +34,7 @@ const MAP: &str = "0x0000000000000000..0x0000000000000fff 2 reserved\n\
                    0x0000000007fe0000..0x0000000007ffffff 2 reserved\n\
                    0x00000000fffc0000..0x00000000ffffffff 2 reserved\n";
 
-/// One run more than the boot's map has, and as many frames.
+/// The summary: one run more than in the boot's map, and the same number of frames.
 const SUMMARY: &str = "runs 8\nusable 32638\nfree 23727\n\
                        memory records 2 room 128\nreserved records 5 room 128\nblocks 31\n";
 

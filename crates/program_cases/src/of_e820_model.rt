@@ -4,7 +4,7 @@ use crate::common::run;
 use address_runs::overlay_all;
 use std::test::Fail;
 
-// RAM with a reserved hole in it, and RAM again behind it, told in another order
+// RAM with a reserved hole, and RAM again above it, given in another order
 #[test]
 fn the_greater_type_holds(rt: HostRuntime) -> Result<(), Fail> {
     let told = [

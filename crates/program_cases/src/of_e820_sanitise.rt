@@ -1,4 +1,5 @@
-//! The table on small maps that are edited, by runs from outside, and one map too many.
+//! The table on small maps that are edited, and one map with too many runs. The expected runs come
+//! from outside the program.
 
 ghost use Rattle.e820_model.specs.Claims.{EntriesFit, HasTypes};
 
@@ -18,7 +19,7 @@ fn settled(rt: &impl Abort, alloc: Global, entries: &[Entry]) -> Table
     table
 }
 
-/// Edits the table, and compares its map and the types at the runs' first addresses.
+/// Edits the table, and compares its map and the types at the first addresses of the runs.
 fn expect_after(rt: &impl Abort, table: &mut Table, edit: &Edit, runs: &[Run])
     requires { HasTypes edit.now }
 {
@@ -37,7 +38,7 @@ fn expect(rt: &impl Abort, table: &Table, runs: &[Run]) {
     }
 }
 
-// ACPI data comes before the RAM round it, and wins since its type is greater
+// ACPI data, given before the RAM around it, wins since its type is greater
 #[test]
 fn greatest_type_wins(rt: HostRuntime) {
     let entries = [entry(0x10_0000, 0x8_0000, 3), entry(0, 0x20_0000, 1)];
@@ -57,7 +58,8 @@ fn edits_in_their_order(rt: HostRuntime) {
         size: 0x1000,
     };
     let mut table = settled(&rt, rt.alloc(), &[entry(0, 0x1000, 2)]);
-    // a lower type beside the higher one doesn't show, until it is changed to one that is higher still
+    // the table has type 2: type 1 added to the same page doesn't show, until it is changed to
+    // type 4
     expect_after(
         &rt,
         &mut table,
@@ -87,7 +89,7 @@ fn edits_in_their_order(rt: HostRuntime) {
         &[run(0, 0x1000, 2)],
     );
     expect_after(&rt, &mut table, &Edit::Clear, &[]);
-    // settled claims are gone: where a part of the winner is removed there is a hole
+    // settling drops the claims that lose: if a part of the winner is removed, there is a hole
     let mut table = settled(&rt, rt.alloc(), &nested());
     let hole = Range {
         base: 0x20_0000,
@@ -138,7 +140,8 @@ fn entries_come_in_behind_edits(rt: HostRuntime) {
             entry(0x7FE_0000, 0x2_0000, 2),
         ],
     );
-    // `mem=64M`, and then an EFI map: ACPI data in RAM, memory that can't be cached, and RAM that was taken away
+    // `mem=64M`, then an EFI map: ACPI data in RAM, memory that can't be cached, and RAM that
+    // `mem=` had removed
     let above = Range {
         base: 0x400_0000,
         size: u64::MAX - 0x400_0000,

@@ -1,5 +1,5 @@
-//! A zero page, an extension and initrds, and faults beside those of the proved examples of `e820_table`; made inputs, whose entries
-//! come from an independent program.
+//! A zero page, an extension and initrds, with faults that the proved examples of `e820_table`
+//! don't have. The entries of made inputs come from an independent program.
 
 ghost use Rattle.std.specs.Prelude.{ℕ, ◌+◌, ◌≤◌, length};
 
@@ -38,8 +38,8 @@ fn zero_pages(rt: HostRuntime) -> Result<(), Fail> {
     Ok(())
 }
 
-/// A zero page of two entries that names this loader, and an initrd by the upper half and the lower
-/// half of its address, and of its size.
+/// Returns a zero page of two entries with this loader and initrd. `address` and `size` have the
+/// upper and the lower half of the initrd's address and size.
 fn page_with_initrd(second: Entry, loader: u8, address: [u32; 2], size: [u32; 2]) -> [u8; 4096] {
     let mut bytes = page(2, RAM, second);
     bytes[0x210] = loader;
@@ -94,7 +94,8 @@ fn extensions(rt: HostRuntime) -> Result<(), Fail> {
 
 #[test]
 fn made_inputs(rt: HostRuntime) -> Result<(), Fail> {
-    // of so many entries: the last one of the page, those behind it, and the last one of these
+    // rows: the number of entries, the last one of the zero page, the number in the extension, and
+    // the last one there
     let cases = [
         (3, (135_266_304, 16_384, 2), 0, None),
         (128, (139_169_792, 4096, 1), 0, None),

@@ -1,4 +1,5 @@
-//! Maps that stop a boot and maps that don't, and frames at the ends of runs and of what is within reach.
+//! Maps that stop a boot and maps that don't, and frames at the ends of runs and at the limit of
+//! addresses.
 
 ghost use Rattle.address_runs.specs.Runs.{AreRuns};
 
@@ -7,7 +8,7 @@ use e820_model::Run;
 use e820_usable::{MapStop, judge, usable_frames};
 use std::process::Abort;
 
-/// The first address that page tables of five levels don't reach.
+/// The limit of addresses with page tables of five levels.
 const LIMIT: u64 = 1 << 52;
 
 fn expect(rt: &impl Abort, runs: &[Run], frames: u64, stop: Option<MapStop>)
@@ -19,7 +20,7 @@ fn expect(rt: &impl Abort, runs: &[Run], frames: u64, stop: Option<MapStop>)
 
 #[test]
 fn maps_that_stop_a_boot(rt: HostRuntime) {
-    // no frame at the limit or above it counts, and none that begins there
+    // frames at or above the limit don't count
     let over = MapStop::TooMuchRam {
         frames: 1_099_511_627_776,
     };
@@ -48,7 +49,7 @@ fn frames_at_the_ends_of_runs(rt: HostRuntime) {
     let kernel = run(0x1800, 0x1000, 128);
     expect(&rt, &[first, kernel], 1, None);
     let last = run(0x2800, 0x1000, 1);
-    // other types inside a frame, and bytes of none
+    // frames with bytes of another type, or with bytes of no type, don't count
     let reserved = run(0x1800, 0x1000, 2);
     expect(&rt, &[first, reserved, last], 0, Some(MapStop::NoRam));
     let page = run(0, 0x1000, 1);
@@ -61,7 +62,7 @@ fn limits_of_addresses(rt: HostRuntime) {
     assert!(rt; usable_frames(&low, 0) == 0);
     assert!(rt; judge(&low, 0) == Some(MapStop::NoRam));
     assert!(rt; usable_frames(&low, u64::MAX) == 4);
-    // with all addresses within reach, the last frame of 64-bit addresses misses its last byte
+    // a range ends at most at 2^64 - 1, so the last frame of 64-bit addresses is never whole
     let high = [run(0xFFFF_FFFF_FFFF_D000, 0x2FFF, 1)];
     assert!(rt; usable_frames(&high, u64::MAX) == 2);
     assert!(rt; usable_frames(&high, LIMIT) == 0);

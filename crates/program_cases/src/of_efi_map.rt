@@ -1,5 +1,5 @@
-//! A small map, written descriptor by descriptor: what is read of it, and each fault once. The types with their attributes are among
-//! the proved examples of `efi_map`.
+//! A small EFI map: the values that are read, and each fault once. The proved examples of
+//! `efi_map` have the types with their attributes.
 ghost use Rattle.std.specs.Prelude.{◌≡◌, ◌+◌, ◌≤◌, length};
 
 use bm_base::Range;
@@ -17,7 +17,8 @@ fn put_descriptor(bytes: &mut [u8], at: usize, kind: u32, base: u64, pages: u64,
     LittleEndian::write_u64(&mut bytes[at + 32..], attributes);
 }
 
-/// Two descriptors of 48 bytes and that version: ACPI's tables, and free memory of so many pages that the machine keeps twice.
+/// Returns a map of this version with two descriptors of 48 bytes: ACPI tables, and `pages` pages
+/// of free memory that is mirrored.
 fn two_descriptors(version: u8, pages: u64) -> [u8; 104]
     ensures { length result ≡ 104 }
 {
@@ -53,7 +54,8 @@ fn descriptors_are_entries_and_mirrors(rt: HostRuntime) -> Result<(), Fail> {
     Ok(())
 }
 
-/// The number of bytes, the version, the pages of the second descriptor, and the fault.
+/// A case has the number of bytes, the version, the pages of the second descriptor, and the
+/// expected fault.
 #[test]
 fn the_first_fault_is_told(rt: HostRuntime) {
     let cases = [

@@ -1,5 +1,5 @@
-//! The program over files in memory: its reports with memory to spare, and what each object of the outside
-//! does to it. What each input comes to is proved, on examples too (`proofs/`), and not repeated here.
+//! The program over files in memory: its reports, and the effect of each call that fails. The
+//! outcome of each input is proved, with examples (`proofs/`), and isn't repeated here.
 
 ghost use Rattle.std.specs.Prelude.{IfOk};
 ghost use Rattle.bm_io.specs.MemFiles.{file_views, HaveOwnNames};
@@ -21,17 +21,17 @@ const RESERVED: Entry = Entry {
 const MAP: &str = "0x0000000000100000..0x0000000007fdffff 1 usable\n\
                    0x0000000007fe0000..0x0000000007ffffff 2 reserved\n";
 
-/// What the made input of two entries comes to.
+/// The summary of the made input of two entries.
 const SUMMARY: &str = "runs 3\nusable 32927\nfree 23503\n\
                        memory records 2 room 128\nreserved records 5 room 128\nblocks 30\n";
 
-/// An extension of one entry, RAM over `RESERVED` and 4,096 bytes behind it.
+/// An extension of one entry: RAM over `RESERVED` and 4096 bytes after it.
 const EXTENSION: [u8; 36] = [
     0, 0, 0, 0, 0, 0, 0, 0, 1, 0, 0, 0, 20, 0, 0, 0, // next, type, length
     0, 0, 0xFE, 7, 0, 0, 0, 0, 0, 0x10, 2, 0, 0, 0, 0, 0, 1, 0, 0, 0, // address, size, type
 ];
 
-/// What became of a run: the status, the output and the error output.
+/// The end of a run: the status, the output and the error output.
 #[derive(Drop)]
 struct Ended {
     status: u8,
@@ -40,7 +40,8 @@ struct Ended {
 }
 
 impl Ended {
-    /// Whether the status is this one, and the output and the error output hold these texts.
+    /// Returns whether the run ended with this status, this text on the output and this line on
+    /// the error output.
     fn is(&self, status: u8, text: &str, line: &str) -> bool {
         self.status == status
             && self.out.written() == text.as_bytes()
@@ -48,7 +49,7 @@ impl Ended {
     }
 }
 
-/// The zero page `zp`, the extension `ext`, and a command line `cmd` of these bytes.
+/// Returns the zero page `zp`, the extension `ext`, and a command line `cmd` with these bytes.
 fn files_of(alloc: Global, line: &[u8]) -> Result<Vec<MemFile>, Fail>
     ensures { IfOk result (λ files. HaveOwnNames (file_views files.items)) }
 {
@@ -58,15 +59,16 @@ fn files_of(alloc: Global, line: &[u8]) -> Result<Vec<MemFile>, Fail>
     Ok(vec![in alloc; zp, ext, cmd]?)
 }
 
-/// Runs on these words and a command line of these bytes, where the numbered fetches and the numbered calls of the two outputs
-/// fail.
+/// Runs `bootmem` with these words and this command line of the kernel. `failing` has the numbers
+/// of the calls that fail: of fetches, of puts to the output, and of puts to the error output.
 fn run_on(alloc: Global, words: &[&str], line: &[u8], failing: [&[u64]; 3]) -> Result<Ended, Fail> {
     let [fetches, puts, lines] = failing;
     let mut files = MemFiles::new(files_of(alloc, line)?, Vec::from_slice(alloc, fetches)?);
     run_over(alloc, words, &mut files, puts, lines)
 }
 
-/// Runs on these words and files, where the numbered calls of the two outputs fail.
+/// Runs `bootmem` with these words and files. `puts` and `lines` have the numbers of the puts that
+/// fail, to the output and to the error output.
 fn run_over(
     alloc: Global,
     words: &[&str],
@@ -84,11 +86,11 @@ fn run_over(
     Ok(Ended { status, out, err })
 }
 
-/// The words of a run; the numbers of the fetches, of the puts and of the lines that fail; the status, the
-/// output and the error output that are wanted.
+/// The words, the numbers of the calls that fail (as in [`run_on`]), and the expected status,
+/// output and error output.
 type Row<'a> = (&'a [&'a str], [&'a [u64]; 3], u8, &'a str, &'a str);
 
-/// Compares a run for each row, over a command line of these bytes.
+/// Runs `bootmem` for each row, with this command line of the kernel, and compares its end.
 fn compare(rt: &impl Abort, alloc: Global, line: &[u8], rows: &[Row<'_>]) -> Result<(), Fail> {
     for (words, failing, status, text, error) in rows {
         let ended = run_on(alloc, words, line, *failing)?;
@@ -111,7 +113,7 @@ fn words_and_what_fails(rt: HostRuntime) -> Result<(), Fail> {
         (map, [&[1], &[], &[]], 3, "", "bootmem: cannot read zp\n"),
         (map, [&[2], &[], &[]], 0, MAP, ""),
         (map, [&[], &[1], &[]], 4, half, "bootmem: cannot write\n"),
-        // the report is one put
+        // the report is one put, so there is no second
         (map, [&[], &[2], &[]], 0, MAP, ""),
         (map, [&[], &[1], &[1]], 4, half, "boo"),
         (other, [&[], &[], &[1]], 3, "", "boo"),
@@ -121,15 +123,15 @@ fn words_and_what_fails(rt: HostRuntime) -> Result<(), Fail> {
     compare(&rt, rt.alloc(), b"", &rows)
 }
 
-// A made input, for which no file is fetched.
+// For a made input no file is fetched.
 #[test]
 fn made_inputs(rt: HostRuntime) -> Result<(), Fail> {
     let rows: [Row<'_>; 1] = [(&["--make", "2", "--report=summary"], NONE, 0, SUMMARY, "")];
     compare(&rt, rt.alloc(), b"", &rows)
 }
 
-/// Compares a run on these words for each command line, with the status, the output and the error output that
-/// are wanted.
+/// Runs `bootmem` with these words for each command line of the kernel, and compares the status,
+/// output and error output.
 fn compare_lines(
     rt: &impl Abort,
     alloc: Global,
@@ -180,7 +182,7 @@ fn extension_and_command_line(rt: HostRuntime) -> Result<(), Fail> {
     compare_lines(&rt, rt.alloc(), &words, &rows)
 }
 
-// All texts are there before the first is put, and each that isn't empty is one put.
+// All texts are made before the first is put. Each text that isn't empty is one put.
 #[test]
 fn lists_of_reports(rt: HostRuntime) -> Result<(), Fail> {
     let both = "== options\nnuma off\n\
@@ -205,7 +207,7 @@ fn lists_of_reports(rt: HostRuntime) -> Result<(), Fail> {
         (list, [&[], &[1], &[]], 4, "== options", unwritten),
         (list, [&[], &[2], &[]], 4, half, unwritten),
         (list, [&[], &[3], &[]], 0, both, ""),
-        // a name that is no report's, and an image that ends too far
+        // a name that isn't a report's, and an image that ends too high
         (&["--report", "options,maps", "zp"], NONE, 2, "", usage),
         (
             &["--kernel=16M,64T", "--report", "map", "zp"],
@@ -221,14 +223,14 @@ fn lists_of_reports(rt: HostRuntime) -> Result<(), Fail> {
     compare(&rt, rt.alloc(), b"", &empty)
 }
 
-/// The map's part of two reports of a machine with 16 GiB above 4 GiB.
+/// The part of the report `map`, for a machine with 16 GiB above 4 GiB.
 const GREAT_MAP: &str = "== map\n\
                          0x0000000000100000..0x0000000007fdffff 1 usable\n\
                          0x0000000007fe0000..0x0000000007ffffff 2 reserved\n\
                          0x0000000100000000..0x00000004ffffffff 1 usable\n";
 
-// The blocks of such a machine are thousands of lines and one put: the second put is the second
-// report, and there is no third.
+// The report `blocks` of such a machine has thousands of lines, but is one put. The second put is
+// the second report, and there is no third.
 #[test]
 fn one_put_per_report(rt: HostRuntime) -> Result<(), Fail> {
     let words = ["--cmdline", "cmd", "--report", "blocks,map", "zp"];
@@ -247,7 +249,7 @@ fn one_put_per_report(rt: HostRuntime) -> Result<(), Fail> {
     Ok(())
 }
 
-/// The zero page of a virtual machine of 128 MiB.
+/// Returns the zero page of a virtual machine of 128 MiB.
 fn machine() -> [u8; 4096] {
     let mut bytes = page(6, entry(0, 0x9_FC00, 1), entry(0x9_FC00, 0x400, 2));
     put_entry(&mut bytes, 0x2f8, entry(0xF_0000, 0x1_0000, 2));
@@ -257,7 +259,7 @@ fn machine() -> [u8; 4096] {
     bytes
 }
 
-/// Its map.
+/// The report `map` of this machine.
 const MACHINE_MAP: &str = "0x0000000000000000..0x0000000000000fff 2 reserved\n\
                            0x0000000000001000..0x000000000009fbff 1 usable\n\
                            0x000000000009fc00..0x000000000009ffff 2 reserved\n\
@@ -274,14 +276,14 @@ struct Held<'a> {
     cl: &'a [u8],
 }
 
-/// An extension without entries, and an empty command line. The zero page is malformed.
+/// A malformed zero page, an extension without entries, and an empty command line.
 const HELD: Held<'static> = Held {
     zp: b"",
     ext: &[0, 0, 0, 0, 0, 0, 0, 0, 1, 0, 0, 0, 0, 0, 0, 0],
     cl: b"",
 };
 
-/// These files, an SRAT `sr` without entries, and an empty script `sc`.
+/// Returns these files, an SRAT `sr` without entries, and an empty script `sc`.
 fn five_files(alloc: Global, held: &Held<'_>) -> Result<Vec<MemFile>, Fail>
     ensures { IfOk result (λ files. HaveOwnNames (file_views files.items)) }
 {
@@ -293,13 +295,14 @@ fn five_files(alloc: Global, held: &Held<'_>) -> Result<Vec<MemFile>, Fail>
     Ok(vec![in alloc; zp, ext, cl, sr, sc]?)
 }
 
-/// Whether one fetch more fails. The file is there, so it fails where its number is one of those that are to fail.
+/// Returns whether one more fetch fails. The file is there, so it fails only if its number is
+/// planned to fail.
 fn fails(files: &mut MemFiles, alloc: Global) -> bool {
     files.fetch(alloc, "zp", 4096).err() == Some(Fetch::Failed)
 }
 
-/// Compares a run for each row, over five files. One fetch more fails then: its number is the last of the row's, so the run made as many
-/// fetches as go before it.
+/// Runs `bootmem` over five files for each row and compares its end. One more fetch must then
+/// fail. Its number is the last of the row's, so the run made one fetch fewer than that.
 fn compare_fetches(
     rt: &impl Abort,
     alloc: Global,
@@ -316,7 +319,7 @@ fn compare_fetches(
     Ok(())
 }
 
-/// The words of a run on all five files.
+/// The words of a run that reads all five files.
 const FIVE: &[&str] = &[
     "--e820ext",
     "ext",
@@ -331,7 +334,7 @@ const FIVE: &[&str] = &[
     "zp",
 ];
 
-/// What both reports of it are.
+/// The two reports of this run.
 const BOTH: &str = "== map\n\
                     0x0000000000000000..0x0000000000000fff 2 reserved\n\
                     0x0000000000001000..0x000000000009fbff 1 usable\n\
@@ -344,14 +347,14 @@ const BOTH: &str = "== map\n\
                     Node 0, zone      DMA      0      0      0      0      0      0      0      0      1      1      3 \n\
                     Node 0, zone    DMA32      1      1      1      1      0      1      0      1      1      0     19 \n";
 
-/// The first 176 of the 353 bytes of its first report.
+/// The first 176 of the 353 bytes of the first report.
 const HALF_A_MAP: &str = "== map\n\
                           0x0000000000000000..0x0000000000000fff 2 reserved\n\
                           0x0000000000001000..0x000000000009fbff 1 usable\n\
                           0x000000000009fc00..0x000000000009ffff 2 reserved\n\
                           0x00000000000f0000..0";
 
-/// That report, and the first 106 of the 213 bytes of the second.
+/// The first report, and the first 106 of the 213 bytes of the second.
 const MAP_AND_HALF: &str = "== map\n\
                             0x0000000000000000..0x0000000000000fff 2 reserved\n\
                             0x0000000000001000..0x000000000009fbff 1 usable\n\
@@ -411,7 +414,7 @@ fn each_call_that_fails(rt: HostRuntime) -> Result<(), Fail> {
     compare_fetches(&rt, rt.alloc(), &Held { zp: &zp, ..HELD }, &rows)
 }
 
-// A zero page of 4,095 bytes, behind which no file is fetched, and an extension of 15.
+// A zero page of 4095 bytes, after which no file is fetched, and an extension of 15 bytes.
 #[test]
 fn malformed_files(rt: HostRuntime) -> Result<(), Fail> {
     let short = Held {
@@ -432,7 +435,7 @@ fn malformed_files(rt: HostRuntime) -> Result<(), Fail> {
     compare_fetches(&rt, rt.alloc(), &short, &rows)
 }
 
-// No file is fetched that the words don't name, whatever comes of the run.
+// However a run ends, it fetches no file that the words don't name.
 #[test]
 fn files_that_no_word_names(rt: HostRuntime) -> Result<(), Fail> {
     let rows: [Row<'_>; 5] = [
@@ -464,7 +467,7 @@ fn files_that_no_word_names(rt: HostRuntime) -> Result<(), Fail> {
             "",
             "bootmem: cannot read other\n",
         ),
-        // the extension in place of a zero page
+        // an extension without a zero page
         (
             &["--report", "map", "ext"],
             [&[2], &[], &[]],

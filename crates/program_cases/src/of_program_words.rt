@@ -1,5 +1,6 @@
-//! Words that the command takes and refuses, each form of an option in turn. The expected answers are worked out
-//! from the port's definition, word by word. What the proved examples of `program_words` say isn't repeated.
+//! Words that the command takes and words that it refuses, each form of an option in turn. The
+//! expected results were worked out word by word from the port's definition. The proved examples
+//! of `program_words` aren't repeated.
 
 use bm_base::Width;
 use boot_inputs::{Input, Names};
@@ -9,8 +10,8 @@ use std::alloc::Global;
 use std::process::Abort;
 use std::test::Fail;
 
-/// What the words ask for in one line: the names of the files, the list, the kernel's first byte in MiB and the
-/// number of entries, with `.` where there is none.
+/// Returns what the words ask for as one line: the names of files, the list of reports, the
+/// kernel's first byte in MiB, and the number of made entries. A file without a name is `.`.
 fn told(alloc: Global, words: &[&str]) -> Result<String, Fail> {
     let mut owned = Vec::new(alloc);
     for word in words {
@@ -42,8 +43,8 @@ fn told_of(alloc: Global, wanted: &Wanted<'_>) -> Result<String, Fail> {
     Ok(format!(in alloc; "{line} {kernel} {made}")?)
 }
 
-/// What the words ask of memory in one line: the width, the direction, and each mirrored range by its first frame
-/// and how many it has.
+/// Returns what the words ask for about memory as one line: the width, the direction of searches,
+/// and each mirrored range as its first frame and number of frames.
 fn memory_told(alloc: Global, words: &[&str]) -> Result<String, Fail> {
     let mut owned = Vec::new(alloc);
     for word in words {
@@ -77,7 +78,7 @@ fn memory_of(alloc: Global, wanted: &Wanted<'_>) -> Result<String, Fail> {
     Ok(line)
 }
 
-/// A list of so many mirrored frames, each a piece of its own.
+/// Returns a list of `count` mirrored frames, each a piece of its own.
 fn mirrored_pieces(alloc: Global, count: u32) -> Result<String, Fail> {
     let mut list = String::from_str(alloc, "--mirror=0,4K")?;
     for _ in 1..count {
@@ -86,7 +87,7 @@ fn mirrored_pieces(alloc: Global, count: u32) -> Result<String, Fail> {
     Ok(list)
 }
 
-/// Each row is a list of words and what they come to.
+/// Reads the words of each row and compares the line.
 fn compare(rt: &impl Abort, alloc: Global, rows: &[(&[&str], &str)]) -> Result<(), Fail> {
     for (words, expected) in rows {
         let line = told(alloc, words)?;
@@ -98,7 +99,7 @@ fn compare(rt: &impl Abort, alloc: Global, rows: &[(&[&str], &str)]) -> Result<(
 #[test]
 fn options_and_what_follows_them(rt: HostRuntime) -> Result<(), Fail> {
     let rows: [(&[&str], &str); 12] = [
-        // all files, in front of the name and behind it
+        // all files, before and after the name
         (
             &[
                 "--report=map",
@@ -115,7 +116,7 @@ fn options_and_what_follows_them(rt: HostRuntime) -> Result<(), Fail> {
         // another option in place of a value
         (&["--report", "--cmdline", "c", "zp"], "refused"),
         (&["--cmdline", "--report=map", "zp"], "refused"),
-        // a value that begins with a hyphen, or has an `=`
+        // a value that begins with a hyphen, or contains `=`
         (
             &["--report=map", "--cmdline=-c", "zp"],
             "zp . -c . . map 16 0",
@@ -129,12 +130,12 @@ fn options_and_what_follows_them(rt: HostRuntime) -> Result<(), Fail> {
             &["--report=map", "--cmdline=a=b", "zp"],
             "zp . a=b . . map 16 0",
         ),
-        // in another case, one letter, with three hyphens, or without a name
+        // in capitals, with one letter, with three hyphens, or without a name
         (&["--Report", "map", "zp"], "refused"),
         (&["-r", "map", "zp"], "refused"),
         (&["---report", "map", "zp"], "refused"),
         (&["--=map", "zp"], "refused"),
-        // no option of this command
+        // not an option of this command
         (&["--reports=map", "zp"], "refused"),
     ];
     compare(&rt, rt.alloc(), &rows)
@@ -149,11 +150,11 @@ fn forms_of_an_option(rt: HostRuntime) -> Result<(), Fail> {
         // twice, and without a value
         (&["--cmdline=f", "--cmdline=f", "zp"], "refused"),
         (&["zp", "--cmdline"], "refused"),
-        // an empty value names a file, and is no range and no report
+        // an empty value can name a file, but is no range and no report
         (&["--cmdline=", "zp"], "zp .  . . buddyinfo 16 0"),
         (&["--kernel=", "zp"], "refused"),
         (&["zp", "--report", ""], "refused"),
-        // cut short, and with one hyphen
+        // abbreviated, and with one hyphen
         (&["--cmd", "f", "zp"], "refused"),
         (&["-srat", "f", "zp"], "refused"),
     ];
@@ -168,7 +169,7 @@ fn names_and_the_end_of_options(rt: HostRuntime) -> Result<(), Fail> {
         (&["--report=map", "-"], "- . . . . map 16 0"),
         (&["--report=map", "help"], "help . . . . map 16 0"),
         (&["--report=map", "-zp"], "refused"),
-        // behind `--` each word is a name
+        // after `--` each word is a name
         (&["--report=map", "zp", "--"], "zp . . . . map 16 0"),
         (&["--report=map", "--", "--"], "-- . . . . map 16 0"),
         (
@@ -177,7 +178,7 @@ fn names_and_the_end_of_options(rt: HostRuntime) -> Result<(), Fail> {
         ),
         (&["--", "--report", "map", "zp"], "refused"),
         (&["--report=map", "--cmdline", "--", "zp"], "refused"),
-        // no flags of `clap` itself
+        // the flags that `clap` has by itself are off
         (&["-h", "zp"], "refused"),
         (&["--version"], "refused"),
         (&["-V", "zp"], "refused"),
@@ -229,18 +230,18 @@ fn flags_and_mirrored_memory(rt: HostRuntime) -> Result<(), Fail> {
         (&["--la57", "zp"], "52 down"),
         (&["zp", "--bottom-up"], "46 up"),
         (&["--mirror", "64M,16M", "zp"], "46 down 16384+4096"),
-        // both ends amid a frame, and no whole frame
+        // a range that begins within a frame, and one without a whole frame
         (&["--mirror=0x1001,0x1fff:0,4095", "zp"], "46 down 2+1"),
         (
             &["--bottom-up", "--mirror=4K,8K:1M,4K", "--la57", "zp"],
             "52 up 1+2 256+1",
         ),
-        // an empty list or piece, another mark, a range that passes the last address
+        // an empty list or piece, another separator, a range that ends past 2^64 - 1
         (&["--mirror=", "zp"], "refused"),
         (&["--mirror=1M,1M:", "zp"], "refused"),
         (&["--mirror=1M,1M;2M,1M", "zp"], "refused"),
         (&["--mirror=0xfffffffffffff000,4K", "zp"], "refused"),
-        // a flag twice, one with a value, and one cut short
+        // a flag twice, with a value, and abbreviated
         (&["--la57", "zp", "--la57"], "refused"),
         (&["--la57=true", "zp"], "refused"),
         (&["--bottom-up", "true", "zp"], "refused"),

@@ -1,4 +1,5 @@
-//! Each form of a line once, and faults of lines beside those of the proved examples of `script_reader`.
+//! Each form of a line once, and faults of lines that the proved examples of `script_reader` don't
+//! have.
 
 use bm_base::Range;
 use script_reader::{Act, Line, Request, ScriptFault, read_script};

@@ -1,5 +1,5 @@
-//! Small tables, written entry by entry: what is read of them, and the first entry with a fault. The faults of the header are
-//! among the proved examples of `srat_reader`.
+//! Small SRATs: the values that are read, and the first entry with a fault. The proved examples of
+//! `srat_reader` have the faults of the header.
 ghost use Rattle.std.specs.Prelude.{ℕ, ◌+◌, ◌^◌, ◌≤◌, ◌<◌, length};
 
 use bm_base::Range;
@@ -59,8 +59,9 @@ fn put_x2apic(bytes: &mut [u8], at: usize, domain: u32, flags: u32)
     LittleEndian::write_u32(&mut bytes[at + 12..], flags);
 }
 
-/// A table of 48 + 24 + 40 + 5 + 16 + 40 + 16 + 40 bytes:
-/// x2APIC, memory, type 9 of 5 bytes, APIC, memory of length 0, APIC disabled, memory disabled and too far.
+/// Returns a table with the header (48 bytes) and these entries: x2APIC (24), memory (40), type 9
+/// (5), APIC (16), memory of size 0 (40), APIC that is disabled (16), and memory that is disabled
+/// and too far (40).
 fn every_kind() -> [u8; 229] {
     let mut bytes = [0; 229];
     put_x2apic(&mut bytes, 48, 0x0c0d, 1);
@@ -115,8 +116,8 @@ fn entries_of_every_kind(rt: HostRuntime) -> Result<(), Fail> {
     Ok(())
 }
 
-/// What is said of a table whose two entries begin as ranges of memory at 48 and 88: the type and the
-/// length of the first, its size, and the length of the second.
+/// Each table has two ranges of memory, at 48 and 88. A case has the type, the length and the size
+/// of the first, the length of the second, and the expected fault.
 #[test]
 fn faults_of_entries(rt: HostRuntime) {
     let length_at = |offset: u32| Some(SratFault::EntryLength { offset });

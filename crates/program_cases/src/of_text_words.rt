@@ -1,4 +1,5 @@
-//! Words and parts, one behind the other, the halves, the front and the inside of a text, beside the proved examples of `text_words`.
+//! Words and parts in a row, halves, the beginning and the inside of a text, beside the proved
+//! examples of `text_words`.
 
 use text_words::{Separators, next_part, next_word, split_once, text_before, unquote};
 
@@ -20,7 +21,8 @@ fn words_of_a_line(rt: HostRuntime) {
     assert!(rt; next_word(line, Separators::CommandLine).is_none());
 }
 
-// A mark quotes nothing between commas, and behind the last comma there is a part, too.
+// A quotation mark has no meaning between commas. After the last comma there is one more part,
+// which may be empty.
 #[test]
 fn parts_between_commas(rt: HostRuntime) {
     let rows = [

@@ -1,4 +1,4 @@
--- What stands at the heads of a boot's tables stands there whatever map is beside it.
+-- If the boot's tables are in the bytes at their heads, they are so with any other map.
 use Rattle.std.proofs.Common.{◌≡◌, Result, Ok, subst}
 use Rattle.std.specs.Prelude.{IfOk}
 use Rattle.boot_model.specs.declared.booted.Booted.{Booted}
