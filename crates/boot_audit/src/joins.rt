@@ -2,9 +2,9 @@
 //! twice as many frames that contains it. A block could merge if blocks of its node and zone cover
 //! the whole parent.
 //!
-//! The blocks are ascending and disjoint. Before a block, the frames that are covered without a
-//! gap go back to where a run of such blocks began. The loop keeps this frame. After the block,
-//! the frames are covered by the next blocks, which are read up to the parent's end.
+//! The blocks are ascending and disjoint. For each block the loop keeps the first frame of the run
+//! that ends with it: blocks of its node and zone without a gap. The frames after the block are
+//! covered by the next blocks, which are read up to the parent's end.
 
 ghost use Rattle.std.specs.Prelude.{◌≡◌, ◌+◌, ◌^◌, ◌<◌, length, map};
 ghost use Rattle.audit_lines.specs.Lines.{AscendApart};

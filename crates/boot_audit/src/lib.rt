@@ -1,9 +1,11 @@
 //! Audits saved reports: was memory conserved, by the reports `map`, `owners` and `blocks` of one
 //! boot?
 //!
-//! Memory was *conserved* if each usable frame is either touched by an owner or in exactly one
-//! free block, and no other frame is in a block. Also, each block must be aligned, lie in its
-//! zone, and not be able to merge with its buddy (`specs/Conserved.antt`).
+//! A frame is *usable* if all its bytes are memory (type 1 or 128) below the limit of addresses,
+//! and *touched* if one of its bytes has an owner. Memory was *conserved* if each usable frame is
+//! either touched or in exactly one free block, and no other frame is in a block. Also, each block
+//! must be aligned, lie in its zone, and not be able to merge with its buddy
+//! (`specs/Conserved.antt`).
 //!
 //! - [`judge`] gives the verdict on the lines of the reports: `Sound`, or the first fault
 //!   (`specs/Verdicts.antt`).

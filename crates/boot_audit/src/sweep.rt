@@ -1,7 +1,8 @@
 //! Finds the first byte that is in a block but not free, and the first frame that is lost, by one
 //! sweep over the three lists.
 //!
-//! At each address, the first remaining line of each list decides for all bytes up to where a line
+//! A byte is *free* if it is below the limit, in memory and has no owner. At each address, the
+//! first remaining line of each list decides for all bytes up to the next address at which a line
 //! begins or ends. So the sweep makes no list of free memory, and takes no step per frame.
 
 ghost use Rattle.std.specs.Prelude.{◌≡◌, ◌^◌, ◌<◌, ◌≤◌, ◌&&◌, Bool, true, not, nat_lt, ℕ, map, None, IsNone};

@@ -1,4 +1,4 @@
--- The outputs of a run over lent words and files, by the outcome.
+-- The outputs of a run over the words and files of a call, by the outcome.
 use Rattle.std.proofs.Common.{◌≡◌, ◌≢◌, ℕ, zero, suc, Bool, true, false, List, [], ◌∷◌, ◌++◌, Option, Some, Result, Ok, Err, String, string_bytes, Global, map, refl, inl, inr, ap, arith, subst, sym, ◌∙◌}
 use Rattle.std.specs.Prelude.{◌⊎◌, IsOkAnd, if◌then◌else◌}
 use Rattle.std.specs.List.{All}

@@ -1,4 +1,4 @@
--- The outcome of a call, from the words and files that are lent to it.
+-- The outcome of a call, from the words and files that are passed to it.
 use Rattle.std.specs.Prelude.{ℕ, Bool, true, if◌then◌else◌, ◌&&◌, List, [], ◌∷◌, Option, None, Result, Ok, Err}
 use Rattle.std.specs.Str.{is_utf8}
 use Rattle.bm_io.specs.MemFiles.{file_bytes}

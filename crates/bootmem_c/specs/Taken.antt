@@ -1,4 +1,4 @@
--- Texts that the program wrote, copied to buffers that the caller lends.
+-- Texts that the program wrote, copied to buffers that the caller passes.
 use Rattle.std.specs.Prelude.{◌≡◌, ℕ, ◌-◌, ◌^◌, ◌≤◌, ◌<◌, Bool, if◌then◌else◌, List, [], ◌++◌, drop, length}
 use Rattle.bootmem_c.specs.declared.crossing.Text.{Text}
 

@@ -1,4 +1,4 @@
-//! Boots with words and files that the caller lends, without writing reports.
+//! Boots with words and files that the caller passes, without writing reports.
 
 ghost use Rattle.std.specs.Prelude.{Some, IfOk, IfErr};
 ghost use Rattle.bm_io.specs.MemFiles.{file_bytes};

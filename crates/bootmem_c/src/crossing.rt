@@ -4,14 +4,14 @@
 ghost use Rattle.std.specs.Prelude.{◌≤◌, length};
 ghost use Rattle.bootmem_c.specs.Taken.{IsFront, IsTaken};
 
-/// The bytes of a word that the caller lends.
+/// The bytes of a word that the caller passes.
 #[repr(C)]
 #[derive(Clone, Copy)]
 pub struct Bytes<'a> {
     pub bytes: &'a [u8],
 }
 
-/// A file that the caller lends: its name and the bytes that it contains.
+/// A file that the caller passes: its name and the bytes that it contains.
 #[repr(C)]
 #[derive(Clone, Copy)]
 pub struct File<'a> {
@@ -19,7 +19,7 @@ pub struct File<'a> {
     pub bytes: &'a [u8],
 }
 
-/// A buffer that the caller lends for a text (`room`), and the text's length in bytes (`needed`),
+/// A buffer that the caller passes for a text (`room`), and the text's length in bytes (`needed`),
 /// which the call sets.
 #[repr(C)]
 #[derive(Drop)]

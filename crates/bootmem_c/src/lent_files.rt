@@ -1,4 +1,4 @@
-//! The files that the caller lends, as the program fetches them.
+//! The files that the caller passes, as the program fetches them.
 
 ghost use Rattle.std.specs.Prelude.{◌≡◌, ℕ, ◌+◌, ◌-◌, ◌^◌, ◌<◌, ◌≤◌, ◌↔◌, List, length, Option, Some, OnOk, IfOk, IsErrOf, IsNone, find};
 ghost use Rattle.std.specs.Option.{option_copied};
@@ -11,7 +11,7 @@ use bm_io::{Fetch, Files};
 use std::alloc::Global;
 use std::marker::Model;
 
-/// Files that the caller lends. If two have the same name, the first counts.
+/// Files that the caller passes. If two have the same name, the first counts.
 #[derive(Drop)]
 pub struct LentFiles<'a> {
     files: &'a [File<'a>],

@@ -2,16 +2,17 @@
 //!
 //! `include/bootmem.h` declares these exports of a static library:
 //!
-//! - [`run::bootmem_run`] is `run` of `program_run`, over words and files that the caller lends.
+//! - [`run::bootmem_run`] is `run` of `program_run`, over words and files that the caller passes.
 //!   It writes the reports as text.
 //! - [`told::bootmem_map`], [`told::bootmem_crash`] and [`told::bootmem_blocks`] return what the
 //!   boot of these words and files made, as values.
 //! - [`version::bootmem_version`] returns the library's version.
 //!
 //! All but the last return the exit status of `bootmem`: that of the outcome, or 7 if out of
-//! memory. Since the files (`LentFiles`) and the outputs (`TextSink`) are in memory, a file can be
-//! read exactly if it is lent, and an output never refuses a text. So a caller may rest on this:
-//! unless memory runs out, the result depends on the words and files only.
+//! memory. A file is *lent* if the caller passes it. Since the files (`LentFiles`) and the outputs
+//! (`TextSink`) are in memory, a file can be read exactly if it is lent, and an output never
+//! refuses a text. So a caller may rest on this: unless memory runs out, the result depends on the
+//! words and files only.
 //!
 //! `crossing` and `values` have the types that are passed from and to C, `boots` boots without
 //! writing reports. In contracts, a name means the definition in `specs/`.

@@ -1,4 +1,4 @@
-//! The program as one call, over words and files that the caller lends.
+//! The program as one call, over words and files that the caller passes.
 
 ghost use Rattle.std.specs.Prelude.{◌≡◌, ◌≢◌, ◌⊎◌, ℕ, IsOkAnd, List, [], false, Some};
 ghost use Rattle.bm_io.specs.MemFiles.{file_bytes};
@@ -49,7 +49,7 @@ pub extern "C" fn bootmem_run(
     status
 }
 
-/// Runs the program over the lent words and files, with empty outputs. Returns the exit status.
+/// Runs the program over these words and files, with empty outputs. Returns the exit status.
 fn run_lent(
     alloc: Global,
     words: &[Bytes<'_>],

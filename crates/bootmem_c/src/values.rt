@@ -21,7 +21,7 @@ pub struct MapRun {
     pub kind: u32,
 }
 
-/// A buffer that the caller lends for runs of the map (`room`), and the number of all runs
+/// A buffer that the caller passes for runs of the map (`room`), and the number of all runs
 /// (`count`), which the call sets.
 #[repr(C)]
 #[derive(Drop)]
@@ -53,7 +53,7 @@ pub struct FreeBlock {
     pub zone: u32,
 }
 
-/// A buffer that the caller lends for free blocks (`room`), and the number of all free blocks
+/// A buffer that the caller passes for free blocks (`room`), and the number of all free blocks
 /// (`count`), which the call sets.
 #[repr(C)]
 #[derive(Drop)]

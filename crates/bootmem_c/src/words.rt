@@ -1,4 +1,4 @@
-//! The words that the caller lends.
+//! The words that the caller passes.
 
 ghost use Rattle.std.specs.Prelude.{◌≡◌, map, string_bytes, IsUtf8, IfOk, IfErr, IsErrOf};
 ghost use Rattle.std.specs.List.{All};
@@ -7,7 +7,7 @@ ghost use Rattle.bootmem_c.specs.Lent.{lent_words};
 use crate::crossing::Bytes;
 use std::alloc::{AllocError, AllocFailed, Global};
 
-/// Why reading lent words failed.
+/// Why reading the words failed.
 #[derive(Clone, Copy, Debug, PartialEq, Eq)]
 pub enum NoTexts {
     /// One of them isn't UTF-8.

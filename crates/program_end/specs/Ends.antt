@@ -24,9 +24,9 @@ Writes program old new (Ok status) said =
 Writes program old new (Err (failures.NoResult error)) said = FitsError program.place error said
 Writes program old new (Err (failures.Output refusal)) said = IsOkAnd said (λ result. AppendsFront old new (program.text result))
 
--- what holds whether or not the files' contents are known: without a result the output is as it
--- was; if the output refused, its faults rose; if it ran out of memory, `wants` rose, which counts
--- that
+-- what holds whether or not the files' contents are known. Without a result the output is as it
+-- was. If the output refused the text, its counter `faults` rose; if it ran out of memory, its
+-- counter `wants` rose.
 abbrev pub WritingHasCause : {S R : Type 0} → SinkOf S → (old new : S) → End R → Type 0
 WritingHasCause sink old new (Ok status) = Unit {0}
 WritingHasCause sink old new (Err (failures.NoResult error)) = new ≡ old

@@ -27,8 +27,8 @@ abbrev pub FitsError : {I F C A : Type 0} → (I → ℕ) → NoResult (Reason I
 FitsError place (errors.Reason reason) said = FitsReason place reason said
 FitsError place errors.Memory said = Unit {0}
 
--- the call returns the value of the outcome (`view` of what it returns), or an error that fits the
--- outcome
+-- how a call ends: with a value, whose `view` is the value of the outcome; or with an error that
+-- fits the outcome
 abbrev pub Fetches : {I F C A B : Type 0} → (I → ℕ) → (A → B) → Result A (NoResult (Reason I F C)) → Result B (Reason I F C) → Type 0
 Fetches place view (Ok value) said = said ≡ Ok (view value)
 Fetches place view (Err error) said = FitsError place error said

@@ -1,9 +1,10 @@
 //! Defines how a program that reads files and writes to outputs ends. `bootmem` and `bootaudit`
 //! share this crate.
 //!
-//! Both programs do the same: they read their command line, fetch the files that it names, compute
-//! a result, and write the result's text to the output. This crate defines what both promise about
-//! that, for any types of input file `I`, of file fault `F`, of cause `C` and of result.
+//! Both programs do the same: they read their command line (the words after the program's name),
+//! fetch the files that it names, compute a result, and write the result's text to the output.
+//! This crate defines what both promise about that, for any types of input file `I`, of file fault
+//! `F`, of cause `C` and of result.
 //!
 //! - [`Reason`], [`NoResult`] and [`Failure`] are the ways to fail.
 //! - [`exit_status`] is the exit status of each end: 2 to 7 for failures, 0 or 8 for a result.

@@ -1,10 +1,11 @@
 //! The program `bootmem` over any files, output and error output.
 //!
-//! [`run`] reads the command line and the files that it names, boots with them, and writes the
-//! reports. The definition `outcome` (`specs/Outcome.antt`) says what it writes, in four steps.
-//! The command line gives what is asked for (`program_words`), the files' bytes give the inputs
-//! (`boot_inputs`), the inputs give the memory after the boot (`boot_model`), and that gives the
-//! text of the reports (`debugfs_reports`).
+//! [`run`] reads the words after the program's name (the command line) and the files that they
+//! name, boots with them, and writes the reports. The definition `outcome` (`specs/Outcome.antt`)
+//! says what it writes, in four steps. The command line gives what is asked for (`program_words`),
+//! and the files' bytes give the inputs (`boot_inputs`). The inputs give the memory after the boot
+//! (`boot_model`), and that gives the text of the reports (`debugfs_reports`). The kernel's
+//! command line is one of the input files.
 //!
 //! The layer above may rest on this: `run` does what `outcome` says, unless a file can't be read,
 //! the output refuses the text, or this program is out of memory. In the first two cases a counter

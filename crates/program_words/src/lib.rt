@@ -1,4 +1,5 @@
-//! Reads the command line of `bootmem`: the words after the program's name.
+//! Reads the command line of `bootmem`: the words after the program's name. The kernel's command
+//! line is something else, one of the input files.
 //!
 //! The command line is that of one command of `clap` ([`program`]). It has eleven options with one
 //! value each, two flags, and the name of the zero page. None of them is mandatory for `clap`.
