@@ -45,7 +45,7 @@ within c b true tests is =
     let parts = and_parts (nat_le c.order 10) (nat_le (end_of (bytes_of_block c)) (2 ^ 52)) tests in
     rw (← same) (grind (arith, nat_tests, parts.0), grind (arith, nat_tests, parts.1))
 
--- a line of `blocks` that was read is a block
+-- a line of `blocks` that was read has the bounds of a block (`IsBlock`)
 block_fits : (index : ℕ) (text : List ℕ) (b : Block) → block_in index text ≡ Some b → IsBlock b
 unfolding block_in
 block_fits index text b is =

@@ -1,5 +1,5 @@
 -- What saved reports say of a frame and of a block. Each frame is tested on its own, byte by byte,
--- with no order of the lines.
+-- whatever the order of the lines.
 use Rattle.std.specs.Prelude.{ℕ, ◌+◌, ◌-◌, ◌*◌, ◌/◌, ◌%◌, ◌^◌, ◌==◌, ◌&&◌, ◌||◌, Bool, true, false, not, nat_lt, List}
 use Rattle.std.specs.List.{list_any}
 use Rattle.bm_base.specs.Range.{RangeView, covers}

@@ -37,7 +37,7 @@ module _ {W I A F C S : Type 0} (program : Program W I A) (sink : SinkOf S) (bef
   pub ends_wanting : status ≡ 7 → (new ≡ old) ⊎ Rose (sink.wants old) (sink.wants new)
   ends_wanting seven = grind (arith, program.statuses)
 
-  -- with the outcome of what the files contain
+  -- if the files' contents are known: `said` is the outcome
   module _ (said : Result A (Reason I F C)) (writes : Writes program (sink.written old) (sink.written new) end said) where
     pub ends_said : MayEndWith program said status
     ends_said = grind arith

@@ -52,9 +52,9 @@ IsFaulty {I} {F} said = (input : I) × ((fault : F) × (said ≡ Err (reasons.Fa
 abbrev pub IsStopped : {I F C A : Type 0} → Result A (Reason I F C) → Type 0
 IsStopped {I} {F} {C} said = (cause : C) × (said ≡ Err (reasons.Stopped cause))
 
--- the statuses that a program with this outcome may end with: that of the outcome; 7, for out of
--- memory; 3, for a file that couldn't be read, unless the command line is refused; and if the
--- outcome is a result 4, for an output that refused its text
+-- the statuses that a program with this outcome may end with: that of the outcome, or 7 (out of
+-- memory). If the command line is accepted it may also be 3 (a file couldn't be read). If the
+-- outcome is a result it may also be 4 (the output refused the text).
 abbrev pub MayEndWith : {W I A F C : Type 0} → Program W I A → Result A (Reason I F C) → ℕ → Type 0
 MayEndWith program (Ok result) status = (status ≡ program.status result) ⊎ (status ≡ 3) ⊎ (status ≡ 4) ⊎ (status ≡ 7)
 MayEndWith program (Err reasons.Usage) status = (status ≡ 2) ⊎ (status ≡ 7)

@@ -1,12 +1,12 @@
--- What a program has of its own, and what its files contain.
+-- The parts in which programs over files differ, and what files contain.
 use Rattle.std.specs.Prelude.{◌≡◌, ℕ, List, Option, ◌⊎◌}
 
 -- the bytes that the file of each name contains, `None` if there is no such file
 abbrev pub Held : Type 0
 Held = List ℕ → Option (List ℕ)
 
--- the program's own part; `W` is what an accepted command line asks for, `I` an input file, `A` a
--- result
+-- what a program has of its own; `W` is what an accepted command line asks for, `I` an input file,
+-- `A` a result
 pub record Program (W I A : Type 0) : Type 0 where
   -- `place` is the position of an input in the order in which the files are read; `named` is the
   -- name of its file, if the command line names one

@@ -17,7 +17,7 @@ use Rattle.program_run.specs.Headline.{IsReported}
 use Rattle.program_run.specs.Outcome.{given_by, or_stopped, outcome, reported}
 use Rattle.program_words.specs.Words.{Wanted}
 
--- a text that follows from a result follows from its value
+-- if two steps in a row succeed, the first returned a value, and the second succeeds from it
 text_after : {A E : Type 0} (answer : Result A E) (next : A → Result (List ℕ) E) (P : List ℕ → Type 0)
     → IsOkAnd (answer >>= next) P → (a : A) × (answer ≡ Ok a) × IsOkAnd (next a) P
 text_after (Ok a) next P is = (a, refl, is)

@@ -10,7 +10,7 @@ abbrev pub left : Option (List ℕ) → ℕ
 left None = 0
 left (Some text) = length text + 1
 
--- `before` pieces and these are at most 64, and each of these writes a range
+-- `before` pieces and these are at most 64, and each of these is a range
 abbrev pub judged : ℕ → List (List ℕ) → Bool
 judged before pieces = nat_le (before + length pieces) 64 && list_all (λ piece. is_some (range_in piece)) pieces
 

@@ -18,7 +18,7 @@ are_entries count = nat_le 2 count && nat_le count 3000
 abbrev pub are_digits : List ℕ → Bool
 are_digits text = list_all is_ascii_digit text
 
--- the number that the text writes in decimal digits, if it is within these bounds
+-- the number that the decimal digits give, if it is within these bounds
 abbrev pub entries_in : List ℕ → Option ℕ
 entries_in text =
     if are_digits text && are_entries (digits_value 10 text) then Some (digits_value 10 text) else None

@@ -14,7 +14,7 @@ default_kernel = record { base = 0x1000000; size = 0x2000000 }
 abbrev pub if_kernel : Width → RangeView → Option RangeView
 if_kernel width image = if is_kernel width image then Some image else None
 
--- the range that `BASE,SIZE` writes, if a kernel's image may lie there
+-- the range that `BASE,SIZE` gives, if a kernel's image may lie there
 abbrev pub kernel_in : Width → List ℕ → Option RangeView
 kernel_in width text = range_in text >>= if_kernel width
 

@@ -17,11 +17,12 @@ lies_in (Some range) x = (range.base ≤ x) × (x < end_of range)
 abbrev pub pieces_in : List ℕ → List (List ℕ)
 pieces_in list = parts_in (Byte 58) list
 
--- the list has 1 to 64 pieces, and each writes a range
+-- the list has 1 to 64 pieces, and each is a range
 abbrev pub are_pieces : List ℕ → Bool
 are_pieces list = nat_le (length (pieces_in list)) 64 && list_all (λ piece. is_some (range_in piece)) (pieces_in list)
 
--- the frames that lie whole in the range that the piece writes, if there are some
+-- the whole frames of the piece's range, `None` if the piece isn't a range or its range has no
+-- whole frame
 abbrev pub frames_by : List ℕ → Option RangeView
 frames_by piece = range_in piece >>= frames_within
 

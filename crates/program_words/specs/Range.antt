@@ -1,4 +1,4 @@
--- Ranges of addresses as the command line writes them.
+-- Ranges of addresses in the form `BASE,SIZE` of the command line.
 use Rattle.std.specs.Prelude.{ℕ, ◌^◌, if◌then◌else◌, nat_lt, List, Option, Some, None}
 use Rattle.bm_base.specs.Range.{RangeView, end_of}
 use Rattle.bm_base.specs.OptionSteps.{◌>>=◌}
@@ -9,7 +9,7 @@ use Rattle.boot_options.specs.MapOptions.{whole_size}
 abbrev pub if_in_space : RangeView → Option RangeView
 if_in_space range = if nat_lt (end_of range) (2 ^ 64) then Some range else None
 
--- the range that `BASE,SIZE` writes: two sizes with one comma between and nothing else
+-- the range that `BASE,SIZE` gives: two sizes with one comma between and nothing else
 abbrev pub range_in : List ℕ → Option RangeView
 range_in text = do
   halves ← split_once 44 text

@@ -69,7 +69,7 @@ abbrev pub is_plain : List ℕ → Bool
 is_plain [] = true
 is_plain (b ∷ bs) = not (b == 45)
 
--- a spelling of a known option or flag. A value in a word of its own, and the name, doesn't begin
+-- a spelling of a known option or flag. Neither the name nor a value in a word of its own begins
 -- with a hyphen; after `=` any value may follow.
 abbrev pub IsSpelling : Spelling → Type 0
 IsSpelling (apart name value) = (is_option name ≡ true) × (is_plain value ≡ true)

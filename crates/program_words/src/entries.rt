@@ -23,7 +23,7 @@ pub fn entries_of(value: Option<&str>) -> Option<Option<u32>>
     }
 }
 
-/// Returns the number that the text writes in decimal digits, if it is from 2 to 3000.
+/// Returns the number that the decimal digits give, if it is from 2 to 3000.
 fn read_entries(text: &str) -> Option<u32>
     ensures value { result ≡ entries_in text.now }
     ensures facts { IfSome result AreEntries }

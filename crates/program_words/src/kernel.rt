@@ -29,7 +29,7 @@ pub fn kernel_of(value: Option<&str>, width: Width) -> Option<Range>
     }
 }
 
-/// Returns the range that `BASE,SIZE` writes, if a kernel's image may lie there.
+/// Returns the range that `BASE,SIZE` gives, if a kernel's image may lie there.
 fn read_kernel(text: &[u8], width: Width) -> Option<Range>
     ensures value { result ≡ kernel_in width text.now }
     ensures facts { IfSome result (IsKernel width) }

@@ -10,7 +10,7 @@ ghost use Rattle.program_words.specs.Words.{accepted, asked_by};
 /// Law: a command line that is spelled by the grammar gets what its values ask for, and is refused
 /// exactly if that is. Such a command line has, in any order, options with values, flags, and the
 /// name of the zero page, no argument twice. The value of an option is the next word or follows
-/// `=`. The name, and a value that is the next word, doesn't begin with a hyphen.
+/// `=`. Neither the name nor a value that is the next word begins with a hyphen.
 pub fn words_of_spelling()
     ensures { (spellings : List Spelling) → AreSpellings spellings → accepted (spelled spellings) ≡ asked_by (spelled_values spellings) }
 {}

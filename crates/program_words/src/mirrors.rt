@@ -77,8 +77,8 @@ fn read_mirrors(alloc: Global, list: &[u8]) -> Result<Vec<Range>, Memory>
     Ok(mirrors)
 }
 
-/// Returns the frames that lie whole in the range that the piece writes, if it writes a range that
-/// has some.
+/// Returns the whole frames of the piece's range, `None` if the piece isn't a range or its range
+/// has no whole frame.
 fn read_frames(piece: &[u8]) -> Option<Range>
     ensures value { result ≡ frames_by piece.now }
     ensures facts { IfSome result IsMirror }

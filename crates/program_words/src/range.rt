@@ -1,4 +1,4 @@
-//! Ranges of addresses as the command line writes them: `BASE,SIZE`.
+//! Ranges of addresses in the form `BASE,SIZE` of the command line.
 
 ghost use Rattle.std.specs.Prelude.{◌≡◌};
 ghost use Rattle.program_words.specs.Range.{range_in};
@@ -7,7 +7,7 @@ use bm_base::Range;
 use boot_options::read_whole_size;
 use text_words::split_once;
 
-/// Returns the range that `BASE,SIZE` writes, in bytes. Both are sizes as on the kernel's command
+/// Returns the range that `BASE,SIZE` gives, in bytes. Both are sizes as on the kernel's command
 /// line, with one comma between and nothing else. Returns `None` exactly if the text has another
 /// form or BASE plus SIZE exceeds 2^64 - 1.
 pub fn read_range(text: &[u8]) -> Option<Range>

@@ -1,4 +1,4 @@
--- What the run says of the words that were read and of the lent files holds of the call.
+-- What the run promises for the words that were read and the lent files holds for the call.
 use Rattle.std.proofs.Common.{◌≡◌, ◌∙◌, ℕ, List, [], Some, Option, Result, Err, ap, inl, map, string_bytes, subst, sym}
 use Rattle.std.specs.Prelude.{◌⊎◌}
 use Rattle.bm_io.specs.MemFiles.{MemFileView, file_bytes}
