@@ -1,5 +1,5 @@
-//! Proves that the reports of every boot pass the audit: if `bootmem` prints them and `bootaudit`
-//! reads them, the verdict is `Sound`.
+//! Proves that the reports of every successful boot pass the audit: if `bootmem` prints them and
+//! `bootaudit` reads them, the verdict is `Sound`.
 //!
 //! The laws connect the definition of the boot (`boot_model`), the texts of its reports
 //! (`debugfs_reports`) and the verdict on lines (`boot_audit`). The four facts of a boot

@@ -11,7 +11,7 @@ ghost use Rattle.bm_io.specs.Known.{AppendsFront};
 pub enum Put {
     /// The output refused the chunk.
     Failed,
-    /// The output, which is in this program's memory, ran out of it.
+    /// This program is out of memory: an output in memory couldn't grow.
     Memory,
 }
 

@@ -1,4 +1,4 @@
--- The boot behind a call that returns values, and the ways in which such a call fails.
+-- The boot that a call returns values of, and the ways in which such a call fails.
 use Rattle.std.specs.Prelude.{◌≡◌, ℕ, List, Option, Some, Result, Ok, Err}
 use Rattle.program_end.specs.Program.{Held}
 use Rattle.boot_model.specs.Boot.{Given, Told, told_boot}

@@ -19,9 +19,9 @@ use crate::values::{
 use program_run::NoReport;
 use std::alloc::Global;
 
-/// Writes the runs of the map to `out`, ascending. Returns the exit status: that of the outcome,
-/// or 7 if out of memory. With a status other than 0, `out.count` is 0 and the buffer stays as it
-/// was.
+/// Writes the runs of the map to `out`, ascending, as many as its buffer has room for, and sets
+/// `out.count` to the number of all runs. Returns the exit status: that of the outcome, or 7 if
+/// out of memory. With a status other than 0, `out.count` is 0 and the buffer stays as it was.
 #[unsafe(no_mangle)]
 pub extern "C" fn bootmem_map(
     alloc: Global,
@@ -75,9 +75,10 @@ pub extern "C" fn bootmem_crash(
     }
 }
 
-/// Writes the free blocks after the handover to `out`, ascending by their first frames. Returns
-/// the exit status: that of the outcome, or 7 if out of memory. With a status other than 0,
-/// `out.count` is 0 and the buffer stays as it was.
+/// Writes the free blocks after the handover to `out`, ascending by their first frames, as many as
+/// its buffer has room for, and sets `out.count` to the number of all blocks. Returns the exit
+/// status: that of the outcome, or 7 if out of memory. With a status other than 0, `out.count` is
+/// 0 and the buffer stays as it was.
 #[unsafe(no_mangle)]
 pub extern "C" fn bootmem_blocks(
     alloc: Global,
