@@ -1,4 +1,4 @@
-//! Tests of single blocks: its address is a multiple of its size, and it lies in its zone.
+//! Tests of a single block: its address is a multiple of its size, and it lies in its zone.
 
 ghost use Rattle.std.specs.Prelude.{◌≡◌, ◌^◌, ◌<◌, length, not};
 ghost use Rattle.audit_lines.specs.Blocks.{IsBlock};

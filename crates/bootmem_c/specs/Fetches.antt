@@ -23,8 +23,9 @@ misses_of (Err fetch.Failed) = 1
 misses_of (Err fetch.TooLong) = 0
 misses_of (Err fetch.Memory) = 0
 
--- the counter of a name's faults. It is the number of misses (below 2^32) if the name isn't lent.
--- It is 2^64 - 2 for a lent name, whose fetches never fail; no counter here is greater.
+-- the counter of a name's faults. If the name isn't lent, it is the number of misses of all names
+-- (below 2^32). It is 2^64 - 2 for a lent name, whose fetches never fail; no counter here is
+-- greater.
 abbrev pub faults_at : LentState → List ℕ → ℕ
 faults_at state name = if is_some (file_bytes state.files name) then 2 ^ 64 - 2 else min state.misses (2 ^ 32)
 

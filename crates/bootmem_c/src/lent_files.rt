@@ -42,9 +42,9 @@ impl<'a> LentFiles<'a> {
 impl<'a> Files for LentFiles<'a> {
     ghost holds = { λ s. Some (file_bytes s.files) };
 
-    // For a name that isn't lent, this is the number of fetches that failed. For one that is lent,
-    // it is always 2^64 - 2, and no counter here is greater. So if a counter rose, its name isn't
-    // lent.
+    // For a name that isn't lent, this is the number of all fetches that failed, of any name. For
+    // one that is lent, it is always 2^64 - 2, and no counter here is greater. So if a counter
+    // rose, its name isn't lent.
     ghost faults = { λ s name. faults_at s name };
 
     // The counter of bytes stays at its greatest value.
