@@ -1,4 +1,4 @@
--- Each byte stays that of the items and the fills behind a call.
+-- Each byte is still that of the items and the fills after a call.
 use Rattle.std.proofs.Common.{◌≡◌, List, sym, subst}
 use Rattle.bm_base.specs.Range.{RangeView}
 use Rattle.phys_store.specs.Bytes.{byte_of}
@@ -16,6 +16,6 @@ holds-on fills old new kernel follows holds =
     subst At (sym kernel)
     (holds-call old.kernel old.journal.items new.journal.items fills (byte_of old.tables.store) (byte_of new.tables.store) holds follows)
 
--- so they do behind whatever a memblock goes on to
+-- the bytes hold after any memblock that `old` goes on to
 pub holds-behind : (fills : List Filled) (old new : Contents) → GoesOn old new → HoldsWith fills old → HoldsWith fills new
 holds-behind fills old new goes holds = holds-on fills old new goes.kernel goes.bytes holds

@@ -1,4 +1,4 @@
--- What the boot makes of small answers of the table, and the parts of a small memory.
+-- The boot's answer for small answers of the table, and the parts of a small memory.
 use Rattle.std.proofs.Common.{◌≡◌, inr, ⊎_elim, ℕ, true, List, [], ◌∷◌, Some, None, Ok, Err, refl, arith}
 use Rattle.bm_base.specs.Range.{RangeView}
 use Rattle.address_runs.specs.Runs.{RunOf}
@@ -30,17 +30,19 @@ judged_examples : (judged_answer 0x1000 (Err (faults.MapFull 3201)) ≡ Err (sto
     × (judged_answer 0x1000 (Err faults.Memory) ≡ Err stops.Memory)
 judged_examples = (refl, refl)
 
--- want of memory decides nothing
+-- an answer that is out of memory decides nothing
 undecided : (given : Given) → IsDecided given (Err faults.Memory)
 undecided given = tt
 
--- the parts of what is wanted, where frames 1 and 2 are mirrored and searches go upward
+-- this and the next: a kernel's image, and the values that the first items are made of, for
+-- `parts`
 abbrev image : RangeView
 image = record { base = 0x1000000; size = 0x2000000 }
 
 abbrev early : Early
 early = record { limit = 0x2000; kernel = image; initrd = None; mirrors = record { first = 1; count = 2 } ∷ []; upward = true }
 
+-- the items of the parts, if frames 1 and 2 are mirrored and searches go upward
 parts : (beginning early ≡ item.Claim image owner.Kernel ∷ item.Claim (record { base = 0; size = 0x10000 }) owner.Low64K
     ∷ item.Limit 0x100000 ∷ item.Upward true ∷ [])
     × (mapping early one_run ≡ item.Mem (record { base = 0x1000; size = 0x1000 }) ∷ item.Trim
@@ -48,11 +50,12 @@ parts : (beginning early ≡ item.Claim image owner.Kernel ∷ item.Claim (recor
     × (ending 0x4000 ≡ item.Limit 0x4000 ∷ item.Claim (record { base = 0; size = 0x100000 }) owner.Low1M ∷ [])
 parts = (refl, refl, refl)
 
--- memory may run out before a first item, and never where nothing is wanted
+-- this program may be out of memory before a first item
 wanting_first : StageEnds {A = Unit {0}} (items_carried (item.Trim ∷ [])) refusal_for (Err refusal.Memory) [] []
 unfolding items_carried
 wanting_first = inr (refl, record { count = 0; short = omega arith; stands = refl })
 
+-- it isn't out of memory if there are no items
 never_for_nothing : (old new : List Item) → StageEnds {A = Unit {0}} (items_carried []) refusal_for (Err refusal.Memory) old new → ⊥
 unfolding items_carried
 never_for_nothing old new ends = ⊎_elim (λ told. cc told.1) (λ cut. omega (arith, cut.1.short)) ends

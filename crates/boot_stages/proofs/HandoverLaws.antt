@@ -37,7 +37,7 @@ use Rattle.boot_model.specs.View.{sections_view}
 use Rattle.boot_stages.specs.declared.later.Later.{Later}
 use Rattle.boot_stages.specs.Boots.{made_behind}
 
--- the tables that stand in the bytes, with the records of the items, where the heads tell
+-- two tables with the records of the items stand in the bytes, at the places of the heads
 pub record Stand (items : List Item) (store : List Stored) (memory reserved : Head) : Type 0 where
   pub first : Table
   pub second : Table
@@ -76,7 +76,7 @@ module _ {items : List Item} {store : List Stored} {memory reserved : Head} (s :
       rw (s.first_head, s.second_head) (stands_free s.first s.second store frame s.first_stands s.second_stands
       ∙ rw (s.first_says, s.second_says) refl)
 
--- they do stand there
+-- the tables of a memblock stand in its bytes
 pub stand-by : (m : Memblock) (store : List Stored) (heads : Heads)
     → heads ≡ record { memory = head_of m.tables.memory; reserved = head_of m.tables.reserved }
     → m.tables.memory ≡ table_for which.Memory m.kernel m.journal.items
@@ -98,7 +98,8 @@ stand-by m store heads told first second first_stands second_stands noded within
   noded = noded;
 }
 
--- what is told of what was made is what was handed over, and what was made of it behind
+-- the report of what the boot made is that of what was handed over, and of what it made after the
+-- handover
 pub told-by : (given : Given) (map : List (RunOf ℕ)) (m : Memblock) (later : Later) (ids : Ids) (fills : List Filled) (items : List Item)
     (heads : Heads) (spans : List Span) (frames : Frames) (lists : Known) (answers : List PageAnswer) (after : Pages)
     → m.kernel ≡ given.kernel → items ≡ m.journal.items → heads ≡ heads_of m.kernel m.journal.items → spans ≡ spanned m.journal.items

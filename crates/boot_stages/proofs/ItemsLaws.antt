@@ -1,4 +1,4 @@
--- Items that are carried out part by part: by how the parts end.
+-- Items that are carried out in parts: how the whole ends, from how its parts end.
 use Rattle.std.proofs.Common.{◌≡◌, ◌<◌, length, Option, Some, None, List, [], ◌∷◌, ◌++◌, Result, Ok, Err, refl, sym, ◌∙◌, ap, subst}
 use Rattle.std.proofs.lemmas.List.{append-nil, append_assoc}
 use Rattle.std.specs.Prelude.{OnOk}
@@ -23,7 +23,7 @@ use Rattle.stage_model.proofs.RequestLaws.{ends-change}
 use Rattle.boot_model.specs.First.{items_carried}
 use Rattle.boot_model.proofs.CarriedLaws.{carried_said}
 
--- a row of steps in two parts is the steps of the one and then those of the other
+-- a sequence of steps in two parts is the steps of the first and then those of the second
 module _ {E S X : Type 0} (f : S → X → Doing E S) where
   second_part : (before steps : List (List Item)) (answer : Result S E) (items : List Item) (ys : List X)
       → going_on {A = Unit {0}} before (Ok tt) (λ u. going_on steps answer (λ t. in_turn f t ys (appended (appended items before) steps)))
@@ -49,7 +49,7 @@ module _ {E S X : Type 0} (f : S → X → Doing E S) where
   turn-append s (x ∷ xs) ys items =
       first_part (f s x items).steps (f s x items).answer items xs ys (λ t mid. turn-append t xs ys mid)
 
--- the first part was carried out, and the second ends so
+-- if the first part was carried out and the second ends so, the whole ends so
 pub carries-second : (r : Result (Unit {0}) Refusal) (is js old mid new : List Item)
     → StageEnds {A = Unit {0}} (items_carried is) refusal_for (Ok tt) old mid → StageEnds (items_carried js) refusal_for r mid new
     → StageEnds (items_carried (is ++ js)) refusal_for r old new
@@ -59,7 +59,7 @@ carries-second r is js old mid new first rest =
     (λ i items. sym (turn-append (λ done one. changes (change one)) tt is js items) i)
     (ends-second tt r refusal_for old mid new (items_carried is) (λ done. items_carried js) first rest)
 
--- a `?` that hands the error of the first part on
+-- a `?` that returns the error of the first part ends the whole
 pub carries-exit : (e : Refusal) (r : Result (Unit {0}) Refusal) (is js old new : List Item) → r ≡ Err e
     → StageEnds {A = Unit {0}} (items_carried is) refusal_for (Err e) old new → StageEnds (items_carried (is ++ js)) refusal_for r old new
 unfolding items_carried
@@ -68,12 +68,12 @@ carries-exit e r is js old new exits first =
     (λ i items. sym (turn-append (λ done one. changes (change one)) tt is js items) i)
     (ends-first e refusal_for old new (items_carried is) (λ done. items_carried js) first))
 
--- nothing
+-- no items at all
 pub carries-nothing : (items : List Item) → StageEnds {A = Unit {0}} (items_carried []) refusal_for (Ok tt) items items
 unfolding items_carried
 carries-nothing items = (refl, refl)
 
--- one item is what its change comes to
+-- one item ends as its change does
 pub carries-change : (r : Result (Unit {0}) Refusal) (i : Item) (old new : List Item) → Ends r old new (change i)
     → StageEnds (items_carried (i ∷ [])) refusal_for r old new
 unfolding items_carried
@@ -83,18 +83,18 @@ carries-change (Ok done) i old new ends =
 carries-change (Err e) i old new ends =
     ends-first e refusal_for old new (changes (change i)) (λ u. items_carried []) (ends-change (Err e) old new (change i) ends)
 
--- nothing stands of steps that are to come
+-- none of the steps that are still to come has been made
 pub split_once-none : (old new : List Item) (steps : List (List Item)) → new ≡ old → 0 < length steps → IsCutShort old new steps
 split_once-none old new steps stays some = record { count = 0; short = some; stands = stays ∙ sym (append-nil old) }
 
--- memory was wanting before the first item
+-- this program was out of memory before the first item
 pub carries-wanting : (r : Result (Unit {0}) Refusal) (i : Item) (js old new : List Item) → r ≡ Err refusal.Memory
     → 0 < length (change i old).steps → new ≡ old → StageEnds (items_carried (i ∷ js)) refusal_for r old new
 carries-wanting r i js old new exits some stays =
     carries-exit refusal.Memory r (i ∷ []) js old new exits
     (carries-change (Err refusal.Memory) i old new (split_once-none old new (change i old).steps stays some))
 
--- the first item was carried out, or not
+-- the first item was carried out, and the rest ends so
 pub change-second : (r : Result (Unit {0}) Refusal) (i : Item) (js old mid new : List Item)
     → Ends {T = Unit {0}} (Ok tt) old mid (change i) → StageEnds (items_carried js) refusal_for r mid new
     → StageEnds (items_carried (i ∷ js)) refusal_for r old new
@@ -104,12 +104,12 @@ pub change-exit : (e : Refusal) (r : Result (Unit {0}) Refusal) (i : Item) (js o
     → Ends {T = Unit {0}} (Err e) old new (change i) → StageEnds (items_carried (i ∷ js)) refusal_for r old new
 change-exit e r i js old new exits ends = carries-exit e r (i ∷ []) js old new exits (carries-change (Err e) i old new ends)
 
--- all of it, as a law on lists says it
+-- if all items were carried out, they are `carried_out` on the old ones
 pub carried-by : (is old new : List Item) → StageEnds {A = Unit {0}} (items_carried is) refusal_for (Ok tt) old new
     → carried_out is old ≡ Ok new
 carried-by is old new ends = carried_said is old ∙ rw (ends.0, ends.1) refl
 
--- some of what is wanted was carried out, and as the rest ends, so does all
+-- some of the items were carried out, and as the rest ends, so does the whole
 pub record Leaves (all left old here : List Item) : Type 0 where
   pub ends : (r : Result (Unit {0}) Refusal) (new : List Item) → StageEnds (items_carried left) refusal_for r here new
       → StageEnds (items_carried all) refusal_for r old new
@@ -123,12 +123,12 @@ leaves-next all is js left old here new same first before = record {
   ends = λ r last rest. before.ends r last (rw same (carries-second r is js here new last first rest));
 }
 
--- what holds anyway
+-- what always holds, holds if the result is `Ok`
 pub on_ok : (r : Result (Unit {0}) Refusal) (P : Type 0) → P → OnOk r P
 on_ok (Ok x) P holds = holds
 on_ok (Err e) P holds = tt
 
--- something happened behind a claim
+-- something has happened after a claim
 last_begun : (items : List Item) (i : Item) → HasBegun (items ++ i ∷ [])
 last_begun [] i = tt
 last_begun (j ∷ is) i = tt

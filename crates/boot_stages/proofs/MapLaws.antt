@@ -1,4 +1,4 @@
--- What the boot comes to by the table's answer for its map.
+-- How the boot ends, from the table's answer for its map.
 use Rattle.std.proofs.Common.{◌≡◌, ◌≢◌, ℕ, Bool, true, false, nat_lt, if◌then◌else◌, List, length, Option, Some, None, Result, Ok, Err, Vec, Global, refl, subst, ap, ◌∙◌}
 use Rattle.std.specs.Prelude.{IfOk}
 use Rattle.address_runs.specs.Runs.{RunOf, value_at, IsRunsOf}
@@ -28,7 +28,7 @@ answered : {A E : Type 0} (said : Result A E) → (said >>= λ x. Ok x) ≡ said
 answered (Ok x) = refl
 answered (Err e) = refl
 
--- what a map in its room, and one that isn't, tells of its number of runs
+-- whether the map is `full` gives its number of runs or the map itself
 told_room : (full : Bool) (runs : ℕ) (map items : List (RunOf ℕ)) → (if full then Err (faults.MapFull runs) else Ok map) ≡ Ok items
     → (full ≡ false) × (map ≡ items)
 told_room true runs map items is = absurd (cc)
@@ -53,7 +53,7 @@ decided given (Err (faults.MapFull runs)) answers =
     rw (known.0, known.1) refl
 decided given (Err faults.Memory) answers = tt
 
--- a judgement, as the call answers it and as the stage of the boot has it
+-- the map as the stages get it
 abbrev pub made_of : Given → Vec (RunOf ℕ) Global → BootSoFar
 made_of given runs = begin_with runs.items given.options
 
@@ -67,7 +67,7 @@ judged_same given None runs (Err stop) answers = λ other. absurd (cc (answers o
 judged_same given (Some reason) runs (Ok map) answers = absurd (cc)
 judged_same given (Some reason) runs (Err stop) answers = λ other. cc (answers other)
 
--- the answer, judged, is what the first stages come to
+-- the table's answer, judged, ends the first stages
 pub map_answers : (given : Given) (answer : MapAnswer) → Answers faults.Memory (λ runs. runs.items) answer
     (in_room (map_of (claims given)))
     → IfOk answer (λ runs. IsRunsOf (kinds (claims given)) runs.items) → (result : Result (Vec (RunOf ℕ) Global) Stop)
@@ -84,12 +84,12 @@ map_answers given (Err (faults.MapFull runs)) maps are (Err stop) answers =
 map_answers given (Err faults.Memory) maps are (Ok map) answers = absurd (cc)
 map_answers given (Err faults.Memory) maps are (Err stop) answers = λ other. absurd (other (cc (answers other)))
 
--- an answer that is told with another error
+-- a value is unchanged if the result's error is replaced
 pub told_ok : {A E F : Type 0} (f : E → F) (said : Result A E) (a : A) → with_error f said ≡ Ok a → said ≡ Ok a
 told_ok f (Ok b) a is = let same : b ≡ a = cc in ap (λ (x : _). Ok x) same
 told_ok f (Err e) a is = absurd (cc)
 
--- what stops the boot stops what is told of it
+-- a stop of the boot is a stop of its report
 pub told_stops : {X : Type 0} (view : X → Told) (given : Given) (answer : Result X Stop) (stop : Stop) → answer ≡ Err stop
     → (stop ≢ stops.Memory → with_error stop_of (boot given) ≡ Err stop)
     → Answers stops.Memory view answer (with_error stop_of (told_boot given))
@@ -101,7 +101,7 @@ pub boot_stops : (given : Given) (stop : Stop) → Answers stops.Memory (made_of
 unfolding boot
 boot_stops given stop answers other = stopped (map_judged given) (λ made. in_order (later_stages given) made) stop (answers other)
 
--- where the boot goes on with the map, the chain of the other stages is left
+-- if the boot goes on with the map, the stages after it remain
 pub boot_left : (given : Given) (made : BootSoFar) → with_error stop_of (map_judged given) ≡ Ok made
     → boot given ≡ in_order (later_stages given) made
 unfolding boot
@@ -111,7 +111,7 @@ boot_left given made judged =
 pub boot_told : (given : Given) (made : BootSoFar) → boot given ≡ Ok made → told_boot given ≡ Ok (told given made)
 boot_told given made comes = ap (λ (said : Result BootSoFar Cause). said >>= λ m. Ok (told given m)) comes
 
--- the claims of a table that was finished
+-- the claims of a finished table are those of the boot's map
 pub claims-told : (given : Given) (c : Claims) (entries extension : List Entry) (edits : List Edit) (more : List Entry)
     → c ≡ final_claims entries extension edits more
     → entries ≡ given.entries → extension ≡ given.extension → edits ≡ given.options.edits → more ≡ added given → claims given ≡ c

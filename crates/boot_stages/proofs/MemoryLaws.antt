@@ -1,4 +1,4 @@
--- The items of a run by its type, the end of memory by its table, and the list of what is wanted in its parts.
+-- The items of a run by its type, the end of memory by its table, and the items in their parts.
 use Rattle.std.proofs.Common.{◌≡◌, ◌≢◌, ℕ, ◌+◌, ◌^◌, ◌<◌, ◌≤◌, true, false, Some, List, [], ◌∷◌, ◌++◌, length, get_or, drop, map, Ok, refl, sym, ◌∙◌, ap, subst, arith}
 use Rattle.std.specs.List.{All}
 use Rattle.std.proofs.lemmas.Bool.Decides.{nat_tests}
@@ -28,7 +28,7 @@ use Rattle.boot_model.specs.Mirrors.{IsMirror, frames_in}
 use Rattle.boot_model.proofs.MirrorLaws.{mirror-frames}
 use Rattle.boot_stages.specs.Parts.{beginning, ending, mapping}
 
--- the items of a run
+-- the items of a run that firmware keeps for a driver: one claim
 pub soft_run : (limit : ℕ) (r : RunOf ℕ) → r.value ≡ 0xEFFFFFFF → items_of_run limit r ≡ item.Claim (extent_of r) owner.Soft ∷ []
 soft_run limit r is = grind (arith, nat_tests)
 
@@ -54,7 +54,7 @@ end_at {X} (r ∷ rs) n d long =
     let same : length rs ≡ n = omega arith in
     end_last 0 r rs d ∙ ap (λ (k : ℕ). run_end (get_or (r ∷ rs) k d)) same
 
--- the parts of what is wanted are all of it
+-- the three parts of the items are all of them
 pub in_parts : (e : Early) (map : List (RunOf ℕ))
     → beginning e ++ (mapping e map ++ ending (memory_end e.limit (value_at map))) ≡ first_items e map
 in_parts e map =
@@ -63,7 +63,8 @@ in_parts e map =
     ∙ ap (λ (t : List Item). early_claims e.kernel e.initrd ++ (item.Limit ISA_END_ADDRESS ∷ (direction_items e.upward ++ t)))
     (append_assoc (items_of_map e.limit map) (item.Trim ∷ mirror_items e.mirrors) last)
 
--- behind the first two parts memory is the usable frames, so its table tells its end
+-- after the first two parts memory is the usable frames, mirrored as asked, so its table gives its
+-- end
 pub mapped : (e : Early) (map : List (RunOf ℕ)) (items : List Item) → AreRuns map
     → carried_out (beginning e ++ mapping e map) [] ≡ Ok items
     → memory_of items ≡ mirrored_memory e.mirrors (usable_memory e.limit (value_at map))
@@ -84,7 +85,7 @@ table_end e map items runs ends within =
       each = λ x. are.each x ∙ ap (λ (f : Labels). f x) memory;
     })
 
--- the items of mirrored frames, and of what is left of them
+-- the items of mirrored ranges, for a list in two parts
 pub mirrors-append : (first rest : List FrameRange) → mirror_items (first ++ rest) ≡ mirror_items first ++ mirror_items rest
 mirrors-append [] rest = refl
 mirrors-append (r ∷ rs) rest = ap (λ (is : List Item). item.Mirror (bytes_of_frames r) ∷ is) (mirrors-append rs rest)
@@ -98,7 +99,7 @@ mirrors_next rs i r low is whole =
     ∙ ap (λ (s : RangeView). item.Mirror (bytes_of_frames (frames_in s)) ∷ rest) (sym is)
     ∙ ap (λ (s : RangeView). item.Mirror s ∷ rest) (mirror-frames r here)
 
--- the items of what is left of a map begin with those of its first run
+-- the items of the rest of a map begin with those of its first run
 pub map_next : (limit : ℕ) (rs : List (RunOf ℕ)) (i : ℕ) (r : RunOf ℕ) → i < length rs → r ≡ get_or rs i r
     → items_of_map limit (drop i rs) ≡ items_of_run limit r ++ items_of_map limit (drop (i + 1) rs)
 map_next limit rs i r low is =

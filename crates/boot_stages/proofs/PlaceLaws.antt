@@ -1,4 +1,4 @@
--- The places of sections, step by step.
+-- The places of the sections, step by step.
 use Rattle.std.proofs.Common.{◌≡◌, List, Result, Ok, Err, Vec, Global, refl, subst}
 use Rattle.bm_base.specs.declared.width.Width.{Width}
 use Rattle.memblock_model.specs.declared.item.Item.{Item}
@@ -24,7 +24,7 @@ places_view r = ok_as (λ places. sections_view places.0 places.1) r
 abbrev placed_of : RootsPlaced → List Placed → SectionPlaces
 placed_of table placed = record { roots = table; placed = placed }
 
--- the maps behind the roots
+-- the section maps, once the roots are placed
 abbrev behind_roots : List Section → RootsPlaced → Doing StageCause SectionPlaces
 behind_roots sections table = maps sections >>= λ placed. returns (placed_of table placed)
 
@@ -32,7 +32,7 @@ abbrev sections_in : List Item → List Section
 sections_in items = present (memory_of items)
 
 module _ (width : Width) where
-  -- as the sections with memory end, so do all
+  -- the stage of all sections ends as that of the sections in memory
   from_present : (r : Result SectionPlaces StageStop) (old new : List Item) (sections : List Section) → sections ≡ sections_in old
       → StageEnds (sections_placed width sections) stage_stop r old new → StageEnds (places_of_sections width) stage_stop r old new
   unfolding places_of_sections
@@ -41,7 +41,7 @@ module _ (width : Width) where
       (ends-listed sections_in stage_stop old)
       (subst (λ (ss : List Section). StageEnds (sections_placed width ss) stage_stop r old new) is ends)
 
-  -- memory ran out for the list of them
+  -- this program is out of memory for the list of the sections
   pub places-wanting : (r : Result (Roots × Vec Placed Global) StageStop) (old : List Item) → r ≡ Err stage.Memory
       → StageEnds (places_of_sections width) stage_stop (places_view r) old old
   unfolding places_of_sections

@@ -1,4 +1,4 @@
--- A row of calls, each of which ends as its stage's definition says, is the chain of these stages.
+-- Calls that each end as their stage's definition says make the sequence of these stages.
 use Rattle.std.proofs.Common.{◌≡◌, ◌≢◌, ⊎_elim, ℕ, ◌≤◌, List, [], ◌∷◌, ◌++◌, Option, Some, None, Result, Ok, Err, refl, ◌∙◌, sym, ap, arith}
 use Rattle.std.specs.Prelude.{IfErr, IsErrAnd}
 use Rattle.std.proofs.lemmas.Result.{err_from_is_err_and}
@@ -25,7 +25,7 @@ use Rattle.boot_model.specs.Stop.{stop_by, stop_of}
 use Rattle.boot_stages.specs.Boots.{HoldsWith, made_by_lines}
 use Rattle.boot_stages.proofs.BytesLaws.{holds-behind}
 
--- what ends within a limit ends within a later one
+-- memory with nodes within one limit has them within every greater limit
 pub noded-within : (near far : ℕ) (f : Labels) → IsNoded near f → near ≤ far → IsNoded far f
 noded-within near far f noded low = record {
   frames = noded.frames;
@@ -33,13 +33,13 @@ noded-within near far f noded low = record {
   within = λ x past. noded.within x (omega (arith, past, low));
 }
 
--- what stops the first stages stops the chain
+-- a stop in the first stages is a stop of the whole sequence
 pub stopped : {A : Type 0} (said : Result BootSoFar Cause) (later : BootSoFar → Result A Cause) (stop : Stop)
     → with_error stop_of said ≡ Err stop → with_error stop_of (said >>= later) ≡ Err stop
 stopped (Ok made) later stop is = absurd (cc)
 stopped (Err cause) later stop is = cc
 
--- a chain in two parts
+-- a sequence of stages in two parts
 further : (said : Result BootSoFar Cause) (first rest all : BootSoFar → Result BootSoFar Cause)
     → ((next : BootSoFar) → all next ≡ (first next >>= rest)) → (said >>= all) ≡ ((said >>= first) >>= rest)
 further (Ok next) first rest all each = each next
@@ -51,7 +51,7 @@ in_order-append [] more made = refl
 in_order-append (s ∷ stages) more made =
     further (s made) (in_order stages) (in_order more) (in_order (stages ++ more)) (in_order-append stages more)
 
--- how a call ends that carries out a stage of steps
+-- how a call that carries out a stage of steps ends
 module _ {E F A : Type 0} (cause : E → Cause) (put : A → BootSoFar → BootSoFar) (error : Option E → F) (doing : Doing E A)
     (made : BootSoFar) (new : List Item) where
   pub steps-on : (a : A) → StageEnds doing error (Ok a) made.items new
@@ -65,7 +65,8 @@ module _ {E F A : Type 0} (cause : E → Cause) (put : A → BootSoFar → BootS
       (λ stopped. rw stopped.1 (ap (λ (s : Stop). Err s) (sym (told (Some stopped.0) stopped.2))))
       (λ cut. absurd (other (told None cut.0))) ends
 
--- what is known where these stages were run: `base` has what they made, beside what memblock, the live IDs and the answers tell
+-- What is known where the stages `stages` have run. The value `base` has what they made, except
+-- for memblock, the live IDs and the answers.
 pub record Row (given : Given) (map : List (RunOf ℕ)) (stages : List Stage) (base : BootSoFar) (m : Contents) (ids : Ids)
     (answers : List Answer) : Type 0 where
   pub fills : List Filled
@@ -91,7 +92,7 @@ module _ {given : Given} {map : List (RunOf ℕ)} {stages : List Stage} {base : 
       ∙ ap (λ (said : Result BootSoFar Cause). said >>= λ n. in_order (s ∷ []) n) row.come
       ∙ ap (λ (said : Result BootSoFar Cause). said >>= λ n. Ok n) goes
 
-  -- a further stage over memblock
+  -- a further stage over memblock has run
   pub row-next : (s : Stage) (later : BootSoFar) (n : Contents)
       → ((fills : List Filled) → s (made_by_lines base m ids fills answers) ≡ Ok (made_by_lines later n ids fills answers))
       → GoesOn m n → Row given map (stages ++ s ∷ []) later n ids answers
@@ -102,7 +103,7 @@ module _ {given : Given} {map : List (RunOf ℕ)} {stages : List Stage} {base : 
     holds = holds-behind row.fills m n goes_on row.holds;
   }
 
-  -- lines of the script
+  -- the lines of a script have run
   reached_is : (s : Script) (later : Ids) (n : Contents) (told : List Answer) → Reaches s later n told
       → behind_lines (made_by_lines base m ids row.fills answers) s ≡ made_by_lines base n later s.fills told
   reached_is s later n told reached = cc (reached.state, reached.answers_are)
@@ -121,7 +122,7 @@ module _ {given : Given} {map : List (RunOf ℕ)} {stages : List Stage} {base : 
         holds = reached.holds;
       }
 
-  -- a stage that stops
+  -- a stage that stops stops the boot
   pub row-stops : (s : Stage) (rest : List Stage) (stop : Stop)
       → with_error stop_of (s (made_by_lines base m ids row.fills answers)) ≡ Err stop
       → with_error stop_of (in_order (stages ++ s ∷ rest) (begin_with map given.options)) ≡ Err stop
@@ -130,7 +131,7 @@ module _ {given : Given} {map : List (RunOf ℕ)} {stages : List Stage} {base : 
       ∙ ap (λ (said : Result BootSoFar Cause). said >>= λ n. in_order (s ∷ rest) n) row.come)
       ∙ stopped (s (made_by_lines base m ids row.fills answers)) (λ n. in_order rest n) stop stops_so
 
--- what is told of the error that a `?` hands on
+-- the error that a `?` returns satisfies what is known of the error
 pub stops-so : {T : Type 0} (r : Result T Stop) (Told P : Stop → Type 0) → IsErrAnd r Told → ((stop : Stop) → Told stop → P stop)
     → IfErr r P
 stops-so r Told P is each = let p = err_from_is_err_and r is in rw p.1 (each p.0 p.2)

@@ -1,4 +1,4 @@
--- What the boot makes of the table's answer for its map.
+-- How the boot goes on after the table's answer for its map, and what its stages return.
 use Rattle.std.specs.Prelude.{◌≡◌, ◌≢◌, ℕ, List, Vec, Option, Some, None, Result, Ok, Err}
 use Rattle.std.specs.declared.alloc.Global.{Global}
 use Rattle.address_runs.specs.Runs.{RunOf, value_at}
@@ -31,51 +31,57 @@ use Rattle.memblock_grow.specs.Contents.{Contents}
 use Rattle.early_script.specs.declared.outcome.Answer.{Answer}
 use Rattle.early_script.specs.Ids.{Ids}
 
--- what the table answers for its map (`Table::runs`)
+-- what the table returns for its map (`Table::runs`)
 abbrev pub MapAnswer : Type 0
 MapAnswer = Result (Vec (RunOf ℕ) Global) MapFault
 
--- a map with too many runs stops the boot; want of memory is handed on
+-- the stop for a fault of the table: a map with too many runs is a stop, and out of memory stays
+-- out of memory
 abbrev pub stop_of_map : MapFault → Stop
 stop_of_map (faults.MapFull runs) = stops.MapFull runs
 stop_of_map faults.Memory = stops.Memory
 
+-- the map, or the stop for the reason why the boot refuses it
 abbrev pub goes_on_with : Option MapStop → List (RunOf ℕ) → Result (List (RunOf ℕ)) Stop
 goes_on_with None map = Ok map
 goes_on_with (Some reason) map = Err (stop_of (cause_of_map reason))
 
--- what is made of that answer: the map's own frames are judged, as far as the kernel's tables of memory reach
+-- what the boot makes of the table's answer: it judges the map's frames below the address `reach`,
+-- where the kernel's tables of memory end
 abbrev pub judged_answer : ℕ → MapAnswer → Result (List (RunOf ℕ)) Stop
 judged_answer reach (Ok runs) = goes_on_with (judged (types_below reach (value_at runs.items))) runs.items
 judged_answer reach (Err fault) = Err (stop_of_map fault)
 
--- by that answer the boot goes on to judge the frames, or stops; with no memory for it nothing is said
+-- The table's answer decides how the map's stage ends. It says nothing if the program was out of
+-- memory.
 abbrev pub IsDecided : Given → MapAnswer → Type 0
 IsDecided given (Ok runs) = map_judged given ≡ has_frames given (begin_with runs.items given.options)
 IsDecided given (Err (faults.MapFull runs)) = map_judged given ≡ Err (causes.MapFull runs)
 IsDecided given (Err faults.Memory) = Unit {0}
 
--- a table lies in the bytes of memory, where its head tells, with the records of what happened
+-- table `w` stands in the bytes of `store`, at the place that `head` gives, and has the records of
+-- the items
 pub record TableStands (w : Which) (items : List Item) (store : List Stored) (head : Head) : Type 0 where
   pub table : Table
   pub stands : StandsIn table store
   pub told : head ≡ head_of table
   pub records : table.records ≡ records_of w items
 
--- the frames that are free are those that the lists in these bytes leave, where the heads tell, and by nothing else
+-- the free frames are exactly those that the two lists in the bytes of `store`, at the places of
+-- the heads, leave free
 abbrev pub IsSpelledFree : List Stored → Heads → Buddy → Type 0
 IsSpelledFree store heads buddy =
     (frame : ℕ) → free buddy frame ≡ free_node_in (value_at (list_in store heads.memory)) (value_at (list_in store heads.reserved)) frame
 
--- each byte of memory is that of the items, and of these fills
+-- each byte of memory is that of the items and of `fills`
 abbrev pub HoldsWith : List Filled → Contents → Type 0
 HoldsWith fills m = Holds m.kernel m.journal.items fills (byte_of m.tables.store)
 
--- what is made behind lines of the script, over this memblock
+-- what the boot made, after lines of the script that ended with memblock `m`
 abbrev pub made_by_lines : BootSoFar → Contents → Ids → List Filled → List Answer → BootSoFar
 made_by_lines made m ids fills answers = record made { items = m.journal.items; ids = ids; fills = fills; answers = answers }
 
--- and behind all stages
+-- what the boot made after all stages, with memblock `m` and the results `later`
 abbrev pub made_behind : Given → List (RunOf ℕ) → Contents → Later → Ids → List Filled → BootSoFar
 made_behind given map m later ids fills = record {
   map = map;
@@ -89,7 +95,8 @@ made_behind given map m later ids fills = record {
   answers = later.answers.items;
 }
 
--- the stages behind the map came to an end
+-- The stages after the map ended with memblock `m` and the results `later`, as the definition
+-- says. The kernel's image and the bytes are as they should be.
 pub record AreRun (given : Given) (map : List (RunOf ℕ)) (m : Contents) (later : Later) : Type 0 where
   pub ids : Ids
   pub fills : List Filled
@@ -97,7 +104,7 @@ pub record AreRun (given : Given) (map : List (RunOf ℕ)) (m : Contents) (later
   pub kernel : m.kernel ≡ given.kernel
   pub holds : HoldsWith fills m
 
--- or they stop the boot
+-- the stages after the map end with this stop in the definition too, unless it is out of memory
 abbrev pub AreStopped : Given → List (RunOf ℕ) → Stop → Type 0
 AreStopped given map stop =
     stop ≢ stops.Memory → with_error stop_of (in_order (later_stages given) (begin_with map given.options)) ≡ Err stop

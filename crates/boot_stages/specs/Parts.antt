@@ -1,4 +1,4 @@
--- What a boot wants before any node is known, in the parts in which it is carried out.
+-- The items of a boot before any node is known, in the three parts in which they are carried out.
 use Rattle.std.specs.Prelude.{ℕ, List, [], ◌∷◌, ◌++◌}
 use Rattle.address_runs.specs.Runs.{RunOf}
 use Rattle.memblock_model.specs.declared.owner.Owner.TheVariants as owner
@@ -8,11 +8,12 @@ use Rattle.early_stages.specs.declared.low.TheConstants.{ISA_END_ADDRESS}
 use Rattle.early_stages.specs.Early.{Early}
 use Rattle.early_stages.specs.Wanted.{direction_items, early_claims, items_of_map, mirror_items, up_to}
 
--- before memory is known: the first claims, the limit of the first MiB, and the direction of searches
+-- before memory is known: the first claims, the limit of the first MiB, and the direction of
+-- searches
 abbrev pub beginning : Early → List Item
 beginning e = early_claims e.kernel e.initrd ++ (item.Limit ISA_END_ADDRESS ∷ direction_items e.upward)
 
--- the map becomes memory, whole frames of it, of which some are mirrored
+-- the map's runs become memory, which is trimmed to whole frames, and some of which is mirrored
 abbrev pub mapping : Early → List (RunOf ℕ) → List Item
 mapping e map = items_of_map e.limit map ++ (item.Trim ∷ mirror_items e.mirrors)
 

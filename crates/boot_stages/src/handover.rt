@@ -1,6 +1,6 @@
-//! The end of the boot: memblock's bytes are handed over, with what they say is free. The value of memblock ends here, so whatever
-//! comes behind reads the bytes at the two heads and has nothing else to ask: spans, free frames, the order of zones, and the page
-//! script, which runs on a copy, so what was handed over stays as it was.
+//! Hands memblock over at the end of the boot. The value of memblock ends here. Spans and free
+//! frames are read from memblock's bytes, at the two heads. The page script runs on a copy of the
+//! free frames, so the frames that were handed over stay as they were.
 
 ghost use Rattle.std.specs.Prelude.{◌≡◌, ◌^◌, List, IfOk};
 ghost use Rattle.address_runs.specs.Edits.{NothingFrom};
@@ -27,9 +27,14 @@ use slit_zonelists::{Lists, run_lines};
 use std::alloc::Global;
 use zone_spans::spans;
 
-/// Takes memblock apart. What memory spans and which frames are free is read from the bytes at the two heads, and from
-/// nothing else (`free_area_init`, `memblock_free_all`). The zones get their order for each node (`build_zonelists`), and the page script is
-/// carried out on a copy of the free frames, of which nothing is taken at first.
+/// Takes memblock apart and returns all that the boot made. What memory spans and which frames are
+/// free is read only from the bytes at the two heads (`free_area_init`, `memblock_free_all`). Each
+/// node gets its order of zones (`build_zonelists`). Then the page script runs on a copy of the
+/// free frames, which begins with no frame allocated.
+///
+/// # Errors
+///
+/// Out of memory, before any result is returned.
 pub fn hand_over_memory(
     alloc: Global,
     memblock: Memblock,

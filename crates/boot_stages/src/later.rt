@@ -1,5 +1,6 @@
-//! The stages behind the map, in their order: memory, nodes, the crash area, the script around the sections. Each is one call that
-//! speaks of memblock alone, and ends as its definition says (`StageEnds`); its stop becomes the boot's here.
+//! Runs the stages after the map in their order: memory, nodes, the crash area, and the early
+//! script with the sections placed in the middle of it. Each stage is one call over memblock that
+//! ends as its definition says (`StageEnds`). Its error is turned into the boot's error here.
 
 ghost use Rattle.std.specs.Prelude.{◌≡◌, ◌^◌, [], Ok, IfOk, IfErr};
 ghost use Rattle.address_runs.specs.Runs.{AreRuns};
@@ -27,7 +28,7 @@ use sparse_sections::{Roots, place_roots, present};
 use stage_model::StageStop;
 use std::alloc::Global;
 
-/// What the stages make, beside what memblock holds.
+/// The results of the stages, except for what memblock itself holds.
 #[derive(Drop)]
 pub struct Later {
     pub nodes: Nodes,
@@ -37,7 +38,8 @@ pub struct Later {
     pub answers: Vec<Answer>,
 }
 
-/// Places the roots of the sections that have memory, and then their usage data and maps (`sparse_init`).
+/// Places the section roots, and then the usage data and maps of the sections that have memory
+/// (`sparse_init`).
 fn place_sections(
     alloc: Global,
     memblock: &mut Memblock,
@@ -55,7 +57,13 @@ fn place_sections(
     Ok((roots, placed))
 }
 
-/// Runs the stages in their order, over a memblock to which nothing happened yet, for a map that the boot goes on with.
+/// Runs the stages after the map in their order. Nothing may have happened to `memblock` yet, and
+/// `map` must be one that the boot goes on with.
+///
+/// # Errors
+///
+/// - the stop of the first stage that fails
+/// - out of memory, in any stage
 pub fn run_stages(
     alloc: Global,
     memblock: &mut Memblock,

@@ -1,5 +1,6 @@
-//! What the boot's contract says once the table has answered. By the contract alone want of memory may come in
-//! place of any stop; that a stop at the map is decided by then, with no more memory, stands here beside it.
+//! The law about the boot's first stages. The contract of `boot` alone allows out of memory in
+//! place of any stop. This law adds that the table's answer for its map already decides a stop at
+//! the map.
 
 ghost use Rattle.e820_model.specs.Map.{map_of};
 ghost use Rattle.bm_base.specs.Answers.{Answers};
@@ -8,8 +9,9 @@ ghost use Rattle.e820_sanitise.specs.Room.{in_room};
 ghost use Rattle.boot_model.specs.Boot.{Given, claims};
 ghost use Rattle.boot_stages.specs.Boots.{IsDecided, MapAnswer};
 
-/// A law: once the table has told the map, or the number of runs that it has no room for, what the boot
-/// comes to is decided, and what decides it wants no memory.
+/// Law: the table's answer for its map decides how the boot's first stages end. If it is a map,
+/// the map's frames are judged. If it is a number of runs that the map has no room for, the boot
+/// stops with it. Of an answer that is out of memory the law says nothing.
 pub fn map_is_judged()
     ensures { (given : Given) (answer : MapAnswer) →
         Answers faults.Memory (λ runs. runs.items) answer (in_room (map_of (claims given))) →

@@ -1,22 +1,25 @@
-//! The boot: from the inputs to what it makes of them, stage by stage.
+//! Runs the whole boot, stage by stage: from the inputs to the free frames and the reports' data
+//! (`setup_arch` up to `mem_init`).
 //!
-//! [`boot`] follows the definition of `boot_model` (`specs/Boot.antt`): the entries, the extension's
-//! and the options come into one table of claims, the table settles after each, the BIOS's part is
-//! trimmed, and the map of what is claimed is judged. Each step's contract is the link of the chain
-//! that it carries out.
+//! [`boot`] follows the definition `boot` in `specs/Boot.antt` of `boot_model`. Each function here
+//! carries out one stage of that definition, and its contract is the stage's equation:
 //!
-//! Behind the map memory comes up (`src/memory.rt`): the first claims, the runs of the map as memory, whole
-//! frames of it, what of it is mirrored, and the first MiB, each a call of memblock in the order of what is wanted. A table that has to
-//! grow and finds no place stops the boot.
+//! - `src/map.rt`: The zero page's entries, the extension's entries and the options' edits go into
+//!   one table of claims. The table is settled after each of the three. Then the BIOS range is
+//!   trimmed and the finished map is judged.
+//! - `src/memory.rt`: The first claims are made, the map's runs become memory in whole frames,
+//!   mirrored memory is marked, and the first MiB is claimed. Each step is one call of memblock.
+//! - `src/later.rt`: Nodes, the crash area, the early script and the sections follow. Each is one
+//!   call over memblock.
+//! - `src/handover.rt`: memblock's bytes become the free frames of the page allocator. The page
+//!   script runs on a copy of them.
 //!
-//! Each stage behind the map is one call over memblock (`src/later.rt`). The handover comes last (`src/handover.rt`), with the page script on
-//! a copy of the free frames.
+//! A table that must grow and finds no place stops the boot.
 //!
-//! What judges takes no memory: it answers a [`Cause`](boot_model::Cause), which want of memory isn't.
-//! So a boot that stops at its map says so whenever the table could tell the map at all
-//! ([`map_is_judged`]).
-//!
-//! The layer above may rest on this: the answer is the definition's, or want of memory.
+//! The layer above may rest on this: the result of [`boot`] is that of the definition, or the
+//! program is out of memory. The law [`map_is_judged`] says that the table's answer for its map
+//! decides how the first stages end. A law is an empty function whose contract is a proven fact.
+//! In contracts, a name means the definition in `specs/`, here or in a crate below.
 #![tactic(auto)]
 
 mod handover;

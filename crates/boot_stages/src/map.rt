@@ -1,5 +1,5 @@
-//! The first stages: the claims of the finished map, the map, and whether a boot goes on with it. They need no
-//! memblock: of the table of claims (`e820_sanitise`) the stages behind them get the runs of the map alone.
+//! Makes the finished map and judges whether a boot goes on with it. These stages don't need
+//! memblock. The later stages get only the map's runs from the table of claims (`e820_sanitise`).
 
 ghost use Rattle.std.specs.Prelude.{◌≡◌, ◌↔◌, IfOk, IsErrOf, OnOk};
 ghost use Rattle.address_runs.specs.Runs.{AreRuns, value_at};
@@ -20,8 +20,13 @@ use e820_table::Entry;
 use e820_usable::judge;
 use std::alloc::Global;
 
-/// The table of the finished map: the zero page's entries, the extension's, the options' edits, and the entries that are
-/// added behind them.
+/// Returns the table of the finished map: the zero page's entries, the extension's entries, the
+/// options' edits, and the entries `added` after the edits. Each part is settled, and the BIOS
+/// range is trimmed (`trim_bios_range`).
+///
+/// # Errors
+///
+/// Out of memory.
 pub fn finished_table(
     alloc: Global,
     entries: &[Entry],
@@ -43,8 +48,8 @@ pub fn finished_table(
     Ok(table)
 }
 
-/// The entries of the firmware's own map, where there is one and the command line asks for them; else none
-/// (`add_efi_memmap`).
+/// Returns the entries of the firmware's own map if there is one and the command line asks for
+/// them; else none (`add_efi_memmap`).
 pub fn added_entries(inputs: &Inputs) -> &[Entry]
     ensures value { result.now ≡ added (inputs_view inputs.now) }
     ensures space { EntriesFit result.now }
@@ -55,7 +60,7 @@ pub fn added_entries(inputs: &Inputs) -> &[Entry]
     }
 }
 
-/// Appends the entries, and settles the table (`e820__memory_setup`, `e820__memory_setup_extended`).
+/// Appends `entries` and settles the table (`e820__memory_setup`, `e820__memory_setup_extended`).
 fn append_settled(table: &mut Table, entries: &[Entry]) -> Result<(), Memory>
     requires { EntriesFit entries.now }
     ensures { OnOk result (claims_of table.new ≡ with_extension entries.now (claims_of table.old)) }
@@ -64,7 +69,7 @@ fn append_settled(table: &mut Table, entries: &[Entry]) -> Result<(), Memory>
     table.settle()
 }
 
-/// Edits the table, appends the entries that are added (`do_add_efi_memmap`), and settles it
+/// Makes the edits, appends the entries `added` (`do_add_efi_memmap`), and settles the table
 /// (`e820__finish_early_params`).
 fn edit_settled(table: &mut Table, edits: &[Edit], added: &[Entry]) -> Result<(), Memory>
     requires types { HaveTypes edits.now }
@@ -77,9 +82,14 @@ fn edit_settled(table: &mut Table, edits: &[Edit], added: &[Entry]) -> Result<()
     append_settled(table, added)
 }
 
-/// The map that the table answers, where a boot goes on with it: it has usable frames within reach, and
-/// not too many. `reach` is the address behind the last one in reach. Takes no memory: `Memory` is answered exactly
-/// where that was the table's own answer.
+/// Returns the map of the table's answer if the boot goes on with it: it has usable frames below
+/// the address `reach`, and not too many. Takes no memory.
+///
+/// # Errors
+///
+/// - `MapFull`: the map has too many runs
+/// - the error for the judgement of the frames below `reach`, if it refuses the map
+/// - `Memory`: exactly if the table's answer was `Memory`
 pub fn judged_map(answer: Result<Vec<Run>, MapFault>, reach: u64) -> Result<Vec<Run>, Stop>
     requires { IfOk answer (λ runs. AreRuns runs.items) }
     ensures answers { Answers Stop.Memory (λ runs. runs.items) result (judged_answer reach answer) }
@@ -93,7 +103,8 @@ pub fn judged_map(answer: Result<Vec<Run>, MapFault>, reach: u64) -> Result<Vec<
     }
 }
 
-/// The map, unless the boot stops at it. Takes no memory.
+/// Returns the map, or the stop if the judgement of its frames below `reach` refuses it. Takes no
+/// memory.
 fn go_on(map: Vec<Run>, reach: u64) -> Result<Vec<Run>, Stop>
     requires { AreRuns map.items }
     ensures answers { Answers Stop.Memory (λ runs. runs.items) result

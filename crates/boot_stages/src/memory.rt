@@ -1,5 +1,6 @@
-//! Memory by the map: the first claims, what the map says is memory and what of it is mirrored, and the first MiB. Each call carries out a part of
-//! the list of what a boot wants, in its order; the growth that comes between is memblock's.
+//! Makes memory from the map: the first claims, the runs of memory, mirrored memory, and the first
+//! MiB. Each call carries out a part of the definition's list of items (`first_items`), in its
+//! order. memblock may grow its tables between the items.
 
 ghost use Rattle.std.specs.Prelude.{◌≡◌, ◌-◌, ◌+◌, ◌<◌, [], min, map, IfSome, OnOk};
 ghost use Rattle.std.specs.List.{All};
@@ -28,14 +29,14 @@ use memblock_grow::{Memblock, no_items_no_change};
 use memblock_model::Which;
 use memblock_ranges::Tables;
 
-/// The bytes from 0 up to the address.
+/// Returns the range of the addresses from 0 to below `at`.
 fn up_to(at: u64) -> Range
     ensures { result ≡ up_to at }
 {
     Range { base: 0, size: at }
 }
 
-/// The kernel's image, the first 64 KiB and the initrd are claimed, before anything else happens
+/// Claims the kernel's image, the first 64 KiB and the initrd, before anything else happens
 /// (`early_reserve_memory`).
 fn claim_early(memblock: &mut Memblock, kernel: Range, initrd: Option<Range>) -> Result<(), Refusal>
     requires first { memblock.old.journal.items ≡ [] }
@@ -55,8 +56,9 @@ fn claim_early(memblock: &mut Memblock, kernel: Range, initrd: Option<Range>) ->
     }
 }
 
-/// What firmware keeps for a driver is claimed, and memory is added below `reach`, as far as the kernel's tables go; of any
-/// other run nothing is wanted (`e820__memblock_setup`).
+/// Claims the run if firmware keeps it for a driver (`E820_TYPE_SOFT_RESERVED`). If it is memory,
+/// adds the part of it below `reach`, where the kernel's tables of memory end. Ignores other types
+/// (`e820__memblock_setup`).
 fn add_run(memblock: &mut Memblock, run: &Run, reach: u64) -> Result<(), Refusal>
     requires some { 0 < run.now.size }
     requires begun { HasBegun memblock.old.journal.items }
@@ -76,7 +78,7 @@ fn add_run(memblock: &mut Memblock, run: &Run, reach: u64) -> Result<(), Refusal
     memblock.add_memory(below_limit(range, reach))
 }
 
-/// The part of the range, which begins below `reach`, that lies below it.
+/// Returns the part of `range` that lies below `reach`. The range must begin below `reach`.
 fn below_limit(range: Range, reach: u64) -> Range
     requires { range.base < reach }
     ensures { result ≡ record { base = range.base; size = min (range.base + range.size) reach - range.base } }
@@ -91,7 +93,7 @@ fn below_limit(range: Range, reach: u64) -> Range
     }
 }
 
-/// The runs of the map, one after another.
+/// Claims or adds each run of the map, as `add_run` does.
 fn add_map(memblock: &mut Memblock, map: &[Run], reach: u64) -> Result<(), Refusal>
     requires runs { AreRuns map.now }
     requires begun { HasBegun memblock.old.journal.items }
@@ -107,7 +109,7 @@ fn add_map(memblock: &mut Memblock, map: &[Run], reach: u64) -> Result<(), Refus
     Ok(())
 }
 
-/// The end of the last record of memory, 0 without one (`memblock_end_of_DRAM`).
+/// Returns the end of the last record of memory, or 0 if there is none (`memblock_end_of_DRAM`).
 fn end_of_memory(tables: &Tables) -> u64
     ensures { result ≡ end_of_runs tables.now.memory.records }
 {
@@ -119,7 +121,8 @@ fn end_of_memory(tables: &Tables) -> u64
     last.base + last.size
 }
 
-/// Where it was asked for, places are looked for from the lowest address up (`memblock_set_bottom_up`).
+/// Makes searches go from the lowest address up if `upward` is set (`memblock_set_bottom_up`).
+/// Changes nothing if it isn't.
 fn turn_upward(memblock: &mut Memblock, upward: bool) -> Result<(), Refusal>
     requires { HasBegun memblock.old.journal.items }
     ensures ends { StageEnds (items_carried (direction_items upward)) refusal_for result
@@ -133,7 +136,8 @@ fn turn_upward(memblock: &mut Memblock, upward: bool) -> Result<(), Refusal>
     Ok(())
 }
 
-/// The first claims are made, and allocations stay in the first MiB until memory is known.
+/// Makes the first claims, limits allocations to the first MiB until memory is known, and sets the
+/// direction of searches.
 fn begin_memory(memblock: &mut Memblock, inputs: &Inputs) -> Result<(), Refusal>
     requires first { memblock.old.journal.items ≡ [] }
     requires kernel { inputs.now.kernel ≡ memblock.old.kernel }
@@ -147,7 +151,8 @@ fn begin_memory(memblock: &mut Memblock, inputs: &Inputs) -> Result<(), Refusal>
     turn_upward(memblock, inputs.upward)
 }
 
-/// The memory of the ranges, which are whole frames, is mirrored, one after another (`efi_find_mirror`).
+/// Marks the memory of each range as mirrored (`efi_find_mirror`). The ranges must be whole
+/// frames.
 fn add_mirrors(memblock: &mut Memblock, mirrors: &[Range]) -> Result<(), Refusal>
     requires whole { All IsMirror mirrors.now }
     requires begun { HasBegun memblock.old.journal.items }
@@ -163,7 +168,8 @@ fn add_mirrors(memblock: &mut Memblock, mirrors: &[Range]) -> Result<(), Refusal
     Ok(())
 }
 
-/// What the words say is mirrored, and then what the firmware's own map says.
+/// Marks the ranges that the command words name as mirrored, and then those of the firmware's own
+/// map.
 fn mirror_memory(memblock: &mut Memblock, inputs: &Inputs) -> Result<(), Refusal>
     requires { HasBegun memblock.old.journal.items }
     ensures ends { StageEnds (items_carried (mirror_items (mirrors_of (inputs_view inputs.now)))) refusal_for result
@@ -178,7 +184,8 @@ fn mirror_memory(memblock: &mut Memblock, inputs: &Inputs) -> Result<(), Refusal
     }
 }
 
-/// The map becomes memory, whole frames of it (`e820__memblock_setup`), of which some are mirrored.
+/// Makes the map's runs memory, trims memory to whole frames (`e820__memblock_setup`), and marks
+/// what is mirrored.
 fn map_memory(memblock: &mut Memblock, inputs: &Inputs, map: &[Run]) -> Result<(), Refusal>
     requires begun { HasBegun memblock.old.journal.items }
     requires runs { AreRuns map.now }
@@ -192,8 +199,8 @@ fn map_memory(memblock: &mut Memblock, inputs: &Inputs, map: &[Run]) -> Result<(
     mirror_memory(memblock, inputs)
 }
 
-/// What is allocated stays below the address, and the first MiB is claimed (`memblock_set_current_limit`,
-/// `reserve_real_mode`).
+/// Limits allocations to addresses below `end` (`memblock_set_current_limit`), and claims the
+/// first MiB (`reserve_real_mode`).
 fn limit_memory(memblock: &mut Memblock, end: u64) -> Result<(), Refusal>
     requires { HasBegun memblock.old.journal.items }
     ensures ends { StageEnds (items_carried (ending end)) refusal_for result
@@ -205,7 +212,13 @@ fn limit_memory(memblock: &mut Memblock, end: u64) -> Result<(), Refusal>
     memblock.claim(up_to(ISA_END_ADDRESS), Owner::Low1M)
 }
 
-/// Makes memory as the map says it within reach, with what is claimed before nodes are known, in a memblock to which nothing happened yet.
+/// Makes memory from the map, as far as the kernel's tables of memory reach, and makes the claims
+/// that come before nodes are known. Nothing may have happened to `memblock` yet.
+///
+/// # Errors
+///
+/// - a table must grow and finds no place
+/// - out of memory
 pub fn make_memory(memblock: &mut Memblock, inputs: &Inputs, map: &[Run]) -> Result<(), Refusal>
     requires first { memblock.old.journal.items ≡ [] }
     requires kernel { inputs.now.kernel ≡ memblock.old.kernel }

@@ -1,6 +1,6 @@
-//! The boot, whole: the stages in their order. What each of them does stands elsewhere; here it is argued that
-//! one behind the other they come to what the definition says, and that the headline holds of the answer
-//! (`conservation`).
+//! The whole boot: the stages in their order. Each stage is proved elsewhere. Here they are proved
+//! to be, one after another, what the definition says. So the facts of `conservation` hold for the
+//! result.
 
 ghost use Rattle.std.specs.Prelude.{◌≡◌, ℕ, Ok, IfOk};
 ghost use Rattle.address_runs.specs.Runs.{AreRuns};
@@ -24,17 +24,32 @@ use e820_sanitise::Run;
 use memblock_grow::Memblock;
 use std::alloc::Global;
 
-/// The boot (`setup_arch`), up to what it hands over (`mem_init`): the entries, the extension's and the options come into
-/// one table, the BIOS's part of it is trimmed (`trim_bios_range`), its map is judged, and what it says is
-/// memory becomes memory (`e820__memblock_setup`). Memory gets its nodes (`initmem_init`), the crash area is reserved
-/// (`reserve_crashkernel`), the lines of the early script are carried out around the places of the sections (`sparse_init`),
-/// and the frames of which nobody has a byte are free (`memblock_free_all`). Each node's requests get their order of zones
-/// (`build_zonelists`), and the lines of the page script are carried out on a copy of the free frames.
+/// Runs the boot (`setup_arch`) up to the handover (`mem_init`) and returns all that it made. The
+/// boot takes these steps in order:
 ///
-/// The map is refused exactly where the definition stops: first where it has more than 3,200 runs, then where no
-/// frame of it is usable, then where more than 2^32 are. Behind it the boot stops exactly where a table had to grow
-/// and found no place, or a thing that it can't do without found none; a line of the script that is refused is answered,
-/// and the boot goes on.
+/// 1. The zero page's entries, the extension's entries and the options' edits go into one table.
+///    The BIOS range is trimmed (`trim_bios_range`), and the map is judged.
+/// 2. The map's memory becomes memblock's memory (`e820__memblock_setup`).
+/// 3. Memory gets its nodes (`initmem_init`).
+/// 4. The crash area is reserved (`reserve_crashkernel`).
+/// 5. The early script runs, and the sections are placed in the middle of it (`sparse_init`).
+/// 6. The frames in which no byte is claimed become free (`memblock_free_all`).
+/// 7. Each node gets its order of zones (`build_zonelists`), and the page script runs on a copy of
+///    the free frames.
+///
+/// A refused line of a script is answered, and the boot goes on.
+///
+/// # Errors
+///
+/// In this order, as the definition stops:
+///
+/// - the map has more than 3,200 runs
+/// - no frame of the map is usable
+/// - more than 2^32 frames are usable
+/// - a table must grow and finds no place, or the boot finds no place for something that it can't
+///   do without
+///
+/// Out of memory may come in place of each of these.
 pub fn boot(alloc: Global, inputs: Inputs) -> Result<Booted, Stop>
     ensures boots { Answers Stop.Memory booted_view result
         (with_error stop_of (told_boot (inputs_view inputs))) }
@@ -57,7 +72,11 @@ pub fn boot(alloc: Global, inputs: Inputs) -> Result<Booted, Stop>
     Ok(hand_over_memory(alloc, memblock, inputs, map, later)?)
 }
 
-/// The map of the finished table's claims, where the boot goes on with it.
+/// Returns the map of the finished table's claims if the boot goes on with it.
+///
+/// # Errors
+///
+/// The stops of `judged_map`, and out of memory.
 fn settled_map(alloc: Global, inputs: &Inputs) -> Result<Vec<Run>, Stop>
     ensures answers { Answers Stop.Memory (λ map. begin_with map.items (inputs_view inputs.now).options) result
         (with_error stop_of (map_judged (inputs_view inputs.now))) }

@@ -1,4 +1,5 @@
--- Both tables stand in the bytes, and behind the nodes the table of memory is whole frames.
+-- Both tables stand in the bytes. After the nodes are assigned, the memory table covers whole
+-- frames.
 use Rattle.std.proofs.Common.{◌≡◌, ◌∙◌, ℕ, List, ap, sym, arith}
 use Rattle.boot_journal.specs.Contents.{Contents as Journal}
 use Rattle.memblock_model.specs.declared.owner.Which.TheVariants as which
@@ -66,7 +67,7 @@ returns-clause-reserved c =
       records = ap (λ (j : Journal). records_of which.Reserved j.items) (sym c.into_parts-store.ensures.journal);
     }
 
--- of the inputs' facts one is named wherever they are dropped, and the others are found
+-- One of the inputs' facts is named wherever the inputs are dropped. The others are found.
 pub invariant_of-inputs-clause-entries_end : goal.invariant_of-inputs-clause-entries_end
 invariant_of-inputs-clause-entries_end c = c.args.inputs.entries_end
 

@@ -1,4 +1,4 @@
--- The roots are placed, and behind them the maps.
+-- The roots are placed, and then the section maps.
 use Rattle.std.proofs.Common.{◌≡◌, ◌∙◌, ◌^◌, List, ap, sym, subst, arith}
 use Rattle.std.specs.List.{All}
 use Rattle.address_runs.specs.Runs.{RunOf, value_at}
@@ -17,7 +17,7 @@ use Rattle.boot_stages.proofs.PlaceLaws.{places-all, places-first, places-second
 use Rattle.boot_stages.proofs.later.place_sections.Goals as goal
 use Rattle.boot_stages.proofs.later.place_sections.Goals.{After-deref}
 
--- the sections that were listed are those of memory
+-- the sections that `present` lists are those of memory
 listed : (c : After-deref) → c.deref.result.now ≡ present (memory_of c.args.memblock.now.journal.items)
 listed c =
     c.deref.ensures.value ∙ c.in_ok-sections.ensures ∙ ap (λ (t : Table). present (value_at t.records)) c.tables.ensures.memory

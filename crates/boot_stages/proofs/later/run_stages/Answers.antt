@@ -1,4 +1,4 @@
--- Each call is a link of the chain; the first that stops ends it.
+-- Each call is one stage of the sequence. The first one that stops ends it.
 use Rattle.std.proofs.Common.{◌≡◌, ◌∙◌, ℕ, ◌^◌, List, [], ◌∷◌, Ok, ap, drop, take}
 use Rattle.address_runs.specs.Runs.{RunOf}
 use Rattle.memblock_model.specs.declared.item.Item.{Item}
@@ -28,11 +28,12 @@ use Rattle.boot_stages.proofs.StagesLaws.{Row, noded-within, row-first, row-line
 use Rattle.boot_stages.proofs.later.run_stages.Goals as goal
 use Rattle.boot_stages.proofs.later.run_stages.Goals.{In_ok-crash, In_ok-make_memory, In_ok-nodes, In_ok-roots, In_ok-run_lines}
 
--- what is known behind so many of the stages
+-- what is known after the first `n` stages
 abbrev Behind : Given → List (RunOf ℕ) → ℕ → BootSoFar → Contents → Ids → List Answer → Type 0
 Behind given map n base m ids answers = Row given map (take n (later_stages given)) base m ids answers
 
--- the map alone, with nodes, and with the crash area
+-- this and the next two: what the boot made with the map alone, with nodes too, and with the crash
+-- area too
 abbrev with_map : Given → List (RunOf ℕ) → BootSoFar
 with_map given map = begin_with map given.options
 
@@ -147,7 +148,7 @@ returns-in_err-roots-clause-stopped c =
     (made_by_lines (with_crash given c.args.map.now c.in_ok-nodes.nodes c.in_ok-crash.crash) c.run_lines.new.mb c.run_lines.new.live _
     c.run_lines.new.answers.items) _ _ stop c.in_err-roots.ensures.ends told other))
 
--- what the calls ask for
+-- what the calls require
 pub assign-requires-clause-limit : goal.assign-requires-clause-limit
 assign-requires-clause-limit c =
     let given : Given = inputs_view c.args.inputs.now in

@@ -1,4 +1,4 @@
--- The edits that are left make of the table's claims what all of them make of those before.
+-- The edits that remain make of the table's claims what all the edits make of the claims at first.
 use Rattle.std.proofs.Common.{◌≡◌, drop}
 use Rattle.e820_model.specs.Claims.{HaveTypes, after_edits}
 use Rattle.e820_model.specs.Map.{claims_of}

@@ -1,4 +1,4 @@
--- Each run's items are the first of those that are left.
+-- Each run's items are the first of the remaining ones.
 use Rattle.std.proofs.Common.{Ok, arith}
 use Rattle.std.proofs.lemmas.List.{at_drop_all}
 use Rattle.memblock_grow.proofs.GoingLaws.{goes-then}

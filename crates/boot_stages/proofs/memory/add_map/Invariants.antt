@@ -1,4 +1,5 @@
--- Of the map's items those before were carried out, and those of what is left of the map are left.
+-- Of the map's items those before this run were carried out. The rest are those of the remaining
+-- runs.
 use Rattle.std.proofs.Common.{drop}
 use Rattle.address_runs.specs.Runs.{AreRuns}
 use Rattle.growth_model.specs.Sound.{HasBegun}

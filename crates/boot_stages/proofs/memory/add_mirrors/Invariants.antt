@@ -1,4 +1,5 @@
--- Of the mirrors' items those before were carried out, and those of the mirrors that are left are left.
+-- Of the mirrors' items those before this one were carried out. The rest are those of the
+-- remaining ranges.
 use Rattle.std.proofs.Common.{drop, map}
 use Rattle.growth_model.specs.Sound.{HasBegun}
 use Rattle.early_stages.specs.Wanted.{mirror_items}

@@ -1,4 +1,4 @@
--- By the run's type and place it is one item, or none.
+-- The run is one item or none, by its type and place.
 use Rattle.std.proofs.Common.{◌≡◌, ℕ, ◌<◌, Some, true, Ok, ap, sym, ◌∙◌, subst, inl, inr, arith}
 use Rattle.bm_base.specs.Range.{RangeView}
 use Rattle.address_runs.specs.Runs.{RunOf}

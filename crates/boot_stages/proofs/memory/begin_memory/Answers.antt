@@ -1,4 +1,4 @@
--- The claims, a limit behind them, and the direction: those before an error were carried out.
+-- The claims, the limit and the direction: the items before an error were carried out.
 use Rattle.std.proofs.Common.{◌∷◌, refl, ap, arith}
 use Rattle.memblock_model.specs.declared.item.Item.TheVariants as item
 use Rattle.early_stages.specs.declared.low.TheConstants.{ISA_END_ADDRESS}
@@ -14,7 +14,7 @@ use Rattle.boot_stages.proofs.ExitLaws.{exit}
 use Rattle.boot_stages.proofs.memory.begin_memory.Goals as goal
 use Rattle.boot_stages.proofs.memory.begin_memory.Goals.{After-set_limit}
 
--- behind the limit memblock went on
+-- memblock went on after the limit
 limited : (c : After-set_limit) → GoesOn c.args.memblock.now c.set_limit.new.self
 limited c =
     goes-then _ _ _ c.in_ok-claim_early.ensures.goes_on

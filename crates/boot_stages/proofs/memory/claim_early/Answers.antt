@@ -1,4 +1,4 @@
--- Each claim is one item, and behind the first something happened.
+-- Each claim is one item. Something has happened after the first.
 use Rattle.std.proofs.Common.{Ok, refl}
 use Rattle.memblock_model.specs.declared.owner.Owner.TheVariants as owner
 use Rattle.memblock_model.specs.declared.item.Item.TheVariants as item
@@ -12,7 +12,7 @@ use Rattle.boot_stages.proofs.ExitLaws.{exit}
 use Rattle.boot_stages.proofs.memory.claim_early.Goals as goal
 use Rattle.boot_stages.proofs.memory.claim_early.Goals.{After-claim-2, In_ok-claim-2}
 
--- behind the second claim memblock went on, and something happened
+-- memblock went on after the second claim, and something has happened
 claimed_both : (c : After-claim-2) → GoesOn c.args.memblock.now c.claim-2.new.self
 claimed_both c =
     goes-then _ c.claim.new.self _ c.claim.ensures.goes_on

@@ -1,4 +1,4 @@
--- The last record, as its table tells it.
+-- The last record, read from its table.
 use Rattle.std.proofs.Common.{◌≡◌, ◌+◌, ◌-◌, List, length, get_or, ap, sym, ◌∙◌, arith}
 use Rattle.address_runs.specs.Runs.{RunOf, run_end}
 use Rattle.memblock_model.specs.Labels.{LabelView, plain_label}

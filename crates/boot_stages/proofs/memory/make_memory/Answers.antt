@@ -1,4 +1,4 @@
--- Three parts of what is wanted: behind the second the table of memory tells the limit of the third.
+-- Three parts of items: after the second the memory table gives the limit of the third.
 use Rattle.std.proofs.Common.{◌≡◌, [], ◌++◌, Ok, ap, sym, ◌∙◌}
 use Rattle.address_runs.specs.Runs.{value_at}
 use Rattle.memblock_ranges.specs.Tables.{Table}

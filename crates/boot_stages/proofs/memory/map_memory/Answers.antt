@@ -1,4 +1,4 @@
--- The runs of the map, a trim, and the mirrors: those before an error were carried out.
+-- The runs of the map, a trim, and the mirrors: the items before an error were carried out.
 use Rattle.std.proofs.Common.{◌∷◌, refl, ap, arith}
 use Rattle.memblock_model.specs.declared.item.Item.TheVariants as item
 use Rattle.memblock_grow.specs.Contents.{Contents as Memblock}
@@ -13,7 +13,7 @@ use Rattle.boot_stages.proofs.ExitLaws.{exit}
 use Rattle.boot_stages.proofs.memory.map_memory.Goals as goal
 use Rattle.boot_stages.proofs.memory.map_memory.Goals.{After-trim}
 
--- behind the trim memblock went on
+-- memblock went on after the trim
 trimmed : (c : After-trim) → GoesOn c.args.memblock.now c.trim.new.self
 trimmed c =
     goes-then _ _ _ c.in_ok-add_map.ensures.goes_on c.trim.ensures.goes_on

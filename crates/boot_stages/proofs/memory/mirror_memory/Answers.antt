@@ -1,4 +1,4 @@
--- The mirrors of the words, and then those of the firmware's map, if there is one.
+-- The mirrors of the command words, and then those of the firmware's map if there is one.
 use Rattle.std.proofs.Common.{◌++◌, List, Result, Ok, map, sym, subst}
 use Rattle.memblock_model.specs.declared.item.Item.{Item}
 use Rattle.growth_model.specs.declared.refusal.Refusal.{Refusal}

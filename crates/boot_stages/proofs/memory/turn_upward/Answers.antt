@@ -1,4 +1,4 @@
--- The direction is one item, or none.
+-- The direction is one item or none.
 use Rattle.std.proofs.Common.{true, Ok, refl, ap, arith}
 use Rattle.memblock_model.specs.declared.item.Item.TheVariants as item
 use Rattle.memblock_grow.specs.Contents.{Contents as Memblock}

@@ -1,5 +1,5 @@
--- What is decided for the map is decided for the boot, and behind it what the stages come to; what the definition makes of each frame,
--- the answer does.
+-- What the boot decides for the map and what the stages then make. The facts of `conservation`,
+-- which are proved for each frame of the definition, hold for the result.
 use Rattle.std.proofs.Common.{◌≡◌, ℕ, List, [], ◌^◌, Ok, ap, subst, sym, ◌∙◌}
 use Rattle.address_runs.specs.Runs.{RunOf}
 use Rattle.boot_journal.specs.Contents.{Contents}
@@ -58,7 +58,7 @@ returns-in_err-later-clause-boots c =
     told_stops _ given _ c.in_err-later.field-0.0 (exit _ _ c.from_residual-in_err-later.ensures.1)
     (λ other. ap (with_error stop_of) left ∙ (rw c.deref.ensures.value at c.in_err-later.ensures.stopped) other)
 
--- what is known where all stages were run
+-- what is known after all stages have run
 record Made (given : Given) (map : List (RunOf ℕ)) (m : Memblock) (later : Later) : Type 0 where
   run : AreRun given map m later
   boots : boot given ≡ Ok (made_behind given map m later run.ids run.fills)
@@ -82,7 +82,7 @@ hand_over_memory-requires-clause-noded c = (made (goal.at.hand_over_memory-requi
 pub hand_over_memory-requires-clause-kernel : goal.hand_over_memory-requires-clause-kernel
 hand_over_memory-requires-clause-kernel c = (made (goal.at.hand_over_memory-requires-clause-kernel c).In_ok-later).run.kernel
 
--- what the type of memblock holds
+-- what the type of memblock guarantees
 pub hand_over_memory-requires-clause-tables : goal.hand_over_memory-requires-clause-tables
 hand_over_memory-requires-clause-tables c = λ w.
     subst (λ (m : Memblock). table_in w m.tables ≡ table_for w m.kernel m.journal.items) c.memblock.view_is
@@ -132,7 +132,7 @@ pub returns-clause-none_paged : goal.returns-clause-none_paged
 returns-clause-none_paged c =
     no_other_in_one_or_held (inputs_view c.args.inputs) _ (told_ok stop_of _ _ (returns-clause-boots c)) c.args.inputs.orders_fit
 
--- of the inputs' facts one is named wherever they are dropped, and the others are found
+-- One of the inputs' facts is named wherever the inputs are dropped. The others are found.
 pub invariant_of-inputs-clause-entries_end : goal.invariant_of-inputs-clause-entries_end
 invariant_of-inputs-clause-entries_end c = c.args.inputs.entries_end
 
