@@ -1,4 +1,4 @@
--- What holds of a boot that isn't stopped.
+-- Facts about a boot that isn't stopped.
 use Rattle.std.proofs.Common.{◌≡◌, ℕ, ◌+◌, ◌*◌, ◌^◌, ◌<◌, ◌≤◌, ◌∙◌, sym, ap, refl, arith, inl, inr, Bool, ◌||◌, true, false, ◌==◌, nat_lt, if◌then◌else◌, Option, Some, None, List, [], ◌∷◌, drop, length, Ok, Err}
 use Rattle.std.proofs.lemmas.Bool.{cases_Bool}
 use Rattle.std.proofs.lemmas.Bool.Decides.{nat_tests}
@@ -31,24 +31,25 @@ use Rattle.boot_model.proofs.ReachLaws.{reach-small}
 use Rattle.boot_model.proofs.StageLaws.{AllKeep, Keeps, chain_keeps, goes_by, passes, steps_keep}
 use Rattle.boot_model.specs.Stages.{in_order}
 
--- what is known where the stages come to an end
+-- what is known if the stages end without a stop
 pub record GoesOn (given : Given) (made : BootSoFar) : Type 0 where
   pub map : made.map ≡ map_of (claims given)
   pub fits : nat_lt E820_MAX_ENTRIES (length (map_of (claims given))) ≡ false
   pub judged : judged (types_in_reach given) ≡ None
 
--- the first two stages leave what was made as it is, and go on only where they find nothing to stop for
+-- a stage that stops if the map is full leaves what was made as it is, unless it stops
 pub room_passed : (full : Bool) (cause : Cause) (before after : BootSoFar) → (if full then Err cause else Ok before) ≡ Ok after
     → (full ≡ false) × (before ≡ after)
 room_passed true cause before after ends = absurd (cc)
 room_passed false cause before after ends = (refl, cc)
 
+-- a stage that judges the frames leaves what was made as it is, unless it stops
 pub frames_passed : (reason : Option MapStop) (before after : BootSoFar) → unless_stopped reason before ≡ Ok after
     → (reason ≡ None) × (before ≡ after)
 frames_passed None before after ends = (refl, cc)
 frames_passed (Some reason) before after ends = absurd (cc)
 
--- so behind them stands what there was at first
+-- after them, what was made is what the boot began with
 pub judged_first : (given : Given) (made : BootSoFar) → map_judged given ≡ Ok made
     → (made ≡ begin given) × (judged (types_in_reach given) ≡ None)
     × (nat_lt E820_MAX_ENTRIES (length (map_of (claims given))) ≡ false)
@@ -60,7 +61,7 @@ judged_first given made ends =
     let last : behind_frames.middle ≡ made = cc in
     (sym (room.1 ∙ frames.1 ∙ last), frames.0, room.0)
 
--- lines of the script leave the map
+-- the lines of a script leave the map as it is
 pub lines_passed : (kernel : RangeView) (lines : List Line) (before after : BootSoFar) → runs_lines kernel lines before ≡ Ok after
     → after ≡ behind_lines before (after_lines (script_at kernel before) lines)
 lines_passed kernel lines before after ends = cc
@@ -68,7 +69,7 @@ lines_passed kernel lines before after ends = cc
 pub lines_map : (kernel : RangeView) (lines : List Line) → Keeps (λ (made : BootSoFar). made.map) (runs_lines kernel lines)
 lines_map kernel lines before after ends = ap (λ (m : BootSoFar). m.map) (lines_passed kernel lines before after ends)
 
--- so does each stage behind those that judge it: one fact a stage
+-- each of the stages after those that judge it leaves the map as it is
 pub later_keep : (given : Given) → AllKeep (λ (made : BootSoFar). made.map) (later_stages given)
 later_keep given =
     let map : BootSoFar → List (RunOf ℕ) = λ made. made.map in
@@ -93,12 +94,12 @@ goes_on given made ends =
       judged = known.1;
     }
 
--- the map has each address's type
+-- the map has the type that the claims give to each address below 2^64
 pub map_between : (c : Claims) → IsRunsBetween (kinds c) 0 (2 ^ 64) (map_of c)
 unfolding map_of runs_of
 map_between c = from_runs same_kind tells_kinds (kinds c) (2 ^ 64) 0
 
--- an address lies in memory where the list gives memory
+-- an address is memory if the list gives it a memory type
 pub memory_lies : (rs : List (RunOf ℕ)) (x : ℕ) → AreRuns rs → is_memory (value_at rs x) ≡ lies_in_memory rs x
 memory_lies [] x runs = refl
 memory_lies (r ∷ rs) x runs =
@@ -110,7 +111,7 @@ memory_lies (r ∷ rs) x runs =
       | inr outside ↦ rw outside rest
     ]
 
--- the runs tell which frames are usable
+-- the runs of the map determine which frames are usable
 pub usable_lies : (given : Given) (made : BootSoFar) (frame : ℕ) → boot given ≡ Ok made → 4096 * frame + 4096 ≤ reach given
     → is_usable_frame (types_in_reach given) frame ≡ each_in (bytes_of_frame frame) (lies_in_memory made.map)
 unfolding is_usable_frame
@@ -124,7 +125,7 @@ usable_lies given made frame ends low =
     let told : is_memory (kinds c x) ≡ lies_in_memory (map_of c) x = ap is_memory (sym value) ∙ memory_lies (map_of c) x between.runs in
     rw (low_x, (goes_on given made ends).map) told))
 
--- each address below 2^64 has in the map the type that the claims give
+-- each address below 2^64 has in the map the type that the claims give it
 pub types_told : (given : Given) (made : BootSoFar) (x : ℕ) → boot given ≡ Ok made → x < 2 ^ 64
     → value_at made.map x ≡ kinds (claims given) x
 types_told given made x ends low = rw (goes_on given made ends).map ((map_between (claims given)).within x (omega arith) (omega arith))
@@ -135,11 +136,11 @@ pub frames_within : (n : ℕ) → (if n == 0 then Some reasons.NoRam else (if na
     → (0 < n) × (n ≤ 2 ^ 32)
 frames_within n fine = grind (arith, nat_tests)
 
--- a map that isn't refused has usable frames, and not too many
+-- a map that isn't refused has usable frames, at least one and at most 2^32
 pub frames_told : (given : Given) (made : BootSoFar) → boot given ≡ Ok made
     → (0 < usable_frames (types_in_reach given)) × (usable_frames (types_in_reach given) ≤ 2 ^ 32)
 frames_told given made ends = frames_within (usable_frames (types_in_reach given)) (goes_on given made ends).judged
 
--- and it is in the table's room
+-- a map that isn't refused fits in the kernel's table
 pub room_told : (given : Given) (made : BootSoFar) → boot given ≡ Ok made → length made.map ≤ E820_MAX_ENTRIES
 room_told given made ends = let known = goes_on given made ends in rw known.map (grind (arith, nat_tests, known.fits))

@@ -1,4 +1,5 @@
--- The stage that carries items out one after another comes to the items behind all of them, or to the first growth that was refused.
+-- The stage that carries out items one after another ends after all of them, or at the first
+-- growth that was refused.
 use Rattle.std.proofs.Common.{◌≡◌, List, [], ◌∷◌, ◌++◌, Option, Some, None, Result, Ok, Err, refl, sym, ◌∙◌, ap}
 use Rattle.bm_base.specs.ResultSteps.{◌>>=◌}
 use Rattle.memblock_model.specs.declared.item.Item.{Item}
@@ -13,7 +14,7 @@ use Rattle.boot_model.specs.First.{items_carried}
 use Rattle.boot_model.specs.Stop.{cause_of_growth}
 use Rattle.boot_model.proofs.StageLaws.{steps_answered}
 
--- the items behind it, or its error
+-- the items after the stage, or its error
 abbrev items_by : List Item → Done Refused (Unit {0}) → Result (List Item) Refused
 items_by items d = d.answer >>= λ done. Ok (after items d)
 
@@ -34,7 +35,7 @@ carried_said (i ∷ is) items =
     let o : Outcome = change i items in
     step_said o.steps o.refused is items (carried_said is (appended items o.steps))
 
--- so does the stage of memory
+-- the stage that makes memory ends after all of its items
 pub memory_carried : (given : Given) (made next : BootSoFar) → has_memory given made ≡ Ok next
     → carried_out (first_items (early_of given) made.map) made.items ≡ Ok next.items
 memory_carried given made next ends =

@@ -1,5 +1,5 @@
--- Small boots and their parts: what the definitions say of them. A map isn't computed, since `map_of` goes over all
--- addresses; that of empty entries follows from laws.
+-- Small boots and their parts. A map isn't computed, since `map_of` goes over all addresses. The
+-- map of empty entries follows from laws.
 use Rattle.std.proofs.Common.{◌≡◌, ℕ, ◌*◌, ◌^◌, ◌==◌, if◌then◌else◌, Bool, true, false, List, [], ◌∷◌, length, map, Some, None, Ok, Err, refl, sym, arith}
 use Rattle.std.proofs.lemmas.Bool.Decides.{nat_tests}
 use Rattle.std.specs.Prelude.{Result}
@@ -57,7 +57,7 @@ use Rattle.boot_model.specs.Stages.{in_order}
 use Rattle.boot_model.specs.Stop.{cause_of, cause_of_growth, cause_of_map, cause_of_stage, stop_by, stop_of}
 use Rattle.boot_model.specs.View.{booted_view, efi_view, inputs_view}
 
--- a chain of two stages on numbers, of which the second stops at 2
+-- this and the next: two stages on numbers, of which the second stops at 2
 abbrev doubled : ℕ → Result ℕ ℕ
 doubled n = Ok (n * 2)
 
@@ -67,7 +67,7 @@ not_two n = if n == 2 then Err 9 else Ok n
 first_stop_is_the_answer : (in_order (doubled ∷ not_two ∷ []) 3 ≡ Ok 6) × (in_order (not_two ∷ doubled ∷ not_two ∷ []) 2 ≡ Err 9)
 first_stop_is_the_answer = (refl, refl)
 
--- a map of few runs is in the table's room, and what is judged of a map stops the boot
+-- this and the next four: the values of the examples below
 abbrev two_runs : List (RunOf ℕ)
 two_runs = record { base = 0x1000; size = 0x1000; value = 1 } ∷ record { base = 0x2000; size = 0x1000; value = 2 } ∷ []
 
@@ -83,126 +83,136 @@ empty = record { addr = 0; size = 0; kind = 0 }
 abbrev of_image : Given
 of_image = begun Bits46 image
 
--- two items that need no growth are a group each
+-- two items that need no growth are two groups
 carried_example : items_carried (item.Trim ∷ item.Limit 0x2000 ∷ []) []
     ≡ record { steps = (item.Trim ∷ []) ∷ (item.Limit 0x2000 ∷ []) ∷ []; answer = Ok tt }
 unfolding items_carried
 carried_example = refl
 
--- what is told of it: both tables are empty, in the image's last two frames
+-- the report: both tables are empty and lie in the image's last two frames
 told_example : ((told of_image made).heads.memory.place ≡ 0x2FFE000) × ((told of_image made).heads.reserved.place ≡ 0x2FFF000)
 told_example = (refl, refl)
 
--- nothing is given but the kernel's place and the width; and the tables reach 64 TiB, with page tables of five levels 4 PiB
+-- only the place of the kernel and the width are given; the tables of memory reach 64 TiB, or 4
+-- PiB with page tables of five levels
 begun_example : (of_image.entries ≡ []) × (of_image.kernel ≡ image) × (of_image.options ≡ no_options) × (of_image.mirrors ≡ [])
     × (of_image.upward ≡ false) × (reach of_image ≡ 0x400000000000) × (reach_told (told of_image made) ≡ 0x400000000000)
     × (reach (begun Bits52 image) ≡ 0x10000000000000) × (reach_told (told (begun Bits52 image) made) ≡ 0x10000000000000)
 begun_example = (refl, refl, refl, refl, refl, refl, refl, refl, refl)
 
--- the first items are made of what is given
+-- the first items are computed from the inputs
 early_example : (given : Given) → ((early_of given).limit ≡ reach given) × ((early_of given).kernel ≡ given.kernel)
     × ((early_of given).initrd ≡ given.initrd) × ((early_of given).mirrors ≡ mirrors_of given) × ((early_of given).upward ≡ given.upward)
 early_example given = (refl, refl, refl, refl, refl)
 
--- the firmware's own map adds its entries where the command line asks for them
+-- a boot with a firmware's own map of one entry, which the command line asks for or not
 abbrev with_efi : Bool → Given
 with_efi asked = record of_image {
   options = record no_options { add_efi = asked };
   efi = Some (record { entries = empty ∷ []; mirrors = [] });
 }
 
+-- the firmware's own map adds its entries exactly if the command line asks for them
 added_examples : (added (with_efi true) ≡ empty ∷ []) × (added (with_efi false) ≡ [])
     × (added (record of_image { options = record no_options { add_efi = true } }) ≡ [])
 added_examples = (refl, refl, refl)
 
--- those of the words come before those of the firmware
+-- one frame, for the next example
 abbrev one_frame_from : ℕ → FrameRange
 one_frame_from first = record { first = first; count = 1 }
 
+-- the mirrored frames of the command words come before those of the firmware
 mirrors_in_order : mirrors_of (record of_image {
   mirrors = one_frame_from 9 ∷ [];
   efi = Some (record { entries = []; mirrors = one_frame_from 3 ∷ [] });
 }) ≡ one_frame_from 9 ∷ one_frame_from 3 ∷ []
 mirrors_in_order = refl
 
--- mirrored memory is whole frames, some of them, and is given by these
+-- mirrored memory is whole frames, at least one; the range and its frames
 mirror_examples : IsMirror (record { base = 0x4000000; size = 0x1000 })
     × (frames_in (record { base = 0x4000000; size = 0x1000000 }) ≡ record { first = 0x4000; count = 0x1000 })
 mirror_examples = (record { some = omega arith; at_frame = refl; of_frames = refl }, refl)
 
--- none ends amid a frame, begins amid one, or is empty
+-- no mirrored range ends in the middle of a frame, begins in the middle of one, or is empty
 no_mirrors : (IsMirror (record { base = 0x4000000; size = 0x1800 }) → ⊥)
     × (IsMirror (record { base = 0x4000800; size = 0x1000 }) → ⊥)
     × (IsMirror (record { base = 0x4000000; size = 0 }) → ⊥)
 no_mirrors = (λ known. omega (arith, known.of_frames), λ known. omega (arith, known.at_frame), λ known. omega (arith, known.some))
 
--- lists go by the table of distances, by the domains of nodes and by the spans of memory
+-- the lists follow the table of distances, the domains of the nodes and the spans of memory
 lists_example : (given : Given) (m : BootSoFar) → (told given m).lists ≡ known given.slit m.nodes.domains (told given m).spans
 lists_example given m = refl
 
--- the page script goes over what was handed over, of which nothing is taken at first
+-- the page script runs on the frames that were handed over, of which none is allocated at first
 no_page_line : (m : BootSoFar) → ((told of_image m).page_answers ≡ []) × ((told of_image m).after ≡ nothing_taken (told of_image m).free)
 no_page_line m = (refl, refl)
 
+-- a line that names an unknown ID is answered
 page_line : (m : BootSoFar) → (told (record of_image { page_lines = record { number = 2; act = pages.Give 7 } ∷ [] }) m).page_answers
     ≡ record { line = 2; outcome = outcome.Unknown } ∷ []
 page_line m = refl
 
--- at first nothing happened, no node has memory, no frame is uncovered, and nothing of sections is placed
+-- at first nothing has happened, no node has memory, no frame is uncovered, and no section is
+-- placed
 nothing_yet : (made.items ≡ []) × (made.crash ≡ crash.Nothing) × (made.ids ≡ []) × (made.fills ≡ []) × (made.answers ≡ [])
     × (no_nodes.domains ≡ []) × (no_nodes.uncovered ≡ 0) × (no_nodes.with_memory ≡ [])
     × (no_sections.roots.table ≡ 0) × (no_sections.roots.roots ≡ []) × (no_sections.placed ≡ [])
 nothing_yet = (refl, refl, refl, refl, refl, refl, refl, refl, refl, refl, refl)
 
--- lines begin where those before them ended, with what these filled and were answered
+-- lines begin with the state, the fills and the answers of those before them
 lines_begin : (m : BootSoFar) → ((script_at image m).state.kernel ≡ image) × ((script_at image m).state.items ≡ m.items)
     × ((script_at image m).state.ids ≡ m.ids) × ((script_at image m).fills ≡ m.fills) × ((script_at image m).answers ≡ m.answers)
 lines_begin m = (refl, refl, refl, refl, refl)
 
--- a line of the script that finds nothing: it is answered, and nothing else is made
+-- without lines nothing changes
 no_line : runs_lines image [] made ≡ Ok made
 no_line = refl
 
+-- a line that names an unknown ID is answered, and nothing else is made
 unknown_line : runs_lines image (record { number = 3; act = acts.Free 7 } ∷ []) made
     ≡ Ok (record made { answers = record { line = 3; outcome = outcomes.Unknown } ∷ [] })
 unfolding deed
 unknown_line = refl
 
--- behind lines all that their script has stands, and what a stage answers is put beside what was made
+-- after the lines all of their script's state remains
 behind_example : (s : Script) → behind_lines made s
     ≡ record made { items = s.state.items; ids = s.state.ids; fills = s.fills; answers = s.answers }
 behind_example s = refl
 
+-- the value of a stage is put into what was made
 put_examples : (n : Noded) (c : Crash) (s : SectionPlaces) → ((put_nodes n made).nodes ≡ n) × ((put_crash c made).crash ≡ c)
     × ((put_sections s made).sections ≡ s)
 put_examples n c s = (refl, refl, refl)
 
--- of two frames of node 3 the one of which somebody has a byte isn't handed over
+-- two frames of node 3, of which the first has a claimed byte
 abbrev two_frames : List Item
 two_frames =
     item.Mem (record { base = 0x1000; size = 0x2000 }) ∷ item.Node (record { base = 0x1000; size = 0x2000 }) 3
     ∷ item.Claim (record { base = 0x1800; size = 1 }) owner.Kernel ∷ []
 
+-- the frame with the claimed byte isn't handed over, the other is
 handed_examples : (handed_over two_frames 1 ≡ None) × (handed_over two_frames 2 ≡ Some 3)
 unfolding free_node_in each_in each_from
 handed_examples = (refl, refl)
 
--- what was made is told as it is, and by its items the frames that are free and the spans of memory
+-- the report has what the boot made
 told_as_made : (m : BootSoFar) → ((told of_image m).map ≡ m.map) × ((told of_image m).options ≡ m.options)
     × ((told of_image m).items ≡ m.items)
     × ((told of_image m).nodes ≡ m.nodes) × ((told of_image m).crash ≡ m.crash) × ((told of_image m).sections ≡ m.sections)
     × ((told of_image m).answers ≡ m.answers)
 told_as_made m = (refl, refl, refl, refl, refl, refl, refl)
 
+-- the report has the free frames of its items
 told_free : ((told of_image (record made { items = two_frames })).free 1 ≡ None)
     × ((told of_image (record made { items = two_frames })).free 2 ≡ Some 3)
 unfolding free_node_in each_in each_from
 told_free = (refl, refl)
 
+-- the report has the spans of its items
 told_spans : (items : List Item) → (told of_image (record made { items = items })).spans ≡ spans_of (node_of_frame (memory_of items))
 told_spans items = refl
 
--- 3,200 runs have room, 3,201 don't, and so many are told
+-- 3,200 runs fit, 3,201 don't, and the stop gives their number
 full_map : (runs : List (RunOf ℕ)) → length runs ≡ 3200 → has_room (record made { map = runs }) ≡ Ok (record made { map = runs })
 full_map runs many = rw many refl
 
@@ -225,14 +235,15 @@ cause_examples : (cause_of (stops.MapFull 3201) ≡ Some (causes.MapFull 3201)) 
     × (stop_by cause_of_growth None ≡ stops.Memory)
 cause_examples = (refl, refl, refl, refl, refl, refl, refl, refl, refl, refl, refl)
 
--- RAM and the kernel's own memory are memory; a reserved run isn't, nor is what lies in no run
+-- RAM and the kernel's own memory are memory; a reserved run and an address in no run aren't
 memory_examples : (lies_in_memory two_runs 0x1000 ≡ true) × (lies_in_memory two_runs 0x1FFF ≡ true)
     × (lies_in_memory two_runs 0x2000 ≡ false) × (lies_in_memory two_runs 0xFFF ≡ false)
     × (lies_in_memory (record { base = 0; size = 1; value = 128 } ∷ []) 0 ≡ true)
 memory_examples = (refl, refl, refl, refl, refl)
 
--- an image of two frames behind the first MiB, and one that ends where the tables of memory do; not one that begins in a
--- frame, has one frame, or ends a frame later; with 52 bits the tables reach further
+-- An image of two frames at 1 MiB may lie there, and so may one that ends where the tables of
+-- memory end. One that begins in the middle of a frame, has one frame, or ends a frame later may
+-- not. With 52 bits the tables of memory reach further.
 kernel_tests : (is_kernel Bits46 (record { base = 0x100000; size = 8192 }) ≡ true)
     × (is_kernel Bits46 (record { base = 0x3FFFFFFFE000; size = 0x2000 }) ≡ true)
     × (is_kernel Bits46 (record { base = 0x100800; size = 0x2000000 }) ≡ false)
@@ -242,7 +253,8 @@ kernel_tests : (is_kernel Bits46 (record { base = 0x100000; size = 8192 }) ≡ t
     × (is_kernel Bits52 (record { base = 0xFFFFFFFFFF000; size = 0x2000 }) ≡ false)
 kernel_tests = (refl, refl, refl, refl, refl, refl, refl)
 
--- an image lies above the first MiB, has two frames at least, ends and begins where frames do, and ends in reach
+-- an image lies above the first MiB, has at least two frames, is whole frames, and ends within the
+-- tables of memory
 kernel_examples : IsKernel Bits46 (record { base = 0x1000000; size = 0x2000000 })
     × (IsKernel Bits46 (record { base = 0xFF000; size = 0x2000000 }) → ⊥)
     × (IsKernel Bits46 (record { base = 0x1000000; size = 4096 }) → ⊥)
@@ -277,7 +289,8 @@ booted_are_items : (b : Booted) → ((booted_view b).map ≡ b.map.items) × ((b
     × ((booted_view b).page_answers ≡ b.page_answers.items) × ((booted_view b).after ≡ state_of b.after) × ((booted_view b).lists ≡ b.lists)
 booted_are_items b = (refl, refl, refl, refl, refl, refl, refl, refl, refl, refl, refl, refl, refl, refl, refl)
 
--- two entries of size 0 claim nothing, so no frame is usable, and the boot stops
+-- This and the following examples end in `no_ram`. Two entries of size 0 claim nothing, so no
+-- frame is usable and the boot stops.
 Nothing : Claims → Type 0
 Nothing c = (x k : ℕ) → c x k ≡ false
 
@@ -333,7 +346,7 @@ no_ram : boot two_empty ≡ Err causes.NoRam
 unfolding boot
 no_ram = rw (no_runs (claims two_empty) nothing_claimed, no_frame (reach two_empty) (claims two_empty) nothing_claimed) refl
 
--- what a boot made is told with what it was given, and its stop is its own
+-- the report has what the boot made, with its inputs, and a stop stays that stop
 boot_tells : (given : Given) (last : BootSoFar) → boot given ≡ Ok last → told_boot given ≡ Ok (told given last)
 boot_tells given last ends = rw ends refl
 

@@ -1,4 +1,5 @@
--- Memory and the limit of a boot that isn't stopped: those of its map. Each stage behind the one that makes them leaves them as they are.
+-- Memory and the limit of a boot that isn't stopped: they come from its map. Each stage after the
+-- one that makes them leaves them as they are.
 use Rattle.std.proofs.Common.{◌≡◌, ℕ, ◌/◌, ◌^◌, ◌<◌, ◌≤◌, ◌∙◌, ap, refl, arith, inl, inr, Bool, true, false, nat_lt, if◌then◌else◌, is_some, Option, Some, None, List, [], ◌∷◌, drop, Ok, sym}
 use Rattle.std.specs.Option.{option_map}
 use Rattle.std.proofs.lemmas.Bool.{cases_Bool}
@@ -42,18 +43,19 @@ use Rattle.boot_model.proofs.CarriedLaws.{memory_carried}
 use Rattle.boot_model.proofs.ReachLaws.{reach-small}
 use Rattle.boot_model.proofs.StageLaws.{AllKeep, Keeps, chain_keeps, goes_by, passes, steps_keep}
 
--- whether a byte is memory, by the items
+-- whether the byte is memory, by the items
 abbrev pub held_by : BootSoFar → ℕ → Bool
 held_by made x = is_some (memory_of made.items x)
 
--- what each byte of memory carries, and the limit
+-- the labels of memory, by the items
 abbrev pub labels_by : BootSoFar → Labels
 labels_by made = memory_of made.items
 
+-- the limit of allocations, by the items
 abbrev pub bound_by : BootSoFar → ℕ
 bound_by made = limit_of made.items
 
--- lines of the script do nothing to memory, each by itself
+-- each line of the script leaves memory as it is
 lines_keep : {X : Type 0} (f : List Item → X)
     → ((items : List Item) (o : Outcome) → AreQuiet o.steps → f (after items o) ≡ f items) → (s : Script) (lines : List Line)
     → f (after_lines s lines).state.items ≡ f s.state.items
@@ -63,31 +65,36 @@ lines_keep f keeps s (line ∷ lines) =
     ∙ acts-keep f keeps (Ok (answer_of s.state (deed_at s line))) s.state (state_after s.state (deed_at s line)) (deed_at s line)
     (deed-quiet s.state (byte s.state.kernel s.state.items s.fills) line.act) (refl, refl)
 
+-- lines of the script leave the labels as they are
 pub lines_labels : (kernel : RangeView) (lines : List Line) → Keeps labels_by (runs_lines kernel lines)
 lines_labels kernel lines before last ends =
     ap labels_by (lines_passed kernel lines before last ends) ∙ lines_keep memory_of quiet-memory (script_at kernel before) lines
 
+-- lines of the script leave the limit as it is
 lines_bound : (kernel : RangeView) (lines : List Line) → Keeps bound_by (runs_lines kernel lines)
 lines_bound kernel lines before last ends =
     ap bound_by (lines_passed kernel lines before last ends) ∙ lines_keep limit_of quiet-limit (script_at kernel before) lines
 
--- so do nodes, the crash area and the places of sections; and the last two leave the labels too
+-- the stage of nodes leaves which bytes are memory as it is
 nodes_hold : (given : Given) → Keeps held_by (has_nodes given)
 nodes_hold given =
     steps_keep held_by cause_of_stage put_nodes (assigned given.domains given.options.numa_off) (λ a m. refl)
     (λ before. (λ i x. keeps-memory given.domains given.options.numa_off before.items x i))
 
+-- the stage of nodes leaves the limit as it is
 nodes_bound : (given : Given) → Keeps bound_by (has_nodes given)
 nodes_bound given =
     steps_keep bound_by cause_of_stage put_nodes (assigned given.domains given.options.numa_off) (λ a m. refl)
     (λ before. keeps-limit given.domains given.options.numa_off before.items)
 
+-- the stage of the crash area leaves the labels as they are
 pub crash_labels : (given : Given) → Keeps labels_by (has_crash_area given)
 crash_labels given =
     steps_keep labels_by cause_of_growth put_crash (reserved given.options.crash) (λ a m. refl)
     (λ before. quiet-appended_memory before.items (reserved given.options.crash before.items).steps
     ((quiet-reserved given.options.crash).each before.items))
 
+-- the stage of the crash area leaves the limit as it is
 crash_bound : (given : Given) → Keeps bound_by (has_crash_area given)
 crash_bound given =
     steps_keep bound_by cause_of_growth put_crash (reserved given.options.crash) (λ a m. refl)
@@ -98,43 +105,46 @@ quiet_sections : (width : Width) → IsQuietStep (places_of_sections width)
 unfolding places_of_sections
 quiet_sections width = search (quiet-bind, quiet-listed, quiet-roots, quiet-maps, quiet-returns)
 
+-- the stage of the sections leaves the labels as they are
 pub section_labels : (given : Given) → Keeps labels_by (has_sections given)
 section_labels given =
     steps_keep labels_by cause_of_stage put_sections (places_of_sections given.width) (λ a m. refl)
     (λ before. quiet-appended_memory before.items (places_of_sections given.width before.items).steps
     ((quiet_sections given.width).each before.items))
 
+-- the stage of the sections leaves the limit as it is
 section_bound : (given : Given) → Keeps bound_by (has_sections given)
 section_bound given =
     steps_keep bound_by cause_of_stage put_sections (places_of_sections given.width) (λ a m. refl)
     (λ before. quiet-appended_limit before.items (places_of_sections given.width before.items).steps
     ((quiet_sections given.width).each before.items))
 
--- where the labels stay, what is memory does
+-- if the labels stay, so does which bytes are memory
 by_labels : (stage : Stage) → Keeps labels_by stage → Keeps held_by stage
 by_labels stage keeps before last ends = let held : Labels → ℕ → Bool = λ f x. is_some (f x) in ap held (keeps before last ends)
 
--- the stages behind the nodes leave the labels: one fact a stage
+-- the stages after the nodes leave the labels as they are
 pub labels_keep : (given : Given) → AllKeep labels_by (drop 2 (later_stages given))
 labels_keep given =
     let before = lines_labels given.kernel (before_sections given.lines) in
     let behind = lines_labels given.kernel (behind_sections given.lines) in
     (crash_labels given, (before, (section_labels given, (behind, tt))))
 
--- and those behind memory leave it as it is, and the limit
+-- the stages after memory is made leave which bytes are memory as it is
 memory_keep : (given : Given) → AllKeep held_by (drop 1 (later_stages given))
 memory_keep given =
     let before = by_labels _ (lines_labels given.kernel (before_sections given.lines)) in
     let behind = by_labels _ (lines_labels given.kernel (behind_sections given.lines)) in
     (nodes_hold given, (by_labels _ (crash_labels given), (before, (by_labels _ (section_labels given), (behind, tt)))))
 
+-- the stages after memory is made leave the limit as it is
 limit_keep : (given : Given) → AllKeep bound_by (drop 1 (later_stages given))
 limit_keep given =
     let before = lines_bound given.kernel (before_sections given.lines) in
     let behind = lines_bound given.kernel (behind_sections given.lines) in
     (nodes_bound given, (crash_bound given, (before, (section_bound given, (behind, tt)))))
 
--- what is known where memory was made
+-- what is known once memory is made
 pub record HasMemory (given : Given) (made : BootSoFar) : Type 0 where
   pub first : BootSoFar
   pub carried : carried_out (first_items (early_of given) (map_of (claims given))) [] ≡ Ok first.items
@@ -155,7 +165,7 @@ memory_made given made ends =
       limit = chain_keeps bound_by (drop 1 (later_stages given)) (limit_keep given) behind.middle made behind.rest;
     }
 
--- the map gives the types within reach
+-- within the kernel's tables of memory the map has the claims' types
 reached_same : (limit : ℕ) (c : Claims) (x : ℕ) → limit ≤ 2 ^ 52 → types_below limit (value_at (map_of c)) x ≡ types_below limit (kinds c) x
 reached_same limit c x small =
     elim (cases_Bool (nat_lt x limit)) [
@@ -171,7 +181,7 @@ some_is : (b : Bool) → is_some (if b then Some plain_label else None) ≡ b
 some_is true = refl
 some_is false = refl
 
--- what is mirrored is memory where it was
+-- a byte is memory if it was before being mirrored
 mapped_some : (mirrored : Bool) (o : Option LabelView) → is_some (if mirrored then option_map with_mirror o else o) ≡ is_some o
 mapped_some true None = refl
 mapped_some true (Some label) = refl
@@ -180,7 +190,7 @@ mapped_some false o = refl
 mirrored_some : (mirrors : List FrameRange) (f : Labels) (x : ℕ) → is_some (mirrored_memory mirrors f x) ≡ is_some (f x)
 mirrored_some mirrors f x = mapped_some (is_mirrored mirrors x) (f x)
 
--- a byte is memory exactly where its frame is usable
+-- a byte is memory exactly if its frame is usable
 pub memory_told : (given : Given) (made : BootSoFar) (x : ℕ) → boot given ≡ Ok made
     → is_some (memory_of made.items x) ≡ is_usable_frame (types_in_reach given) (x / 4096)
 memory_told given made x ends =
@@ -193,7 +203,7 @@ memory_told given made x ends =
     ∙ some_is (is_usable_frame reached (x / 4096))
     ∙ ap (λ (t : TypeAt). is_usable_frame t (x / 4096)) (types_same given)
 
--- and the limit is the end of the last usable frame
+-- the limit is the end of the last usable frame
 pub limit_told : (given : Given) (made : BootSoFar) → boot given ≡ Ok made
     → limit_of made.items ≡ memory_end (reach given) (kinds (claims given))
 limit_told given made ends =

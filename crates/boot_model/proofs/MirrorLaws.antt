@@ -21,7 +21,7 @@ mirror-frames r mirror =
     let size : 4096 * (r.size / 4096) ≡ r.size = omega (arith, mirror.of_frames) in
     rw (base, size) refl
 
--- the whole frames of a range, where it has some
+-- the whole frames of a range, if it has some, are a mirror
 whole-mirrors : (r m : RangeView) → frames_within r ≡ Some m → IsMirror m
 whole-mirrors r m is =
     let from : ℕ = next_multiple_of r.base 4096 in

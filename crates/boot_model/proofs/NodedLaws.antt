@@ -1,4 +1,5 @@
--- Memory behind the map, and behind its nodes: what each stage may rest on.
+-- Memory once the map has become memory, and once its nodes are assigned: what each stage may rest
+-- on.
 use Rattle.std.proofs.Common.{◌≡◌, ℕ, ◌*◌, ◌/◌, ◌<◌, ◌≤◌, ◌^◌, ◌∙◌, false, Option, Some, None, List, [], ◌∷◌, drop, Ok, refl, ap, sym, inl, inr, arith}
 use Rattle.std.proofs.lemmas.Bool.{cases_lt, false_from_ne_true}
 use Rattle.address_runs.specs.Runs.{RunOf, value_at}
@@ -29,7 +30,7 @@ use Rattle.boot_model.proofs.MemoryLaws.{labels_by, labels_keep, types_same}
 use Rattle.boot_model.proofs.ReachLaws.{reach-below}
 use Rattle.boot_model.proofs.StageLaws.{AllKeep, chain_keeps, goes_by, passes, steps_answered}
 
--- nothing lies where each byte that has memory lies below
+-- no memory lies at or above `at` if each byte of memory lies below it
 none_from : (at : ℕ) (f : Labels) (x : ℕ) (o : Option LabelView) → f x ≡ o → ((label : LabelView) → f x ≡ Some label → x < at) → at ≤ x
     → f x ≡ None
 none_from at f x None is below far = is
@@ -41,7 +42,7 @@ past_end limit f mirrors at high x far =
     none_from at (mirrored_memory mirrors (usable_memory limit f)) x (mirrored_memory mirrors (usable_memory limit f) x) refl
     (λ label is. (let low : x < memory_end limit f = mirrored_below limit f mirrors x label is in omega arith)) far
 
--- ranges of frames mirror the bytes of a frame alike
+-- mirrored ranges of frames mirror the bytes of a frame alike
 mirrored_whole : (mirrors : List FrameRange) (f : Labels) → AreOfFrames f → AreOfFrames (mirrored_memory mirrors f)
 mirrored_whole mirrors f whole x =
     let frame : x / 4096 ≡ (4096 * (x / 4096)) / 4096 = omega arith in
@@ -63,7 +64,7 @@ end_some limit f some = elim (cases_lt 0 (memory_end limit f)) [
       absurd (omega arith)
 ]
 
--- what the map comes to, where the boot goes on with it
+-- memory after the map became memory, if the boot goes on with the map
 pub first_known : (given : Given) (made : BootSoFar) (items : List Item) → map_judged given ≡ Ok made
     → carried_out (first_items (early_of given) made.map) made.items ≡ Ok items → IsFirstMemory (reach given) items
 first_known given made items ends carried =
@@ -87,7 +88,7 @@ first_known given made items ends carried =
       some = rw limit (end_some (reach given) (value_at map) some);
     }
 
--- behind its nodes
+-- memory after its nodes
 pub nodes_known : (given : Given) (before last : BootSoFar) → IsFirstMemory (reach given) before.items → has_nodes given before ≡ Ok last
     → IsNoded (reach given) (labels_by last)
 nodes_known given before last first ends =
@@ -95,7 +96,7 @@ nodes_known given before last first ends =
     rw told.same (answer-noded (reach given) given.domains given.options.numa_off before.items told.value told.answer (reach-below given)
     first.frames first.within first.low)
 
--- and behind any stages that leave it, as at the end of the boot
+-- memory after any stages that leave the labels, as at the end of the boot
 pub noded_behind : (given : Given) (first made : BootSoFar) (rest : List Stage) → map_judged given ≡ Ok first → AllKeep labels_by rest
     → in_order (has_memory given ∷ has_nodes given ∷ rest) first ≡ Ok made → IsNoded (reach given) (memory_of made.items)
 noded_behind given first made rest judged keep ends =

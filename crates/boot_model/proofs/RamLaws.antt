@@ -1,4 +1,4 @@
--- A boot stops for want of usable frames only where there are none.
+-- A boot stops with `NoRam` only if no frame is usable.
 use Rattle.std.proofs.Common.{◌≡◌, ℕ, ◌^◌, ◌==◌, Bool, true, false, nat_lt, if◌then◌else◌, List, [], ◌∷◌, length, Some, None, Result, Ok, Err, refl, arith}
 use Rattle.std.proofs.lemmas.Bool.Decides.{nat_tests}
 use Rattle.std.specs.Prelude.{IfErr}
@@ -20,11 +20,11 @@ use Rattle.boot_model.specs.Sections.{places_of_sections}
 use Rattle.boot_model.specs.Stages.{in_order}
 use Rattle.boot_model.specs.Stop.{cause_of_growth, cause_of_stage}
 
--- what is said where a boot stops so
+-- what a cause says of the number of usable frames
 abbrev IsTold : ℕ → Cause → Type 0
 IsTold frames cause = cause ≡ causes.NoRam → frames ≡ 0
 
--- the errors of stages, one after another
+-- each error of the stages satisfies `P`
 AllErr : (Cause → Type 0) → List Stage → Type 0
 AllErr P [] = Unit {0}
 AllErr P (one ∷ stages) = ((made : BootSoFar) → IfErr (one made) P) × AllErr P stages
@@ -39,7 +39,7 @@ unfolding AllErr
 chain_errs P [] all made = tt
 chain_errs P (one ∷ stages) all made = then_errs P (one made) (in_order stages) (all.0 made) (chain_errs P stages all.1)
 
--- the map is refused for its frames where it has none
+-- a map that doesn't fit in the kernel's table doesn't stop with `NoRam`
 room_errs : (frames : ℕ) (full : Bool) (runs : ℕ) (made : BootSoFar)
     → IfErr (if full then Err (causes.MapFull runs) else Ok made) (IsTold frames)
 room_errs frames true runs made = λ same. absurd (cc same)
@@ -52,7 +52,7 @@ frames_errs frames true many made is = λ same. grind (arith, nat_tests, is)
 frames_errs frames false true made is = λ same. absurd (cc same)
 frames_errs frames false false made is = tt
 
--- a stage stops for another cause
+-- a stage that makes steps stops with the causes of its own errors
 answer_errs : {E A : Type 0} (P : Cause → Type 0) (cause : E → Cause) (put : A → BootSoFar → BootSoFar) (next : BootSoFar)
     (answer : Result A E) → ((e : E) → P (cause e)) → IfErr (with_answer cause put next answer) P
 answer_errs P cause put next (Ok a) errs = tt
@@ -70,7 +70,7 @@ stage_told : (frames : ℕ) (why : StageCause) → IsTold frames (cause_of_stage
 stage_told frames (NoPlace thing) = λ same. absurd (cc same)
 stage_told frames (NoTablePlace w room) = λ same. absurd (cc same)
 
--- the stages in their order: one fact a stage
+-- what the errors of the map's stages say: one fact for each stage
 map_errs : (given : Given) → AllErr (IsTold (usable_frames (types_in_reach given))) (map_stages given)
 unfolding AllErr
 map_errs given =

@@ -1,4 +1,4 @@
--- How far the tables of memory reach at most, and that this is whole frames.
+-- The highest end of the tables of memory, and that it is whole frames.
 use Rattle.std.proofs.Common.{◌≡◌, ◌%◌, ◌^◌, ◌≤◌, refl, arith}
 use Rattle.bm_base.specs.Width.{reach_of}
 use Rattle.bm_base.specs.declared.width.Width.{Width}

@@ -1,4 +1,4 @@
--- Chains of stages: what the first of them did, and what all of them leave as it is.
+-- Sequences of stages: what the first stage did, and what all of them leave as it is.
 use Rattle.std.proofs.Common.{◌≡◌, List, [], ◌∷◌, Result, Ok, Err, refl, sym, ap, ◌∙◌}
 use Rattle.bm_base.specs.ResultSteps.{◌>>=◌}
 use Rattle.boot_model.specs.Stages.{in_order}
@@ -6,7 +6,7 @@ use Rattle.stage_model.specs.Doing.{Doing, after}
 use Rattle.boot_model.specs.declared.stop.Cause.{Cause}
 use Rattle.boot_model.specs.Boot.{BootSoFar, by_steps, with_answer}
 
--- a step that went on with `middle`, behind which the others end with `made`
+-- a step that went on with `middle`, from which the other steps end with `made`
 pub record GoesBy {S E : Type 0} (answer : Result S E) (others : S → Result S E) (made : S) : Type 0 where
   pub middle : S
   pub first : answer ≡ Ok middle
@@ -17,12 +17,12 @@ pub goes_by : {S E : Type 0} (answer : Result S E) (others : S → Result S E) (
 goes_by (Ok middle) others made ends = record { middle = middle; first = refl; rest = ends }
 goes_by (Err error) others made ends = absurd (cc)
 
--- a chain that ends passed its first stage
+-- a sequence that ends passed its first stage
 pub passes : {S E : Type 0} (stage : S → Result S E) (stages : List (S → Result S E)) (state made : S)
     → in_order (stage ∷ stages) state ≡ Ok made → GoesBy (stage state) (λ next. in_order stages next) made
 passes stage stages state made ends = goes_by (stage state) (λ next. in_order stages next) made ends
 
--- a stage leaves a part as it is
+-- the stage leaves a part as it is
 abbrev pub Keeps : {S E A : Type 0} → (S → A) → (S → Result S E) → Type 0
 Keeps part stage = (before after : _) → stage before ≡ Ok after → part after ≡ part before
 
@@ -30,7 +30,7 @@ abbrev pub AllKeep : {S E A : Type 0} → (S → A) → List (S → Result S E) 
 AllKeep part [] = Unit {0}
 AllKeep part (stage ∷ stages) = Keeps part stage × AllKeep part stages
 
--- then a chain of such stages does
+-- a sequence of such stages leaves the part as it is
 pub chain_keeps : {S E A : Type 0} (part : S → A) (stages : List (S → Result S E)) → AllKeep part stages
     → (before after : S) → in_order stages before ≡ Ok after → part after ≡ part before
 chain_keeps part [] keep before after ends = let same : before ≡ after = cc in ap part (sym same)
@@ -38,7 +38,7 @@ chain_keeps part (stage ∷ stages) keep before after ends =
     let known = passes stage stages before after ends in
     chain_keeps part stages keep.1 known.middle after known.rest ∙ keep.0 before known.middle known.first
 
--- a stage of steps keeps a part that neither its items nor its answer change
+-- a stage of steps leaves a part as it is if neither its items nor its value changes it
 answer_keeps : {E A B : Type 0} (part : BootSoFar → B) (cause : E → Cause) (put : A → BootSoFar → BootSoFar) (next last : BootSoFar)
     (answer : Result A E)
     → ((a : A) (m : BootSoFar) → part (put a m) ≡ part m) → with_answer cause put next answer ≡ Ok last → part last ≡ part next
@@ -54,7 +54,7 @@ steps_keep part cause put doing puts items before last ends =
     ends
     ∙ items before
 
--- behind such a stage there is an answer
+-- such a stage ended with a value
 pub record Answered {E A : Type 0} (put : A → BootSoFar → BootSoFar) (doing : Doing E A) (before last : BootSoFar) : Type 0 where
   pub value : A
   pub answer : (doing before.items).answer ≡ Ok value

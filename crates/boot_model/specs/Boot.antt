@@ -1,4 +1,4 @@
--- The boot: what `setup_arch` makes of the firmware's map and of the command line, stage by stage.
+-- The boot: what `setup_arch` makes of the firmware's map and the command line, stage by stage.
 use Rattle.std.specs.Prelude.{ℕ, ◌==◌, Bool, false, ◌&&◌, ◌||◌, List, [], ◌∷◌, ◌++◌, length, nat_lt, if◌then◌else◌, Option, Some, None, Result, Ok, Err}
 use Rattle.std.specs.List.{list_any}
 use Rattle.bm_base.specs.Range.{RangeView}
@@ -52,15 +52,17 @@ use Rattle.boot_model.specs.Sections.{SectionPlaces, no_sections, places_of_sect
 use Rattle.boot_model.specs.Stages.{in_order}
 use Rattle.boot_model.specs.Stop.{cause_of_growth, cause_of_map, cause_of_stage}
 
--- what the firmware's own map of memory says: its entries, and the frames of which the machine keeps a second copy
+-- the firmware's own map of memory: its entries, and the frames of which the machine keeps a
+-- second copy
 pub record EfiGiven : Type 0 where
   pub entries : List Entry
   pub mirrors : List FrameRange
 
--- what a boot is given: the zero page's entries and its initrd, where there is one, the entries of the
--- extension, the options, the table of domains, where there is one; how far addresses reach, where the kernel lies, which memory is
--- mirrored, and whether places are looked for from below; the lines of the early script, and those of the page script; the table of
--- distances, and the firmware's own map of memory, where there is one
+-- The inputs of a boot. They are the zero page's entries and its initrd if there is one, the
+-- entries of the extension, the options, and the table of domains if there is one. Then come the
+-- width of addresses, the place of the kernel, which memory is mirrored, and whether searches go
+-- from the lowest address up. The rest are the lines of both scripts, the table of distances if
+-- there is one, and the firmware's own map of memory if there is one.
 pub record Given : Type 0 where
   pub entries : List Entry
   pub initrd : Option RangeView
@@ -76,11 +78,11 @@ pub record Given : Type 0 where
   pub slit : Option Matrix
   pub efi : Option EfiGiven
 
--- a command line of no words
+-- a command line without words
 abbrev pub no_options : Chosen
 no_options = record { edits = []; crash = no_crash; numa_off = false; add_efi = false }
 
--- what a boot is given by no file: how far addresses reach and where the kernel lies, and nothing else
+-- the inputs without any file: the width of addresses, the place of the kernel, and nothing else
 abbrev pub begun : Width → RangeView → Given
 begun width kernel = record {
   entries = [];
@@ -98,19 +100,21 @@ begun width kernel = record {
   efi = None;
 }
 
--- the address behind the last one that the kernel's tables of memory reach, in bytes (`MAX_PHYSMEM_BITS`)
+-- the address where the kernel's tables of memory end, in bytes (`MAX_PHYSMEM_BITS`)
 abbrev pub reach : Given → ℕ
 reach given = reach_of given.width
 
--- the frames that are mirrored: those that the words say, then those of the firmware's map (`efi_find_mirror`)
+-- the mirrored frames of the firmware's own map (`efi_find_mirror`)
 abbrev pub efi_mirrors : Option EfiGiven → List FrameRange
 efi_mirrors None = []
 efi_mirrors (Some efi) = efi.mirrors
 
+-- the frames that are mirrored: first those of the command words, then those of the firmware's own
+-- map
 abbrev pub mirrors_of : Given → List FrameRange
 mirrors_of given = given.mirrors ++ efi_mirrors given.efi
 
--- what the first items are made of, beside the map
+-- what the first items are computed from, except for the map
 abbrev pub early_of : Given → Early
 early_of given = record {
   limit = reach given;
@@ -120,8 +124,9 @@ early_of given = record {
   upward = given.upward;
 }
 
--- what a boot has made so far: the map, the options, what happened to memory, oldest first; the nodes, what came of the crash area, and
--- the places of sections; and of the script the IDs that are live, the fills, and the answers
+-- What a boot has made so far: the map, the options and what happened to memory, oldest first.
+-- Then the nodes, the outcome for the crash area, and the places of sections. The rest is the
+-- early script's: the live IDs, the fills and the answers.
 pub record BootSoFar : Type 0 where
   pub map : List (RunOf ℕ)
   pub options : Chosen
@@ -133,9 +138,10 @@ pub record BootSoFar : Type 0 where
   pub fills : List Filled
   pub answers : List Answer
 
--- and what is told of it in the end: beside these how far addresses reached, where the two tables then lie, and how full they are; what
--- the memory of each node spans, and which frames are free; in what order a node's requests look at zones, the answers of the page
--- script, and what it left. The fills stand in the bytes of memory
+-- What is reported at the end: what the boot made, except for the live IDs and the fills, which
+-- stand in the bytes of memory. It adds the width of addresses, the heads of the two tables, and
+-- what the memory of each node spans. It also has the free frames, the order of zones for each
+-- node, and the answers of the page script, with what that script left.
 pub record Told : Type 0 where
   pub width : Width
   pub map : List (RunOf ℕ)
@@ -152,19 +158,20 @@ pub record Told : Type 0 where
   pub page_answers : List PageAnswer
   pub after : Pages
 
--- before memory has nodes
+-- the nodes before memory has any
 abbrev pub no_nodes : Noded
 no_nodes = record { why = why.Absent; domains = []; uncovered = 0; with_memory = [] }
 
--- what a stage makes of what the stages before it made, or why the boot stops there
+-- a stage: what it makes of what the stages before it made, or why the boot stops there
 abbrev pub Stage : Type 0
 Stage = BootSoFar → Result BootSoFar Cause
 
--- the entries of the firmware's own map, where there is one; they are added where the command line asks for them (`add_efi_memmap`)
+-- the entries of the firmware's own map, or none if there is no such map
 abbrev pub efi_entries : Option EfiGiven → List Entry
 efi_entries None = []
 efi_entries (Some efi) = efi.entries
 
+-- these entries, if the command line asks for them (`add_efi_memmap`); else none
 abbrev pub added : Given → List Entry
 added given = if given.options.add_efi then efi_entries given.efi else []
 
@@ -172,14 +179,15 @@ added given = if given.options.add_efi then efi_entries given.efi else []
 abbrev pub claims : Given → Claims
 claims given = final_claims given.entries given.extension given.options.edits (added given)
 
--- the heads of the tables that the items stand for
+-- the heads of the tables of these items
 abbrev pub heads_of : RangeView → List Item → Heads
 heads_of kernel items = record {
   memory = head_of (table_for which.Memory kernel items);
   reserved = head_of (table_for which.Reserved kernel items);
 }
 
--- which frames go to the buddy lists: memory of which nobody has a byte, each of the node of its memory (`memblock_free_all`)
+-- the frames that go to the buddy lists, each with the node of its memory: those in which all
+-- bytes are memory and none is claimed (`memblock_free_all`)
 abbrev pub handed_over : List Item → Frames
 handed_over items = free_node_in (memory_of items) (reserved_of (owner_of items))
 
@@ -187,15 +195,17 @@ handed_over items = free_node_in (memory_of items) (reserved_of (owner_of items)
 abbrev pub spanned : List Item → List Span
 spanned items = spans_of (node_of_frame (memory_of items))
 
--- how far the tables of memory reached
+-- the address where the kernel's tables of memory end, for a report
 abbrev pub reach_told : Told → ℕ
 reach_told told = reach_of told.width
 
--- the zones with memory, in the order in which each node's requests look at them (`build_zonelists`)
+-- for each node, the zones with memory, in the order in which its requests look at them
+-- (`build_zonelists`)
 abbrev pub lists_told : Given → BootSoFar → Known
 lists_told given made = known given.slit made.nodes.domains (spanned made.items)
 
--- the page script runs on a copy of what was handed over, of which nothing is taken at first
+-- the report of what the boot made; the page script runs on a copy of the frames handed over, of
+-- which none is allocated at first
 abbrev pub told : Given → BootSoFar → Told
 told given made = record {
   width = given.width;
@@ -214,7 +224,7 @@ told given made = record {
   after = after_with (lists_told given made) (nothing_taken (handed_over made.items)) given.page_lines;
 }
 
--- a boot begins with a map, and nothing happened to memory yet
+-- a boot begins with a map, and nothing has happened to memory yet
 abbrev pub begin_with : List (RunOf ℕ) → Chosen → BootSoFar
 begin_with map options = record {
   map = map;
@@ -228,34 +238,37 @@ begin_with map options = record {
   answers = [];
 }
 
--- the map of its claims
+-- a boot begins with the map of its claims
 abbrev pub begin : Given → BootSoFar
 begin given = begin_with (map_of (claims given)) given.options
 
--- the types of addresses, as far as the kernel's tables of memory reach
+-- the types of addresses, below the end of the kernel's tables of memory
 abbrev pub types_in_reach : Given → TypeAt
 types_in_reach given = types_below (reach given) (kinds (claims given))
 
--- the kernel's table has room for the runs of the map (`E820_MAX_ENTRIES`)
+-- the runs of the map fit in the kernel's table (`E820_MAX_ENTRIES`)
 abbrev pub has_room : Stage
 has_room made = if nat_lt E820_MAX_ENTRIES (length made.map) then Err (causes.MapFull (length made.map)) else Ok made
 
+-- what was made, unless the map is stopped for the reason
 abbrev pub unless_stopped : Option MapStop → Stage
 unless_stopped None made = Ok made
 unless_stopped (Some reason) made = Err (cause_of_map reason)
 
--- the map has usable frames within reach, and not too many (`e820__memblock_setup`)
+-- the map has usable frames below the end of the kernel's tables of memory, and not too many
+-- (`e820__memblock_setup`)
 abbrev pub has_frames : Given → Stage
 has_frames given made = unless_stopped (judged (types_in_reach given)) made
 
--- the first stages, which judge the map
+-- the stages that judge the map
 abbrev pub map_stages : Given → List Stage
 map_stages given = has_room ∷ has_frames given ∷ []
 
+-- the boot after its first stages
 abbrev pub map_judged : Given → Result BootSoFar Cause
 map_judged given = in_order (map_stages given) (begin given)
 
--- where lines of the script begin, and what is made behind them
+-- the state that lines of the script begin with
 abbrev pub script_at : RangeView → BootSoFar → Script
 script_at kernel made = record {
   state = record { kernel = kernel; items = made.items; ids = made.ids };
@@ -263,64 +276,72 @@ script_at kernel made = record {
   answers = made.answers;
 }
 
+-- what was made, with the state that the lines of the script left
 abbrev pub behind_lines : BootSoFar → Script → BootSoFar
 behind_lines made s = record made { items = s.state.items; ids = s.state.ids; fills = s.fills; answers = s.answers }
 
--- lines of the early script are carried out. One that is refused is answered, and the boot goes on
+-- The lines of the early script are carried out. A line that is refused is answered, and the boot
+-- goes on.
 abbrev pub runs_lines : RangeView → List Line → Stage
 runs_lines kernel lines made = Ok (behind_lines made (after_lines (script_at kernel made) lines))
 
--- what the steps of a stage answer is put beside what was made, and their items behind those that there were; or they stop the boot
+-- The value of a stage is put into what was made, or its error stops the boot with its cause.
 abbrev pub with_answer : {E A : Type 0} → (E → Cause) → (A → BootSoFar → BootSoFar) → BootSoFar → Result A E → Result BootSoFar Cause
 with_answer cause put next (Ok a) = Ok (put a next)
 with_answer cause put next (Err error) = Err (cause error)
 
+-- the same for the steps of a stage: their items come after those that were made before
 abbrev pub with_done : {E A : Type 0} → (E → Cause) → (A → BootSoFar → BootSoFar) → BootSoFar → Done E A → Result BootSoFar Cause
 with_done cause put made done = with_answer cause put (record made { items = after made.items done }) done.answer
 
+-- a stage that is made of steps
 abbrev pub by_steps : {E A : Type 0} → (E → Cause) → (A → BootSoFar → BootSoFar) → Doing E A → Stage
 by_steps cause put doing made = with_done cause put made (doing made.items)
 
--- the first claims are made, the map becomes memory, whole frames of it, and the first MiB is claimed (`early_reserve_memory`,
--- `e820__memblock_setup`, `reserve_real_mode`)
+-- the first claims are made, the map becomes memory in whole frames, and the first MiB is claimed
+-- (`early_reserve_memory`, `e820__memblock_setup`, `reserve_real_mode`)
 abbrev pub has_memory : Given → Stage
 has_memory given made = by_steps cause_of_growth (λ done next. next) (items_carried (first_items (early_of given) made.map)) made
 
--- memory gets its nodes, and each node its data (`initmem_init`)
+-- what the boot made, with these nodes
 abbrev pub put_nodes : Noded → BootSoFar → BootSoFar
 put_nodes nodes made = record made { nodes = nodes }
 
+-- memory gets its nodes, and each node its data (`initmem_init`)
 abbrev pub has_nodes : Given → Stage
 has_nodes given = by_steps cause_of_stage put_nodes (assigned given.domains given.options.numa_off)
 
--- the crash area is claimed (`reserve_crashkernel`)
+-- what the boot made, with this crash area
 abbrev pub put_crash : Crash → BootSoFar → BootSoFar
 put_crash area made = record made { crash = area }
 
+-- the crash area is claimed (`reserve_crashkernel`)
 abbrev pub has_crash_area : Given → Stage
 has_crash_area given = by_steps cause_of_growth put_crash (reserved given.options.crash)
 
--- the sections that have memory get their places
+-- what the boot made, with these places of sections
 abbrev pub put_sections : SectionPlaces → BootSoFar → BootSoFar
 put_sections sections made = record made { sections = sections }
 
+-- the sections that have memory get their places (`sparse_init`)
 abbrev pub has_sections : Given → Stage
 has_sections given = by_steps cause_of_stage put_sections (places_of_sections given.width)
 
--- the stages behind the map, in their order. The script says where among its lines the sections are placed
+-- the stages after the map, in their order; the script's lines say where the sections are placed
+-- among them
 abbrev pub later_stages : Given → List Stage
 later_stages given =
     has_memory given ∷ has_nodes given ∷ has_crash_area given ∷ runs_lines given.kernel (before_sections given.lines) ∷ has_sections given
     ∷ runs_lines given.kernel (behind_sections given.lines) ∷ []
 
--- the boot (`setup_arch`), up to what it hands over (`mem_init`)
+-- the boot (`setup_arch`) up to the handover (`mem_init`)
 unfoldable pub boot : Given → Result BootSoFar Cause
 boot given = map_judged given >>= λ made. in_order (later_stages given) made
 
--- what is told of it
+-- the boot, and the report of what it made
 abbrev pub told_boot : Given → Result Told Cause
 told_boot given = boot given >>= λ made. Ok (told given made)
 
--- whether the address lies in a run of RAM, or of memory of the kernel's own
+-- whether the address lies in a run of RAM or of the kernel's own memory
 abbrev pub lies_in_memory : List (RunOf ℕ) → ℕ → Bool
 lies_in_memory map x = list_any (λ r. lies_in r x && (r.value == E820_TYPE_RAM || r.value == E820_TYPE_RESERVED_KERN)) map

@@ -1,4 +1,4 @@
--- The facts that stand with the inputs of a boot: of each there is one proof at most.
+-- The facts of the inputs of a boot: there is at most one proof of each.
 use Rattle.std.specs.Prelude.{IfSome, List, [], ◌∷◌, Option, Some, None}
 use Rattle.std.specs.List.{All}
 use Rattle.std.specs.Coded.{×_prop, Unit-prop, le_prop}
@@ -23,7 +23,7 @@ pub EntriesFit-prop : (entries : List Entry) → IsProp (EntriesFit entries)
 EntriesFit-prop [] = Unit-prop
 EntriesFit-prop (e ∷ es) = ×_prop le_prop (EntriesFit-prop es)
 
--- of the firmware's own map, where there is one
+-- the fact about the entries of the firmware's own map, if there is one
 pub efi_ends-prop : (efi : Option EfiMap) → IsProp (IfSome efi (λ map. EntriesFit map.entries.items))
 efi_ends-prop None = Unit-prop
 efi_ends-prop (Some map) = EntriesFit-prop map.entries.items
@@ -39,7 +39,7 @@ pub HaveTypes-prop : (edits : List Edit) → IsProp (HaveTypes edits)
 HaveTypes-prop [] = Unit-prop
 HaveTypes-prop (e ∷ es) = ×_prop (HasTypes-prop e) (HaveTypes-prop es)
 
--- the bounds that running a script's lines asks for
+-- the numbers of each line of the script lie within its bounds
 abbrev pub HaveBounds : List Line → Type 0
 HaveBounds lines = All (λ line. HasBounds line.act) lines
 

@@ -1,4 +1,5 @@
--- The first stage on memory, and what memory is behind it, before it has nodes (`e820__memblock_setup`).
+-- The first stage over memory, and what memory is after it, before it has nodes
+-- (`e820__memblock_setup`).
 use Rattle.std.specs.Prelude.{ℕ, ◌<◌, List}
 use Rattle.address_runs.specs.Edits.{NothingFrom}
 use Rattle.memblock_model.specs.declared.item.Item.{Item}
@@ -9,12 +10,12 @@ use Rattle.stage_model.specs.Doing.{Doing, in_turn}
 use Rattle.stage_model.specs.Noded.{AreOfFrames}
 use Rattle.stage_model.specs.Requests.{changes}
 
--- the items, one after another, each behind the growth that it needs
+-- the items, one after another, each after the growth that it needs
 unfoldable pub items_carried : List Item → Doing Refused (Unit {0})
 items_carried wanted = in_turn (λ done i. changes (change i)) tt wanted
 
--- whole frames within the reach of the kernel's tables of memory, each of one label, which end by the limit of
--- allocations; and there are some
+-- memory is whole frames, each with one label, below the end of the kernel's tables of memory;
+-- allocations end above 0, and all memory lies below their limit
 pub record IsFirstMemory (reach : ℕ) (items : List Item) : Type 0 where
   pub frames : AreOfFrames (memory_of items)
   pub within : NothingFrom reach (memory_of items)

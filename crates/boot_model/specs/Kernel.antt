@@ -1,12 +1,14 @@
--- Where the kernel's image may lie, from its text to the end of its bss (`_text` to `__end_of_kernel_reserve`).
+-- The place of the kernel's image, from its text to the end of its bss (`_text` to
+-- `__end_of_kernel_reserve`).
 use Rattle.std.specs.Prelude.{◌≡◌, ◌*◌, ◌%◌, ◌≤◌, ◌==◌, Bool, ◌&&◌, nat_le}
 use Rattle.bm_base.specs.Range.{RangeView, end_of}
 use Rattle.bm_base.specs.declared.range.TheConstants.{FRAME_SIZE}
 use Rattle.bm_base.specs.Width.{reach_of}
 use Rattle.bm_base.specs.declared.width.Width.{Width}
 
--- above the first MiB, which real mode keeps; with room for memblock's two tables in its last two frames; in whole frames; and in reach
--- of the kernel's tables of memory. The bounds are this project's own, since the boot protocol leaves them to the loader
+-- The image lies above the first MiB, which real mode keeps. Memblock's two tables fit in its last
+-- two frames. It is whole frames and lies below the end of the kernel's tables of memory. These
+-- bounds are this project's own, since the boot protocol leaves the place to the loader.
 pub record IsKernel (width : Width) (image : RangeView) : Type 0 where
   pub above : 0x100000 ≤ image.base
   pub long : 2 * FRAME_SIZE ≤ image.size
@@ -14,7 +16,7 @@ pub record IsKernel (width : Width) (image : RangeView) : Type 0 where
   pub of_frames : image.size % FRAME_SIZE ≡ 0
   pub in_reach : end_of image ≤ reach_of width
 
--- the same as a test
+-- `IsKernel` as a test
 abbrev pub is_kernel : Width → RangeView → Bool
 is_kernel width image =
     nat_le 0x100000 image.base && nat_le (2 * FRAME_SIZE) image.size && (image.base % FRAME_SIZE == 0) && (image.size % FRAME_SIZE == 0)

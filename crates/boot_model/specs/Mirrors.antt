@@ -1,14 +1,15 @@
--- Mirrored memory as a boot is given it: ranges of whole frames, by their bytes or by their frames.
+-- Mirrored memory, as a boot is given it: ranges of whole frames, by their bytes or by their
+-- frames.
 use Rattle.std.specs.Prelude.{◌≡◌, ◌/◌, ◌%◌, ◌<◌}
 use Rattle.bm_base.specs.Range.{RangeView}
 use Rattle.early_stages.specs.Early.{FrameRange}
 
--- some bytes, in whole frames
+-- the range is whole frames, at least one
 pub record IsMirror (range : RangeView) : Type 0 where
   pub some : 0 < range.size
   pub at_frame : range.base % 4096 ≡ 0
   pub of_frames : range.size % 4096 ≡ 0
 
--- its frames
+-- the frames of the range
 abbrev pub frames_in : RangeView → FrameRange
 frames_in range = record { first = range.base / 4096; count = range.size / 4096 }

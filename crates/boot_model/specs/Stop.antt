@@ -1,4 +1,4 @@
--- The causes of a stop. Running out of memory is the one stop that has none.
+-- The causes of a stop. Out of memory is the one stop without a cause.
 use Rattle.std.specs.Prelude.{Option, Some, None}
 use Rattle.e820_usable.specs.declared.stop.MapStop.{MapStop}
 use Rattle.growth_model.specs.Outcome.{Refused}
@@ -9,6 +9,7 @@ use Rattle.boot_model.specs.declared.stop.Cause.TheVariants as causes
 use Rattle.boot_model.specs.declared.stop.Stop.{Stop}
 use Rattle.boot_model.specs.declared.stop.Stop.TheVariants as stops
 
+-- the stop for a cause
 abbrev pub stop_of : Cause → Stop
 stop_of causes.NoRam = stops.NoRam
 stop_of (causes.TooMuchRam frames) = stops.TooMuchRam frames
@@ -16,6 +17,7 @@ stop_of (causes.MapFull runs) = stops.MapFull runs
 stop_of (causes.NoPlace thing) = stops.NoPlace thing
 stop_of (causes.NoTablePlace which room) = stops.NoTablePlace which room
 
+-- the cause of a stop, or `None` for out of memory
 abbrev pub cause_of : Stop → Option Cause
 cause_of stops.NoRam = Some causes.NoRam
 cause_of (stops.TooMuchRam frames) = Some (causes.TooMuchRam frames)
@@ -24,7 +26,7 @@ cause_of (stops.NoPlace thing) = Some (causes.NoPlace thing)
 cause_of (stops.NoTablePlace which room) = Some (causes.NoTablePlace which room)
 cause_of stops.Memory = None
 
--- why a boot stops at its map, as the cause of a stop
+-- the cause for the reason why a boot stops at its map
 abbrev pub cause_of_map : MapStop → Cause
 cause_of_map reasons.NoRam = causes.NoRam
 cause_of_map (reasons.TooMuchRam frames) = causes.TooMuchRam frames
@@ -33,12 +35,12 @@ cause_of_map (reasons.TooMuchRam frames) = causes.TooMuchRam frames
 abbrev pub cause_of_growth : Refused → Cause
 cause_of_growth refused = causes.NoTablePlace refused.which refused.room
 
--- why a stage stops the boot
+-- the cause for the stop of a stage
 abbrev pub cause_of_stage : StageCause → Cause
 cause_of_stage (NoPlace thing) = causes.NoPlace thing
 cause_of_stage (NoTablePlace w room) = causes.NoTablePlace w room
 
--- the stop for a cause of a stage; without a cause the program's own memory ran out
+-- the stop for a stage's cause, or out of memory if there is none
 abbrev pub stop_by : {E : Type 0} → (E → Cause) → Option E → Stop
 stop_by cause None = stops.Memory
 stop_by cause (Some why) = stop_of (cause why)

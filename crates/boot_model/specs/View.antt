@@ -18,9 +18,11 @@ use Rattle.boot_model.specs.Boot.{EfiGiven, Given, Told}
 use Rattle.boot_model.specs.Mirrors.{frames_in}
 use Rattle.boot_model.specs.Sections.{SectionPlaces}
 
+-- the entries and mirrored frames of the firmware's own map
 abbrev pub efi_view : EfiMap → EfiGiven
 efi_view m = record { entries = m.entries.items; mirrors = map frames_in m.mirrors.items }
 
+-- the inputs as the definition has them
 abbrev pub inputs_view : Inputs → Given
 inputs_view i = record {
   entries = i.zero.entries.items;
@@ -38,9 +40,11 @@ inputs_view i = record {
   efi = option_map efi_view i.efi;
 }
 
+-- the places of the sections
 abbrev pub sections_view : Roots → Vec Placed Global → SectionPlaces
 sections_view roots placed = record { roots = roots_view roots; placed = placed.items }
 
+-- what a boot made, as the definition has it
 abbrev pub booted_view : Booted → Told
 booted_view b = record {
   width = b.width;

@@ -1,4 +1,4 @@
-//! What a boot makes: one field a stage, and what reports need of the inputs.
+//! What a boot makes: one field for each stage, and what the reports need of the inputs.
 
 use bm_base::Width;
 use boot_journal::Journal;
@@ -16,40 +16,40 @@ use slit_zonelists::Lists;
 use sparse_sections::Roots;
 use zone_spans::Span;
 
-/// What a boot makes.
+/// The results of a boot.
 #[derive(Drop)]
 pub struct Booted {
-    /// How far addresses reached.
+    /// The width of addresses.
     pub width: Width,
     /// The map, as runs in the order of their addresses.
     pub map: Vec<Run>,
-    /// The options, as they were given.
+    /// The options of the command line.
     pub options: Options,
-    /// What happened to memory, oldest first, and who has what.
+    /// What happened to memory, oldest first, and who owns what.
     pub journal: Journal,
-    /// The bytes of memory that the boot wrote, in which both of memblock's tables lie.
+    /// The bytes of memory that the boot wrote, with both of memblock's tables.
     pub store: Store,
-    /// Where the tables lie in them, and how full they are.
+    /// The places of the two tables in these bytes, and the number of their records.
     pub heads: Heads,
     /// The nodes, and whether the firmware's table of domains gave them.
     pub nodes: Nodes,
-    /// What came of the crash area.
+    /// The outcome for the crash area.
     pub crash: Crash,
-    /// Where the roots of the sections lie.
+    /// The addresses of the section roots.
     pub roots: Roots,
-    /// Where the map and the usage data of each section lie.
+    /// The addresses of each section's map and usage data.
     pub placed: Vec<Placed>,
-    /// What came of each line of the early script.
+    /// The answer to each line of the early script.
     pub answers: Vec<Answer>,
     /// What the memory of each node spans in each zone.
     pub spans: Vec<Span>,
     /// The frames that were handed over.
     pub buddy: Buddy,
-    /// The zones with memory, in the order in which each node's requests look at them.
+    /// For each node, the zones with memory, in the order in which its requests look at them.
     pub lists: Lists,
-    /// What came of each line of the page script.
+    /// The answer to each line of the page script.
     pub page_answers: Vec<PageAnswer>,
-    /// What the page script left of a copy of those frames, and what its IDs hold.
+    /// What the page script left of a copy of the free frames, and what its IDs hold.
     pub after: Pages,
 }
 
@@ -58,7 +58,7 @@ impl Booted {
     ghost use Rattle.boot_model.specs.Boot.{reach_told};
     ghost use Rattle.boot_model.specs.View.{booted_view};
 
-    /// The address behind the last one that the kernel's tables of memory reached, in bytes.
+    /// Returns the address where the kernel's tables of memory end, in bytes (`MAX_PHYSMEM_BITS`).
     pub fn reach(&self) -> u64
         ensures { result ≡ reach_told (booted_view self.now) }
     {

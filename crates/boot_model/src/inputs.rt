@@ -1,5 +1,5 @@
-//! What a boot is given: one field an input file, and where the kernel lies. What the boot needs of each value
-//! stands with it, as a fact, so who has inputs has those facts and hands on none of them.
+//! The inputs of a boot: one field for each input file, and the place of the kernel. Each field's
+//! facts stand with the type, so a function that has inputs has these facts.
 
 ghost use Rattle.std.specs.Prelude.{◌≡◌, ◌^◌, ◌<◌, IfSome, length};
 ghost use Rattle.std.specs.List.{All};
@@ -24,36 +24,37 @@ use slit_zonelists::Slit;
 use srat_reader::Srat;
 use std::alloc::Global;
 
-/// What a boot is given.
+/// The inputs of a boot.
 #[derive(Drop)]
 pub struct Inputs {
-    /// The zero page (`struct boot_params`): its entries, and the initrd, if there is one. Each entry's address plus
-    /// size is at most 2^64 - 1.
+    /// The zero page (`struct boot_params`): its entries, and the initrd if there is one. Each
+    /// entry's address plus size is at most 2^64 - 1.
     pub zero: ZeroPage,
-    /// The entries of the E820 extension; none where there is no extension. Each ends as those of the zero page do.
+    /// The entries of the E820 extension, or none if there is no extension. Each entry's address
+    /// plus size is at most 2^64 - 1.
     pub ext: Vec<Entry>,
-    /// The options of the command line. No type of an edit is 0.
+    /// The options of the command line. No type in an edit is 0.
     pub options: Options,
     /// The firmware's table of domains, if there is one. It has fewer than 2^32 ranges of memory.
     pub srat: Option<Srat>,
-    /// How far addresses reach.
+    /// The width of addresses.
     pub width: Width,
-    /// Where the kernel's image lies.
+    /// The place of the kernel's image.
     pub kernel: Range,
-    /// Which memory is mirrored: whole frames, some in each range.
+    /// The memory that is mirrored: ranges of whole frames, at least one in each.
     pub mirrors: Vec<Range>,
-    /// Whether places are looked for from the lowest address up.
+    /// Whether searches go from the lowest address up.
     pub upward: bool,
-    /// The lines of the early script; none where there is no script. They are in their bounds, and place the sections
-    /// once at most.
+    /// The lines of the early script, or none if there is no script. They are in their bounds and
+    /// place the sections at most once.
     pub lines: Vec<Line>,
-    /// The lines of the page script; none where there is no page script. An order in them is at most 10.
+    /// The lines of the page script, or none if there is no script. Their orders are at most 10.
     pub page_lines: Vec<PageLine>,
-    /// The firmware's table of distances between domains, if there is one: as many cells as it has localities times
-    /// localities.
+    /// The firmware's table of distances between domains, if there is one. The number of its cells
+    /// is the square of the number of its localities.
     pub slit: Option<Slit>,
-    /// The firmware's own map of memory, if there is one. Its entries end as the others do, and its mirrored ranges are
-    /// whole frames, some in each.
+    /// The firmware's own map of memory, if there is one. Each entry's address plus size is at
+    /// most 2^64 - 1. Its mirrored ranges are whole frames, at least one in each.
     pub efi: Option<EfiMap>,
     ghost entries_end: { EntriesFit zero.entries.items } by { EntriesFit-prop zero.entries.items },
     ghost initrd_fits: { IfSome zero.initrd IsInitrd } by { Prim.hlevel props },
@@ -74,7 +75,7 @@ impl Inputs {
     ghost use Rattle.boot_model.specs.Boot.{begun, reach};
     ghost use Rattle.boot_model.specs.View.{inputs_view};
 
-    /// What a boot is given by no file. Each file adds to it.
+    /// Returns the inputs that have no file. Each file adds to them.
     pub fn begun(alloc: Global, width: Width, kernel: Range) -> Inputs
         requires { IsKernel width kernel }
         ensures { inputs_view result ≡ begun width kernel }
@@ -107,7 +108,7 @@ impl Inputs {
         }
     }
 
-    /// The address behind the last one that the kernel's tables of memory reach, in bytes (`MAX_PHYSMEM_BITS`).
+    /// Returns the address where the kernel's tables of memory end, in bytes (`MAX_PHYSMEM_BITS`).
     pub fn reach(&self) -> u64
         ensures { result ≡ reach (inputs_view self.now) }
     {

@@ -1,5 +1,5 @@
-//! What holds of a boot that isn't stopped, for whoever reads its map. The laws speak of the definition of the
-//! boot, so who has an answer of it may rest on them and needs to know none of its stages.
+//! Laws about the map of a boot that isn't stopped. They speak of the definition of the boot, so a
+//! caller may rest on them without knowing its stages.
 
 ghost use Rattle.std.specs.Prelude.{◌≡◌, ℕ, ◌+◌, ◌*◌, ◌^◌, ◌/◌, ◌<◌, ◌≤◌, false, None, List, [], is_some, IfOk, IfSome, Ok, Err, length};
 ghost use Rattle.address_runs.specs.Runs.{value_at};
@@ -20,8 +20,8 @@ ghost use Rattle.boot_model.specs.Boot.{Given, BootSoFar, boot, claims, efi_entr
 
 use bm_base::FRAME_SIZE;
 
-/// A law: where the command line doesn't ask for the firmware's own map, or that map has no descriptors, the claims are those of a
-/// boot without it.
+/// Law: the claims are those of a boot without the firmware's own map, if the command line doesn't
+/// ask for that map or if it has no descriptors.
 pub fn firmware_adds_what_is_asked()
     ensures unasked { (given : Given) → given.options.add_efi ≡ false →
         claims given ≡ claims (record given { efi = None }) }
@@ -29,16 +29,17 @@ pub fn firmware_adds_what_is_asked()
         claims given ≡ claims (record given { efi = None }) }
 {}
 
-/// A law: the map of a boot gives each address below 2^64 the type of its greatest claim, and has at
-/// most as many runs as the table has room for.
+/// Law: the map of a boot gives each address below 2^64 the type of its greatest claim, and has at
+/// most 3,200 runs.
 pub fn map_gives_types()
     ensures types { (given : Given) (made : BootSoFar) (x : ℕ) → boot given ≡ Ok made → x < 2 ^ 64 →
         value_at made.map x ≡ kinds (claims given) x }
     ensures room { (given : Given) (made : BootSoFar) → boot given ≡ Ok made → length made.map ≤ E820_MAX_ENTRIES }
 {}
 
-/// A law: a frame in reach of the kernel's tables of memory is usable exactly where each of its bytes lies in a run of RAM or of the
-/// kernel's own memory, of the map of a boot; and there are 1 to 2^32 such frames.
+/// Law: a frame below the end of the kernel's tables of memory is usable exactly if each of its
+/// bytes lies in a run of RAM, or of the kernel's own memory, of the boot's map. There are 1 to
+/// 2^32 usable frames.
 pub fn map_gives_frames()
     ensures each { (given : Given) (made : BootSoFar) (frame : ℕ) → boot given ≡ Ok made →
         FRAME_SIZE * frame + FRAME_SIZE ≤ reach given → is_usable_frame (types_in_reach given) frame
@@ -49,8 +50,8 @@ pub fn map_gives_frames()
         usable_frames (types_in_reach given) ≤ 2 ^ 32 }
 {}
 
-/// A law: at the end of a boot a byte is memory exactly where its frame is usable, whatever was claimed meanwhile and
-/// however the tables grew; and what is allocated ends by the last usable frame.
+/// Law: at the end of a boot a byte is memory exactly if its frame is usable, and allocations end
+/// at the end of the last usable frame.
 pub fn map_gives_memory()
     ensures memory { (given : Given) (made : BootSoFar) (x : ℕ) → boot given ≡ Ok made →
         is_some (memory_of made.items x) ≡ is_usable_frame (types_in_reach given) (x / FRAME_SIZE) }
@@ -63,7 +64,8 @@ pub fn no_ram_means_no_usable_frame()
     ensures { (given : Given) → boot given ≡ Err causes.NoRam → usable_frames (types_in_reach given) ≡ 0 }
 {}
 
-/// A law: the ranges that the firmware mirrors, and those of words that are cut to whole frames, are what a boot may be given.
+/// Law: the mirrored ranges that the firmware gives, and those of command words cut to whole
+/// frames, may be inputs of a boot.
 pub fn mirrors_are_whole_frames()
     ensures cut { (range : RangeView) → IfSome (frames_within range) IsMirror }
     ensures firmware { (bytes : List ℕ) → IfOk (efi_of bytes) (λ map. All IsMirror map.mirrors) }

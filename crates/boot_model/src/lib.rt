@@ -1,26 +1,26 @@
-//! What a boot is given and what it makes: the words in which the program and its stages speak.
+//! Defines the boot: its inputs, what each stage makes of them, and what is reported at the end
+//! (`setup_arch` up to `mem_init`).
 //!
-//! [`Inputs`] are the values that the input files give, [`Booted`] is what the boot leaves, and
-//! [`Stop`] is why a boot stops; all are plain data. A [`Cause`] is a stop that lies in the inputs: the
-//! definitions know no other, and want of memory is none.
+//! - [`Inputs`] are the values of the input files, and the place of the kernel's image.
+//! - [`Booted`] is what a boot makes.
+//! - [`Stop`] is why a boot stops. A [`Cause`] is a stop that lies in the inputs. The definitions
+//!   know only causes, and out of memory is the one stop without a cause.
 //!
-//! The definition of the boot (`specs/Boot.antt`) is a chain of stages in the order of `setup_arch`,
-//! of which each makes its part of what the ones before it made, or stops the boot. One more stage is
-//! one more link: what is proved of a link speaks of that link and of those before it, and asks of
-//! those behind it only that they leave its part as it is, which each of them has as a law of its own.
+//! The definition of the boot (`specs/Boot.antt`) is a sequence of stages in the order of
+//! `setup_arch`. Each stage adds its part to what the stages before it made, or stops the boot. A
+//! fact about one stage rests on that stage and those before it. Each stage after it has a law of
+//! its own that it leaves that part as it is.
 //!
-//! Where the kernel's image lies is an input too. What a boot needs of that place, and of the value of
-//! each file, stands with the [`Inputs`] that have it, as a fact; of the kernel's place [`is_kernel`] is the test.
-//! [`Inputs::begun`] is what a boot is given by no file, to which each file adds.
+//! Each fact about an input's value stands with it in [`Inputs`], so every function that has
+//! inputs has these facts. [`is_kernel`] tests the place of the kernel. [`Inputs::begun`] are the
+//! inputs without any file, to which each file adds. Only [`Inputs::reach`] says how far the
+//! kernel's tables of memory reach. Mirrored memory is given in whole frames, so no law about a
+//! boot has to require it.
 //!
-//! How far the kernel's tables of memory reach is told by [`Inputs::reach`], and by nothing else: the boot hands that
-//! limit to what depends on it. Mirrored memory is given as whole frames, so that no law about a boot has to ask for that.
-//!
-//! What is handed over stays as it is: the page script runs on a copy of it, so what it answers and leaves is told beside.
-//!
-//! The layers above may rest on the laws of this crate: the map of a boot that isn't stopped gives
-//! every address the type of its greatest claim, and tells which frames are usable; and a byte is memory in the end
-//! exactly where its frame is usable.
+//! The layers above may rest on this crate's laws: the map of a boot that isn't stopped gives each
+//! address the type of its greatest claim, and says which frames are usable. At the end a byte is
+//! memory exactly if its frame is usable. A law is an empty function whose contract is a proven
+//! fact. In contracts, a name means the definition in `specs/`, here or in a crate below.
 #![tactic(auto)]
 
 mod booted;

@@ -1,5 +1,5 @@
-//! Why a boot stops. The causes by themselves are a type of their own, since what judges takes no
-//! memory and so never wants any.
+//! Why a boot stops. The causes are a type of their own, without out of memory, since judging a
+//! map takes no memory.
 
 ghost use Rattle.std.specs.Prelude.{◌≡◌};
 ghost use Rattle.boot_model.specs.Stop.{cause_of};
@@ -9,18 +9,19 @@ use e820_usable::MapStop;
 use memblock_grow::{Refusal, StageStop, What};
 use memblock_model::Which;
 
-/// Why a boot stops, want of memory apart; numbered from 1 in this order.
+/// Why a boot stops, except for out of memory. The variants are numbered from 1 in this order.
 #[derive(Clone, Copy, Debug, PartialEq, Eq)]
 pub enum Cause {
     /// No frame of the map is usable.
     NoRam,
-    /// More than 2^32 frames of the map are usable: so many.
+    /// More than 2^32 frames of the map are usable. `frames` is their number.
     TooMuchRam { frames: u64 },
-    /// The map has more runs than the table has room for, which is 3,200: so many.
+    /// The map has more runs than the table has room for, which is 3,200. `runs` is their number.
     MapFull { runs: u64 },
-    /// No place was found for a thing that a boot can't do without.
+    /// No place was found for something that a boot can't do without.
     NoPlace { what: What },
-    /// The table had to grow and no place was found for it; so many records was its room.
+    /// A full table had to grow and found no place. `room` is the number of records that it had
+    /// room for.
     NoTablePlace { which: Which, room: u64 },
 }
 
@@ -29,20 +30,21 @@ pub enum Cause {
 pub enum Stop {
     /// No frame of the map is usable.
     NoRam,
-    /// More than 2^32 frames of the map are usable: so many.
+    /// More than 2^32 frames of the map are usable. `frames` is their number.
     TooMuchRam { frames: u64 },
-    /// The map has more runs than the table has room for, which is 3,200: so many.
+    /// The map has more runs than the table has room for, which is 3,200. `runs` is their number.
     MapFull { runs: u64 },
-    /// No place was found for a thing that a boot can't do without.
+    /// No place was found for something that a boot can't do without.
     NoPlace { what: What },
-    /// The table had to grow and no place was found for it; so many records was its room.
+    /// A full table had to grow and found no place. `room` is the number of records that it had
+    /// room for.
     NoTablePlace { which: Which, room: u64 },
-    /// The program's own memory ran out.
+    /// This program is out of memory.
     Memory,
 }
 
 impl Stop {
-    /// The cause in the inputs; none for want of memory.
+    /// Returns the cause in the inputs, or `None` for out of memory.
     pub fn cause(self) -> Option<Cause>
         ensures { result ≡ cause_of self }
     {
@@ -101,7 +103,8 @@ impl From<StageStop> for Stop {
     }
 }
 
-/// Why a stage stops the boot that looks for its places itself: a table had to grow, or memory ran out.
+/// The stop for a refused call of memblock: a table had to grow and found no place, or the program
+/// is out of memory.
 impl From<Refusal> for Stop {
     ghost use Rattle.std.specs.Prelude.{◌≡◌, Option};
     ghost use Rattle.growth_model.specs.Outcome.{Refused};
