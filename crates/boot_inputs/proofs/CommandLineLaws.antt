@@ -1,4 +1,5 @@
--- The command line: its own faults, those of words, the user map's, of which none is want of memory.
+-- The command line: its own faults, those of words and the user map's. None of them is out of
+-- memory.
 use Rattle.std.proofs.Common.{◌≢◌, ℕ, ◌+◌, Bool, List, [], ◌∷◌, Option, Result, Ok, codes, arith}
 use Rattle.std.specs.Prelude.{IsErrOf, if◌then◌else◌}
 use Rattle.std.specs.Option.{option_and_then, option_map}

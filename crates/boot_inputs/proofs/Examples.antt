@@ -1,4 +1,4 @@
--- What small files come to, computed, and how answers stand to that.
+-- Small files: what the definitions make of them, and how results compare with that.
 use Rattle.std.proofs.Common.{◌≡◌, ℕ, ◌+◌, ◌*◌, ◌-◌, true, false, if◌then◌else◌, List, [], ◌∷◌, ◌++◌, codes, Option, Some, None, Ok, Err, refl, inl, inr, arith}
 use Rattle.std.specs.Prelude.{Result, replicate}
 use Rattle.std.specs.Str.{bytes_eq}
@@ -43,17 +43,18 @@ use Rattle.boot_inputs.specs.Srat.{put_domains, srat_diagnostic, srat_file, tabl
 use Rattle.boot_inputs.specs.WithoutEfi.{IsBeforeFiles, LacksDescriptors, LacksEfiWord, asks_for_efi, without_efi, without_map}
 use Rattle.boot_inputs.specs.ZeroPage.{page_said, put_page, zero_page, zero_page_diagnostic}
 
--- a zero page of so many entries, of which these 40 bytes are the first two
+-- a zero page of `count` entries; the 40 bytes `entries` are the first two
 abbrev page : ℕ → List ℕ → List ℕ
 page count entries =
     replicate 0x1E8 0 ++ (count ∷ replicate (0x2D0 - 0x1E9) 0) ++ entries ++ replicate (4096 - 0x2D0 - 40) 0
 
--- a page of RAM at 4 KiB, and a reserved one behind it
+-- one page of RAM at 4 KiB, and one reserved page after it
 abbrev ram_and_reserved : List ℕ
 ram_and_reserved =
     0 ∷ 0x10 ∷ 0 ∷ 0 ∷ 0 ∷ 0 ∷ 0 ∷ 0 ∷ 0 ∷ 0x10 ∷ 0 ∷ 0 ∷ 0 ∷ 0 ∷ 0 ∷ 0 ∷ 1 ∷ 0 ∷ 0 ∷ 0 ∷
     0 ∷ 0x20 ∷ 0 ∷ 0 ∷ 0 ∷ 0 ∷ 0 ∷ 0 ∷ 0 ∷ 0x10 ∷ 0 ∷ 0 ∷ 0 ∷ 0 ∷ 0 ∷ 0 ∷ 2 ∷ 0 ∷ 0 ∷ 0 ∷ []
 
+-- this and the next: the entries of that page
 abbrev ram : Entry
 ram = record { addr = 0x1000; size = 0x1000; kind = 1 }
 
@@ -66,20 +67,23 @@ one_entry =
     0 ∷ 0 ∷ 0 ∷ 0 ∷ 0 ∷ 0 ∷ 0 ∷ 0 ∷ 1 ∷ 0 ∷ 0 ∷ 0 ∷ 20 ∷ 0 ∷ 0 ∷ 0 ∷
     0 ∷ 0x30 ∷ 0 ∷ 0 ∷ 0 ∷ 0 ∷ 0 ∷ 0 ∷ 0 ∷ 0x10 ∷ 0 ∷ 0 ∷ 0 ∷ 0 ∷ 0 ∷ 0 ∷ 3 ∷ 0 ∷ 0 ∷ 0 ∷ []
 
+-- the entry of that extension
 abbrev acpi : Entry
 acpi = record { addr = 0x3000; size = 0x1000; kind = 3 }
 
--- an SRAT of one processor, in domain 0x0C0D by its x2APIC, and what it says
+-- an SRAT of one processor, in domain 0x0C0D by its x2APIC
 abbrev one_processor : List ℕ
 one_processor =
     codes "SRAT" ++ (72 ∷ 0 ∷ 0 ∷ 0 ∷ 1 ∷ 0x25 ∷ []) ++ replicate 38 0
     ++ 2 ∷ 24 ∷ 0 ∷ 0 ∷ 0x0D ∷ 0x0C ∷ 0 ∷ 0 ∷ 9 ∷ 9 ∷ 9 ∷ 9 ∷ 1 ∷ 0 ∷ 0 ∷ 0 ∷ replicate 8 0
 
+-- the table of that SRAT
 abbrev processor_alone : Affinity
 processor_alone = record { processors = 0x0C0D ∷ []; blocks = [] }
 
--- the files: a zero page, one that is too short and one that is too long; an extension, and one without a header; a
--- command line, and one with a fault; a table of domains; a script, and one with a fault
+-- The files: a zero page, one that is too short and one that is too long; an extension, and one
+-- without a header; a command line, and one with a fault; a table of domains; a script, and one
+-- with a fault.
 abbrev held : Held
 held name =
     if bytes_eq name (codes "zp") then Some (page 2 ram_and_reserved)
@@ -94,13 +98,14 @@ held name =
     else (if bytes_eq name (codes "line") then Some (codes "free")
     else None)))))))))
 
+-- the names of a zero page, and of an extension and a command line if they are given
 abbrev naming : List ℕ → Option (List ℕ) → Option (List ℕ) → Named
 naming page ext line inputs.ZeroPage = Some page
 naming page ext line inputs.Extension = ext
 naming page ext line inputs.CommandLine = line
 naming page ext line other = None
 
--- what bytes say
+-- this and the next six: what bytes mean
 pages_are_said : (page_said (page 2 ram_and_reserved) ≡ Ok (record { entries = ram ∷ reserved ∷ []; initrd = None }))
     × (page_said (replicate 4095 0) ≡ Err (faults.ZeroPage zero.WrongLength))
 unfolding entry_at initrd_of is_initrd_far
@@ -115,7 +120,6 @@ line_said : (options_said (codes "quiet numa=off\n") ≡ Ok (record { edits = []
     × (options_said (codes "numa=on") ≡ Err (faults.CommandLine (options.BadNuma 1)))
 line_said = (refl, refl)
 
--- the parts of those definitions
 unless_examples : (unless_fault {A = ℕ} None 7 ≡ Ok 7) × (unless_fault {A = ℕ} (Some faults.TooLong) 7 ≡ Err faults.TooLong)
 unless_examples = (refl, refl)
 
@@ -132,11 +136,11 @@ efi_gives : efi_given (record { entries = []; mirrors = record { base = 0x4000; 
     ≡ record { entries = []; mirrors = record { first = 4; count = 1 } ∷ [] }
 efi_gives = refl
 
--- a reader's want of memory isn't of the bytes
+-- a reader's out of memory isn't a fault of bytes
 of_bytes : IsOfBytes (faults.Srat srat.Short) × IsOfBytes faults.TooLong × (IsOfBytes (faults.Srat srat.Memory) → ⊥)
 of_bytes = (refl, refl, λ of. cc of)
 
--- what is told of a fault
+-- this and the next four: what the lines of faults say
 tables_told : (srat_diagnostic (srat.EntryLength 48) ≡ Some (Diagnostic.Offset (codes "entry length") 48))
     × (srat_diagnostic (srat.BlockTooFar 1048) ≡ Some (Diagnostic.Offset (codes "block too far") 1048))
     × (srat_diagnostic srat.Checksum ≡ Some (Diagnostic.Whole (codes "checksum"))) × (srat_diagnostic srat.Memory ≡ None)
@@ -167,7 +171,8 @@ faults_told : (diagnostic_of faults.TooLong ≡ Some (Diagnostic.Whole (codes "t
     × (diagnostic_of (faults.Efi efi.Memory) ≡ None)
 faults_told = (refl, refl, refl)
 
--- a file is within its limit, held, and of its input
+-- this and the next three: the limits of files, a fault as one of its input, and a name that isn't
+-- held
 limit_examples : (within 3 (1 ∷ 2 ∷ 3 ∷ []) ≡ Ok (1 ∷ 2 ∷ 3 ∷ [])) × (within 2 (1 ∷ 2 ∷ 3 ∷ []) ≡ Err faults.TooLong)
 limit_examples = (refl, refl)
 
@@ -183,14 +188,15 @@ unread_examples : (or_unread {A = List ℕ} inputs.ZeroPage None (λ bytes. Ok b
     × (or_unread inputs.ZeroPage (Some (codes "a")) (λ bytes. Ok bytes) ≡ Ok (codes "a"))
 unread_examples = (refl, refl)
 
--- where the kernel lies
+-- the place of the kernel
 abbrev image : RangeView
 image = record { base = 0x1000000; size = 0x2000000 }
 
+-- the inputs before any file is read
 abbrev start : Given
 start = begun Bits46 image
 
--- what is said is put where it belongs, and nothing else changes; a fault is handed on
+-- a value is put into its place and nothing else changes; a fault is returned as it is
 put_examples : (with_value put_lines start (Ok []) ≡ Ok start) × (with_value put_extension start (Err faults.TooLong) ≡ Err faults.TooLong)
     × ((put_extension (acpi ∷ []) start).extension ≡ acpi ∷ [])
     × ((put_page (record { entries = ram ∷ []; initrd = None }) start).extension ≡ []) × ((put_options no_options start).entries ≡ [])
@@ -199,7 +205,8 @@ put_examples : (with_value put_lines start (Ok []) ≡ Ok start) × (with_value 
     × ((put_efi (record { entries = []; mirrors = [] }) start).efi ≡ Some (record { entries = []; mirrors = [] }))
 put_examples = (refl, refl, refl, refl, refl, refl, refl, refl, refl)
 
--- the step of one file: read, unread, too long, and not named
+-- this and the next two: the step for one file: read, unread, too long, malformed, and without a
+-- name
 step_examples : (named_step held command_line start (codes "cmd")
     ≡ Ok (record start { options = record no_options { numa_off = true; add_efi = false } }))
     × (named_step held command_line start (codes "no") ≡ Err (reasons.Unread inputs.CommandLine))
@@ -221,13 +228,14 @@ list_examples : (given_in held (naming (codes "zp") None None) [] start ≡ Ok s
     ≡ Err (reasons.Unread inputs.Extension))
 list_examples = (refl, refl)
 
--- a script beside the zero page alone
+-- a zero page and a script
 abbrev with_script : List ℕ → Named
 with_script script inputs.ZeroPage = Some (codes "zp")
 with_script script inputs.Script = Some script
 with_script script other = None
 
--- for which bytes memory is taken: never for a zero page; for an entry, an edit or a range, a processor, and a line that asks for something
+-- This and the next: which bytes need memory. A zero page never does. An entry, an edit or a
+-- range, a processor, and a line with a request do.
 takes_examples : (zero_page.takes [] ≡ false) × (extension_file.takes one_entry ≡ true) × (command_line.takes (codes "quiet") ≡ false)
     × (script_file.takes (codes "# no act") ≡ false) × (script_file.takes (codes "free 7") ≡ true)
 unfolding entry_at
@@ -241,7 +249,7 @@ parts_take_examples : (options_take (Ok no_options) ≡ false) × (options_take 
     × (lines_take (Ok []) ≡ false) × (lines_take (Err script.Memory) ≡ false)
 parts_take_examples = (refl, refl, refl, refl, refl, refl, refl, refl, refl, refl, refl, refl)
 
--- a header alone, and one descriptor behind it
+-- a header without descriptors, for the next example
 abbrev header : List ℕ
 header = 40 ∷ 0 ∷ 0 ∷ 0 ∷ 1 ∷ 0 ∷ 0 ∷ 0 ∷ []
 
@@ -249,12 +257,12 @@ efi_take_examples : (efi_takes header ≡ false) × (efi_takes (header ++ replic
 unfolding descriptors_from
 efi_take_examples = (refl, refl)
 
--- the files ascend
+-- the files are in the order of their places
 order_examples : (ascend input_files ≡ true) × (ascend (command_line ∷ extension_file ∷ []) ≡ false)
     × (are_behind inputs.Srat (script_file ∷ []) ≡ true) × (are_behind inputs.Srat (srat_file ∷ []) ≡ false)
 order_examples = (refl, refl, refl, refl)
 
--- the inputs in their order: of several faults, the first input's
+-- a zero page, an extension and a command line give the inputs
 all_inputs : inputs_of held (naming (codes "zp") (Some (codes "ext")) (Some (codes "cmd"))) start
     ≡ Ok (record start {
       entries = ram ∷ reserved ∷ [];
@@ -264,6 +272,7 @@ all_inputs : inputs_of held (naming (codes "zp") (Some (codes "ext")) (Some (cod
 unfolding entry_at initrd_of is_initrd_far
 all_inputs = refl
 
+-- a script is given, or its fault is reported
 scripts_are_given : (inputs_of held (with_script (codes "free")) start
     ≡ Ok (record start { entries = ram ∷ reserved ∷ []; lines = record { number = 2; act = acts.Free 7 } ∷ [] }))
     × (inputs_of held (with_script (codes "line")) start ≡ Err (reasons.Faulty inputs.Script (faults.Script (script.BadLine 1))))
@@ -271,13 +280,14 @@ scripts_are_given : (inputs_of held (with_script (codes "free")) start
 unfolding entry_at initrd_of is_initrd_far
 scripts_are_given = (refl, refl, refl)
 
--- a table of domains and a script beside the zero page: both are given, and the table goes first
+-- a zero page, a table of domains and a script
 abbrev with_both : List ℕ → List ℕ → Named
 with_both srat script inputs.ZeroPage = Some (codes "zp")
 with_both srat script inputs.Srat = Some srat
 with_both srat script inputs.Script = Some script
 with_both srat script other = None
 
+-- the table and the script are both given
 both_are_given : inputs_of held (with_both (codes "srat") (codes "free")) start
     ≡ Ok (record start {
       entries = ram ∷ reserved ∷ [];
@@ -287,11 +297,13 @@ both_are_given : inputs_of held (with_both (codes "srat") (codes "free")) start
 unfolding entry_at initrd_of is_initrd_far offsets_from is_whole said_at
 both_are_given = refl
 
+-- of the faults of both, the table's is reported
 srat_goes_before_the_script : inputs_of held (with_both (codes "bad") (codes "no")) start
     ≡ Err (reasons.Faulty inputs.Srat (faults.Srat srat.Short))
 unfolding entry_at is_initrd_far
 srat_goes_before_the_script = refl
 
+-- of several files with a fault, the first is refused
 first_refusals : (inputs_of held (naming (codes "short") (Some (codes "bad")) (Some (codes "on"))) start
     ≡ Err (reasons.Faulty inputs.ZeroPage (faults.ZeroPage zero.WrongLength)))
     × (inputs_of held (naming (codes "short") (Some (codes "no")) None) start
@@ -302,12 +314,12 @@ first_refusals : (inputs_of held (naming (codes "short") (Some (codes "bad")) (S
 unfolding entry_at is_initrd_far
 first_refusals = (refl, refl, refl, refl)
 
--- the word counts with any value and without one, before `--` alone, and by its whole name
+-- the word counts with any value and with none, only before `--`, and only by its whole name
 efi_words : (asks_for_efi (codes "quiet add_efi_memmap") ≡ true) × (asks_for_efi (codes "add_efi_memmap=0") ≡ true)
     × (asks_for_efi (codes "quiet -- add_efi_memmap") ≡ false) × (asks_for_efi (codes "add_efi") ≡ false)
 efi_words = (refl, refl, refl, refl)
 
--- a header of descriptors of 48 bytes, and nothing behind it
+-- a header for descriptors of 48 bytes, with nothing after it
 abbrev efi_header : List ℕ
 efi_header = 48 ∷ 0 ∷ 0 ∷ 0 ∷ 1 ∷ 0 ∷ 0 ∷ 0 ∷ []
 
@@ -315,12 +327,13 @@ efi_said_of_none : efi_said efi_header ≡ Ok (record { entries = []; mirrors = 
 unfolding descriptors_from far_among mirrors_of
 efi_said_of_none = refl
 
+-- the names of an EFI memory map and a command line
 abbrev with_efi : Named
 with_efi inputs.Efi = Some (codes "efi")
 with_efi inputs.CommandLine = Some (codes "cmd")
 with_efi other = None
 
--- only the name of the EFI file goes
+-- only the name of the EFI file is removed
 names_without_efi : (without_efi with_efi inputs.Efi ≡ None) × (without_efi with_efi inputs.CommandLine ≡ Some (codes "cmd"))
 names_without_efi = (refl, refl)
 
@@ -335,7 +348,7 @@ before_files = (record { options = refl; efi = refl }, λ is. cc (is.efi))
 map_taken_out : without_map (put_efi (record { entries = ram ∷ []; mirrors = [] }) start) ≡ start
 map_taken_out = refl
 
--- the inputs' places and words
+-- this and the next: the inputs' places and words
 place_examples : (place inputs.ZeroPage ≡ 0) × (place inputs.CommandLine ≡ 2) × (place inputs.Srat ≡ 3) × (place inputs.Script ≡ 4)
     × (place inputs.Pages ≡ 5) × (place inputs.Slit ≡ 6) × (place inputs.Efi ≡ 7)
 place_examples = (refl, refl, refl, refl, refl, refl, refl)

@@ -1,5 +1,5 @@
--- What is said of a list of files, from what is said of its first and of those after it. The files ascend, so whatever the work
--- after a file comes to, it came to that file.
+-- Facts about a list of files, from those about its first file and the rest. The files are in the
+-- order of their places, so if the work comes to a later file, it came to each file before it.
 use Rattle.std.proofs.Common.{◌≡◌, ℕ, ◌<◌, ◌≤◌, nat_lt, List, [], ◌∷◌, Option, Some, None, Result, Ok, Err, ◌∙◌, arith}
 use Rattle.std.specs.Prelude.{IfErr, IfSome, IsErrAnd, IsNone, IsOk, IsTrue}
 use Rattle.std.proofs.lemmas.Bool.{and_parts, ltb-true}
@@ -17,7 +17,7 @@ use Rattle.boot_inputs.specs.Inputs.{Named, file_step, given_in, or_faulty, or_u
 use Rattle.program_end.specs.Program.{Held}
 use Rattle.boot_inputs.specs.Reading.{AreRead, are_behind, ascend}
 
--- where the work still comes to a file, it comes to it in each step of a later file
+-- if the work comes to `other`, it came to each input at or before its place
 faulty_comes : (input other : Input) (x : Result Given Fault) → place input ≤ place other → ReachesFile place input (or_faulty other x)
 faulty_comes input other (Ok given) below = tt
 faulty_comes input other (Err fault) below = below
@@ -36,7 +36,7 @@ then_comes : (input : Input) (x : Result Given Reason) (f : Given → Result Giv
     → ((a : Given) → ReachesFile place input (f a)) → ReachesFile place input (x >>= f)
 then_comes input x f first rest = grind (arith, rest)
 
--- and so in all work after that file
+-- all work after a file came to that file
 later_comes : (input : Input) (held : Held) (named : Named) (files : List File) → IsTrue (are_behind input files) → (given : Given)
     → ReachesFile place input (given_in held named files given)
 later_comes input held named [] behind given = tt
@@ -46,28 +46,28 @@ later_comes input held named (file ∷ files) behind given =
     then_comes input (file_step held named file given) (given_in held named files)
     (step_comes input held file given (named file.input) (omega (arith, below))) (later_comes input held named files parts.1)
 
--- what fits the file's own step fits the whole
+-- an error that fits the step for the first file fits the whole list
 first_fits : (error : NoInputs) (input : Input) (x : Result Given Reason) (f : Given → Result Given Reason)
     → IsOf input error → FitsError place error x → ((a : Given) → ReachesFile place input (f a)) → FitsError place error (x >>= f)
 first_fits error input x f own fits rest = grind (arith, rest)
 
--- what is said where the files tell what they hold
+-- what holds of the object's files if it says what it holds
 if_some : (o : Option Held) (P Q : Held → Type 0) → ((held : Held) → P held → Q held) → IfSome o P → IfSome o Q
 if_some o P Q then is = grind (arith, then)
 
 if_both : (o : Option Held) (P Q R : Held → Type 0) → ((held : Held) → P held → Q held → R held) → IfSome o P → IfSome o Q → IfSome o R
 if_both o P Q R then first second = grind (arith, then)
 
--- what a `?` returns is its error
+-- the error that a `?` returns is that of the result
 pub error_is : {T E : Type 0} → (answer : Result T E) → (error : E) → IsErrAnd answer (λ e. e ≡ error) → answer ≡ Err error
 error_is answer error told = grind arith
 
--- a file is unread only where the faults of its name rose, before which none fell
+-- a file is unread only if the faults counted for its name rose, and before it no count fell
 cause_behind : (before mid now : List ℕ → ℕ) (named : Named) (answer : Result (Unit {0}) NoInputs)
     → ((any : List ℕ) → before any ≤ mid any) → IfErr answer (IsOfFile mid now named) → IfErr answer (IsOfFile before now named)
 cause_behind before mid now named answer stay cause = grind arith
 
--- what is said of one file
+-- the facts about one file
 pub record IsAdded {F : Type 0} (kind : FilesOf F) (names : Named) (file : File) (old new : F) (before after : Given)
     (result : Result (Unit {0}) NoInputs) : Type 0 where
   pub fetches : IfSome (kind.holds old) (λ held. Fetches place (λ done. after) result (file_step held names file before))
@@ -78,7 +78,7 @@ pub record IsAdded {F : Type 0} (kind : FilesOf F) (names : Named) (file : File)
   pub faults_stay : (any : List ℕ) → kind.faults old any ≤ kind.faults new any
 
 module _ {F : Type 0} (kind : FilesOf F) (names : Named) (file : File) (files : List File) where
-  -- the first file is refused, or memory ran out
+  -- the first file is refused, or the program is out of memory
   pub stopped : (old new : F) (before after last : Given) (error : NoInputs) → IsTrue (ascend (file ∷ files))
       → IsAdded kind names file old new before after (Err error) → AreRead kind names (file ∷ files) old new before last (Err error)
   stopped old new before after last error ascends added =
@@ -92,7 +92,7 @@ module _ {F : Type 0} (kind : FilesOf F) (names : Named) (file : File) (files : 
         kept = added.kept;
       }
 
-  -- the first file is read, and so are those after it
+  -- the first file is read, and so are the rest
   pub gone_on : (old mid new : F) (before between after : Given) (result : Result (Unit {0}) NoInputs)
       → IsAdded kind names file old mid before between (Ok tt) → AreRead kind names files mid new between after result
       → AreRead kind names (file ∷ files) old new before after result

@@ -1,4 +1,4 @@
--- The script: what is wrong with a line is of its words, and want of memory isn't.
+-- The script: a line's fault is one of its words. Out of memory is none.
 use Rattle.std.proofs.Common.{ℕ, ◌+◌, Bool, false, List, [], ◌∷◌, arith}
 use Rattle.std.specs.Prelude.{IsErrOf}
 use Rattle.bm_base.specs.ResultSteps.{with_error}

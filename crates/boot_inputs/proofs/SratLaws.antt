@@ -1,4 +1,4 @@
--- The SRAT: its header's faults, then those of its entries, of which none is want of memory.
+-- The SRAT: the faults of its header and of its entries. None of them is out of memory.
 use Rattle.std.proofs.Common.{◌≢◌, ℕ, List, [], ◌∷◌, Option, Some, arith}
 use Rattle.std.specs.Prelude.{IsErrOf}
 use Rattle.std.specs.Option.{option_or}

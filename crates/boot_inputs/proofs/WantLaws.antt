@@ -1,4 +1,5 @@
--- No bytes are judged to want memory: steps that have another fault, and what a list of files is refused for.
+-- Out of memory is never a fault of bytes: steps with other faults, and the refusals of a list of
+-- files.
 use Rattle.std.proofs.Common.{◌≡◌, ◌≢◌, ℕ, List, [], ◌∷◌, Option, Result, Ok, Err, arith}
 use Rattle.std.specs.Prelude.{All, IfErr, IsErrOf}
 use Rattle.std.proofs.lemmas.List.Elements.{All-head, All-tail}
@@ -13,7 +14,7 @@ use Rattle.boot_inputs.specs.File.{File}
 use Rattle.boot_inputs.specs.Inputs.{Named, file_step, given_in, input_files, inputs_of, step_if}
 use Rattle.program_end.specs.Program.{Held}
 
--- a step that has no such error, and steps behind it that have none
+-- neither a step nor the steps after it fail with the error `want`
 pub then_other : {A B E : Type 0} {want : E} (x : Result A E) {f : A → Result B E} → ¬ IsErrOf x want → ((a : A) → ¬ IsErrOf (f a) want)
     → ¬ IsErrOf (x >>= f) want
 then_other (Ok a) first rest = rest a
@@ -24,7 +25,7 @@ pub turned_other : {A E F : Type 0} (turn : E → F) (want : F) (x : Result A E)
 turned_other turn want (Ok a) other = λ is. cc is
 turned_other turn want (Err error) other = λ is. other error (cc is)
 
--- what one of several files is refused for is of its bytes, where that is so of each
+-- a refusal of one of several files is a fault of its bytes
 abbrev RefusedOfBytes : Reason → Type 0
 RefusedOfBytes (reasons.Faulty input fault) = IsOfBytes fault
 RefusedOfBytes other = Unit {0}

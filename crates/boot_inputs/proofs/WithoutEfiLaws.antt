@@ -1,4 +1,4 @@
--- What the files give with the EFI memory map and without it.
+-- The inputs that the files give with the EFI memory map and without it.
 use Rattle.std.proofs.Common.{◌≡◌, ◌⊎◌, ◌∙◌, ℕ, Bool, true, false, nat_lt, List, [], ◌∷◌, ◌++◌, length, Option, Some, None, Result, Ok, Err, refl, sym, ap, inl, inr, arith}
 use Rattle.std.specs.Prelude.{IfOk, IfSome, if◌then◌else◌, map, not}
 use Rattle.std.specs.Option.{option_and_then}
@@ -38,7 +38,7 @@ use Rattle.boot_model.proofs.StageLaws.{GoesBy, goes_by}
 use Rattle.boot_inputs.specs.WithoutEfi.{HasMapWithoutEfi, IsBeforeFiles, LacksDescriptors, LacksEfiWord, asks_for_efi, without_efi, without_map}
 use Rattle.boot_inputs.proofs.EfiWordLaws.{options_not}
 
--- what a file that is named and held makes of what is given before it
+-- what a named and held file makes of the inputs before it
 record Says (file : File) (bytes : Option (List ℕ)) (before after : Given) : Type 0 where
   pub read : List ℕ
   pub held : bytes ≡ Some read
@@ -54,13 +54,13 @@ held_says : (file : File) (before after : Given) (bytes : Option (List ℕ))
 held_says file before after None is = absurd (cc is)
 held_says file before after (Some bytes) is = record { read = bytes; held = refl; says = read_says file before after bytes is }
 
--- a step leaves all as it is, or does what the file says
+-- the step for a file changes nothing, or does what the file says
 step_says : (held : Held) (file : File) (before after : Given) (name : Option (List ℕ)) → step_if held file before name ≡ Ok after
     → (before ≡ after) ⊎ Says file (option_and_then held name) before after
 step_says held file before after None is = inl (cc is)
 step_says held file before after (Some name) is = inr (held_says file before after (held name) is)
 
--- a file leaves a part as it is
+-- the file leaves a part of the inputs as it is
 abbrev Keeps : {A : Type 0} → (Given → A) → File → Type 0
 Keeps part file = (bytes : List ℕ) (before after : Given) → file.says bytes before ≡ Ok after → part after ≡ part before
 
@@ -113,7 +113,7 @@ last_step held named file before after is =
     let same : by.middle ≡ after = cc (by.rest) in
     by.first ∙ ap (λ (g : Given). Ok g) same
 
--- the command line asks for no EFI map
+-- the options of the command line don't ask for the EFI map
 line_not : (before after : Given) (said : Result Chosen OptionFault) → IfOk said (λ chosen. chosen.add_efi ≡ false)
     → with_value put_options before (with_error faults.CommandLine said) ≡ Ok after → after.options.add_efi ≡ false
 line_not before after (Ok chosen) not is =
@@ -127,7 +127,7 @@ options_lack held named before after lacks none is = elim (step_says held comman
   | inr said ↦ line_not before after (options_of said.read) (options_not said.read (rw said.held at lacks)) said.says
 ]
 
--- a map of no descriptors has no entries
+-- a map without descriptors has no entries
 entries-of : (headless broken : Bool) (ds : List Descriptor) (far : Option ℕ) → IfOk
     (if headless then Err efi.Header else (if broken then Err efi.Length else unless_far ds far)) (λ m. m.entries ≡ map entry_of ds)
 entries-of true broken ds far = tt
@@ -153,7 +153,7 @@ entries_lack held named before after lacks none is = elim (step_says held efi_fi
       (rw said.held at lacks) said.says
 ]
 
--- the parts of the list of files
+-- the first part of the list of files
 abbrev until_line : List File
 until_line = zero_page ∷ extension_file ∷ []
 
@@ -183,7 +183,8 @@ rest_keeps part domains lines pages distances = (
   ),
 )
 
--- what is given before the EFI map, and by it: the files before it give no map, and their options are those of the command line
+-- the inputs before the EFI map: the files before it give no map, and the options are those of the
+-- command line
 record AreRead (held : Held) (named : Named) (begun given : Given) : Type 0 where
   before : Given
   first : given_in held named (until_line ++ (command_line ∷ behind_line)) begun ≡ Ok before
@@ -214,7 +215,7 @@ are_read held named begun given start is =
           lacks (ap (λ (p : Chosen × Option EfiGiven). p.0.add_efi) early ∙ ap (λ (c : Chosen). c.add_efi) start.options) line;
     }
 
--- no entries are added by a map that isn't there
+-- a map that isn't there adds no entries
 none_added : (asked : Bool) → (if asked then efi_entries None else []) ≡ []
 none_added true = refl
 none_added false = refl
@@ -223,7 +224,7 @@ no_entries_added : (asked : Bool) (entries : List Entry) → entries ≡ [] → 
 no_entries_added true entries none = none
 no_entries_added false entries none = refl
 
--- so where no entries are added the map is that without the file
+-- if no entries are added, the map is the one without the file
 same_map : (held : Held) (named : Named) (begun given : Given) → AreRead held named begun given → added given ≡ []
     → HasMapWithoutEfi held named begun given
 same_map held named begun given read none =

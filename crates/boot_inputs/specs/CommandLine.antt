@@ -11,18 +11,20 @@ use Rattle.boot_inputs.specs.declared.input.Input.TheVariants as inputs
 use Rattle.boot_inputs.specs.Diagnostic.{Diagnostic}
 use Rattle.boot_inputs.specs.File.{File, with_value}
 
+-- the options of the line, or its fault
 abbrev pub options_said : List ℕ → Result Chosen Fault
 options_said bytes = with_error faults.CommandLine (options_of bytes)
 
--- an edit takes memory, and so does a crash area by ranges
+-- an edit needs memory, and so does a crash area by ranges
 abbrev pub options_take : Result Chosen OptionFault → Bool
 options_take (Ok chosen) = nat_lt 0 (length chosen.edits) || is_some chosen.crash.plain
 options_take (Err fault) = false
 
+-- the options are put into the inputs
 abbrev pub put_options : Chosen → Given → Given
 put_options chosen given = record given { options = chosen }
 
--- twice what the kernel keeps of a line (`COMMAND_LINE_SIZE`)
+-- at most 4,096 bytes, twice what the kernel keeps of a line (`COMMAND_LINE_SIZE`)
 abbrev pub command_line : File
 command_line = record {
   input = inputs.CommandLine;
@@ -31,7 +33,7 @@ command_line = record {
   says = λ bytes given. with_value put_options given (options_said bytes);
 }
 
--- what is told of a fault: nothing of want of memory, which is no fault of the bytes
+-- what the line of a fault says, or `None` for out of memory, which is no fault of the bytes
 abbrev pub command_line_diagnostic : OptionFault → Option Diagnostic
 command_line_diagnostic options.TooLong = Some (Diagnostic.Whole (codes "line too long"))
 command_line_diagnostic options.OpenQuote = Some (Diagnostic.Whole (codes "open quote"))

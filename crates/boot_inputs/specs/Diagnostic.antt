@@ -1,10 +1,10 @@
--- What the line of a fault says behind the word for its file.
+-- What the line of a fault says after the word for its file.
 use Rattle.std.specs.Prelude.{ℕ, List}
 use Rattle.boot_inputs.specs.declared.diagnostic.Diagnostic.{Diagnostic as DiagnosticBy}
 use Rattle.boot_inputs.specs.declared.diagnostic.Diagnostic.TheVariants as told
 
--- it is of the whole file, of an entry or a descriptor that ends too far, by its index from 0, of a word or of a line, by its number
--- from 1, or of what stands at an offset in bytes
+-- The fault is one of the whole file; or of an entry or a descriptor that ends too far, by its
+-- index, from 0; or of a word or a line, by its number, from 1; or it is at an offset, in bytes.
 pub data Diagnostic : Type 0 where
   Whole : List ℕ → Diagnostic
   Far : List ℕ → ℕ → Diagnostic
@@ -12,7 +12,7 @@ pub data Diagnostic : Type 0 where
   Line : ℕ → List ℕ → Diagnostic
   Offset : List ℕ → ℕ → Diagnostic
 
--- the same with its texts as the code holds them
+-- the diagnostic of the code, with its texts as bytes
 abbrev pub diagnostic_view : DiagnosticBy → Diagnostic
 diagnostic_view (told.Whole what) = Whole what.now
 diagnostic_view (told.Far thing index) = Far thing.now index

@@ -12,21 +12,23 @@ use Rattle.boot_inputs.specs.declared.input.Input.TheVariants as inputs
 use Rattle.boot_inputs.specs.Diagnostic.{Diagnostic}
 use Rattle.boot_inputs.specs.File.{File, with_value}
 
--- what the map gives: its entries, and its mirrors as frames
+-- the map as the boot has it: its entries, and its mirrors as frames
 abbrev pub efi_given : Efi → EfiGiven
 efi_given m = record { entries = m.entries; mirrors = map frames_in m.mirrors }
 
+-- the map of the bytes, or their fault
 abbrev pub efi_said : List ℕ → Result Efi Fault
 efi_said bytes = with_error faults.Efi (efi_of bytes)
 
--- each descriptor takes memory
+-- each descriptor needs memory
 abbrev pub efi_takes : List ℕ → Bool
 efi_takes bytes = nat_lt 0 (length (descriptors_of bytes))
 
+-- the map is put into the inputs
 abbrev pub put_efi : Efi → Given → Given
 put_efi m given = record given { efi = Some (efi_given m) }
 
--- 1 MiB at most
+-- at most 1 MiB
 abbrev pub efi_file : File
 efi_file = record {
   input = inputs.Efi;
@@ -35,7 +37,7 @@ efi_file = record {
   says = λ bytes given. with_value put_efi given (efi_said bytes);
 }
 
--- what is told of a fault: nothing of want of memory, which is no fault of the bytes
+-- what the line of a fault says, or `None` for out of memory, which is no fault of the bytes
 abbrev pub efi_diagnostic : EfiFault → Option Diagnostic
 efi_diagnostic efi.Header = Some (Diagnostic.Whole (codes "header"))
 efi_diagnostic efi.Length = Some (Diagnostic.Whole (codes "length"))

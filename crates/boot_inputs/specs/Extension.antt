@@ -12,13 +12,15 @@ use Rattle.boot_inputs.specs.declared.input.Input.TheVariants as inputs
 use Rattle.boot_inputs.specs.Diagnostic.{Diagnostic}
 use Rattle.boot_inputs.specs.File.{File, unless_fault, with_value}
 
+-- the entries of the bytes, or their fault
 abbrev pub entries_said : List ℕ → Result (List Entry) Fault
 entries_said bytes = unless_fault (option_map faults.Extension (ext_fault bytes)) (ext_entries_of bytes)
 
+-- the entries are put into the inputs
 abbrev pub put_extension : List Entry → Given → Given
 put_extension entries given = record given { extension = entries }
 
--- 3,072 entries behind a header of 16 bytes at most; each takes memory
+-- at most 3,072 entries after a header of 16 bytes; each needs memory
 abbrev pub extension_file : File
 extension_file = record {
   input = inputs.Extension;
@@ -27,7 +29,7 @@ extension_file = record {
   says = λ bytes given. with_value put_extension given (entries_said bytes);
 }
 
--- what is told of a fault: nothing of want of memory, which is no fault of the bytes
+-- what the line of a fault says, or `None` for out of memory, which is no fault of the bytes
 abbrev pub extension_diagnostic : ExtFault → Option Diagnostic
 extension_diagnostic (extension.EntryTooFar index) = Some (Diagnostic.Far (codes "entry") index)
 extension_diagnostic extension.ExtHeader = Some (Diagnostic.Whole (codes "header"))

@@ -1,4 +1,4 @@
--- What is told of the faults of files.
+-- What the lines of the files' faults say.
 use Rattle.std.specs.Prelude.{ℕ, List, codes, Option, Some, IfErr, IsSome}
 use Rattle.boot_model.specs.Boot.{Given}
 use Rattle.boot_inputs.specs.declared.fault.Fault.{Fault}
@@ -14,7 +14,8 @@ use Rattle.boot_inputs.specs.Slit.{slit_diagnostic}
 use Rattle.boot_inputs.specs.Srat.{srat_diagnostic}
 use Rattle.boot_inputs.specs.ZeroPage.{zero_page_diagnostic}
 
--- of any file that it is longer than its limit, and of each what is told of its own faults
+-- what the line of the fault says: for a file that is too long the same for all, else what the
+-- file's own fault says
 abbrev pub diagnostic_of : Fault → Option Diagnostic
 diagnostic_of faults.TooLong = Some (Diagnostic.Whole (codes "too long"))
 diagnostic_of (faults.ZeroPage fault) = Some (zero_page_diagnostic fault)
@@ -26,10 +27,10 @@ diagnostic_of (faults.Pages fault) = pages_diagnostic fault
 diagnostic_of (faults.Slit fault) = slit_diagnostic fault
 diagnostic_of (faults.Efi fault) = efi_diagnostic fault
 
--- something is told of the fault: it isn't a reader's want of memory, which no bytes are judged to have
+-- the line of the fault says something: the fault isn't a reader's out of memory
 abbrev pub IsOfBytes : Fault → Type 0
 IsOfBytes fault = IsSome (diagnostic_of fault)
 
--- whatever is given before the file, each fault that it says of bytes is such a one
+-- each fault that the file has for bytes is one of the bytes, whatever the inputs before it are
 abbrev pub SaysOfBytes : File → Type 0
 SaysOfBytes file = (bytes : List ℕ) (given : Given) → IfErr (file.says bytes given) IsOfBytes

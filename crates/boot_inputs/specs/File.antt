@@ -4,15 +4,15 @@ use Rattle.boot_model.specs.Boot.{Given}
 use Rattle.boot_inputs.specs.declared.fault.Fault.{Fault}
 use Rattle.boot_inputs.specs.declared.input.Input.{Input}
 
--- which file it is, the most bytes that it has, for which bytes memory is taken, and what bytes make of what is given before the file, or
--- their first fault
+-- Which file it is, how many bytes it may have, and which bytes need memory. `says` is what the
+-- bytes make of the inputs before the file, or their first fault.
 pub record File : Type 0 where
   pub input : Input
   pub limit : ℕ
   pub takes : List ℕ → Bool
   pub says : List ℕ → Given → Result Given Fault
 
--- what bytes say, put into what is given
+-- the value is put into the inputs
 abbrev pub with_value : {A : Type 0} → (A → Given → Given) → Given → Result A Fault → Result Given Fault
 with_value put given (Ok value) = Ok (put value given)
 with_value put given (Err fault) = Err fault

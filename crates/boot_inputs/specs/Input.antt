@@ -1,9 +1,9 @@
--- The input files by their places in the order of work and their words.
+-- The input files: their places in the order of reading, and their words.
 use Rattle.std.specs.Prelude.{ℕ, List, codes}
 use Rattle.boot_inputs.specs.declared.input.Input.{Input}
 use Rattle.boot_inputs.specs.declared.input.Input.TheVariants as inputs
 
--- the place of an input in the order of work
+-- the place of an input in the order of reading
 abbrev pub place : Input → ℕ
 place inputs.ZeroPage = 0
 place inputs.Extension = 1

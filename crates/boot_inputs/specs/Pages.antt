@@ -12,18 +12,20 @@ use Rattle.boot_inputs.specs.declared.input.Input.TheVariants as inputs
 use Rattle.boot_inputs.specs.Diagnostic.{Diagnostic}
 use Rattle.boot_inputs.specs.File.{File, with_value}
 
+-- the lines of the bytes, or their fault
 abbrev pub pages_said : List ℕ → Result (List PageLine) Fault
 pages_said bytes = with_error faults.Pages (pages_of bytes)
 
--- each line that asks for something takes memory
+-- each request in a line needs memory
 abbrev pub pages_take : Result (List PageLine) PageFault → Bool
 pages_take (Ok lines) = nat_lt 0 (length lines)
 pages_take (Err fault) = false
 
+-- the lines are put into the inputs
 abbrev pub put_pages : List PageLine → Given → Given
 put_pages lines given = record given { page_lines = lines }
 
--- 1 MiB at most
+-- at most 1 MiB
 abbrev pub pages_file : File
 pages_file = record {
   input = inputs.Pages;
@@ -32,7 +34,7 @@ pages_file = record {
   says = λ bytes given. with_value put_pages given (pages_said bytes);
 }
 
--- what is told of a fault: nothing of want of memory, which is no fault of the bytes
+-- what the line of a fault says, or `None` for out of memory, which is no fault of the bytes
 abbrev pub pages_diagnostic : PageFault → Option Diagnostic
 pages_diagnostic (pages.BadLine line) = Some (Diagnostic.Line line (codes "form"))
 pages_diagnostic (pages.BadNumber line) = Some (Diagnostic.Line line (codes "number"))

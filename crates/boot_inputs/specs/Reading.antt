@@ -1,4 +1,4 @@
--- What is said of files that are read one after another, of any list of them.
+-- Facts about files that are read one after another, for any list of them.
 use Rattle.std.specs.Prelude.{◌≡◌, Bool, true, ◌&&◌, nat_lt, List, [], ◌∷◌, Result, IfErr, IfSome, IsNone, IsOk}
 use Rattle.bm_io.specs.declared.reading.Files.{Ghosts as FilesOf}
 use Rattle.boot_model.specs.Boot.{Given}
@@ -10,16 +10,18 @@ use Rattle.boot_inputs.specs.File.{File}
 use Rattle.boot_inputs.specs.Input.{place}
 use Rattle.boot_inputs.specs.Inputs.{Named, given_in}
 
--- the files stand in the order of their places, each behind the one before it
+-- every file of the list has a later place than the input
 abbrev pub are_behind : Input → List File → Bool
 are_behind input [] = true
 are_behind input (file ∷ files) = nat_lt (place input) (place file.input) && are_behind input files
 
+-- the files are in the order of their places
 abbrev pub ascend : List File → Bool
 ascend [] = true
 ascend (file ∷ files) = are_behind file.input files && ascend files
 
--- the files were read, up to the first that is refused. `kind` is what the object tells that fetches them; it is seen before and now
+-- The files were read, up to the first that was refused. `kind` says what the object that fetches
+-- the files holds and counts, and `old` and `new` are that object before and after.
 pub record AreRead {F : Type 0} (kind : FilesOf F) (named : Named) (files : List File) (old new : F) (before after : Given)
     (result : Result (Unit {0}) NoInputs) : Type 0 where
   pub fetches : IfSome (kind.holds old) (λ held. Fetches place (λ done. after) result (given_in held named files before))

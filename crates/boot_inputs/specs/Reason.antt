@@ -9,6 +9,6 @@ use Rattle.boot_inputs.specs.declared.input.Input.{Input}
 abbrev pub Reason : Type 0
 Reason = ReasonOf Input Fault Cause
 
--- or want of memory
+-- such a reason, or out of memory
 abbrev pub NoInputs : Type 0
 NoInputs = NoResult Reason

@@ -12,18 +12,20 @@ use Rattle.boot_inputs.specs.declared.input.Input.TheVariants as inputs
 use Rattle.boot_inputs.specs.Diagnostic.{Diagnostic}
 use Rattle.boot_inputs.specs.File.{File, with_value}
 
+-- the lines of the bytes, or their fault
 abbrev pub lines_said : List ℕ → Result (List Line) Fault
 lines_said bytes = with_error faults.Script (script_of bytes)
 
--- each line that asks for something takes memory
+-- each request in a line needs memory
 abbrev pub lines_take : Result (List Line) ScriptFault → Bool
 lines_take (Ok lines) = nat_lt 0 (length lines)
 lines_take (Err fault) = false
 
+-- the lines are put into the inputs
 abbrev pub put_lines : List Line → Given → Given
 put_lines lines given = record given { lines = lines }
 
--- 1 MiB at most
+-- at most 1 MiB
 abbrev pub script_file : File
 script_file = record {
   input = inputs.Script;
@@ -32,7 +34,7 @@ script_file = record {
   says = λ bytes given. with_value put_lines given (lines_said bytes);
 }
 
--- what is told of a fault: nothing of want of memory, which is no fault of the bytes
+-- what the line of a fault says, or `None` for out of memory, which is no fault of the bytes
 abbrev pub script_diagnostic : ScriptFault → Option Diagnostic
 script_diagnostic (script.BadLine line) = Some (Diagnostic.Line line (codes "form"))
 script_diagnostic (script.BadNumber line) = Some (Diagnostic.Line line (codes "number"))

@@ -12,18 +12,20 @@ use Rattle.boot_inputs.specs.declared.input.Input.TheVariants as inputs
 use Rattle.boot_inputs.specs.Diagnostic.{Diagnostic}
 use Rattle.boot_inputs.specs.File.{File, with_value}
 
+-- the distances of the bytes, or their fault
 abbrev pub distances_said : List ℕ → Result Matrix Fault
 distances_said bytes = with_error faults.Slit (slit_of bytes)
 
--- where there are domains their distances take memory
+-- the distances need memory if there are domains
 abbrev pub distances_take : Result Matrix SlitFault → Bool
 distances_take (Ok m) = nat_lt 0 m.count
 distances_take (Err fault) = false
 
+-- the distances are put into the inputs
 abbrev pub put_distances : Matrix → Given → Given
 put_distances m given = record given { slit = Some m }
 
--- 1 MiB at most
+-- at most 1 MiB
 abbrev pub slit_file : File
 slit_file = record {
   input = inputs.Slit;
@@ -32,7 +34,7 @@ slit_file = record {
   says = λ bytes given. with_value put_distances given (distances_said bytes);
 }
 
--- what is told of a fault: nothing of want of memory, which is no fault of the bytes
+-- what the line of a fault says, or `None` for out of memory, which is no fault of the bytes
 abbrev pub slit_diagnostic : SlitFault → Option Diagnostic
 slit_diagnostic slit.Short = Some (Diagnostic.Whole (codes "short"))
 slit_diagnostic slit.Signature = Some (Diagnostic.Whole (codes "signature"))

@@ -11,18 +11,20 @@ use Rattle.boot_inputs.specs.declared.input.Input.TheVariants as inputs
 use Rattle.boot_inputs.specs.Diagnostic.{Diagnostic}
 use Rattle.boot_inputs.specs.File.{File, with_value}
 
+-- the table of the bytes, or their fault
 abbrev pub table_said : List ℕ → Result Affinity Fault
 table_said bytes = with_error faults.Srat (srat_of bytes)
 
--- a processor takes memory, and so does a range of memory
+-- a processor needs memory, and so does a range of memory
 abbrev pub table_takes : Result Affinity SratFault → Bool
 table_takes (Ok table) = nat_lt 0 (length table.processors) || nat_lt 0 (length table.blocks)
 table_takes (Err fault) = false
 
+-- the table is put into the inputs
 abbrev pub put_domains : Affinity → Given → Given
 put_domains table given = record given { domains = Some table }
 
--- 1 MiB at most
+-- at most 1 MiB
 abbrev pub srat_file : File
 srat_file = record {
   input = inputs.Srat;
@@ -31,7 +33,7 @@ srat_file = record {
   says = λ bytes given. with_value put_domains given (table_said bytes);
 }
 
--- what is told of a fault: nothing of want of memory, which is no fault of the bytes
+-- what the line of a fault says, or `None` for out of memory, which is no fault of the bytes
 abbrev pub srat_diagnostic : SratFault → Option Diagnostic
 srat_diagnostic srat.Short = Some (Diagnostic.Whole (codes "short"))
 srat_diagnostic srat.Signature = Some (Diagnostic.Whole (codes "signature"))

@@ -1,4 +1,4 @@
--- Inputs beside the same inputs without the EFI memory map, by what the bytes of the files say.
+-- The inputs with the EFI memory map, compared with the same inputs without it.
 use Rattle.std.specs.Prelude.{◌≡◌, ℕ, Bool, false, List, [], codes, Option, None, Ok, IfSome}
 use Rattle.std.specs.Option.{option_and_then}
 use Rattle.std.specs.List.{list_any}
@@ -10,12 +10,13 @@ use Rattle.boot_inputs.specs.declared.input.Input.TheVariants as inputs
 use Rattle.boot_inputs.specs.Inputs.{Named, inputs_of}
 use Rattle.program_end.specs.Program.{Held}
 
--- the same names of files, but none for the EFI memory map
+-- the same names of files, without the name of the EFI memory map
 abbrev pub without_efi : Named → Named
 without_efi named inputs.Efi = None
 without_efi named input = named input
 
--- a word of the command line has the name `add_efi_memmap`, whatever its value (`setup_add_efi_memmap`)
+-- a word of the command line has the name `add_efi_memmap`, whatever its value
+-- (`setup_add_efi_memmap`)
 abbrev pub asks_for_efi : List ℕ → Bool
 asks_for_efi bytes = list_any (λ word. bytes_eq (name_value_of word).0 (codes "add_efi_memmap")) (option_words (raw_line bytes))
 
@@ -27,17 +28,18 @@ LacksEfiWord held named = IfSome (option_and_then held (named inputs.CommandLine
 abbrev pub LacksDescriptors : Held → Named → Type 0
 LacksDescriptors held named = IfSome (option_and_then held (named inputs.Efi)) (λ bytes. descriptors_of bytes ≡ [])
 
--- what is given before any file is read: no option and no EFI memory map
+-- the inputs before any file is read: no option and no EFI memory map
 pub record IsBeforeFiles (begun : Given) : Type 0 where
   pub options : begun.options ≡ no_options
   pub efi : begun.efi ≡ None
 
--- the inputs without the EFI memory map, all else as it is
+-- the inputs without the EFI memory map; the rest is unchanged
 abbrev pub without_map : Given → Given
 without_map given = record given { efi = None }
 
--- The inputs are also accepted without the EFI file, and differ in its map alone. Each address has the same claims with the file and
--- without it, and the map made of them is judged the same: it is the same map, or the boot stops there for the same cause
+-- The inputs are also accepted without the EFI file, and differ only in its map. Each address has
+-- the same claims with the file and without it. The judgement of the map is the same too: the same
+-- map, or a stop for the same cause.
 pub record HasMapWithoutEfi (held : Held) (named : Named) (begun given : Given) : Type 0 where
   pub inputs : inputs_of held (without_efi named) begun ≡ Ok (without_map given)
   pub claims : (x : ℕ) → claims given x ≡ claims (without_map given) x

@@ -11,14 +11,15 @@ use Rattle.boot_inputs.specs.declared.input.Input.TheVariants as inputs
 use Rattle.boot_inputs.specs.Diagnostic.{Diagnostic}
 use Rattle.boot_inputs.specs.File.{File, unless_fault, with_value}
 
+-- the page of the bytes, or their fault
 abbrev pub page_said : List ℕ → Result Page Fault
 page_said bytes = unless_fault (option_map faults.ZeroPage (zero_fault bytes)) (page_of bytes)
 
--- its entries, and its initrd
+-- the page's entries and initrd are put into the inputs
 abbrev pub put_page : Page → Given → Given
 put_page page given = record given { entries = page.entries; initrd = page.initrd }
 
--- a page, whose entries stand in an array that has room for all of them
+-- one page; its entries go into an array with room for all of them, so reading it needs no memory
 abbrev pub zero_page : File
 zero_page = record {
   input = inputs.ZeroPage;
@@ -27,7 +28,7 @@ zero_page = record {
   says = λ bytes given. with_value put_page given (page_said bytes);
 }
 
--- what is told of a fault
+-- what the line of a fault says
 abbrev pub zero_page_diagnostic : ZeroFault → Diagnostic
 zero_page_diagnostic zero.WrongLength = Diagnostic.Whole (codes "wrong length")
 zero_page_diagnostic zero.TooFew = Diagnostic.Whole (codes "too few entries")

@@ -1,4 +1,4 @@
-//! The command line of the kernel as an input. Nothing of the line goes on but its options.
+//! The command line of the kernel as an input. Only its options are kept.
 
 ghost use Rattle.std.specs.Prelude.{◌≡◌, ◌≤◌, ℕ, length, IsErrOf, IsOk, IsTrue, List};
 ghost use Rattle.std.specs.Option.{option_map};
@@ -18,7 +18,7 @@ use boot_model::Inputs;
 use boot_options::{OptionFault, read_options};
 use std::alloc::Global;
 
-/// Reads a command line.
+/// The reader of a command line.
 pub struct CommandLines;
 
 impl Reader for CommandLines {
@@ -48,12 +48,13 @@ impl Reader for CommandLines {
     }
 }
 
-/// A law: no bytes are judged to want memory. So where the reader answers that it isn't what the bytes say.
+/// Law: "out of memory" is never a fault of a command line's contents.
 pub fn command_line_wants_no_memory()
     ensures { (bytes : List ℕ) → ¬ IsErrOf (options_of bytes) OptionFault.Memory }
 {}
 
-/// What is told of a fault: nothing of want of memory, which is no fault of the bytes.
+/// Returns what the line of the fault says, or `None` for out of memory, which is no fault of the
+/// bytes.
 pub(crate) fn command_line_diagnostic(fault: OptionFault) -> Option<Diagnostic>
     ensures { option_map diagnostic_view result ≡ command_line_diagnostic fault }
 {

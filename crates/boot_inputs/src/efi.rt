@@ -18,7 +18,7 @@ use boot_model::{Inputs, mirrors_are_whole_frames};
 use efi_map::{EfiFault, read_efi};
 use std::alloc::Global;
 
-/// Reads an EFI memory map.
+/// The reader of an EFI memory map.
 pub struct EfiMaps;
 
 impl Reader for EfiMaps {
@@ -49,12 +49,13 @@ impl Reader for EfiMaps {
     }
 }
 
-/// A law: no bytes are judged to want memory. So where the reader answers that it isn't what the bytes say.
+/// Law: "out of memory" is never a fault of an EFI memory map's contents.
 pub fn efi_wants_no_memory()
     ensures { (bytes : List ℕ) → ¬ IsErrOf (efi_of bytes) EfiFault.Memory }
 {}
 
-/// What is told of a fault: nothing of want of memory, which is no fault of the bytes.
+/// Returns what the line of the fault says, or `None` for out of memory, which is no fault of the
+/// bytes.
 pub(crate) fn efi_diagnostic(fault: EfiFault) -> Option<Diagnostic>
     ensures { option_map diagnostic_view result ≡ efi_diagnostic fault }
 {

@@ -1,5 +1,5 @@
-//! The E820 extension as an input. The boot loader hands it over apart from the zero page, whose entries it goes
-//! on with (`setup_data`); so it is a file of its own, with its own limit and its own faults.
+//! The E820 extension as an input. The boot loader passes it apart from the zero page, whose
+//! entries it continues (`setup_data`). So it is a file of its own, with its own limit and faults.
 
 ghost use Rattle.std.specs.Prelude.{◌≡◌, ◌≢◌, ◌≤◌, ℕ, length, IsErrOf, IsOk, IsTrue, List, Some};
 ghost use Rattle.std.specs.Option.{option_map};
@@ -19,7 +19,7 @@ use boot_model::Inputs;
 use e820_table::{ExtFault, read_ext};
 use std::alloc::Global;
 
-/// Reads an E820 extension.
+/// The reader of an E820 extension.
 pub struct Extensions;
 
 impl Reader for Extensions {
@@ -29,7 +29,7 @@ impl Reader for Extensions {
         Input::Extension
     }
 
-    // The most entries are 3,072, which with the 128 of a zero page are as many as the kernel's table holds
+    // At most 3,072 entries, which with the 128 of a zero page fill the kernel's table
     // (`E820_MAX_ENTRIES`).
     fn limit() -> u64 {
         61_456
@@ -51,12 +51,13 @@ impl Reader for Extensions {
     }
 }
 
-/// A law: no bytes are judged to want memory. So where the reader answers that it isn't what the bytes say.
+/// Law: "out of memory" is never a fault of an E820 extension's contents.
 pub fn extension_wants_no_memory()
     ensures { (bytes : List ℕ) → ext_fault bytes ≢ Some ExtFault.Memory }
 {}
 
-/// What is told of a fault: nothing of want of memory, which is no fault of the bytes.
+/// Returns what the line of the fault says, or `None` for out of memory, which is no fault of the
+/// bytes.
 pub(crate) fn extension_diagnostic(fault: ExtFault) -> Option<Diagnostic>
     ensures { option_map diagnostic_view result ≡ extension_diagnostic fault }
 {

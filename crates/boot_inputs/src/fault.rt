@@ -1,5 +1,6 @@
-//! What is wrong with the bytes of a file, in one type for all files: what the crate that reads the file says of it. No bytes
-//! are judged to want memory (`bytes_want_no_memory`): where a reader answers that it's told apart from the faults here.
+//! What is wrong with the bytes of a file, in one type for all files: the fault that the crate of
+//! the file's reader gives. Out of memory is never a fault of bytes (`bytes_want_no_memory`), and
+//! a [`Misread`] keeps it apart.
 
 ghost use Rattle.std.specs.Prelude.{◌≡◌};
 ghost use Rattle.std.specs.Option.{option_map};
@@ -23,32 +24,32 @@ use script_reader::ScriptFault;
 use slit_zonelists::SlitFault;
 use srat_reader::SratFault;
 
-/// What is wrong with a file that could be read. A reader's `Memory` is never among it.
+/// What is wrong with a file that could be read. A reader's `Memory` is never among these faults.
 #[derive(Clone, Copy, Debug, PartialEq, Eq)]
 pub enum Fault {
     /// The file has more bytes than its limit.
     TooLong,
-    /// The zero page has that fault.
+    /// The fault is one of the zero page.
     ZeroPage(ZeroFault),
-    /// The extension has that fault.
+    /// The fault is one of the extension.
     Extension(ExtFault),
-    /// The command line has that fault.
+    /// The fault is one of the command line.
     CommandLine(OptionFault),
-    /// The SRAT has that fault.
+    /// The fault is one of the SRAT.
     Srat(SratFault),
-    /// The script has that fault.
+    /// The fault is one of the script.
     Script(ScriptFault),
-    /// The page script has that fault.
+    /// The fault is one of the page script.
     Pages(PageFault),
-    /// The SLIT has that fault.
+    /// The fault is one of the SLIT.
     Slit(SlitFault),
-    /// The EFI memory map has that fault.
+    /// The fault is one of the EFI memory map.
     Efi(EfiFault),
 }
 
 impl Fault {
-    /// What is told of it, which is something of each fault that bytes have (`bytes_want_no_memory`). Nothing is told of a reader's
-    /// want of memory.
+    /// Returns what the line of the fault says. It is `None` only for a reader's out of memory,
+    /// which no bytes have as their fault (`bytes_want_no_memory`).
     pub fn diagnostic(self) -> Option<Diagnostic>
         ensures { option_map diagnostic_view result ≡ diagnostic_of self }
     {
@@ -69,8 +70,8 @@ impl Fault {
 /// Why bytes give no value.
 #[derive(Clone, Copy, Debug, PartialEq, Eq)]
 pub enum Misread {
-    /// They have that fault first.
+    /// The bytes have this fault first.
     Fault(Fault),
-    /// The program's own memory ran out.
+    /// This program is out of memory.
     Memory,
 }

@@ -1,4 +1,4 @@
-//! One step for every file: look up the name, fetch, read.
+//! The step for one file: look up the name, fetch, read.
 
 ghost use Rattle.std.specs.Prelude.{◌≡◌, ℕ, ◌≤◌, List, length, Option, Some, IfErr, IfSome, IsNone, IsOk};
 ghost use Rattle.boot_model.specs.View.{inputs_view};
@@ -16,8 +16,16 @@ use bm_io::{Fetch, Files};
 use boot_model::Inputs;
 use std::alloc::Global;
 
-/// Puts what the file gives into the inputs; where none is named nothing is added, which takes no memory.
-/// Its refusals are of this input alone.
+/// Puts the value of the reader's file into the inputs. If the file has no name, changes nothing
+/// and needs no memory.
+///
+/// # Errors
+///
+/// - `Unread`: the file couldn't be fetched
+/// - `Faulty`: the file is longer than its limit, or its bytes have a fault
+/// - out of memory
+///
+/// Each of them is for this file only.
 pub fn add_file<R: Reader, F: Files, N: Names>(
     alloc: Global,
     files: &mut F,
@@ -39,7 +47,11 @@ pub fn add_file<R: Reader, F: Files, N: Names>(
     }
 }
 
-/// Puts what the file of that name gives into the inputs.
+/// Puts the value of the file of that name into the inputs.
+///
+/// # Errors
+///
+/// Those of `add_file`.
 fn fetch<R: Reader, F: Files>(
     alloc: Global,
     files: &mut F,
@@ -61,7 +73,12 @@ fn fetch<R: Reader, F: Files>(
     }
 }
 
-/// Puts what the bytes of a file give into the inputs.
+/// Puts the value of the file's bytes into the inputs.
+///
+/// # Errors
+///
+/// - `Faulty`: the bytes have a fault
+/// - out of memory
 fn read<R: Reader>(alloc: Global, bytes: &[u8], inputs: &mut Inputs) -> Result<(), NoInputs>
     requires { length bytes.now ≤ R.file.limit }
     ensures fetches { Fetches place (λ done. inputs_view inputs.new) result

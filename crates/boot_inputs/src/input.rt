@@ -1,9 +1,9 @@
-//! Which files there are, in the order in which they are read.
+//! The input files, in the order in which they are read.
 
 ghost use Rattle.std.specs.Prelude.{◌≡◌};
 ghost use Rattle.boot_inputs.specs.Input.{word_for};
 
-/// An input file, in the order in which they are read.
+/// An input file. The variants stand in the order in which the files are read.
 #[derive(Clone, Copy, Debug, PartialEq, Eq)]
 pub enum Input {
     /// The zero page (`struct boot_params`).
@@ -25,7 +25,7 @@ pub enum Input {
 }
 
 impl Input {
-    /// The word for it in the line of its fault.
+    /// Returns the word for the input in the line of its fault.
     pub fn word(self) -> &'static str
         ensures { result.now ≡ word_for self }
     {

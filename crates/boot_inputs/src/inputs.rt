@@ -1,4 +1,4 @@
-//! All files, in the order of work.
+//! All files, in the order in which they are read.
 
 ghost use Rattle.std.specs.Prelude.{IfErr, IfSome, IsNone, IsOk};
 ghost use Rattle.boot_model.specs.View.{inputs_view};
@@ -23,7 +23,7 @@ use bm_io::Files;
 use boot_model::Inputs;
 use std::alloc::Global;
 
-/// The input files in the order of work.
+/// The list of the readers of all files, in the order in which they are read.
 pub(crate) type FromZeroPage = (ZeroPages, FromExtension);
 
 type FromExtension = (Extensions, FromCommandLine);
@@ -40,8 +40,13 @@ type FromSlit = (Slits, FromEfi);
 
 type FromEfi = (EfiMaps, ());
 
-/// Fetches each file that is named, in the order of work, and judges it before the next; the first
-/// refusal is the answer. Where none is named there is no refusal. What they give is put into what is begun with.
+/// Fetches each named file, in the order of reading, and puts its value into `begun`. Files
+/// without a name are skipped.
+///
+/// # Errors
+///
+/// - `Unread` or `Faulty`: the first file that can't be fetched, or that has a fault
+/// - out of memory, at any file
 pub fn read_inputs<F: Files, N: Names>(
     alloc: Global,
     files: &mut F,

@@ -1,4 +1,4 @@
-//! What holds of the definitions of all bytes.
+//! Laws about the definitions, for all bytes.
 
 ghost use Rattle.std.specs.Prelude.{◌≡◌, All, Ok, Err};
 ghost use Rattle.boot_inputs.specs.Faults.{IsOfBytes, SaysOfBytes};
@@ -13,8 +13,8 @@ ghost use Rattle.program_end.specs.declared.failure.Reason.TheVariants as reason
 use crate::inputs::FromZeroPage;
 use crate::list::Readers;
 
-/// A law: no bytes of an input file are judged to want memory, as each file says for itself (`Reader::wants_no_memory`). So no file is
-/// refused for it.
+/// Law: "out of memory" is never a fault of an input file's contents. So no file is refused with
+/// it as its fault.
 pub fn bytes_want_no_memory()
     ensures files { All SaysOfBytes input_files }
     ensures refused { (held : Held) (named : Named) (begun : Given) (input : AnyInput) (fault : AnyFault) →
@@ -23,8 +23,9 @@ pub fn bytes_want_no_memory()
     FromZeroPage::want_no_memory();
 }
 
-/// Law: the EFI memory map changes the boot's map only if a word of the command line has the name `add_efi_memmap` and the file has
-/// descriptors. Otherwise the map is that of the same inputs without the file (`do_add_efi_memmap`).
+/// Law: the EFI memory map changes the boot's map only if a word of the command line has the name
+/// `add_efi_memmap` and the file has descriptors. Otherwise the map is that of the same inputs
+/// without the file (`do_add_efi_memmap`).
 pub fn efi_adds_what_is_asked()
     ensures unasked { (held : Held) (named : Named) (begun given : Given) → IsBeforeFiles begun →
         inputs_of held named begun ≡ Ok given → LacksEfiWord held named → HasMapWithoutEfi held named begun given }

@@ -1,23 +1,29 @@
-//! The input files of a boot: each fetched by its name and judged before the next is fetched.
+//! Reads the input files of a boot: fetches each by its name, and checks it before it fetches the
+//! next.
 //!
-//! A boot is given a zero page, and where they are named an E820 extension, a command line, the firmware's table of
-//! domains (SRAT), a script, a page script, the table of distances (SLIT)
-//! and the firmware's own map of memory (EFI). What the program does with a file is the same for all of them: look up its name, fetch
-//! it up to its limit, and read it into the inputs ([`add_file`]). So an input file is one value in one module, an
-//! implementation of [`Reader`]: which [`Input`] it is, the most bytes that it has, and how they are read. Its
-//! definition is one value too, a `File` of `specs/File.antt`. Beside it stands what is told of the file's faults ([`Diagnostic`]).
+//! A boot needs a zero page. If they are named, it also reads an E820 extension, a command line,
+//! the firmware's table of domains (SRAT), a script, a page script, the table of distances (SLIT),
+//! and the firmware's own map of memory (EFI). [`read_inputs`] reads them in this order. It stops
+//! at the first file that can't be read ([`Reason::Unread`]) or has a fault ([`Reason::Faulty`]).
 //!
-//! The files in the order of work, zero page, extension, command line, SRAT, script, page script, SLIT, EFI map, are a list in the code
-//! (`src/inputs.rt`) and one in the definition (`input_files` of `specs/Inputs.antt`). [`Readers`] walks any list, and what
-//! is said of it (`AreRead` of `specs/Reading.antt`) is proved once. [`read_inputs`] walks this one: the first file
-//! that can't be read ([`Reason::Unread`]) or is malformed ([`Reason::Faulty`]) is the answer. A file that couldn't be
-//! read has its cause in the count of faults of its name; nothing else is free but want of memory, which [`NoInputs`]
-//! keeps apart from what is wrong with the files.
+//! The program does the same with each file ([`add_file`]): it looks up the name, fetches the file
+//! up to its limit, and reads it into the inputs. So an input file is one value in one module, a
+//! [`Reader`]. It says which [`Input`] it is, how many bytes it may have, and how they are read.
+//! Its definition is one value too, a `File` of `specs/File.antt`. [`Diagnostic`] is what the line
+//! of a file's fault says.
 //!
-//! Where the names come from is another's business: [`Names`] is whatever knows the name of an input.
+//! The order of the files is a list in the code (`src/inputs.rt`) and a list in the definition
+//! (`input_files` of `specs/Inputs.antt`). [`Readers`] reads any list, and the facts about a list
+//! (`AreRead` of `specs/Reading.antt`) are proved once. [`Names`] is whatever knows the name of an
+//! input's file; the layer above has it.
 //!
-//! The layer above may rest on this: what is answered is what the definition says of the files' bytes, put into what was
-//! begun with; and what a boot needs of it stands with the inputs (`boot_model`).
+//! The layer above may rest on this: the inputs are what the definition makes of the files' bytes,
+//! put into the inputs begun with. A file is reported unread only if the number of faults counted
+//! for its name has risen. Out of memory may come at any time, and [`NoInputs`] keeps it apart
+//! from what is wrong with the files.
+//!
+//! A law is an empty function whose contract is a proven fact. In contracts, a name means the
+//! definition in `specs/`, here or in a crate below.
 #![tactic(auto)]
 
 mod command_line;

@@ -1,5 +1,5 @@
-//! A list of input files, as a type: a file and the list behind it. What is said of files that are read one after another is
-//! proved here once, for any list.
+//! A list of input files as a type: a reader and the rest of the list. Facts about files that are
+//! read one after another are proved once, for any list.
 
 ghost use Rattle.std.specs.Prelude.{◌≡◌, All, IsTrue, List, [], ◌∷◌};
 ghost use Rattle.boot_model.specs.View.{inputs_view};
@@ -15,12 +15,18 @@ use bm_io::Files;
 use boot_model::Inputs;
 use std::alloc::Global;
 
-/// Input files that are read one after another.
+/// A list of readers of input files.
 pub trait Readers {
-    // The files in their order.
+    // The files, in their order.
     ghost list: { List File };
 
-    /// Fetches each file that is named, in their order, and judges it before the next; the first refusal is the answer.
+    /// Fetches each named file in order and puts its value into the inputs. Checks each before it
+    /// fetches the next.
+    ///
+    /// # Errors
+    ///
+    /// - `Unread` or `Faulty`: the first file that can't be fetched, or that has a fault
+    /// - out of memory, at any file
     fn add_files<F: Files, N: Names>(
         alloc: Global,
         files: &mut F,
@@ -30,7 +36,7 @@ pub trait Readers {
         requires { IsTrue (ascend list) }
         ensures { AreRead F.Files (N.named names.now) list files.old files.new (inputs_view inputs.old) (inputs_view inputs.new) result };
 
-    /// A law: no bytes of these files are judged to want memory.
+    /// Law: "out of memory" is never a fault of these files' contents.
     fn want_no_memory()
         ensures { All SaysOfBytes list };
 }

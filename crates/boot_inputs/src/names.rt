@@ -1,5 +1,5 @@
-//! Names of files, by the input that they are of. It is a trait, since the words in which the names stand are
-//! read above (`program_words`), by a crate that stands on this one.
+//! Names of files, by input. `Names` is a trait, since the crate that reads the command words
+//! (`program_words`) stands above this one.
 
 ghost use Rattle.std.specs.Prelude.{◌≡◌, ℕ, List, Option};
 ghost use Rattle.std.specs.Option.{option_copied};
@@ -9,10 +9,10 @@ use crate::input::Input;
 
 /// What knows the name of each input's file.
 pub trait Names {
-    // The name of the input's file, where there is one.
+    // The name of the input's file, if there is one.
     ghost named: { Self → AnyInput → Option (List ℕ) };
 
-    /// The name of the input's file, if there is one.
+    /// Returns the name of the input's file, if there is one.
     fn of(&self, input: Input) -> Option<&str>
         ensures { option_copied result ≡ named self.now input };
 }

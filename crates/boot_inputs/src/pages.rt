@@ -1,4 +1,4 @@
-//! The page script as an input: what is asked of the page allocator behind the boot.
+//! The page script as an input: what the page allocator is asked for after the boot.
 
 ghost use Rattle.std.specs.Prelude.{◌≡◌, ◌≤◌, ℕ, length, IsErrOf, IsOk, IsTrue, List};
 ghost use Rattle.std.specs.Option.{option_map};
@@ -18,7 +18,7 @@ use boot_model::Inputs;
 use page_alloc::{PageFault, read_pages};
 use std::alloc::Global;
 
-/// Reads a page script.
+/// The reader of a page script.
 pub struct PageScripts;
 
 impl Reader for PageScripts {
@@ -48,12 +48,13 @@ impl Reader for PageScripts {
     }
 }
 
-/// A law: no bytes are judged to want memory. So where the reader answers that it isn't what the bytes say.
+/// Law: "out of memory" is never a fault of a page script's contents.
 pub fn pages_wants_no_memory()
     ensures { (bytes : List ℕ) → ¬ IsErrOf (pages_of bytes) PageFault.Memory }
 {}
 
-/// What is told of a fault: nothing of want of memory, which is no fault of the bytes.
+/// Returns what the line of the fault says, or `None` for out of memory, which is no fault of the
+/// bytes.
 pub(crate) fn pages_diagnostic(fault: PageFault) -> Option<Diagnostic>
     ensures { option_map diagnostic_view result ≡ pages_diagnostic fault }
 {

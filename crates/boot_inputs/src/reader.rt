@@ -1,4 +1,5 @@
-//! An input file as one value: which one it is, the most bytes that it has, and how they are read into the inputs.
+//! An input file as one value: which file it is, how many bytes it may have, and how they are read
+//! into the inputs.
 
 ghost use Rattle.std.specs.Prelude.{◌≡◌, ◌≤◌, length, IsErrOf, IsOk, IsTrue};
 ghost use Rattle.bm_base.specs.Answers.{Answers};
@@ -13,21 +14,25 @@ use crate::input::Input;
 use boot_model::Inputs;
 use std::alloc::Global;
 
-/// How an input file is read.
+/// The reader of an input file.
 pub trait Reader {
-    // The file: which one it is, its limit, what its bytes say, and for which of them memory is taken.
+    // The file: which one it is, its limit, what its bytes mean, and which bytes need memory.
     ghost file: { File };
 
-    /// The input that it reads.
+    /// Returns the input that it reads.
     fn input() -> Input
         ensures { result ≡ file.input };
 
-    /// The most bytes of the file.
+    /// Returns the greatest number of bytes that the file may have.
     fn limit() -> u64
         ensures { result ≡ file.limit };
 
-    /// Puts what the bytes give, which are within the limit, into the inputs. Memory is wanting only where they have no
-    /// fault, and are such that memory is taken for them.
+    /// Puts the value of `bytes`, which are within the limit, into the inputs.
+    ///
+    /// # Errors
+    ///
+    /// - the first fault of the bytes
+    /// - out of memory, only if the bytes have no fault and need memory
     fn read(alloc: Global, bytes: &[u8], inputs: &mut Inputs) -> Result<(), Misread>
         requires within { length bytes.now ≤ file.limit }
         ensures says { Answers misreads.Memory (λ done. inputs_view inputs.new) result
@@ -35,7 +40,8 @@ pub trait Reader {
         ensures memory { IsErrOf result misreads.Memory →
             IsTrue (file.takes bytes.now) × IsOk (file.says bytes.now (inputs_view inputs.old)) };
 
-    /// A law: no bytes are judged to want memory, so what the definition has in place of that fault is of no account.
+    /// Law: "out of memory" is never a fault of this file's contents. So it doesn't matter what
+    /// the definition gives for it.
     fn wants_no_memory()
         ensures { SaysOfBytes file };
 }

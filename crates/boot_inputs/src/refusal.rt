@@ -1,5 +1,6 @@
-//! Why there are no inputs. The type is that of a program's reasons, so that a reason goes from the file to the exit status as it
-//! is. Of the reasons, files are unread or faulty alone (`IsOfFile`).
+//! Why there are no inputs. The type is that of a program's reasons, so a reason goes from the
+//! file to the exit status unchanged. Reading files gives only the reasons unread and faulty
+//! (`IsOfFile`).
 
 use crate::fault::Fault;
 use crate::input::Input;
@@ -8,5 +9,5 @@ use boot_model::Cause;
 /// Why words and files give no report.
 pub type Reason = program_end::Reason<Input, Fault, Cause>;
 
-/// Why there are no inputs.
+/// Why there are no inputs: a reason, or out of memory.
 pub type NoInputs = program_end::NoResult<Reason>;

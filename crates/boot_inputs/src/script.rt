@@ -1,5 +1,6 @@
-//! The script of early allocations as an input. The boot asks that the sections are placed once at most, which
-//! the reader doesn't promise: a law of `early_script` is called here that tells it.
+//! The script of early allocations as an input. The boot requires that a script places the
+//! sections at most once. The contract of `read_script` doesn't say so, and a law of
+//! `early_script` does.
 
 ghost use Rattle.std.specs.Prelude.{◌≡◌, ◌≤◌, ℕ, length, IsErrOf, IsOk, IsTrue, List};
 ghost use Rattle.std.specs.Option.{option_map};
@@ -20,7 +21,7 @@ use early_script::scripts_place_once;
 use script_reader::{ScriptFault, read_script};
 use std::alloc::Global;
 
-/// Reads a script of early allocations.
+/// The reader of a script of early allocations.
 pub struct Scripts;
 
 impl Reader for Scripts {
@@ -51,12 +52,13 @@ impl Reader for Scripts {
     }
 }
 
-/// A law: no bytes are judged to want memory. So where the reader answers that it isn't what the bytes say.
+/// Law: "out of memory" is never a fault of a script's contents.
 pub fn script_wants_no_memory()
     ensures { (bytes : List ℕ) → ¬ IsErrOf (script_of bytes) ScriptFault.Memory }
 {}
 
-/// What is told of a fault: nothing of want of memory, which is no fault of the bytes.
+/// Returns what the line of the fault says, or `None` for out of memory, which is no fault of the
+/// bytes.
 pub(crate) fn script_diagnostic(fault: ScriptFault) -> Option<Diagnostic>
     ensures { option_map diagnostic_view result ≡ script_diagnostic fault }
 {

@@ -18,7 +18,7 @@ use boot_model::Inputs;
 use slit_zonelists::{SlitFault, read_slit};
 use std::alloc::Global;
 
-/// Reads a table of distances.
+/// The reader of a table of distances.
 pub struct Slits;
 
 impl Reader for Slits {
@@ -48,12 +48,13 @@ impl Reader for Slits {
     }
 }
 
-/// A law: no bytes are judged to want memory. So where the reader answers that it isn't what the bytes say.
+/// Law: "out of memory" is never a fault of a SLIT's contents.
 pub fn slit_wants_no_memory()
     ensures { (bytes : List ℕ) → ¬ IsErrOf (slit_of bytes) SlitFault.Memory }
 {}
 
-/// What is told of a fault: nothing of want of memory, which is no fault of the bytes.
+/// Returns what the line of the fault says, or `None` for out of memory, which is no fault of the
+/// bytes.
 pub(crate) fn slit_diagnostic(fault: SlitFault) -> Option<Diagnostic>
     ensures { option_map diagnostic_view result ≡ slit_diagnostic fault }
 {

@@ -1,5 +1,5 @@
-//! The firmware's table of domains as an input. A boot tells a table without entries from none, as `no blocks` and
-//! `absent`.
+//! The firmware's table of domains as an input. A boot distinguishes a table without entries (`no
+//! blocks`) from no table at all (`absent`).
 
 ghost use Rattle.std.specs.Prelude.{◌≡◌, ◌≤◌, ℕ, length, IsErrOf, IsOk, IsTrue, List};
 ghost use Rattle.std.specs.Option.{option_map};
@@ -19,7 +19,7 @@ use boot_model::Inputs;
 use srat_reader::{SratFault, read_srat};
 use std::alloc::Global;
 
-/// Reads an SRAT.
+/// The reader of an SRAT.
 pub struct Srats;
 
 impl Reader for Srats {
@@ -49,12 +49,13 @@ impl Reader for Srats {
     }
 }
 
-/// A law: no bytes are judged to want memory. So where the reader answers that it isn't what the bytes say.
+/// Law: "out of memory" is never a fault of an SRAT's contents.
 pub fn srat_wants_no_memory()
     ensures { (bytes : List ℕ) → ¬ IsErrOf (srat_of bytes) SratFault.Memory }
 {}
 
-/// What is told of a fault: nothing of want of memory, which is no fault of the bytes.
+/// Returns what the line of the fault says, or `None` for out of memory, which is no fault of the
+/// bytes.
 pub(crate) fn srat_diagnostic(fault: SratFault) -> Option<Diagnostic>
     ensures { option_map diagnostic_view result ≡ srat_diagnostic fault }
 {

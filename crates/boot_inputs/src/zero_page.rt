@@ -1,5 +1,5 @@
-//! The zero page as an input. Its entries stand in an array that has room for all of them, so it is the one input
-//! whose reading never wants memory.
+//! The zero page as an input. Its entries go into an array with room for all of them, so it is the
+//! only input that is read without memory.
 
 ghost use Rattle.std.specs.Prelude.{◌≡◌, ◌≤◌, length, IsErrOf, IsOk, IsTrue};
 ghost use Rattle.bm_base.specs.Answers.{Answers};
@@ -17,7 +17,7 @@ use boot_model::Inputs;
 use e820_table::{ZeroFault, read_zero_page};
 use std::alloc::Global;
 
-/// Reads a zero page: its entries, and its initrd, if there is one.
+/// The reader of a zero page: its entries, and its initrd if there is one.
 pub struct ZeroPages;
 
 impl Reader for ZeroPages {
@@ -44,7 +44,7 @@ impl Reader for ZeroPages {
     fn wants_no_memory() {}
 }
 
-/// What is told of a fault.
+/// Returns what the line of the fault says.
 pub(crate) fn zero_page_diagnostic(fault: ZeroFault) -> Diagnostic
     ensures { diagnostic_view result ≡ zero_page_diagnostic fault }
 {

@@ -1,4 +1,4 @@
--- Bytes that were fetched are read, and no fault was counted for them; a failed fetch was counted.
+-- Fetched bytes are read, and no fault was counted for them. A failed fetch was counted.
 use Rattle.std.proofs.Common.{Some}
 use Rattle.boot_model.specs.View.{inputs_view}
 use Rattle.boot_inputs.proofs.FileLaws.{comes_to_own}

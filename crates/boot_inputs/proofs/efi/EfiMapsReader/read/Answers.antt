@@ -1,4 +1,4 @@
--- The mirrors of a map are whole frames, and where memory is wanting the map has no fault.
+-- The mirrors of a map are whole frames. If the program is out of memory, the map has no fault.
 use Rattle.boot_inputs.proofs.efi.EfiMapsReader.read.Goals as goal
 
 pub invariant_of-inputs-clause-efi_mirrors_fit : goal.invariant_of-inputs-clause-efi_mirrors_fit

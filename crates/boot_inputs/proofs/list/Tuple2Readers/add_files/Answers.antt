@@ -1,4 +1,4 @@
--- The first file is refused, or the others are read behind it.
+-- The first file is refused, or the rest are read after it.
 use Rattle.std.proofs.Common.{rules}
 use Rattle.boot_model.specs.View.{inputs_view}
 use Rattle.boot_inputs.proofs.ReadingLaws.{error_is, gone_on, stopped}

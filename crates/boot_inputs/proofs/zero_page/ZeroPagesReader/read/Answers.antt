@@ -1,4 +1,4 @@
--- Of the inputs' facts one is named, and the others are found.
+-- One of the inputs' facts is named, and the others are found.
 use Rattle.boot_inputs.proofs.zero_page.ZeroPagesReader.read.Goals as goal
 
 pub invariant_of-inputs-clause-entries_end : goal.invariant_of-inputs-clause-entries_end
