@@ -1,4 +1,5 @@
--- Owners and the claims that the journal has for them; frames that are touched, and those that aren't.
+-- Owners and the claims that the journal has for them; the frames that are touched, and those that
+-- aren't.
 use Rattle.std.proofs.Common.{◌≡◌, ◌⊎◌, ℕ, ◌+◌, ◌*◌, ◌<◌, ◌≤◌, Bool, true, false, Option, Some, None, is_none, List, [], ◌∷◌, fold, refl, sym, ◌∙◌, ap, inl, inr, arith}
 use Rattle.std.specs.List.{list_any}
 use Rattle.std.proofs.lemmas.Bool.Decides.{nat_tests}
@@ -13,11 +14,12 @@ use Rattle.memblock_model.specs.declared.item.Item.{Item}
 use Rattle.memblock_model.specs.declared.item.Item.TheVariants as item
 use Rattle.conservation.specs.Claimed.{decides, IsRecorded, IsTouched, IsUntouched}
 
--- where an owner comes from: it was there before the items, of which none decides, or one of them is the claim
+-- where an owner comes from: it was there before the items and none of them decides, or one of
+-- them is the claim
 abbrev pub ComesFrom : Owners → List Item → ℕ → Owner → Type 0
 ComesFrom f items x who = ((f x ≡ Some who) × (list_any (λ i. decides i x) items ≡ false)) ⊎ IsRecorded items x who
 
--- what the first item makes of the byte, where none behind it decides
+-- the owner that the first item gives to the byte, if no later item decides
 first : (f : Owners) (i : Item) (items : List Item) (x : ℕ) (who : Owner) → owners_after f i x ≡ Some who
     → (list_any (λ j. decides j x) items ≡ false) → ComesFrom f (i ∷ items) x who
 first f (item.Claim range owner) items x who has none =
@@ -64,10 +66,11 @@ owner_recorded items x who has = elim (comes_from no_owners items x who has) as 
   | inr known ↦ known
 ]
 
--- a byte of a frame lies between the frame's ends, and the other way round
+-- a byte between the ends of a frame is one of the frame's
 pub frame_covers : (frame x : ℕ) → 4096 * frame ≤ x → x < 4096 * frame + 4096 → covers (bytes_of_frame frame) x ≡ true
 frame_covers frame x above below = grind (arith, nat_tests)
 
+-- a byte of a frame lies between the frame's ends
 pub covers_frame : (frame x : ℕ) → covers (bytes_of_frame frame) x ≡ true → (4096 * frame ≤ x) × (x < 4096 * frame + 4096)
 covers_frame frame x inside = (grind (arith, nat_tests), grind (arith, nat_tests))
 
@@ -99,6 +102,6 @@ touched_or_not items frame =
           }))
     ]
 
--- and never both
+-- a frame is never both
 pub touched_apart : (items : List Item) (frame : ℕ) → IsTouched items frame → IsUntouched items frame → ⊥
 touched_apart items frame touched bare = absurd (cc (sym touched.owned ∙ bare touched.byte touched.inside))

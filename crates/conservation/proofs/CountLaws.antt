@@ -1,4 +1,4 @@
--- Which blocks have a frame, and how many of them do.
+-- Which blocks have a frame, and how many of them.
 use Rattle.std.proofs.Common.{◌≡◌, ℕ, ◌+◌, ◌-◌, ◌%◌, ◌^◌, ◌<◌, Bool, true, false, ◌&&◌, nat_le, nat_lt, cond, count_by, Option, Some, None, List, [], ◌∷◌, refl, sym, ◌∙◌, ap, inl, inr, arith}
 use Rattle.std.proofs.lemmas.Bool.{false_from_ne_true}
 use Rattle.std.proofs.lemmas.Nat.{pow_pos}
@@ -20,29 +20,29 @@ in_block b frame aligned inside =
     let ends = tests_both b.first frame (b.first + 2 ^ b.order) inside in
     in_set (2 ^ b.order) b.first frame (omega (arith, ends.0)) (omega (arith, ends.1, aligned))
 
--- and those of a set are those from its first one on
+-- the frames of a set are those from its first one on
 in_range : (order first frame : ℕ) → IsInSet order first frame
     → (nat_le (first - first % 2 ^ order) frame && nat_lt frame (first - first % 2 ^ order + 2 ^ order)) ≡ true
 in_range order first frame same =
     both_tests (first - first % 2 ^ order) frame (first - first % 2 ^ order + 2 ^ order) (set_from (2 ^ order) first frame same)
     (set_until (2 ^ order) first frame (pow_pos order) same)
 
--- so a block and its buddy have those of the set of twice as many
+-- the frames of the set of twice as many are those of a block and its buddy
 pub in_buddies : (b : Block) (frame : ℕ) → IsInSet (b.order + 1) b.first frame → has_frame (with_buddy b) frame ≡ true
 in_buddies b frame same = in_range (b.order + 1) b.first frame same
 
--- one block more, by whether it passes the test
+-- one more block counts as one if it passes the test, else not at all
 counted : (p : Block → Bool) (c : Block) (cs : List Block) (passes : Bool) → p c ≡ passes
     → count_by p (c ∷ cs) ≡ cond passes 1 0 + count_by p cs
 counted p c cs passes is = sum_by-cons (λ (d : Block). cond (p d) 1 0) c cs ∙ ap (λ t. cond t 1 0 + count_by p cs) is
 
--- blocks of which none does
+-- blocks of which none passes the test
 none_counted : (p : Block → Bool) (bs : List Block) → ((b : Block) → Lists bs b → p b ≡ false) → count_by p bs ≡ 0
 none_counted p [] fails = refl
 none_counted p (c ∷ cs) fails =
     counted p c cs false (fails c (inl refl)) ∙ ap (λ n. 0 + n) (none_counted p cs (λ b listed. fails b (inr listed)))
 
--- and blocks of which one alone does
+-- blocks of which exactly one passes the test
 one_counted : (p : Block → Bool) (b : Block) (from : ℕ) (bs : List Block) → AscendFrom from bs → Lists bs b → p b ≡ true
     → ((c : Block) → Lists bs c → p c ≡ true → c ≡ b) → count_by p bs ≡ 1
 one_counted p b from [] ascend listed holds only = absurd listed
@@ -58,7 +58,7 @@ one_counted p b from (c ∷ cs) ascend (inr in_rest) holds only =
     counted p c cs false fails
     ∙ ap (λ n. 0 + n) (one_counted p b (c.first + 1) cs ascend.1 in_rest holds (λ d listed. only d (inr listed)))
 
--- what has a frame is free
+-- a frame of a block is free, with the block's node
 pub free_inside : (f : Frames) (b : Block) (frame : ℕ) → Lists (blocks_of f) b → has_frame b frame ≡ true → f frame ≡ Some b.node
 free_inside f b frame listed inside =
     let block = listed_sound f b listed in
@@ -69,7 +69,7 @@ pub no_block_with : (f : Frames) (frame : ℕ) → f frame ≡ None → blocks_w
 no_block_with f frame none = none_counted (λ b. has_frame b frame) (blocks_of f) (λ b listed.
     false_from_ne_true (has_frame b frame) (λ inside. cc (sym none ∙ free_inside f b frame listed inside)))
 
--- and one that is free is in exactly one
+-- a free frame is in exactly one block
 pub one_block_with : (f : Frames) (frame node : ℕ) → NothingFrom MAX_FRAMES f → f frame ≡ Some node → blocks_with (blocks_of f) frame ≡ 1
 one_block_with f frame node none free =
     let b : Block = block_around (order_up_to f frame node 10) frame node in
@@ -84,7 +84,7 @@ one_block_with f frame node none free =
     let same : block_of f frame ≡ Some c = found_block f frame c block (in_block c frame block.aligned within) in
     cc (sym same ∙ made)))
 
--- a frame of a block is free
+-- a frame in a block is free
 some_free : (f : Frames) (frame : ℕ) (o : Option ℕ) → f frame ≡ o → 0 < blocks_with (blocks_of f) frame → (node : ℕ) × (f frame ≡ Some node)
 some_free f frame None is some = (let none = no_block_with f frame is in absurd (omega (arith, some, none)))
 some_free f frame (Some node) is some = (node, is)

@@ -23,7 +23,8 @@ use Rattle.conservation.specs.Headline.{AllTouchedOrInOne, BlocksAreMaximal, Blo
 use Rattle.conservation.specs.Paged.{AllInOneOrHeld, NoOtherInOneOrHeld}
 use Rattle.conservation.proofs.CountLaws.{no_block_with, one_block_with}
 
--- a byte of frame 4 and one of frame 5 are claimed, and the claim of frame 4 is freed again
+-- this and the next two: a byte of frame 4 and one of frame 5 are claimed, and the claim of frame
+-- 4 is then freed
 abbrev byte_of_four : RangeView
 byte_of_four = record { base = 0x4FFF; size = 1 }
 
@@ -38,7 +39,7 @@ decide_examples : (decides (item.Free byte_of_four) 0x4FFF ≡ true) × (decides
     × (decides (item.Mem byte_of_five) 0x5800 ≡ false)
 decide_examples = (refl, refl, refl, refl)
 
--- the claim of frame 5 stands
+-- this and the next: the claim of frame 5 is in force, so the frame is touched
 five_recorded : IsRecorded journal 0x5800 owner.Kernel
 five_recorded = record {
   before = item.Claim byte_of_four (owner.Script 3) ∷ [];
@@ -52,14 +53,14 @@ five_recorded = record {
 five_touched : IsTouched journal 5
 five_touched = record { byte = 0x5800; owner = owner.Kernel; inside = refl; owned = refl; recorded = five_recorded }
 
--- that of frame 4 doesn't
+-- this and the next: frame 4 is untouched, frame 5 isn't
 four_untouched : IsUntouched journal 4
 four_untouched x inside = grind (arith, nat_tests)
 
 five_not_untouched : IsUntouched journal 5 → ⊥
 five_not_untouched bare = let none : Some owner.Kernel ≡ None = bare 0x5800 refl in cc none
 
--- a block of frames 6 and 7, and one of frame 4
+-- this and the next: a block of frames 6 and 7, and one of frame 4
 abbrev two : Block
 two = record { order = 1; first = 6; node = 0; zone = zone.Dma }
 
@@ -69,47 +70,54 @@ one = record { order = 0; first = 4; node = 0; zone = zone.Dma }
 has_examples : (has_frame two 5 ≡ false) × (has_frame two 6 ≡ true) × (has_frame two 7 ≡ true) × (has_frame two 8 ≡ false)
 has_examples = (refl, refl, refl, refl)
 
--- frame 7 is in one of them, frame 5 in none, and where a block is listed twice its frames are in two
+-- frame 7 is in one of the blocks and frame 5 in none; the frames of a block that is listed twice
+-- are in two
 with_examples : (blocks_with (one ∷ (two ∷ [])) 7 ≡ 1) × (blocks_with (one ∷ (two ∷ [])) 5 ≡ 0) × (blocks_with (two ∷ (two ∷ [])) 6 ≡ 2)
 with_examples = (refl, refl, refl)
 
--- the buddy of a block lies before it or behind it
+-- the buddy of a block lies below it or above it
 buddy_examples : (with_buddy two ≡ record { order = 2; first = 4; node = 0; zone = zone.Dma })
     × (with_buddy one ≡ record { order = 1; first = 4; node = 0; zone = zone.Dma })
 buddy_examples = (refl, refl)
 
--- a block that begins at no multiple of its frames isn't whole, and neither is one of a greater order than the lists have
+-- this and the next: a block whose first frame isn't a multiple of its number of frames isn't
+-- whole, nor is a block of order 11
 odd_example : (given : Given) (items : List Item) → IsWhole given items (record { order = 1; first = 5; node = 0; zone = zone.Dma }) → ⊥
 odd_example given items whole = let wrong : 1 ≡ 0 = whole.aligned in absurd (omega (arith, wrong))
 
 great_example : (given : Given) (items : List Item) → IsWhole given items (record { order = 11; first = 0; node = 0; zone = zone.Dma }) → ⊥
 great_example given items whole = let wrong : 11 ≤ 10 = whole.small in absurd (omega (arith, wrong))
 
--- one of the greatest order is maximal, and so is one whose buddy is touched
+-- this and the next: a block of the greatest order is maximal, and so is one whose buddy is
+-- touched
 greatest_example : (given : Given) (items : List Item) → IsMaximal given items (record { order = 10; first = 0; node = 0; zone = zone.Dma })
 greatest_example given items less = absurd (omega (arith, less))
 
 touched_buddy_example : (given : Given) → IsMaximal given journal one
 touched_buddy_example given less all = five_not_untouched (all 5 refl).untouched
 
--- by a map of two runs frame 1 is usable; frame 2 isn't, since it is reserved, and neither is a frame out of reach
+-- a map of two runs: RAM, and then a reserved one
 abbrev two_runs : List (RunOf ℕ)
 two_runs = record { base = 0x1000; size = 0x1000; value = 1 } ∷ (record { base = 0x2000; size = 0x1000; value = 2 } ∷ [])
 
+-- frame 1 is usable by this map
 usable_by_runs : IsUsableBy (2 ^ 46) two_runs 1
 usable_by_runs = (omega arith, λ x inside. grind (arith, nat_tests))
 
+-- frame 2 isn't usable, since it is reserved
 reserved_by_runs : IsUsableBy (2 ^ 46) two_runs 2 → ⊥
 reserved_by_runs usable = let wrong : false ≡ true = usable.1 0x2000 refl in cc wrong
 
+-- the frame at 64 TiB isn't usable, since the tables of memory end there
 out_of_reach : (map : List (RunOf ℕ)) → IsUsableBy (2 ^ 46) map 17179869184 → ⊥
 out_of_reach map usable = let low = usable.0 in absurd (omega (arith, low))
 
--- with page tables of five levels memory reaches to 4 PiB, and no frame behind them is usable
+-- with page tables of five levels the tables of memory reach 4 PiB, and the frame at 4 PiB isn't
+-- usable
 out_of_reach_of_52 : (map : List (RunOf ℕ)) → IsUsableBy (2 ^ 52) map 1099511627776 → ⊥
 out_of_reach_of_52 map usable = let low = usable.0 in absurd (omega (arith, low))
 
--- a boot that tells these items and these free frames, whatever else it tells
+-- a boot that reports these items and these free frames, whatever else it reports
 abbrev telling : Told → List Item → Frames → Told
 telling told items free = record told { items = items; free = free }
 
@@ -118,21 +126,21 @@ abbrev pair_of_node_one : List Item
 pair_of_node_one =
     item.Mem (record { base = 0x4000; size = 0x2000 }) ∷ (item.Node (record { base = 0x4000; size = 0x2000 }) 1 ∷ [])
 
--- frame 5 is told as free, of some node
+-- frame 5 is reported as free, with the node
 abbrev five : ℕ → Frames
 five node frame = if frame == 5 then Some node else None
 
 five_alone : (node : ℕ) → NothingFrom MAX_FRAMES (five node)
 five_alone node frame far = let other : (frame == 5) ≡ false = grind (arith, nat_tests) in rw other refl
 
--- a usable frame that is told as nobody's and in no block is refused
+-- a boot is refused if a usable frame is untouched and in no block
 lost_frame : (given : Given) (told : Told) → IsUsable given 4 → AllTouchedOrInOne given (telling told pair_of_node_one (five 1)) → ⊥
 lost_frame given told usable all = elim (all 4 usable) as (λ _. ⊥) [
   | inl touched ↦ cc (touched.0.owned)
   | inr in_one ↦ (let none = no_block_with (five 1) 4 refl in omega (arith, none, in_one.1))
 ]
 
--- and so is a frame in a block that somebody has a byte of
+-- a boot is refused if a claim touches a frame of a block
 handed_claim : (given : Given) (told : Told) → NoOtherInABlock given (telling told journal (five 1)) → ⊥
 handed_claim given told none =
     let count : blocks_with (blocks_of (five 1)) 5 ≡ 1 = one_block_with (five 1) 5 1 (five_alone 1) refl in
@@ -150,13 +158,13 @@ five_listed node = listed_complete (five node) (five_block node) (five_alone nod
   whole = λ less good. (let none : None ≡ Some node = (good 4 refl).0 in cc none);
 })
 
--- it is refused as one of another node than its memory's
+-- frame 5 as a block of another node than its memory's is refused
 other_node : (given : Given) (told : Told) → BlocksAreWhole given (telling told pair_of_node_one (five 0)) → ⊥
 other_node given told whole =
     let same : Some 1 ≡ Some 0 = ((whole (five_block 0) (five_listed 0)).frames 5 refl).node 0x5000 refl in
     cc same
 
--- and it is refused as a block by itself where its buddy is free too
+-- the two frames are free for the set of frame 5 and its buddy
 pair_free : (given : Given) (frame : ℕ) → 4 ≤ frame → frame < 6 → IsUsable given frame → zone_of frame ≡ zone.Dma
     → IsFreeFor given pair_of_node_one (with_buddy (five_block 1)) frame
 pair_free given frame above below usable low = record {
@@ -167,6 +175,7 @@ pair_free given frame above below usable low = record {
   zone = low;
 }
 
+-- frame 5 as a block by itself is refused, since its buddy is free too
 half_alone : (given : Given) (told : Told) → IsUsable given 4 → IsUsable given 5
     → BlocksAreMaximal given (telling told pair_of_node_one (five 1)) → ⊥
 half_alone given told four_usable five_usable maximal =
@@ -180,17 +189,18 @@ half_alone given told four_usable five_usable maximal =
           rw is (pair_free given 5 (omega arith) (omega arith) five_usable refl))
     ])
 
--- a frame that was handed over and is neither in a block nor held behind the page script is refused, and so is one in a block that
--- wasn't handed over
+-- a boot that reports these frames as handed over, and this state after the page script
 abbrev paged : Told → Frames → State → Told
 paged told free after = record told { free = free; after = after }
 
+-- a frame that was handed over and is afterwards in no block and not held is refused
 lost_page : (told : Told) → AllInOneOrHeld (paged told (five 1) (begun (λ frame. None))) → ⊥
 lost_page told all = elim (all 5 1 refl) as (λ _. ⊥) [
   | inl in_block ↦ cc ((in_block.0.is.good 5 in_block.0.has).0)
   | inr held ↦ cc (held.0.holds.is)
 ]
 
+-- a frame of a block that wasn't handed over is refused
 page_from_nowhere : (told : Told) → NoOtherInOneOrHeld (paged told (λ frame. None) (begun (five 1))) → ⊥
 page_from_nowhere told none =
     (none 5 refl).0 (five_block 1) (listed_sound (five 1) (five_block 1) (five_listed 1)) refl

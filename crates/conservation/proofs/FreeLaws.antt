@@ -1,4 +1,5 @@
--- The frames that a boot hands over are the usable ones that no claim touches, each of the node of its memory.
+-- The frames that a boot hands over are the usable ones that no claim touches, each with the node
+-- of its memory.
 use Rattle.std.proofs.Common.{◌≡◌, ℕ, ◌*◌, ◌/◌, nat_lt, Bool, true, false, ◌&&◌, is_some, is_none, if◌then◌else◌, Option, Some, None, refl, sym, ◌∙◌, ap, arith}
 use Rattle.std.proofs.lemmas.Bool.Decides.{nat_tests}
 use Rattle.std.proofs.lemmas.Bool.{and_from, and_parts}
@@ -27,21 +28,22 @@ use Rattle.conservation.specs.Claimed.{IsUntouched}
 use Rattle.conservation.specs.Headline.{IsFreeFor, IsUsable}
 use Rattle.conservation.proofs.ClaimedLaws.{covers_frame, frame_covers}
 
--- what is known of what a boot tells: the bytes of memory are those of the usable frames, and each of them has a node
+-- what is known of a report: the bytes of memory are those of the usable frames, and each has a
+-- node
 pub record IsTold (given : Given) (t : Told) : Type 0 where
   pub memory : (x : ℕ) → is_some (memory_of t.items x) ≡ is_usable_frame (types_in_reach given) (x / 4096)
   pub noded : IsNoded (reach given) (memory_of t.items)
   pub free : t.free ≡ handed_over t.items
   pub after : t.after ≡ after_with t.lists (nothing_taken t.free) given.page_lines
 
--- the bytes of a frame have its number
+-- each byte of a frame has the frame's number
 number : (frame x : ℕ) → covers (bytes_of_frame frame) x ≡ true → x / 4096 ≡ frame
 number frame x inside = let ends = covers_frame frame x inside in omega (arith, ends.0, ends.1)
 
 first_byte : (frame : ℕ) → covers (bytes_of_frame frame) (4096 * frame) ≡ true
 first_byte frame = frame_covers frame (4096 * frame) (omega arith) (omega arith)
 
--- what a table says, and what its parts say
+-- a test and the value under it
 if_some : (b : Bool) (o : Option ℕ) (n : ℕ) → (if b then o else None) ≡ Some n → (b ≡ true) × (o ≡ Some n)
 if_some true o n is = (refl, is)
 if_some false o n is = absurd (cc is)
@@ -59,16 +61,16 @@ abbrev pub alone : ℕ → ℕ → Block
 alone frame node = record { order = 0; first = frame; node = node; zone = zone_of frame }
 
 module _ (given : Given) (t : Told) (known : IsTold given t) where
-  -- a usable frame's bytes are memory
+  -- the bytes of a usable frame are memory
   held : (frame x : ℕ) → IsUsable given frame → covers (bytes_of_frame frame) x ≡ true → is_some (memory_of t.items x) ≡ true
   held frame x usable inside =
       known.memory x ∙ ap (λ k. is_usable_frame (types_in_reach given) k) (number frame x inside) ∙ usable
 
-  -- they all carry what the first one does
+  -- all bytes of a frame have the label of its first byte
   same_labels : (frame x : ℕ) → covers (bytes_of_frame frame) x ≡ true → memory_of t.items x ≡ memory_of t.items (4096 * frame)
   same_labels frame x inside = known.noded.frames x ∙ ap (λ k. memory_of t.items (4096 * k)) (number frame x inside)
 
-  -- the node that is told of a byte is that of its tag
+  -- the reported node of a byte is that of its tag
   same_node : (x : ℕ) (o : Option LabelView) → memory_of t.items x ≡ o → node_told o ≡ node_of_tag (tag_for o)
   same_node x None is = refl
   same_node x (Some label) is =
@@ -76,7 +78,7 @@ module _ (given : Given) (t : Told) (known : IsTold given t) where
       let low : nat_lt one.0 MAX_NODES ≡ true = grind (arith, nat_tests, one.2) in
       ap node_below one.1 ∙ rw low (sym one.1)
 
-  -- a frame that is told as free is usable, and no claim touches it
+  -- a frame that is reported as free is usable, and no claim touches it
   pub told_is_free : (b : Block) (frame : ℕ) → t.free frame ≡ Some b.node → zone_of frame ≡ b.zone → IsFreeFor given t.items b frame
   unfolding free_node_in
   told_is_free b frame told zone =
@@ -96,7 +98,7 @@ module _ (given : Given) (t : Told) (known : IsTold given t) where
         zone = zone;
       }
 
-  -- and the other way round
+  -- a frame that is usable and untouched is reported as free
   pub free_is_told : (b : Block) (frame : ℕ) → IsFreeFor given t.items b frame → t.free frame ≡ Some b.node
   unfolding free_node_in
   free_is_told b frame free =
@@ -108,7 +110,7 @@ module _ (given : Given) (t : Told) (known : IsTold given t) where
       ap (λ (f : Frames). f frame) known.free
       ∙ rw each (same_node (4096 * frame) (memory_of t.items (4096 * frame)) refl ∙ free.node (4096 * frame) (first_byte frame))
 
-  -- each usable frame that no claim touches is free, of some node
+  -- each usable frame that no claim touches is free, with some node
   pub free_of_some : (frame : ℕ) → IsUsable given frame → IsUntouched t.items frame → (node : ℕ) × (t.free frame ≡ Some node)
   free_of_some frame usable untouched =
       let there = some_label (memory_of t.items (4096 * frame)) (held frame (4096 * frame) usable (first_byte frame)) in
@@ -122,7 +124,7 @@ module _ (given : Given) (t : Told) (known : IsTold given t) where
         }),
       )
 
-  -- no frame is told as free beyond those that a list of frames may have
+  -- no frame at or above the greatest number that a list of frames may have is reported as free
   pub told_below : NothingFrom MAX_FRAMES t.free
   unfolding free_node_in
   told_below frame far =

@@ -1,4 +1,4 @@
--- The headline: what a boot that isn't stopped makes of each frame.
+-- The four facts: what a boot that isn't stopped makes of each frame.
 use Rattle.std.proofs.Common.{◌≡◌, ℕ, Option, Some, None, Ok, refl, subst, inl, inr}
 use Rattle.address_runs.specs.Edits.{NothingFrom}
 use Rattle.frame_blocks.specs.declared.run.TheConstants.{MAX_FRAMES}
@@ -30,7 +30,7 @@ module _ (given : Given) (t : Told) (ends : told_boot given ≡ Ok t) where
   pub below : NothingFrom MAX_FRAMES t.free
   below = told_below given t known
 
-  -- a touched frame isn't among them
+  -- a touched frame isn't free
   not_free : (frame : ℕ) (o : Option ℕ) → IsTouched t.items frame → t.free frame ≡ o → t.free frame ≡ None
   not_free frame None touched is = is
   not_free frame (Some node) touched is =

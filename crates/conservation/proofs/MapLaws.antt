@@ -1,4 +1,4 @@
--- Usable frames by the map that a boot tells.
+-- Usable frames, by the map that a boot reports.
 use Rattle.std.proofs.Common.{◌≡◌, ◌↔◌, ℕ, ◌+◌, ◌*◌, ◌≤◌, Bool, Ok, sym, ◌∙◌, subst, arith}
 use Rattle.std.proofs.lemmas.Bool.Decides.{nat_tests}
 use Rattle.bm_base.specs.Frames.{bytes_of_frame}
@@ -12,7 +12,7 @@ use Rattle.conservation.specs.Headline.{IsUsable}
 use Rattle.conservation.proofs.ClaimedLaws.{covers_frame, frame_covers}
 use Rattle.conservation.proofs.ToldLaws.{is_told_of}
 
--- a usable frame lies in reach
+-- a usable frame lies below the end of the kernel's tables of memory
 in_reach : (given : Given) (frame : ℕ) → IsUsable given frame → 4096 * frame + 4096 ≤ reach given
 in_reach given frame usable =
     let x : ℕ = 4096 * frame + 4095 in

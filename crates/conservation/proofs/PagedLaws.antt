@@ -1,4 +1,4 @@
--- The page script goes over frames that were handed over, so it keeps each in one block or held.
+-- The page script acts on frames that were handed over, so each stays in one block or is held.
 use Rattle.std.proofs.Common.{◌≡◌, Ok, sym, subst}
 use Rattle.page_alloc.specs.Pages.{HaveOrders, State, begun}
 use Rattle.page_alloc.proofs.KeptLaws.{Goes, begun_goes, in_none, in_one}

@@ -1,10 +1,10 @@
--- What is told of a boot that isn't stopped is told of what it made.
+-- The report of a boot that isn't stopped is that of what it made.
 use Rattle.std.proofs.Common.{◌≡◌, Result, Ok, Err, refl}
 use Rattle.bm_base.specs.ResultSteps.{◌>>=◌}
 use Rattle.boot_model.specs.declared.stop.Cause.{Cause}
 use Rattle.boot_model.specs.Boot.{Given, BootSoFar, Told, boot, told, told_boot}
 
--- what was made, and that this is told of it
+-- what the boot made, and that this is its report
 pub record IsToldOf (given : Given) (t : Told) : Type 0 where
   pub made : BootSoFar
   pub boots : boot given ≡ Ok made

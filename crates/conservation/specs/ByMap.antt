@@ -1,4 +1,4 @@
--- Usable frames by the map that a boot tells.
+-- Usable frames, by the map that a boot reports.
 use Rattle.std.specs.Prelude.{◌≡◌, ℕ, ◌+◌, ◌*◌, ◌≤◌, true, List}
 use Rattle.bm_base.specs.Frames.{bytes_of_frame}
 use Rattle.bm_base.specs.Range.{covers}
@@ -6,7 +6,8 @@ use Rattle.bm_base.specs.declared.range.TheConstants.{FRAME_SIZE}
 use Rattle.address_runs.specs.Runs.{RunOf}
 use Rattle.boot_model.specs.Boot.{lies_in_memory}
 
--- each byte of the frame lies in reach of the kernel's tables of memory, in a run of RAM or of memory of the kernel's own
+-- the frame lies below `reach`, the end of the kernel's tables of memory, and each of its bytes
+-- lies in a run of RAM or of the kernel's own memory
 abbrev pub IsUsableBy : ℕ → List (RunOf ℕ) → ℕ → Type 0
 IsUsableBy reach map frame =
     (FRAME_SIZE * frame + FRAME_SIZE ≤ reach)

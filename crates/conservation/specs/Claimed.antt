@@ -1,4 +1,5 @@
--- Claims that stand in the end, as the journal records them (`memblock_reserve`, `memblock_phys_free`).
+-- The claims that are in force at the end, as the journal records them (`memblock_reserve`,
+-- `memblock_phys_free`).
 use Rattle.std.specs.Prelude.{◌≡◌, ℕ, Bool, true, false, Some, None, List, ◌∷◌, ◌++◌}
 use Rattle.std.specs.List.{list_any}
 use Rattle.bm_base.specs.Range.{RangeView, covers}
@@ -8,13 +9,14 @@ use Rattle.memblock_model.specs.declared.owner.Owner.{Owner}
 use Rattle.memblock_model.specs.declared.item.Item.{Item}
 use Rattle.memblock_model.specs.declared.item.Item.TheVariants as item
 
--- whether the item says who has the byte: it claims it or frees it
+-- whether the item decides who owns the byte: it claims or frees a range with the byte
 abbrev pub decides : Item → ℕ → Bool
 decides (item.Claim range who) x = covers range x
 decides (item.Free range) x = covers range x
 decides i x = false
 
--- the journal has a claim of the byte for the owner, and the claim stands: no item behind it claims the byte anew or frees it
+-- the journal has a claim of the byte for the owner, and no later item claims the byte again or
+-- frees it
 pub record IsRecorded (items : List Item) (x : ℕ) (who : Owner) : Type 0 where
   pub before : List Item
   pub range : RangeView
@@ -23,7 +25,8 @@ pub record IsRecorded (items : List Item) (x : ℕ) (who : Owner) : Type 0 where
   pub covered : covers range x ≡ true
   pub stands : list_any (λ i. decides i x) behind ≡ false
 
--- a claim touches the frame: some byte of it has an owner, for whom the journal has the claim
+-- a claim touches the frame: some byte of it has an owner, and the journal has the claim for that
+-- owner
 pub record IsTouched (items : List Item) (frame : ℕ) : Type 0 where
   pub byte : ℕ
   pub owner : Owner
@@ -31,6 +34,6 @@ pub record IsTouched (items : List Item) (frame : ℕ) : Type 0 where
   pub owned : owner_of items byte ≡ Some owner
   pub recorded : IsRecorded items byte owner
 
--- none does: nobody has a byte of the frame
+-- no claim touches the frame: none of its bytes has an owner
 abbrev pub IsUntouched : List Item → ℕ → Type 0
 IsUntouched items frame = (x : ℕ) → covers (bytes_of_frame frame) x ≡ true → owner_of items x ≡ None

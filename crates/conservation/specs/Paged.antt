@@ -1,9 +1,11 @@
--- Where the frames that were handed over are behind the page script, and that no others came to them.
+-- The place of each frame that was handed over, after the page script, and that no other frame has
+-- come in.
 use Rattle.std.specs.Prelude.{◌≡◌, ℕ, Some, None}
 use Rattle.page_alloc.specs.Kept.{IsInNone, IsInOne}
 use Rattle.boot_model.specs.Boot.{Told}
 
--- each is in exactly one block of what is free then, or held by exactly one ID, and not both
+-- each frame that was handed over is in exactly one block of the free frames, or held by exactly
+-- one ID, and not both
 abbrev pub AllInOneOrHeld : Told → Type 0
 AllInOneOrHeld told = (frame node : ℕ) → told.free frame ≡ Some node → IsInOne told.after frame
 

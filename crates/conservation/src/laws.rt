@@ -1,5 +1,6 @@
-//! The four facts of each boot that isn't stopped, and what the map that it tells has to do with them. They are
-//! proved of the definition, and no stage is called: so they hold of any boot that answers it.
+//! The four facts of each boot that isn't stopped, and how the map that it reports gives the
+//! usable frames. They are proved of the definition, without calling a stage. So they hold of any
+//! boot that returns what the definition says.
 
 ghost use Rattle.std.specs.Prelude.{◌≡◌, ◌↔◌, ℕ, Ok};
 ghost use Rattle.page_alloc.specs.Pages.{HaveOrders};
@@ -8,36 +9,37 @@ ghost use Rattle.conservation.specs.Headline.{AllTouchedOrInOne, BlocksAreMaxima
 ghost use Rattle.conservation.specs.ByMap.{IsUsableBy};
 ghost use Rattle.conservation.specs.Paged.{AllInOneOrHeld, NoOtherInOneOrHeld};
 
-/// A law: each usable frame is touched by a claim with a recorded owner and in no block, or no claim touches it and it is
-/// in exactly one.
+/// Law: each usable frame is either touched by a claim with a recorded owner and in no block, or
+/// untouched and in exactly one block.
 pub fn usable_frames_are_touched_or_in_one_block()
     ensures { (given : Given) (told : Told) → told_boot given ≡ Ok told → AllTouchedOrInOne given told }
 {}
 
-/// A law: each frame of a block is usable, and no claim touches it.
+/// Law: each frame of a block is usable, and no claim touches it.
 pub fn no_other_frame_is_in_a_block()
     ensures { (given : Given) (told : Told) → told_boot given ≡ Ok told → NoOtherInABlock given told }
 {}
 
-/// A law: each block has an order of at most 10, begins at a multiple of its number of frames, and has memory of one node,
-/// in one zone.
+/// Law: each block has an order of at most 10, begins at a multiple of its number of frames, and
+/// lies in one node and one zone.
 pub fn blocks_are_whole()
     ensures { (given : Given) (told : Told) → told_boot given ≡ Ok told → BlocksAreWhole given told }
 {}
 
-/// A law: no block of an order below 10 lies in a set of twice as many frames that could be a block.
+/// Law: no block of an order below 10 lies in a set of twice as many frames that could be a block
+/// too.
 pub fn blocks_are_maximal()
     ensures { (given : Given) (told : Told) → told_boot given ≡ Ok told → BlocksAreMaximal given told }
 {}
 
-/// A law: behind the page script each frame that was handed over is in exactly one block or held by exactly one ID, and no other frame
-/// is in a block or held.
+/// Law: after the page script each frame that was handed over is in exactly one block, or held by
+/// exactly one ID, and not both. No other frame is in a block or held.
 pub fn handed_frames_stay_in_one_block_or_held()
     ensures each { (given : Given) (told : Told) → told_boot given ≡ Ok told → HaveOrders given.page_lines → AllInOneOrHeld told }
     ensures others { (given : Given) (told : Told) → told_boot given ≡ Ok told → HaveOrders given.page_lines → NoOtherInOneOrHeld told }
 {}
 
-/// A law: which frames are usable is told by the map that a boot tells.
+/// Law: the map that a boot reports determines which frames are usable.
 pub fn map_tells_usable_frames()
     ensures { (given : Given) (told : Told) (frame : ℕ) → told_boot given ≡ Ok told →
         (IsUsable given frame ↔ IsUsableBy (reach_told told) told.map frame) }

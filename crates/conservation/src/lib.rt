@@ -1,16 +1,21 @@
-//! Conservation: what a boot that isn't stopped makes of each frame, in words that don't speak of how it comes to that.
+//! States what a boot that isn't stopped makes of each frame, without its stages.
 //!
-//! A usable frame is touched by a claim whose owner the journal has, or it lies in exactly one block of the buddy lists,
-//! and never both; no other frame lies in any block. Each block is aligned, within one node and zone, and as great as it can be.
+//! A usable frame is touched by a claim that the journal has an owner for, or it lies in exactly
+//! one block of the buddy lists, and never both. No other frame lies in a block. Each block is
+//! aligned, in one node and one zone, and as great as it can be.
 //!
-//! - `specs/Claimed.antt`: the claims that stand in the end, and the frames that they touch.
-//! - `specs/Headline.antt`: the four facts, over what a boot is given and what it tells.
-//! - `specs/Paged.antt`: where the frames that were handed over are behind the page script.
+//! - `specs/Claimed.antt`: the claims that are still in force at the end, and the frames they
+//!   touch.
+//! - `specs/Headline.antt`: the four facts, over the inputs of a boot and what it reports.
+//! - `specs/ByMap.antt`: usable frames, by the map that a boot reports.
+//! - `specs/Paged.antt`: the place of each frame that was handed over, after the page script.
 //!
-//! Usable frames are those of the finished map (`e820_model`), owners those of the journal (`memblock_model`), blocks
-//! those that the free frames are (`frame_blocks`). The functions are laws over the definition of the boot (`boot_model`):
-//! they do nothing, and their contracts are proved. So they hold of every boot that answers what its definition says,
-//! and the layer above cites the four facts of its own answer.
+//! Usable frames are those of the finished map (`e820_model`). Owners are those of the journal
+//! (`memblock_model`), and blocks are those of the free frames (`frame_blocks`). The functions
+//! here are laws over the definition of the boot (`boot_model`). A law is an empty function whose
+//! contract is a proven fact. So they hold of every boot whose result is that of the definition,
+//! and the layer above cites the four facts for its own result. In contracts, a name means the
+//! definition in `specs/`, here or in a crate below.
 #![tactic(auto)]
 
 mod laws;
