@@ -1,4 +1,4 @@
--- Free frames, and the handover on its way, computed.
+-- Free frames, and the handover in progress, computed.
 use Rattle.std.proofs.Common.{◌≡◌, Some, None, [], ◌∷◌, refl}
 use Rattle.memblock_model.specs.Labels.{Labels}
 use Rattle.frame_blocks.specs.Frames.{Frames}
@@ -12,13 +12,14 @@ some_frames = record { runs = record { base = 4; size = 2; value = 7 } ∷ []; s
 free_examples : (free some_frames 5 ≡ Some 7) × (free some_frames 6 ≡ None)
 free_examples = (refl, refl)
 
--- nothing is reserved: the frames become free, and others stay what they were
+-- this and the next: no label, and no free frame
 abbrev nobody : Labels
 nobody x = None
 
 abbrev none_free : Frames
 none_free x = None
 
+-- without a reserved byte the frames become free, and others stay as they were
 freed_examples : (freed 4 6 7 nobody none_free 5 ≡ Some 7) × (freed 4 6 7 nobody none_free 6 ≡ None)
 freed_examples = (rw (unclaimed_bare nobody 5 (λ y above below. refl)) refl, refl)
 

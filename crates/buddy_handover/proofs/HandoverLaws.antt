@@ -1,4 +1,4 @@
--- The steps of the handover: one stretch of unclaimed frames, and one record of memory.
+-- The steps of the handover: one range of unclaimed frames, and one record of memory.
 use Rattle.std.proofs.Common.{◌≡◌, ℕ, ◌+◌, ◌*◌, ◌<◌, Some, None, List, length, get_or, take, arith}
 use Rattle.std.proofs.lemmas.Bool.Decides.{nat_tests}
 use Rattle.std.proofs.Math.Seq.{take-length}
@@ -12,7 +12,7 @@ use Rattle.table_frames.proofs.WholeLaws.{whole_at, free_by_first}
 use Rattle.table_frames.proofs.TakeLaws.{node_more}
 use Rattle.buddy_handover.specs.Handover.{freed, unclaimed}
 
--- so the frames of one record more, where it has a node, and where it has none
+-- one more record of memory with a node frees its unclaimed frames
 pub record_freed : (b : ℕ) (ms : List (RunOf LabelView)) (reserved : Labels) (i n : ℕ) (d : RunOf LabelView) (f g : Frames) → AscendBelow b ms
     → AreWholeFrames ms → i < length ms → (frames_of (get_or ms i d)).node ≡ Some n
     → ((x : ℕ) → f x ≡ unclaimed (value_at (take i ms)) reserved x)
@@ -22,6 +22,7 @@ record_freed b ms reserved i n d f g ascend whole few is known put x =
     let more = node_more b ms i x d ascend whole few in let was = known x in let now = put x in
     grind (arith, nat_tests, more, is, was, now)
 
+-- one more record of memory without a node frees nothing
 pub record_left : (b : ℕ) (ms : List (RunOf LabelView)) (reserved : Labels) (i : ℕ) (d : RunOf LabelView) (f : Frames) → AscendBelow b ms
     → AreWholeFrames ms → i < length ms → (frames_of (get_or ms i d)).node ≡ None
     → ((x : ℕ) → f x ≡ unclaimed (value_at (take i ms)) reserved x)
@@ -34,7 +35,7 @@ record_left b ms reserved i d f ascend whole few is known x =
     let was = known x in
     grind (arith, nat_tests, more, is, was, none, base)
 
--- after all records
+-- after all records the free frames are those of both tables
 pub all_handed : (ms : List (RunOf LabelView)) (reserved : Labels) (i : ℕ) (f : Frames) → AreWholeFrames ms → i ≡ length ms
     → ((x : ℕ) → f x ≡ unclaimed (value_at (take i ms)) reserved x) → (x : ℕ) → f x ≡ free_node_in (value_at ms) reserved x
 all_handed ms reserved i f whole all known x = rw (← free_by_first ms reserved x whole) (rw (all, take-length ms) at (known x))

@@ -1,4 +1,4 @@
--- The test of nodes tells.
+-- The test of nodes decides their equality.
 use Rattle.std.proofs.Common.{ℕ, Bool, ◌==◌}
 use Rattle.std.proofs.lemmas.Bool.{eqb-true, eq-eqb}
 use Rattle.address_runs.specs.Runs.{DecidesEquality}

@@ -1,4 +1,4 @@
--- Runs of free frames after some more became free.
+-- Runs of free frames after more frames became free.
 use Rattle.std.proofs.Common.{◌≡◌, ℕ, ◌+◌, ◌^◌, ◌≤◌, None, List, refl, ◌∙◌, arith}
 use Rattle.bm_base.specs.Range.{RangeView, covers}
 use Rattle.address_runs.specs.Runs.{RunOf, IsRunsOf, value_at}

@@ -1,4 +1,5 @@
--- Frames that leave the free ones, and frames that come back: what the index of blocks is told of them.
+-- Frames that are allocated, and frames that come back: what the index of blocks needs to know of
+-- them.
 use Rattle.std.proofs.Common.{◌≡◌, ℕ, suc, ◌+◌, ◌-◌, ◌<◌, ◌≤◌, Bool, is_some, Option, Some, None, IsSome, IfSome, List, [], ◌∷◌, length, refl, sym, ◌∙◌, ap, arith}
 use Rattle.std.proofs.lemmas.List.Sums.{length-filter}
 use Rattle.std.specs.List.{find, filter}
@@ -17,27 +18,31 @@ use Rattle.frame_blocks.proofs.BlockLaws.{block_found}
 use Rattle.frame_blocks.proofs.BuddyLaws.{set_covers, without_is, with_is}
 use Rattle.frame_blocks.proofs.PickLaws.{picked_is, picked_none}
 
--- what the index answers is what is picked
+-- the block that the index returns is the one that is picked
 pub first_is : (f : Frames) (n : ℕ) (z : Zone) (o : ℕ) (b : Block) → NothingFrom MAX_FRAMES f → IsPicked f n z o b
     → first_picked f n z o ≡ Some b.first
 first_is f n z o b low is = ap (option_map (λ (c : Block). c.first)) (picked_is f n z o b low is)
 
+-- if no block serves, none is picked
 pub first_none : (f : Frames) (n : ℕ) (z : Zone) (o : ℕ) → NothingFrom MAX_FRAMES f → NoneServes f n z o → first_picked f n z o ≡ None
 first_none f n z o low none = ap (option_map (λ (c : Block). c.first)) (picked_none f n z o low none)
 
--- by how many blocks there are of each order: one that has none is passed over, and one that has some serves
+-- without a block of an order, none is found there
 none_left : (p : Block → Bool) (bs : List Block) → length (filter p bs) ≡ 0 → find p bs ≡ None
 none_left p [] is = refl
 none_left p (b ∷ bs) is = grind (arith, none_left p bs)
 
+-- with a block of an order, one is found there
 some_left : (p : Block → Bool) (bs : List Block) → 0 < length (filter p bs) → IsSome (find p bs)
 some_left p [] some = absurd (omega (arith, some))
 some_left p (b ∷ bs) some = grind (arith, some_left p bs)
 
+-- an order without a block is passed over
 pub passed_by : (f : Frames) (n : ℕ) (z : Zone) (o k : ℕ) → count_of f n z o ≡ 0 → picked_up f n z o (suc k) ≡ picked_up f n z (o + 1) k
 unfolding count_of
 passed_by f n z o k none = grind (arith, none_left (is_of n z o) (blocks_of f), length-filter (is_of n z o) (blocks_of f), none)
 
+-- an order with a block serves
 pub serves_at : (f : Frames) (n : ℕ) (z : Zone) (o k : ℕ) → 0 < count_of f n z o → IsSome (picked_up f n z o (suc k))
 unfolding count_of
 serves_at f n z o k some =
@@ -51,29 +56,31 @@ pub serves_is : (f : Frames) (n : ℕ) (z : Zone) (o : ℕ) → is_some (first_p
 unfolding picked
 serves_is f n z o = first_there (picked_up f n z o (11 - o))
 
--- what both lists of runs give, where a set leaves, and where it comes back
+-- a set is gone from two lists of the same frames
 same_without : (f g h : Frames) (o x : ℕ) → IsWithout f g o x → ((y : ℕ) → h y ≡ g y) → IsWithout f h o x
 same_without f g h o x without same = record {
   gone = λ y in_it. same y ∙ without.gone y in_it;
   kept = λ y other. same y ∙ without.kept y other;
 }
 
+-- the runs without a set are those of the frames without it
 pub runs_without : (f : Frames) (rs : List (RunOf ℕ)) (o x : ℕ) → IsRunsOf (without_set o x f) rs → IsWithout f (value_at rs) o x
 runs_without f rs o x runs = same_without f (without_set o x f) (value_at rs) o x (without_is o x f) runs.each
 
+-- the runs with a set that came back are those of the frames with it
 pub runs_with : (g : Frames) (rs : List (RunOf ℕ)) (o x n : ℕ) → ((y : ℕ) → IsInSet o x y → g y ≡ None) → IsRunsOf (with_set o x n g) rs
     → IsWithout (value_at rs) g o x
 runs_with g rs o x n held runs =
     let with = with_is o x n g held in
     record { gone = with.gone; kept = λ y other. with.kept y other ∙ sym (runs.each y) }
 
--- a block is as large as the sets around a frame that are free
+-- a block is at least as large as each free set around its frame
 set_fits : (f : Frames) (x n o : ℕ) (b : Block) → f x ≡ Some n → o ≤ 10 → AreFree f o x n → block_of f x ≡ Some b → o ≤ b.order
 set_fits f x n o b is small free found =
     let most = up_most f x n 10 o small free in
     grind (arith, most, is, found)
 
--- the block in which a set is that has come back
+-- the block that has a set that has come back
 pub joined_block : (g : Frames) (rs : List (RunOf ℕ)) (o x n : ℕ) (b : Option Block) → o ≤ 10 → IsRunsOf (with_set o x n g) rs
     → b ≡ block_of (value_at rs) x
     → IfSome b (λ c. IsBlock (value_at rs) c × IsInBlock c x × (o ≤ c.order))

@@ -3,11 +3,12 @@ use Rattle.std.specs.Prelude.{ℕ, List}
 use Rattle.address_runs.specs.Runs.{RunOf, value_at}
 use Rattle.frame_blocks.specs.Frames.{Frames}
 
--- their runs, ascending, each of one node, and for how many more entries there is memory
+-- the runs of free frames, ascending, each of one node, and the number of further entries that
+-- there is room for
 pub record Contents : Type 0 where
   pub runs : List (RunOf ℕ)
   pub spare : ℕ
 
--- the node of each frame that is free
+-- the node of each free frame, or `None`
 abbrev pub free : Contents → Frames
 free b = value_at b.runs

@@ -1,13 +1,14 @@
--- The handover on its way: what is free while it goes over the records of memory.
+-- The handover in progress: what is free while it goes over the memory records.
 use Rattle.std.specs.Prelude.{ℕ, ◌&&◌, nat_le, nat_lt, if◌then◌else◌, Some, None}
 use Rattle.memblock_model.specs.Labels.{Labels}
 use Rattle.frame_blocks.specs.Frames.{Frames}
 use Rattle.table_frames.specs.Frames.{node_of_frame, is_unclaimed}
 
--- the frames from `first` up to `end` that are unclaimed are of the node; the others are what they were
+-- the frames from `first` to below `end` that are unclaimed get the node; the others stay as they
+-- are
 abbrev pub freed : ℕ → ℕ → ℕ → Labels → Frames → Frames
 freed first end node reserved f x = if (nat_le first x && nat_lt x end) && is_unclaimed reserved x then Some node else f x
 
--- the node of each unclaimed frame
+-- the node of each unclaimed frame, or `None`
 abbrev pub unclaimed : Labels → Labels → Frames
 unclaimed memory reserved x = if is_unclaimed reserved x then node_of_frame memory x else None

@@ -1,8 +1,10 @@
-//! The free frames, and what the page allocator's lists hold of them. Beside the runs it keeps for how many more
-//! entries there is memory, so that it is known before a call whether that can want any.
+//! The free frames, and what the page allocator's lists hold of them. Beside the runs a `Buddy`
+//! keeps the number of list entries that it has room for. So a caller knows beforehand whether a
+//! call can run out of memory.
 //!
-//! The index of the blocks (`free_areas`) is a cache, which contracts don't see: the first `take` makes it, `take` and `put_back`
-//! keep it up, and frames that become free otherwise drop it, as does want of memory for it. Nothing that is answered depends on it.
+//! The index of the blocks (`free_areas`) is a cache that contracts don't see. The first `take`
+//! makes it, and `take` and `put_back` keep it up to date. Frames that become free otherwise drop
+//! it, and so does running out of memory for it. No result depends on it.
 
 ghost use Rattle.std.specs.Prelude.{◌≡◌, ℕ, ◌+◌, ◌-◌, ◌%◌, ◌^◌, ◌<◌, ◌≤◌, max, is_some, Some, None, IsSome, [], IsOk, OnOk, OnErr, IfOk, IfErr, vec_len, vec_capacity};
 ghost use Rattle.address_runs.specs.Runs.{IsRunsOf};
@@ -24,11 +26,11 @@ use free_areas::Areas;
 use std::alloc::Global;
 use std::marker::Model;
 
-/// The most entries that one call of [`Buddy::free_frames`] adds to the list of runs.
+/// The greatest number of entries that one call adds to the list of runs.
 const ENTRIES: u64 = 2;
 
-/// The frames that are free, each with its node. Contracts see their runs, ascending, beside `spare`: for
-/// how many more entries of that list there is memory.
+/// The free frames, each with its node. Contracts see their runs, ascending, and `spare`, the
+/// number of further entries of that list that there is room for.
 #[derive(Debug, Drop)]
 pub struct Buddy {
     runs: Vec<FrameRun>,
@@ -54,7 +56,7 @@ impl Model for Buddy {
 }
 
 impl Buddy {
-    /// No frame is free yet.
+    /// Returns a list without free frames.
     pub fn new(alloc: Global) -> Buddy
         ensures { result ≡ record { runs = []; spare = 0 } }
     {
@@ -65,7 +67,11 @@ impl Buddy {
         }
     }
 
-    /// The same frames and nodes.
+    /// Returns a copy with the same frames and nodes.
+    ///
+    /// # Errors
+    ///
+    /// Out of memory.
     pub fn copy(&self) -> Result<Buddy, Memory>
         ensures { IfOk result (λ buddy. buddy.runs ≡ self.now.runs) }
     {
@@ -76,15 +82,18 @@ impl Buddy {
         })
     }
 
-    /// Law: no frame is free from [`MAX_FRAMES`] on.
+    /// Law: no frame at or above [`MAX_FRAMES`] is free.
     pub fn lies_low(&self)
         ensures { NothingFrom MAX_FRAMES (free self.now) }
     {
-        let _ = &self.runs; // their invariant says so
+        let _ = &self.runs; // the invariant says so
     }
 
-    /// Takes the memory for `n` more entries. `Memory` comes only where there was less, and nothing has
-    /// changed then.
+    /// Makes room for `n` more entries, if there is less.
+    ///
+    /// # Errors
+    ///
+    /// Out of memory, only if there was room for fewer than `n`. Nothing has changed then.
     pub fn ready(&mut self, n: u64) -> Result<(), Memory>
         ensures runs { self.new.runs ≡ self.old.runs }
         ensures enough { OnOk result (n ≤ self.new.spare) }
@@ -100,10 +109,13 @@ impl Buddy {
         Ok(())
     }
 
-    /// The frames from `first` on, `count` of them, become free (`__free_pages_core`). Each lies below
-    /// [`MAX_FRAMES`], and none is free already. Where `spare` is 32 or more, it takes no memory and answers `Ok`,
-    /// however many frames there are; else `Memory` may come, and nothing has changed then. It uses up two of
-    /// `spare`, and takes memory first where there are fewer.
+    /// Frees `count` frames from `first` on, for node `node` (`__free_pages_core`). Each frame
+    /// must lie below [`MAX_FRAMES`], and none may be free already. The call uses up two entries
+    /// of `spare`, and makes room first if there are fewer.
+    ///
+    /// # Errors
+    ///
+    /// Out of memory, never if `spare` was 32 or more. Nothing has changed then.
     pub fn free_frames(&mut self, first: u64, count: u64, node: u32) -> Result<(), Memory>
         requires low { first + count ≤ MAX_FRAMES }
         requires held { (x : ℕ) → first ≤ x → x < first + count → free self.old x ≡ None }
@@ -115,7 +127,13 @@ impl Buddy {
         self.note(first, count, node)
     }
 
-    /// The same, whatever the frames were before.
+    /// Frees `count` frames from `first` on, for node `node`, whether they were free before or
+    /// not.
+    ///
+    /// # Errors
+    ///
+    /// Out of memory, only if there was room for fewer than two more entries. Nothing has changed
+    /// then.
     pub(crate) fn note(&mut self, first: u64, count: u64, node: u32) -> Result<(), Memory>
         requires low { first + count ≤ MAX_FRAMES }
         ensures runs { OnOk result (IsRunsOf (replace_in_range (record { base = first; size = count }) node (free self.old)) self.new.runs) }
@@ -134,9 +152,16 @@ impl Buddy {
         Ok(())
     }
 
-    /// `2^order` frames of the node and in the zone leave, and the number of the first one is answered (`__rmqueue_smallest`):
-    /// they are the first ones of the block that is picked, of the least order that is enough and of those blocks the lowest one.
-    /// `NoBlock` comes exactly where there is none, so `Memory` only where there is one. Nothing has changed after either.
+    /// Allocates `2^order` frames of the node and the zone, and returns the number of the first
+    /// (`__rmqueue_smallest`). They are the first frames of a block. That is the lowest block of
+    /// the least order that is `order` or greater.
+    ///
+    /// # Errors
+    ///
+    /// - `NoBlock`: exactly if no such block exists
+    /// - `Memory`: out of memory, only if such a block exists
+    ///
+    /// Nothing has changed after either.
     pub fn take(&mut self, node: u32, zone: Zone, order: u32) -> Result<u64, Take>
         requires { order ≤ 10 }
         ensures first { IfOk result (λ first. first_picked (free self.old) node zone order ≡ Some first) }
@@ -165,8 +190,9 @@ impl Buddy {
         Ok(block.first)
     }
 
-    /// Whether a block of the node and in the zone is of the order or a greater one. Takes no memory, and goes over all runs for each order,
-    /// so it is for what a call answers where memory is wanting.
+    /// Returns whether the node and the zone have a block of `order` or a greater order. Takes no
+    /// memory, and looks at all runs for each order. So it is only used to choose the error of
+    /// `take` when that is out of memory.
     pub fn serves(&self, node: u32, zone: Zone, order: u32) -> bool
         requires { order ≤ 10 }
         ensures { result ≡ is_some (first_picked (free self.now) node zone order) }
@@ -179,9 +205,13 @@ impl Buddy {
         false
     }
 
-    /// `2^order` frames from `first` on come back, and are of the node (`__free_one_page`): they are joined with what is free
-    /// beside them, as far as blocks go. `first` is a multiple of their number, each lies below [`MAX_FRAMES`], and none is free. Nothing
-    /// has changed after `Memory`.
+    /// Frees `2^order` frames from `first` on, for node `node` (`__free_one_page`). They are
+    /// merged with the free frames beside them, as far as blocks allow. `first` must be a multiple
+    /// of their number. Each frame must lie below [`MAX_FRAMES`], and none may be free.
+    ///
+    /// # Errors
+    ///
+    /// Out of memory. Nothing has changed then.
     pub fn put_back(&mut self, first: u64, order: u32, node: u32) -> Result<(), Memory>
         requires small { order ≤ 10 }
         requires aligned { first % 2 ^ order ≡ 0 }
@@ -210,8 +240,12 @@ impl Buddy {
         }
     }
 
-    /// All blocks of the free frames, ascending by their first frames. No frame is free from
-    /// [`MAX_FRAMES`] on.
+    /// Returns all blocks of the free frames, in ascending order of their first frames. All free
+    /// frames lie below [`MAX_FRAMES`].
+    ///
+    /// # Errors
+    ///
+    /// Out of memory.
     pub fn blocks(&self) -> Result<Vec<Block>, Memory>
         ensures list { IfOk result (λ blocks. blocks.items ≡ blocks_of (free self.now)) }
         ensures low { NothingFrom MAX_FRAMES (free self.now) }
@@ -219,8 +253,13 @@ impl Buddy {
         frame_blocks::blocks(*self.runs.allocator(), &self.runs)
     }
 
-    /// The same blocks row by row: some twenty rows for each run of free frames, however long it is. No row is empty,
-    /// and no two rows of the greatest order could be one.
+    /// Returns the same blocks as [`Buddy::blocks`], in rows: about twenty rows for each run of
+    /// free frames, however long the run is. No row is empty, and no two rows of the greatest
+    /// order could be one.
+    ///
+    /// # Errors
+    ///
+    /// Out of memory.
     pub fn rows(&self) -> Result<Vec<BlockRow>, Memory>
         ensures blocks { IfOk result (λ rows. blocks_of_rows rows.items ≡ blocks_of (free self.now)) }
         ensures longest { IfOk result (λ rows. AreRows rows.items) }
@@ -228,15 +267,15 @@ impl Buddy {
         frame_blocks::rows(*self.runs.allocator(), &self.runs)
     }
 
-    /// How many blocks there are of the node, in the zone and of the order (`nr_free` of `struct free_area`).
-    /// Takes no memory.
+    /// Returns the number of blocks of the node, the zone and the order (`nr_free` of `struct
+    /// free_area`). Takes no memory.
     pub fn count(&self, node: u32, zone: Zone, order: u32) -> u64
         ensures { result ≡ count_of (free self.now) node zone order }
     {
         frame_blocks::count_blocks(&self.runs, node, zone, order)
     }
 
-    /// The block in which the frame is; `None` where it isn't free. Takes no memory.
+    /// Returns the block that has the frame, or `None` if the frame isn't free. Takes no memory.
     pub fn block_of(&self, frame: u64) -> Option<Block>
         ensures { result ≡ block_of (free self.now) frame }
     {

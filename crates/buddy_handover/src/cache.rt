@@ -1,4 +1,4 @@
-//! The index of blocks, kept up as long as there is memory for it.
+//! The index of blocks, kept as long as there is memory for it.
 
 ghost use Rattle.std.specs.Prelude.{◌≡◌, ℕ, ◌+◌, ◌^◌, ◌<◌, ◌≤◌, Some, IfSome};
 ghost use Rattle.frame_blocks.specs.Frames.{Frames, IsBlock, IsInBlock};
@@ -9,7 +9,8 @@ ghost use Rattle.free_areas.specs.Areas.{AreAreas};
 use frame_blocks::{Block, MAX_FRAMES};
 use free_areas::Areas;
 
-/// The index after `2^order` frames at the beginning of the block have left it; none where memory for it is wanting.
+/// Returns the index after the first `2^order` frames of `block` have left it. `behind` is the
+/// block with the frame after `block`. It is `None` if there is no memory for it.
 pub fn split(areas: Areas, block: &Block, behind: Option<Block>, order: u32) -> Option<Areas>
     requires small { block.now.order ≤ 10 }
     requires low { block.now.first < MAX_FRAMES }
@@ -23,8 +24,8 @@ pub fn split(areas: Areas, block: &Block, behind: Option<Block>, order: u32) -> 
     }
 }
 
-/// The index after `2^order` frames have come back, of which `frame` is the first, into the block; none where there was none, or memory
-/// for it is wanting.
+/// Returns the index after `2^order` frames from `frame` on have come back into `block`. It is
+/// `None` if there was no index or no block, or no memory for it.
 pub fn join(areas: Option<Areas>, block: Option<Block>, order: u32, frame: u64) -> Option<Areas>
     requires small { IfSome block (λ block. block.order ≤ 10) }
     requires low { frame < MAX_FRAMES }

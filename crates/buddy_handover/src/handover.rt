@@ -1,7 +1,7 @@
-//! The end of the early boot: what is memory and reserved for nobody becomes free (`memblock_free_all`).
+//! The end of the early boot: memory that isn't reserved becomes free (`memblock_free_all`).
 //!
-//! One pass over both tables: for each record of memory the reserved records that lie among its frames are
-//! looked at, from where the record before it has come to.
+//! Both tables are read in one pass. For each memory record, the reserved records that meet its
+//! frames are looked at, from the one that the memory record before it came to.
 
 ghost use Rattle.std.specs.Prelude.{◌≡◌, ℕ, ◌+◌, ◌*◌, ◌^◌, ◌<◌, ◌≤◌, IfOk};
 ghost use Rattle.address_runs.specs.Runs.{value_at};
@@ -19,9 +19,13 @@ use phys_store::Store;
 use std::alloc::Global;
 use table_frames::{frames_at, next_claim};
 
-/// The free frames by what the bytes of both tables say: those that are memory and of which no byte is
-/// reserved, each of the node of its memory record. The memory records are whole frames below [`MAX_FRAMES`];
-/// what has no node isn't free.
+/// Returns the free frames by the bytes of both tables: all frames that are memory and have no
+/// reserved byte, each with the node of its memory record. The memory records must be whole frames
+/// below [`MAX_FRAMES`]. A frame of a record without a node isn't free.
+///
+/// # Errors
+///
+/// Out of memory.
 pub fn hand_over(alloc: Global, store: &Store, heads: &Heads) -> Result<Buddy, Memory>
     requires memory { HasRecords store.now heads.now.memory (FRAME_SIZE * MAX_FRAMES) }
     requires whole { AreWholeFrames (list_in store.now heads.now.memory) }
@@ -48,8 +52,12 @@ pub fn hand_over(alloc: Global, store: &Store, heads: &Heads) -> Result<Buddy, M
     Ok(buddy)
 }
 
-/// The frames from `first` up to `end` of which no byte is reserved become free and of the node. The reserved
-/// records are looked at from the index on; the answer is the index that they have come to.
+/// Frees, for node `node`, the frames from `first` to below `end` in which no byte is reserved.
+/// Looks at the reserved records from `index` on, and returns the index that it came to.
+///
+/// # Errors
+///
+/// Out of memory.
 fn free_unclaimed(
     buddy: &mut Buddy,
     store: &Store,

@@ -1,20 +1,25 @@
-//! The handover: at the end of the early boot all memory that is reserved for nobody goes to the page
-//! allocator (`memblock_free_all`), which keeps it by blocks.
+//! Hands memory over to the page allocator: at the end of the early boot, every frame in which no
+//! byte is reserved becomes free (`memblock_free_all`).
 //!
-//! [`hand_over`] reads memblock's two tables from the bytes in which they lie, in one pass, and frees what is
-//! memory and of which no byte is reserved. What it answers is a [`Buddy`]: the frames that are free, each with
-//! its node. [`Buddy::free_frames`] frees more; [`Buddy::blocks`], [`Buddy::rows`], [`Buddy::count`] and
-//! [`Buddy::block_of`] tell the blocks (`frame_blocks`).
+//! [`hand_over`] reads memblock's two tables from the bytes in which they lie, in one pass. It
+//! frees each frame that is memory and has no reserved byte. The result is a [`Buddy`]: the free
+//! frames, each with its node. [`Buddy::blocks`], [`Buddy::rows`], [`Buddy::count`] and
+//! [`Buddy::block_of`] return its blocks (`frame_blocks`).
 //!
-//! After the handover [`Buddy::take`] serves a request for a block of frames, and [`Buddy::put_back`] gives one back.
+//! After the handover [`Buddy::free_frames`] frees more frames, [`Buddy::take`] allocates a block,
+//! and [`Buddy::put_back`] frees one.
 //!
-//! The kernel's lists have an entry a block. Here the free frames are one ascending list of runs, however
-//! long a run is: one call adds two entries at most, for which [`Buddy::ready`] takes the memory beforehand. Blocks
-//! are worked out when they are asked for; beside the runs an index of them (`free_areas`) is made at the first
-//! [`Buddy::take`].
+//! The kernel's lists have one entry for each block. Here the free frames are one ascending list
+//! of runs, however long a run is. A call adds at most two entries, and [`Buddy::ready`] allocates
+//! room for them beforehand. Blocks are computed on request. The first [`Buddy::take`] makes an
+//! index of them (`free_areas`).
 //!
-//! The layer above may rest on this: contracts see the runs (`specs/Contents.antt`), `free` is the node of a
-//! frame, and after a handover it is what both tables say of each frame (`free_node_in` of `table_frames`).
+//! The layer above may rest on this: contracts see the runs (`specs/Contents.antt`), and `free` is
+//! the node of each free frame. After a handover it is what both tables say of the frame
+//! (`free_node_in` of `table_frames`).
+//!
+//! A law is an empty function whose contract is a proven fact. In contracts, a name means the
+//! definition in `specs/`, here or in a crate below.
 #![tactic(auto)]
 
 mod buddy;

@@ -1,7 +1,8 @@
-//! The runs of free frames, as frames become free.
+//! The runs of free frames, as frames become free or are allocated.
 //!
-//! A run of frames is put into a list of runs that stays sorted, by one edit (`run_edits`); what touches and
-//! is of one node becomes one run. It stands apart from `Buddy` so that the edit is said over any such list.
+//! A range of frames is put into a sorted list of runs, or cut from it, by one edit (`run_edits`).
+//! Runs that touch and have one node become one run. The functions work on any such list, and
+//! `Buddy` uses them.
 
 ghost use Rattle.std.specs.Prelude.{◌≡◌, ◌+◌, ◌^◌, ◌<◌, ◌≤◌, vec_len, vec_capacity};
 ghost use Rattle.address_runs.specs.Runs.{AreRuns, IsRunsOf, value_at};
@@ -12,8 +13,8 @@ use bm_base::Range;
 use frame_blocks::{FrameRun, MAX_FRAMES};
 use run_edits::{Replace, Uncover, amend};
 
-/// The frames of the range are free and of the node, whatever they were. Takes no memory, and looks at the
-/// runs alone that meet the range or touch it.
+/// Makes the frames of the range free, for node `node`, whatever they were. Takes no memory, and
+/// looks only at runs that meet or touch the range.
 pub fn put(runs: &mut Vec<FrameRun>, frames: &Range, node: u32)
     requires low { frames.now.base + frames.now.size ≤ MAX_FRAMES }
     requires runs { AreRuns runs.old.items }
@@ -30,7 +31,8 @@ pub fn put(runs: &mut Vec<FrameRun>, frames: &Range, node: u32)
     amend(runs, frames, Replace(node));
 }
 
-/// The frames of the range are free no more. Takes no memory, and looks at the runs alone that meet the range or touch it.
+/// Makes the frames of the range not free. The range must not be empty. Takes no memory, and looks
+/// only at runs that meet or touch the range.
 pub fn cut(runs: &mut Vec<FrameRun>, frames: &Range)
     requires some { 0 < frames.now.size }
     requires runs { AreRuns runs.old.items }
@@ -44,7 +46,7 @@ pub fn cut(runs: &mut Vec<FrameRun>, frames: &Range)
     amend(runs, frames, Uncover);
 }
 
-/// The `2^order` frames among which the frame is, aligned to their number.
+/// Returns the aligned set of `2^order` frames that has `frame`.
 pub fn set_around(order: u32, frame: u64) -> Range
     requires small { order ≤ 10 }
     requires low { frame < MAX_FRAMES }

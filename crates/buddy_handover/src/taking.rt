@@ -1,13 +1,13 @@
-//! Why a block isn't taken.
+//! Why a block isn't allocated.
 
 use bm_base::Memory;
 
-/// Why [`crate::Buddy::take`] takes nothing.
+/// Why [`crate::Buddy::take`] allocates nothing.
 #[derive(Clone, Copy, Debug, PartialEq, Eq)]
 pub enum Take {
-    /// No block of the node and the zone is of the order or a greater one.
+    /// The node and the zone have no block of the order or a greater one.
     NoBlock,
-    /// The program's own memory ran out; only where there is such a block.
+    /// This program is out of memory. It is returned only if there is such a block.
     Memory,
 }
 

@@ -1,4 +1,4 @@
--- No block is of one of the orders so far.
+-- None of the orders so far has a block.
 use Rattle.std.proofs.Common.{◌≡◌, ◌-◌, ◌≤◌}
 use Rattle.frame_blocks.specs.Picked.{picked_up}
 use Rattle.buddy_handover.specs.Contents.{free}
