@@ -7,11 +7,11 @@ use Rattle.std.specs.Option.{option_map}
 use Rattle.slit_zonelists.specs.Matrix.{Matrix}
 use Rattle.slit_zonelists.specs.Uses.{is_bad, bad_column, bad_in_row, bad_cell, first_of, IsLeastBad}
 
--- the first of the numbers that are left
+-- the remaining numbers and the first of them
 pub range_more : (c n : ℕ) → c < n → range_with_len c (n - c) ≡ c ∷ range_with_len (c + 1) (n - (c + 1))
 range_more c n lt = ap (range_with_len c) (let e : n - c ≡ suc (n - (c + 1)) = omega (arith, lt) in e)
 
--- a search finds the first that passes
+-- the number that a search finds: it passes, and none before it does
 pub record IsFound (p : ℕ → Bool) (a n c : ℕ) : Type 0 where
   pub from : a ≤ c
   pub until : c < a + n
@@ -52,11 +52,12 @@ not_found p a (suc n) x is low high = elim (cases_Bool (p a)) as (λ _. p x ≡ 
   ]
 ]
 
--- one more number that doesn't pass, and one more row without a bad cell
+-- one more number that doesn't pass doesn't change what a search finds
 pub skipped : (p : ℕ → Bool) (c n : ℕ) → c < n → p c ≡ false
     → find p (range_with_len (c + 1) (n - (c + 1))) ≡ find p (range_with_len c (n - c))
 skipped p c n lt off = sym (ap (find p) (range_more c n lt) ∙ rw off refl)
 
+-- one more row without a bad cell doesn't change it either
 pub row_skipped : (m : Matrix) (c n : ℕ) → c < n → bad_column m c ≡ None
     → first_of (filter_map (bad_in_row m) (range_with_len (c + 1) (n - (c + 1))))
     ≡ first_of (filter_map (bad_in_row m) (range_with_len c (n - c)))

@@ -1,4 +1,5 @@
--- Three domains whose distances aren't the same both ways, and their lists: what the definitions say of them.
+-- Three domains with distances that differ by direction, and their lists: what the definitions say
+-- of them.
 use Rattle.std.proofs.Common.{◌≡◌, ℕ, ◌+◌, ◌<◌, true, false, is_some, Option, Some, None, List, [], ◌∷◌, ◌++◌, length, drop, get_or, Ok, Err, codes, replicate, refl, sym, ◌∙◌, ap, subst, length-append, inl, inr, arith}
 use Rattle.std.specs.Option.{option_map}
 use Rattle.bm_base.specs.declared.zone.Zone.TheVariants as zones
@@ -25,7 +26,7 @@ use Rattle.slit_zonelists.proofs.LineLaws.{first_none}
 use Rattle.slit_zonelists.specs.Table.{localities, fills, slit_fault, unless_fault, slit_of}
 use Rattle.slit_zonelists.specs.Uses.{is_bad, bad_column, bad_in_row, first_of, bad_cell, by_cells, slit_use}
 
--- from domain 0 to 1 it is 40, and back it is 30
+-- the distance from domain 0 to 1 is 40, and the distance back is 30
 abbrev three : Matrix
 three = record { count = 3; cells = 10 ∷ 40 ∷ 15 ∷ 30 ∷ 10 ∷ 25 ∷ 12 ∷ 13 ∷ 10 ∷ [] }
 
@@ -35,7 +36,8 @@ cell_examples = (refl, refl, refl, refl)
 byte_examples : HasBytes (record { count = 1; cells = 256 ∷ [] }) → ⊥
 byte_examples = λ bytes. let low : 256 < 256 = bytes 0 0 in absurd (omega (arith, low))
 
--- a table of one domain, with its length, its checksum, and its number of localities
+-- the bytes of a table of one domain, with its stated length, its checksum, and its number of
+-- localities
 abbrev table : ℕ → ℕ → ℕ → List ℕ
 table stated checksum count =
     codes "SLIT" ++ stated ∷ 0 ∷ 0 ∷ 0 ∷ 0 ∷ checksum ∷ (replicate 26 0 ++ count ∷ (replicate 7 0 ++ 10 ∷ []))
@@ -50,7 +52,7 @@ fill_examples : (fills 3 9 ≡ true) × (fills 3 10 ≡ false) × (fills 4294967
     × (unless_fault (Some faults.Length) three ≡ Err faults.Length) × (unless_fault None three ≡ Ok three)
 fill_examples = (refl, refl, refl, refl, refl)
 
--- a domain is 10 from itself, and further from any other
+-- two domains; the cells of row 1 are bad
 abbrev bad : Matrix
 bad = record { count = 2; cells = 10 ∷ 20 ∷ 10 ∷ 11 ∷ [] }
 
@@ -65,7 +67,8 @@ use_examples : (slit_use None (0 ∷ []) ≡ uses.Absent) × (slit_use (Some bad
     × (slit_use (Some bad) (0 ∷ []) ≡ uses.NotValid 1 0) × (slit_use (Some three) (0 ∷ []) ≡ uses.Used)
 use_examples = (refl, refl, refl, refl)
 
--- node 0 is of domain 1, node 1 of one that the table hasn't, node 2 of domain 0
+-- this and the next four: node 0 is domain 1, node 1 is a domain that the table lacks, and node 2
+-- is domain 0
 abbrev span : ℕ → Span
 span n = record { node = n; zone = zones.Dma32; start = 0; end = 1; present = 1 }
 
@@ -81,6 +84,7 @@ zone n = record { node = n; zone = zones.Dma32 }
 abbrev low_zone : ListZone
 low_zone = record { node = 0; zone = zones.Dma }
 
+-- the distances in the matrix, and without it
 told_examples : (used_of nodes ≡ uses.Used) × (where_used (uses.NotValid 1 0) (Some three) ≡ None)
     × (told (Some three) (Some 1) (Some 0) ≡ Some 30)
     × (told (Some three) (Some 1) (Some 3) ≡ None) × (told (Some three) None (Some 0) ≡ None) × (told None (Some 1) (Some 0) ≡ None)
@@ -92,6 +96,7 @@ distance_examples : (distance_in nodes 0 2 ≡ 30) × (distance_in nodes 2 0 ≡
     × (distance_in nodes 3 0 ≡ 20)
 distance_examples = (refl, refl, refl, refl, refl)
 
+-- this and the next two: the order of zones
 rank_examples : (rank zones.Normal ≡ 0) × (rank zones.Dma32 ≡ 1) × (rank zones.Dma ≡ 2) × (goes_before (zone 0) low_zone ≡ true)
     × (goes_before low_zone (zone 0) ≡ false) × (goes_before low_zone (zone 1) ≡ true)
 rank_examples = (refl, refl, refl, refl, refl, refl)
@@ -105,7 +110,7 @@ lower_examples : IsLower (zone 0) low_zone × IsLower low_zone (zone 1) × IsNea
     × IsNearer nodes 0 (zone 1) (zone 2)
 lower_examples = (inr (refl, omega arith), inl (omega arith), inl (omega arith), inl (omega arith))
 
--- node 1 is of no distance that is told, so that both others are as far
+-- the table has no distance for node 1, so both other nodes are at 20
 list_examples : (at_distance nodes 1 20 ≡ zone 0 ∷ low_zone ∷ zone 2 ∷ [])
     × (zones_of nodes 1 ≡ zone 1 ∷ zone 0 ∷ low_zone ∷ zone 2 ∷ [])
     × (zones_of nodes 0 ≡ zone 0 ∷ low_zone ∷ zone 1 ∷ zone 2 ∷ [])
@@ -116,13 +121,14 @@ list_examples = (refl, refl, refl, refl)
 bucket_examples : (in_bucket {A = Unit {0}} None ≡ []) × (bucket_at {A = Unit {0}} [] 0 ≡ []) × (all_in {A = Unit {0}} [] ≡ [])
 bucket_examples = (refl, refl, refl)
 
--- where nothing is free no zone serves, and an ID that holds something gets nothing more
+-- this and the next: nothing is free, and what an ID holds
 abbrev empty : State
 empty = begun (λ x. None)
 
 abbrev five : Held
 five = record { first = 5; order = 0; node = 7 }
 
+-- without a free frame no zone serves, and an ID that holds something gets nothing more
 near_examples : (first_zone empty 0 [] ≡ None) × (near_by empty 1 0 None ≡ (let p : PageOutcome × State = (outcomes.NoBlock, empty) in p))
     × (asked_near empty 1 0 (zone 0 ∷ []) (Some five) ≡ (let p : PageOutcome × State = (outcomes.Taken, empty) in p))
     × (asked_near empty 1 0 [] None ≡ (let p : PageOutcome × State = (outcomes.NoBlock, empty) in p))
@@ -137,14 +143,14 @@ line_examples : (answers_with nodes empty [] ≡ [])
     × (after_with nodes empty (give 4 ∷ []) ≡ empty)
 line_examples = (refl, refl, refl)
 
--- memory may run out amid a line that gives back, behind one that was answered, and never amid one that is refused, for its ID or since
--- no zone has a block
+-- a request near node 0
 abbrev near : ℕ → PageLine
 near n = record { number = n; act = acts.Near 1 0 0 }
 
 abbrev holding : State
 holding = record { frames = λ x. None; held = λ id. Some five }
 
+-- this program may be out of memory at a line that frees, after a line that was answered
 amid_example : EndsAmid nodes holding (near 5 ∷ give 6 ∷ []) holding
 amid_example = record { before = near 5 ∷ []; line = give 6; behind = []; is = refl; takes = tt; state = refl }
 
@@ -158,6 +164,7 @@ refused_out s (x ∷ xs) line behind is refused takes =
     ap (λ (ls : List PageLine). length (drop 1 ls)) is ∙ length-append xs (line ∷ behind) in
     absurd (omega (arith, many))
 
+-- never at a line that is refused since its ID holds something
 held_wants_none : (later : State) → EndsAmid nodes holding (near 5 ∷ []) later → ⊥
 held_wants_none later ends = refused_out holding ends.before ends.line ends.behind ends.is (λ takes. takes) ends.takes
 
@@ -170,10 +177,12 @@ nothing_has z =
 nothing_near : first_zone empty 0 (zones_of nodes 0) ≡ None
 nothing_near = first_none empty 0 (zones_of nodes 0) (λ i z within. nothing_has (get_or (zones_of nodes 0) i z))
 
+-- never at a line that is refused since no zone has a block
 full_wants_none : (later : State) → EndsAmid nodes empty (near 5 ∷ []) later → ⊥
 full_wants_none later ends =
     refused_out empty ends.before ends.line ends.behind ends.is
     (λ takes. subst (λ (o : Option ListZone). TakesMemory (near_by empty 1 0 o).0) nothing_near takes) ends.takes
 
+-- never without lines
 no_line_wants_none : (b later : Book) → EndsBefore b [] later → ⊥
 no_line_wants_none b later ends = let some : 0 < 0 = ends.some in absurd (omega (arith, some))

@@ -1,4 +1,5 @@
--- A request near a node is a request of one zone, or nothing; and lines go on from where those before them came to.
+-- A request near a node is a request to one zone, or changes nothing. Lines go on from the state
+-- that those before them left.
 use Rattle.std.proofs.Common.{◌≡◌, ℕ, ◌≤◌, true, false, Option, Some, None, IsSome, Result, Ok, Err, OnErr, List, [], ◌∷◌, ◌++◌, refl, sym, ◌∙◌, ap, subst, append_assoc, arith}
 use Rattle.std.specs.List.{All}
 use Rattle.std.proofs.lemmas.List.Elements.{All-tail}
@@ -24,30 +25,32 @@ first_is s order [] z behind has none = rw has refl
 first_is s order (y ∷ ys) z behind has none =
     rw (none 0 y (omega arith)) (first_is s order ys z behind has (All-tail (λ y. has_block s order y ≡ false) y ys none))
 
+-- no zone has a block
 pub first_none : (s : State) (order : ℕ) (zs : List ListZone) → All (λ y. has_block s order y ≡ false) zs → first_zone s order zs ≡ None
 first_none s order [] none = refl
 first_none s order (y ∷ ys) none =
     rw (none 0 y (omega arith)) (first_none s order ys (All-tail (λ y. has_block s order y ≡ false) y ys none))
 
--- memory is taken for a request that a zone serves
+-- a request that a zone serves needs memory
 zone_takes : (s : State) (id order : ℕ) (zs : List ListZone) (o : Option ListZone) → first_zone s order zs ≡ o → s.held id ≡ None → IsSome o
     → TakesMemory (near_by s id order o).0
 zone_takes s id order zs None is none some = cc some
 zone_takes s id order zs (Some z) is none some =
     served_takes s id order z.node z.zone none (found_passes (has_block s order) zs z is)
 
+-- so does the request near the node
 pub near_takes : (k : Known) (s : State) (id order node : ℕ) → s.held id ≡ None → IsSome (first_zone s order (zones_of k node))
     → TakesMemory (step_with k s (acts.Near id order node)).0
 near_takes k s id order node none some =
     subst (λ (o : Option Held). TakesMemory (asked_near s id order (zones_of k node) o).0) (sym none)
     (zone_takes s id order (zones_of k node) (first_zone s order (zones_of k node)) refl none some)
 
--- what holds where there is an error, by what follows from it
+-- a consequence of what holds of each error
 pub err_then : {X E : Type 0} → (r : Result X E) (P Q : Type 0) → (P → Q) → OnErr r P → OnErr r Q
 err_then (Ok x) P Q then holds = tt
 err_then (Err e) P Q then holds = then holds
 
--- what is free stays apart from what is held
+-- free frames stay apart from those that are held, after a request near a node
 near_goes : (f : Frames) (s : State) (id order : ℕ) (o : Option ListZone) → order ≤ 10 → Goes f s → Goes f (near_by s id order o).1
 near_goes f s id order None small goes = goes
 near_goes f s id order (Some z) small goes = step_goes f s (acts.Pages id order z.node z.zone) small goes
@@ -62,11 +65,12 @@ step_with_goes k f s (acts.Pages id order node zone) small goes = step_goes f s 
 step_with_goes k f s (acts.Near id order node) small goes = asked_goes f s id order (zones_of k node) (s.held id) small goes
 step_with_goes k f s (acts.Give id) small goes = step_goes f s (acts.Give id) small goes
 
+-- they stay apart after any lines
 pub after_goes : (k : Known) (f : Frames) (s : State) (ls : List PageLine) → HaveOrders ls → Goes f s → Goes f (after_with k s ls)
 after_goes k f s [] orders goes = goes
 after_goes k f s (l ∷ ls) orders goes = after_goes k f (step_with k s l.act).1 ls orders.1 (step_with_goes k f s l.act orders.0 goes)
 
--- one more line, and the lines behind it
+-- one more line, and the lines after it
 pub answers_on : (k : Known) (s t : State) (l : PageLine) (ls : List PageLine) (told : List PageAnswer) (o : PageOutcome)
     → (let p : PageOutcome × State = (o, t) in p) ≡ step_with k s l.act
     → (told ++ (let a : PageAnswer = record { line = l.number; outcome = o } in a) ∷ []) ++ answers_with k t ls
@@ -76,7 +80,7 @@ answers_on k s t l ls told o is =
     ∙ ap (λ (p : PageOutcome × State). told ++ (let a : PageAnswer = record { line = l.number; outcome = p.0 } in a)
     ∷ answers_with k p.1 ls) is
 
--- and the lines before it
+-- one more line, and the lines before it
 pub after_more : (k : Known) (s t : State) (ls : List PageLine) (l : PageLine) (o : PageOutcome)
     → (let p : PageOutcome × State = (o, t) in p) ≡ step_with k (after_with k s ls) l.act → t ≡ after_with k s (ls ++ l ∷ [])
 after_more k s t [] l o is = ap (λ (p : PageOutcome × State). p.1) is

@@ -5,6 +5,6 @@ use Rattle.std.specs.BTreeMap.{BTreeMap, get}
 use Rattle.slit_zonelists.specs.declared.entry.ListZone.{ListZone}
 use Rattle.slit_zonelists.specs.Lists.{Known, zones_of}
 
--- each list that is there is that of its node
+-- each list that was made is that of its node
 abbrev pub AreMade : {A : Type 0} → Known → BTreeMap ℕ (Vec ListZone A) → Type 0
 AreMade {A} k made = (node : ℕ) (list : Vec ListZone A) → get nat_cmp made node ≡ Some list → list.items ≡ zones_of k node

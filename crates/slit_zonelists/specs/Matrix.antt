@@ -2,11 +2,13 @@
 use Rattle.std.specs.Prelude.{◌≡◌, ℕ, ◌+◌, ◌*◌, ◌^◌, ◌<◌, List, length, slice_index}
 use Rattle.slit_zonelists.specs.declared.table.Slit.{Slit}
 
--- how many domains there are, and the distances row by row: those from domain 0 to each, then those from domain 1, and so on
+-- the number of domains, and the distances row by row: those from domain 0 to each, then those
+-- from domain 1, and so on
 pub record Matrix : Type 0 where
   pub count : ℕ
   pub cells : List ℕ
 
+-- the matrix of a SLIT
 abbrev pub matrix : Slit → Matrix
 matrix slit = record { count = slit.count; cells = slit.cells.items }
 

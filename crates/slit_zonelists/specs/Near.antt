@@ -1,4 +1,4 @@
--- What a line for the zones near a node does, and all lines of a page script.
+-- The effect of a line that requests frames near a node, and of all lines of a page script.
 use Rattle.std.specs.Prelude.{◌≡◌, ◌⊎◌, ℕ, ◌<◌, Bool, true, false, is_some, Option, Some, None, List, [], ◌∷◌, ◌++◌, length}
 use Rattle.std.specs.List.{find, All}
 use Rattle.frame_blocks.specs.Picked.{first_picked}
@@ -18,42 +18,45 @@ use Rattle.slit_zonelists.specs.Lists.{Known, zones_of}
 abbrev pub has_block : State → ℕ → ListZone → Bool
 has_block s order z = is_some (first_picked s.frames z.node z.zone order)
 
--- the first zone that has one
+-- the first zone that has such a block
 abbrev pub first_zone : State → ℕ → List ListZone → Option ListZone
 first_zone s order zs = find (has_block s order) zs
 
--- a request that the zone serves, if there is one
+-- the request to that zone, or `NoBlock` if there is no such zone
 abbrev pub near_by : State → ℕ → ℕ → Option ListZone → PageOutcome × State
 near_by s id order None = (outcomes.NoBlock, s)
 near_by s id order (Some z) = step s (acts.Pages id order z.node z.zone)
 
--- a request of the zones in that order, by what the ID holds already
+-- the request to the zones in that order, or `Taken` if the ID already holds something
 abbrev pub asked_near : State → ℕ → ℕ → List ListZone → Option Held → PageOutcome × State
 asked_near s id order zs (Some what) = (outcomes.Taken, s)
 asked_near s id order zs None = near_by s id order (first_zone s order zs)
 
--- the outcome of any line, and the state then
+-- the outcome of any line, and the state after it
 abbrev pub step_with : Known → State → PageAct → PageOutcome × State
 step_with k s (acts.Pages id order node zone) = step s (acts.Pages id order node zone)
 step_with k s (acts.Near id order node) = asked_near s id order (zones_of k node) (s.held id)
 step_with k s (acts.Give id) = step s (acts.Give id)
 
--- the answers of several lines, in order, and the state at their end
+-- the answers to several lines, in order
 abbrev pub answers_with : Known → State → List PageLine → List PageAnswer
 answers_with k s [] = []
 answers_with k s (l ∷ ls) =
     record { line = l.number; outcome = (step_with k s l.act).0 } ∷ answers_with k (step_with k s l.act).1 ls
 
+-- the state after several lines
 abbrev pub after_with : Known → State → List PageLine → State
 after_with k s [] = s
 after_with k s (l ∷ ls) = after_with k (step_with k s l.act).1 ls
 
--- the program's own memory ran out before the first line: there is at least one, and nothing has changed
+-- this program is out of memory before the first line: there is at least one, and nothing has
+-- changed
 pub record EndsBefore (b : Book) (lines : List PageLine) (later : Book) : Type 0 where
   pub some : 0 < length lines
   pub pages_stay : later ≡ b
 
--- or amid a line that isn't refused: those before it have been run, and nothing has changed since
+-- this program is out of memory at a line that isn't refused: the lines before it have been
+-- carried out, and nothing has changed since
 pub record EndsAmid (k : Known) (s : State) (lines : List PageLine) (later : State) : Type 0 where
   pub before : List PageLine
   pub line : PageLine
@@ -62,11 +65,12 @@ pub record EndsAmid (k : Known) (s : State) (lines : List PageLine) (later : Sta
   pub takes : TakesMemory (step_with k (after_with k s before) line.act).0
   pub state : later ≡ after_with k s before
 
--- where it ran out among lines
+-- where among the lines this program is out of memory
 abbrev pub RunsOut : Known → Book → List PageLine → Book → Type 0
 RunsOut k b lines later = EndsBefore b lines later ⊎ EndsAmid k (state_of b) lines (state_of later)
 
--- the zone is of the list, it has a block of the order or a greater one, and none before it has
+-- the zone is in the list and has a block of the order or a greater one, and none before it has
+-- one
 pub record IsFirst (s : State) (order : ℕ) (zs : List ListZone) (z : ListZone) : Type 0 where
   pub before : List ListZone
   pub behind : List ListZone

@@ -6,7 +6,7 @@ use Rattle.slit_zonelists.specs.declared.uses.SlitUse.{SlitUse}
 use Rattle.slit_zonelists.specs.declared.uses.SlitUse.TheVariants as uses
 use Rattle.slit_zonelists.specs.Matrix.{Matrix, cell_of}
 
--- a cell from a domain to itself is bad where it isn't 10, and any other where it is 10 or less
+-- a cell from a domain to itself is bad if it isn't 10, and any other is bad if it is 10 or less
 abbrev pub is_bad : Matrix → ℕ → ℕ → Bool
 is_bad m row column = if row == column then not (cell_of m row column == 10) else nat_le (cell_of m row column) 10
 
@@ -14,31 +14,31 @@ is_bad m row column = if row == column then not (cell_of m row column == 10) els
 abbrev pub bad_column : Matrix → ℕ → Option ℕ
 bad_column m row = find (is_bad m row) (range_with_len 0 m.count)
 
--- that cell, by its row and column
+-- the first bad cell of the row, by its row and column
 abbrev pub bad_in_row : Matrix → ℕ → Option (ℕ × ℕ)
 bad_in_row m row = option_map (λ column. (row, column)) (bad_column m row)
 
--- the first of several, if any
+-- the first member of a list, if there is one
 abbrev pub first_of : {X : Type 0} → List X → Option X
 first_of [] = None
 first_of (x ∷ xs) = Some x
 
--- the first bad cell, by row, then by column
+-- the first bad cell, by row and then by column
 abbrev pub bad_cell : Matrix → Option (ℕ × ℕ)
 bad_cell m = first_of (filter_map (bad_in_row m) (range_with_len 0 m.count))
 
--- what it comes to where there are a table and domains
+-- whether the matrix is used, by its first bad cell
 abbrev pub by_cells : Option (ℕ × ℕ) → SlitUse
 by_cells None = uses.Used
 by_cells (Some at) = uses.NotValid at.0 at.1
 
--- whether the matrix is used, where the nodes have these domains: the first reason against it
+-- whether the matrix is used, if the nodes have these domains: the first reason against it
 abbrev pub slit_use : Option Matrix → List ℕ → SlitUse
 slit_use None domains = uses.Absent
 slit_use (Some m) [] = uses.NoSrat
 slit_use (Some m) (d ∷ ds) = by_cells (bad_cell m)
 
--- the cell is bad, and each other bad cell comes behind it, by row, then by column
+-- the cell is bad, and no other bad cell comes before it, by row and then by column
 pub record IsLeastBad (m : Matrix) (row column : ℕ) : Type 0 where
   pub low : row < m.count
   pub left : column < m.count

@@ -1,4 +1,4 @@
-//! A request of the zones near a node.
+//! A request for frames from the zones near a node.
 
 ghost use Rattle.std.specs.Prelude.{◌≡◌, ◌⊎◌, ◌≤◌, None, IsSome, IfOk, OnErr};
 ghost use Rattle.page_alloc.specs.declared.act.PageAct.TheVariants as act;
@@ -12,9 +12,19 @@ use crate::lists::Lists;
 use bm_base::Memory;
 use page_alloc::{PageOutcome, Pages};
 
-/// `2^order` frames for the ID, near the node: `Taken` exactly where the ID holds something already, else `NoBlock` exactly where no zone of
-/// the node's list has a block of the order or a greater one, else `At` with the address of the first frame, of the first zone in the list
-/// that has one. Nothing has changed after an answer other than `At`, nor after `Memory`, which comes only in place of `At`.
+/// Allocates `2^order` frames for the ID, near the node, and returns the outcome. They are from
+/// the first zone in the node's list that has a block of the order or a greater one. The outcomes
+/// are:
+///
+/// - `Taken`: the ID already holds something
+/// - `NoBlock`: otherwise, if no zone in the list has such a block
+/// - `At` with the address of the first frame: otherwise
+///
+/// Nothing changes with `Taken` and `NoBlock`.
+///
+/// # Errors
+///
+/// Out of memory, only in place of `At`. Nothing has changed then.
 pub fn near(
     pages: &mut Pages,
     lists: &Lists,
@@ -37,8 +47,13 @@ pub fn near(
     take_first(pages, &zones, id, order)
 }
 
-/// What a request near the node comes to where memory for the list is wanting: `NoBlock` exactly where no zone of it has a block of the order
-/// or a greater one. Takes no memory.
+/// Returns the outcome of a request near the node if the program is out of memory for the node's
+/// list. It is `NoBlock` if no zone in that list has a block of the order or a greater one. Takes
+/// no memory.
+///
+/// # Errors
+///
+/// Out of memory, exactly if some zone in the list has such a block.
 pub fn unlisted(pages: &Pages, lists: &Lists, order: u32, node: u32) -> Result<PageOutcome, Memory>
     requires { order ≤ 10 }
     ensures none { IfOk result (λ outcome. (outcome ≡ PageOutcome.NoBlock)
@@ -54,7 +69,13 @@ pub fn unlisted(pages: &Pages, lists: &Lists, order: u32, node: u32) -> Result<P
     Ok(PageOutcome::NoBlock)
 }
 
-/// The same of the zones in their order, for an ID that holds nothing.
+/// Allocates `2^order` frames for the ID, which must hold nothing, and returns the outcome. They
+/// are from the first of `zones` that has a block of the order or a greater one. Returns `NoBlock`
+/// if none has one, and changes nothing then.
+///
+/// # Errors
+///
+/// Out of memory, only if a zone has such a block. Nothing has changed then.
 pub fn take_first(
     pages: &mut Pages,
     zones: &[ListZone],

@@ -2,7 +2,7 @@
 
 use bm_base::Zone;
 
-/// A zone of a node that has memory there.
+/// A zone of a node, which has memory there.
 #[derive(Clone, Copy, Debug, PartialEq, Eq)]
 pub struct ListZone {
     pub node: u32,

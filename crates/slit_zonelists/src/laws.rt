@@ -1,4 +1,4 @@
-//! What holds of the words themselves, and after any lines.
+//! Laws about the definitions, and about the state after any lines.
 
 ghost use Rattle.std.specs.Prelude.{◌≡◌, ℕ, ◌<◌, true, false, List, Option, Some, None, IsSome, IfSome, map};
 ghost use Rattle.std.specs.List.{All};
@@ -20,14 +20,15 @@ ghost use Rattle.slit_zonelists.specs.Near.{has_block, step_with, after_with, Is
 
 use frame_blocks::MAX_FRAMES;
 
-/// A law: the bad cell that is named is the least one, by row, then by column; where none is named, none is bad.
+/// Law: the reported bad cell is the first one, by row and then by column. If none is reported, no
+/// cell is bad.
 pub fn bad_cells_are_the_least()
     ensures some { (m : Matrix) (row column : ℕ) → bad_cell m ≡ Some (row, column) → IsLeastBad m row column }
     ensures none { (m : Matrix) (row column : ℕ) → bad_cell m ≡ None → row < m.count → column < m.count → is_bad m row column ≡ false }
 {}
 
-/// A law: the list of a node has a zone for each span, by the distance of its node, then by that node's number, then Normal before DMA32
-/// before DMA.
+/// Law: the list of a node has one zone for each span, ordered by the distance of its node, then
+/// by that node's number, then Normal before DMA32 before DMA.
 pub fn lists_have_each_zone_in_order()
     ensures each { (slit : Option Matrix) (domains : List ℕ) (spans : List AnySpan) (node : ℕ) → IfSome slit HasBytes →
         IsPermutation (map entry_of spans) (zones_of (known slit domains spans) node) }
@@ -35,8 +36,9 @@ pub fn lists_have_each_zone_in_order()
         IsByDistance (known slit domains spans) node (zones_of (known slit domains spans) node) }
 {}
 
-/// A law: a request near a node, for an ID that holds nothing, is what the same request of a zone is that is the first in the node's list to
-/// have a block of the order or a greater one; and there is no block for it where no zone has one.
+/// Law: a request near a node, for an ID that holds nothing, is the same request to the first zone
+/// in the node's list that has a block of the order or a greater one. If no zone has one, the
+/// outcome is `NoBlock`. If the ID already holds something, it is `Taken`.
 pub fn near_takes_from_the_first_zone()
     ensures first { (k : Known) (s : State) (id order node : ℕ) (z : AnyZone) → s.held id ≡ None → IsFirst s order (zones_of k node) z →
         step_with k s (act.Near id order node) ≡ step s (act.Pages id order z.node z.zone) }
@@ -46,8 +48,8 @@ pub fn near_takes_from_the_first_zone()
         step_with k s (act.Near id order node) ≡ (outcomes.Taken, s) }
 {}
 
-/// A law: after any lines each frame that was free at the beginning is in exactly one block or held by exactly one ID, and
-/// no other frame is in a block or held.
+/// Law: after any lines each frame that was free at the beginning is in exactly one block or held
+/// by exactly one ID. No other frame is in a block or held.
 pub fn frames_stay_in_one_block_or_held()
     ensures one { (k : Known) (f : Frames) (lines : List AnyLine) (x n : ℕ) → NothingFrom MAX_FRAMES f → HaveOrders lines → f x ≡ Some n →
         IsInOne (after_with k (begun f) lines) x }

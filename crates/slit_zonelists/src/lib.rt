@@ -1,16 +1,25 @@
-//! How far nodes are from one another, and in which order the page allocator asks their zones.
+//! Computes how far nodes are from one another, and in which order a request near a node looks at
+//! their zones.
 //!
-//! The "System Locality Information Table" of ACPI (SLIT, section 5.2.17) has a matrix of distances, a byte from each domain to each.
-//! [`read_slit`] makes a [`Slit`] of its bytes, or names the first fault. Domains are nodes by the SRAT; [`SlitUse`] says whether the
-//! matrix is used, and which of its cells is against it (`slit_valid`).
+//! The "System Locality Information Table" of ACPI (SLIT, section 5.2.17) is a matrix of
+//! distances: one byte from each domain to each. [`read_slit`] returns a [`Slit`], or the first
+//! fault of the bytes. The SRAT says which domain each node is. [`SlitUse`] says whether the
+//! matrix is used, and if not because of a cell, which cell it is (`slit_valid`).
 //!
-//! [`Lists`] has, for each node, the zones of all nodes in the order in which a request near that node asks them (`build_zonelists`,
-//! `node_zonelist`): by distance, then by the node's number, then Normal before DMA32 before DMA. [`near`] serves such a request from the
-//! first zone of the list that can, and [`run_lines`] carries out all lines of a page script.
+//! [`Lists`] has, for each node, the zones of all nodes in the order in which a request near that
+//! node looks at them (`build_zonelists`, `node_zonelist`). That order is by distance, then by the
+//! node's number, then Normal before DMA32 before DMA. [`near`] allocates from the first zone of a
+//! list that has a block, and [`run_lines`] carries out all lines of a page script.
 //!
-//! `specs/Table.antt` has the bytes, `specs/Uses.antt` the use, `specs/Lists.antt` distances and lists, `specs/Near.antt` what a line
-//! does to the page allocator. The layer above may rest on the laws: [`lists_have_each_zone_in_order`],
-//! [`near_takes_from_the_first_zone`], and [`frames_stay_in_one_block_or_held`].
+//! - `specs/Table.antt`: the bytes.
+//! - `specs/Uses.antt`: whether the matrix is used.
+//! - `specs/Lists.antt`: distances and lists.
+//! - `specs/Near.antt`: what a line of the script does to the page allocator.
+//!
+//! The layer above may rest on the laws [`lists_have_each_zone_in_order`],
+//! [`near_takes_from_the_first_zone`] and [`frames_stay_in_one_block_or_held`]. A law is an empty
+//! function whose contract is a proven fact. In contracts, a name means the definition in
+//! `specs/`, here or in a crate below.
 #![tactic(auto)]
 
 mod asking;

@@ -1,4 +1,5 @@
-//! All lines of a page script, one after the other. The list of a node is made at the first line that asks for it, and kept.
+//! All lines of a page script, one after another. The list of a node is made at the first line
+//! that needs it, and kept.
 
 ghost use Rattle.std.specs.Prelude.{◌≡◌, ◌+◌, ◌<◌, ◌≤◌, [], ◌∷◌, ◌++◌, IfOk, OnOk, OnErr, IsSome, vec_len, vec_capacity};
 ghost use Rattle.std.specs.BTreeMap.{get};
@@ -16,8 +17,14 @@ use page_alloc::{PageAct, PageAnswer, PageLine, PageOutcome, Pages};
 use std::alloc::Global;
 use std::collections::BTreeMap;
 
-/// Carries the lines out in order, and answers what came of each. The memory for all answers is taken before the first line, and where
-/// it is wanted nothing has changed; behind it `Memory` comes of no line that is refused, and those before have been carried out.
+/// Carries the lines out in order, and returns the outcome of each.
+///
+/// # Errors
+///
+/// Out of memory, in one of two places:
+///
+/// - before the first line, if there is one; nothing has changed then
+/// - at a line that isn't refused, after the lines before it; that line changes nothing
 pub fn run_lines(
     alloc: Global,
     pages: &mut Pages,
@@ -42,7 +49,11 @@ pub fn run_lines(
     Ok(answers)
 }
 
-/// Carries one line out. Nothing of the pages has changed after `Memory`, which comes of no line that is refused.
+/// Carries one line out and returns its outcome.
+///
+/// # Errors
+///
+/// Out of memory, only at a line that isn't refused. No page has changed then.
 fn run_line(
     pages: &mut Pages,
     lists: &Lists,
@@ -71,7 +82,11 @@ fn run_line(
     }
 }
 
-/// Makes the list of the node, unless it is there.
+/// Makes the list of the node, unless it was made before.
+///
+/// # Errors
+///
+/// Out of memory.
 fn make(lists: &Lists, made: &mut BTreeMap<u32, Vec<ListZone>>, node: u32) -> Result<(), Memory>
     requires { AreMade lists.now made.old }
     ensures made { AreMade lists.now made.new }

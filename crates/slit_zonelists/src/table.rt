@@ -1,4 +1,4 @@
-//! The bytes of a SLIT: its header, the first fault and the cells.
+//! The bytes of a SLIT: its header, its first fault, and its cells.
 
 ghost use Rattle.std.specs.Prelude.{◌≡◌, ◌-◌, ◌*◌, ◌%◌, ◌^◌, ◌<◌, ◌≤◌, None, drop, length, IfOk, IfErr, IfNone, IsErr};
 ghost use Rattle.std.specs.List.{sum};
@@ -10,26 +10,27 @@ use bm_base::Memory;
 use byteorder::{ByteOrder, LittleEndian};
 use std::alloc::Global;
 
-/// The bytes before the first cell.
+/// The number of bytes before the first cell.
 const HEADER_BYTES: usize = 44;
 
-/// Where the table's length stands.
+/// The offset of the table's length, in bytes.
 const LENGTH_OFFSET: usize = 4;
 
-/// Where the number of localities stands.
+/// The offset of the number of localities, in bytes.
 const LOCALITIES_OFFSET: usize = 36;
 
-/// Distances between domains, as the firmware tells them: 10 is the distance of a domain to itself, and 255 says that one can't be
-/// reached.
+/// The distances between domains that the firmware gives. 10 is the distance of a domain to
+/// itself, and 255 means that a domain can't be reached.
 #[derive(Debug, Drop)]
 pub struct Slit {
-    /// How many domains there are.
+    /// The number of domains.
     pub count: u32,
-    /// `count` rows of `count` cells: the distances from domain 0 to each, then those from domain 1, and so on.
+    /// `count` rows of `count` cells: the distances from domain 0 to each, then those from domain
+    /// 1, and so on.
     pub cells: Vec<u8>,
 }
 
-/// Why bytes are no SLIT, in the order in which it is tried.
+/// Why bytes are no SLIT, in the order in which they are checked.
 #[derive(Clone, Copy, Debug, PartialEq, Eq)]
 pub enum SlitFault {
     /// There are fewer than 44 bytes.
@@ -40,9 +41,10 @@ pub enum SlitFault {
     Length,
     /// The bytes don't sum to 0 modulo 256.
     Checksum,
-    /// The stated number of localities, times itself, isn't the number of bytes from 44 on.
+    /// The square of the stated number of localities isn't the number of bytes from offset 44 on.
     Localities,
-    /// The program's own memory ran out; only where the bytes have none of the other faults.
+    /// This program is out of memory. It is returned only if the bytes have none of the other
+    /// faults.
     Memory,
 }
 
@@ -57,7 +59,12 @@ impl From<Memory> for SlitFault {
     }
 }
 
-/// Reads a SLIT. Which distances it tells isn't judged here ([`SlitUse`]).
+/// Reads a SLIT. It doesn't judge the distances ([`SlitUse`]).
+///
+/// # Errors
+///
+/// The first fault of the bytes, or `Memory` if the program is out of memory. `Memory` comes only
+/// for bytes without a fault that have at least one locality.
 pub fn read_slit(alloc: Global, bytes: &[u8]) -> Result<Slit, SlitFault>
     ensures answers { Answers SlitFault.Memory matrix result (slit_of bytes.now) }
     ensures memory { IfErr result (λ fault. fault ≡ SlitFault.Memory → slit_fault bytes.now ≡ None) }
@@ -70,7 +77,11 @@ pub fn read_slit(alloc: Global, bytes: &[u8]) -> Result<Slit, SlitFault>
     Ok(read_cells(alloc, bytes)?)
 }
 
-/// The matrix of bytes that have no fault. `Memory` comes only where it has cells.
+/// Returns the matrix of bytes that have no fault.
+///
+/// # Errors
+///
+/// Out of memory, only if there is at least one locality.
 fn read_cells(alloc: Global, bytes: &[u8]) -> Result<Slit, Memory>
     requires header { 44 ≤ length bytes.now }
     requires few { length bytes.now < 2 ^ 32 }
@@ -87,7 +98,11 @@ fn read_cells(alloc: Global, bytes: &[u8]) -> Result<Slit, Memory>
     })
 }
 
-/// The same bytes. `Memory` comes only where there are some.
+/// Returns a copy of the bytes.
+///
+/// # Errors
+///
+/// Out of memory, only if there are bytes.
 fn copy_of(alloc: Global, bytes: &[u8]) -> Result<Vec<u8>, Memory>
     ensures same { IfOk result (λ copy. copy.items ≡ bytes.now) }
     ensures memory { IsErr result → 0 < length bytes.now }
@@ -98,7 +113,7 @@ fn copy_of(alloc: Global, bytes: &[u8]) -> Result<Vec<u8>, Memory>
     Ok(Vec::from_slice(alloc, bytes)?)
 }
 
-/// The stated number of localities.
+/// Returns the stated number of localities.
 fn read_localities(bytes: &[u8]) -> u64
     requires { 44 ≤ length bytes.now }
     ensures { result ≡ localities bytes.now }
@@ -106,7 +121,7 @@ fn read_localities(bytes: &[u8]) -> u64
     LittleEndian::read_u64(&bytes[LOCALITIES_OFFSET..])
 }
 
-/// The first fault.
+/// Returns the first fault of the bytes, or `None`. Takes no memory.
 fn find_fault(bytes: &[u8]) -> Option<SlitFault>
     ensures value { result ≡ slit_fault bytes.now }
     ensures header { IfNone result (44 ≤ length bytes.now) }
@@ -131,14 +146,14 @@ fn find_fault(bytes: &[u8]) -> Option<SlitFault>
     None
 }
 
-/// Whether there are so many cells in that many rows of that many.
+/// Returns whether `cells` is the number of cells of `count` rows of `count` cells.
 fn is_square_of(count: u64, cells: u64) -> bool
     ensures { result ≡ fills count cells }
 {
     count.checked_mul(count) == Some(cells)
 }
 
-/// The sum of the bytes modulo 256.
+/// Returns the sum of the bytes modulo 256.
 fn checksum(bytes: &[u8]) -> u8
     ensures { result ≡ sum bytes.now % 256 }
 {

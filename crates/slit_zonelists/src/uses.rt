@@ -1,4 +1,4 @@
-//! Whether the distances of a SLIT are used, and why not.
+//! Whether the distances of a SLIT are used, and if not, why.
 
 ghost use Rattle.std.specs.Prelude.{◌≡◌, ◌<◌};
 ghost use Rattle.std.specs.Option.{ForSome, option_map, option_copied};
@@ -10,21 +10,23 @@ use crate::table::Slit;
 /// The distance of a domain to itself (`LOCAL_DISTANCE`).
 pub const LOCAL_DISTANCE: u8 = 10;
 
-/// Whether the distances that the firmware tells are used: the first of these that holds.
+/// Whether the distances of the firmware are used. Of the reasons against it, the first that holds
+/// is given, in the order of the variants after `Used`.
 #[derive(Clone, Copy, Debug, PartialEq, Eq)]
 pub enum SlitUse {
     /// None of the others holds.
     Used,
     /// There is no SLIT.
     Absent,
-    /// No domain is a node: there is no SRAT, or it isn't used.
+    /// No node has a domain: there is no SRAT, or it isn't used.
     NoSrat,
-    /// The cell in that row and column, both from 0 on, is bad, and no earlier one is, by row and then by column. A cell from a domain to
-    /// itself is bad where it isn't 10, and any other where it is 10 or less (`slit_valid`).
+    /// The cell in this row and column, both from 0 on, is the first bad one, by row and then by
+    /// column. A cell from a domain to itself is bad if it isn't 10. Any other is bad if it is 10
+    /// or less (`slit_valid`).
     NotValid { row: u32, column: u32 },
 }
 
-/// Whether the SLIT is used, where the nodes have those domains.
+/// Returns whether the SLIT is used, if the nodes have these domains.
 pub fn use_of(slit: Option<&Slit>, domains: &[u32]) -> SlitUse
     requires { ForSome slit (λ slit. IsSquare (matrix slit.now)) }
     ensures { result ≡ slit_use (option_map matrix (option_copied slit.entry)) domains.now }
@@ -41,7 +43,7 @@ pub fn use_of(slit: Option<&Slit>, domains: &[u32]) -> SlitUse
     }
 }
 
-/// The first bad cell, by row, then by column.
+/// Returns the first bad cell, by row and then by column.
 fn bad_cell(slit: &Slit) -> Option<(u32, u32)>
     requires { IsSquare (matrix slit.now) }
     ensures { result ≡ first_bad_cell (matrix slit.now) }
@@ -54,7 +56,7 @@ fn bad_cell(slit: &Slit) -> Option<(u32, u32)>
     None
 }
 
-/// The first column in which the row has a bad cell.
+/// Returns the first column in which the row has a bad cell.
 fn bad_column(slit: &Slit, row: u32) -> Option<u32>
     requires square { IsSquare (matrix slit.now) }
     requires row { row < slit.now.count }
@@ -68,7 +70,7 @@ fn bad_column(slit: &Slit, row: u32) -> Option<u32>
     None
 }
 
-/// Whether the cell is against the use of all.
+/// Returns whether the cell is bad.
 fn is_bad_at(slit: &Slit, row: u32, column: u32) -> bool
     requires square { IsSquare (matrix slit.now) }
     requires row { row < slit.now.count }
@@ -83,7 +85,7 @@ fn is_bad_at(slit: &Slit, row: u32, column: u32) -> bool
     }
 }
 
-/// The distance from the domain of the row to that of the column.
+/// Returns the distance from the domain of the row to that of the column.
 pub fn cell(slit: &Slit, row: u32, column: u32) -> u8
     requires square { IsSquare (matrix slit.now) }
     requires row { row < slit.now.count }

@@ -1,4 +1,4 @@
--- A zone of the list serves, so the request is no refused one.
+-- A zone in the list serves, so the request isn't refused.
 use Rattle.std.proofs.Common.{◌≡◌, None, IsSome, OnErr, List, ◌∙◌, subst, rules}
 use Rattle.page_alloc.specs.Book.{held_in, state_of}
 use Rattle.slit_zonelists.specs.declared.entry.ListZone.{ListZone}

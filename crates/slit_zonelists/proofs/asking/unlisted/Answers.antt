@@ -1,4 +1,4 @@
--- The first zone that has a block is in the list, too; where none has one, none of the list has.
+-- A zone that has a block is in the node's list too. If no zone has one, none of the list has.
 use Rattle.std.proofs.Common.{◌≡◌, ◌<◌, Bool, true, false, is_some, List, get_or, length, refl, sym, ◌∙◌, ap, subst, arith}
 use Rattle.std.proofs.lemmas.List.{take_all}
 use Rattle.std.proofs.lemmas.List.Folds.{list_any_more}

@@ -1,4 +1,4 @@
--- A zone of the list serves, so the line is no refused one.
+-- A zone in the list serves, so the line isn't refused.
 use Rattle.std.proofs.Common.{◌≡◌, None, IsSome, OnErr, List, sym, subst, rules}
 use Rattle.page_alloc.specs.declared.act.PageAct.{PageAct}
 use Rattle.page_alloc.specs.Book.{held_in, state_of}

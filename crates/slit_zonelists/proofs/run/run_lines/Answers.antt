@@ -1,4 +1,4 @@
--- The next line goes on from where the lines before it came to.
+-- The next line goes on from the state that the lines before it left.
 use Rattle.std.proofs.Common.{◌≡◌, ◌+◌, List, ◌∷◌, ◌++◌, take, drop, get_or, Result, Ok, Err, OnErr, sym, ◌∙◌, ap, subst, arith, inr}
 use Rattle.std.proofs.lemmas.List.{drop_more, take_more, take-append-drop}
 use Rattle.bm_base.specs.declared.memory.Memory.{Memory}
@@ -46,7 +46,7 @@ loop-line-preserved c =
           omega (arith, room, len, capacity);
     }
 
--- what holds anyway
+-- what always holds, holds of each error
 on_err : {X : Type 0} → (r : Result X Memory) (P : Type 0) → P → OnErr r P
 on_err (Ok x) P holds = tt
 on_err (Err memory) P holds = holds

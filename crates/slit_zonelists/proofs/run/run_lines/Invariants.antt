@@ -1,4 +1,5 @@
--- The lines so far have been carried out: those behind them answer as they would have, and there is room for that.
+-- The lines so far have been carried out, the remaining lines answer as they would have from the
+-- start, and there is room for all answers.
 use Rattle.std.proofs.Common.{◌≡◌, ◌+◌, ◌≤◌, ◌++◌, length, take, drop, vec_len, vec_capacity}
 use Rattle.page_alloc.specs.Book.{state_of}
 use Rattle.page_alloc.specs.Pages.{HaveOrders}

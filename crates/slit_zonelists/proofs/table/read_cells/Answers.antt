@@ -1,4 +1,4 @@
--- The number of localities is small, and isn't 0 where there are cells.
+-- The number of localities is small, and it isn't 0 if there are cells.
 use Rattle.std.proofs.Common.{◌≡◌, ◌∙◌, ℕ, zero, suc, ◌-◌, ◌*◌, ◌≤◌, length, arith, subst, ap}
 use Rattle.std.proofs.Math.Nat.{le-mul_of_pos_right}
 use Rattle.std.proofs.lemmas.List.{take_rest}
