@@ -15,7 +15,7 @@ use Rattle.boot_inputs.specs.File.{File, with_value}
 abbrev pub options_said : List ℕ → Result Chosen Fault
 options_said bytes = with_error faults.CommandLine (options_of bytes)
 
--- an edit needs memory, and so does a crash area by ranges
+-- an edit needs memory, and so does a plain `crashkernel=`
 abbrev pub options_take : Result Chosen OptionFault → Bool
 options_take (Ok chosen) = nat_lt 0 (length chosen.edits) || is_some chosen.crash.plain
 options_take (Err fault) = false

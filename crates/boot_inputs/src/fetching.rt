@@ -25,7 +25,7 @@ use std::alloc::Global;
 /// - `Faulty`: the file is longer than its limit, or its bytes have a fault
 /// - out of memory
 ///
-/// Each of them is for this file only.
+/// The input named in an error is always this one.
 pub fn add_file<R: Reader, F: Files, N: Names>(
     alloc: Global,
     files: &mut F,

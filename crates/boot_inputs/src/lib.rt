@@ -1,16 +1,25 @@
 //! Reads the input files of a boot: fetches each by its name, and checks it before it fetches the
 //! next.
 //!
-//! A boot needs a zero page. If they are named, it also reads an E820 extension, a command line,
-//! the firmware's table of domains (SRAT), a script, a page script, the table of distances (SLIT),
-//! and the firmware's own map of memory (EFI). [`read_inputs`] reads them in this order. It stops
-//! at the first file that can't be read ([`Reason::Unread`]) or has a fault ([`Reason::Faulty`]).
+//! A boot has up to eight input files. A file without a name is skipped:
+//!
+//! 1. a zero page
+//! 2. an E820 extension
+//! 3. a command line
+//! 4. the firmware's table of domains (SRAT)
+//! 5. a script of early allocations
+//! 6. a page script
+//! 7. the firmware's table of distances between domains (SLIT)
+//! 8. the firmware's own map of memory (EFI)
+//!
+//! [`read_inputs`] reads them in this order. It stops at the first file that can't be read
+//! ([`Reason::Unread`]) or has a fault ([`Reason::Faulty`]).
 //!
 //! The program does the same with each file ([`add_file`]): it looks up the name, fetches the file
 //! up to its limit, and reads it into the inputs. So an input file is one value in one module, a
-//! [`Reader`]. It says which [`Input`] it is, how many bytes it may have, and how they are read.
-//! Its definition is one value too, a `File` of `specs/File.antt`. [`Diagnostic`] is what the line
-//! of a file's fault says.
+//! [`Reader`]. The reader says which [`Input`] it is, how many bytes it may have, and how they are
+//! read. Its definition is one value too, a `File` of `specs/File.antt`. [`Diagnostic`] is what
+//! the line of a file's fault says.
 //!
 //! The order of the files is a list in the code (`src/inputs.rt`) and a list in the definition
 //! (`input_files` of `specs/Inputs.antt`). [`Readers`] reads any list, and the facts about a list

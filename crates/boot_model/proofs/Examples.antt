@@ -93,8 +93,8 @@ carried_example = refl
 told_example : ((told of_image made).heads.memory.place ≡ 0x2FFE000) × ((told of_image made).heads.reserved.place ≡ 0x2FFF000)
 told_example = (refl, refl)
 
--- only the place of the kernel and the width are given; the tables of memory reach 64 TiB, or 4
--- PiB with page tables of five levels
+-- only the place of the kernel and the width are given; the limit of physical addresses is 64 TiB,
+-- or 4 PiB with page tables of five levels
 begun_example : (of_image.entries ≡ []) × (of_image.kernel ≡ image) × (of_image.options ≡ no_options) × (of_image.mirrors ≡ [])
     × (of_image.upward ≡ false) × (reach of_image ≡ 0x400000000000) × (reach_told (told of_image made) ≡ 0x400000000000)
     × (reach (begun Bits52 image) ≡ 0x10000000000000) × (reach_told (told (begun Bits52 image) made) ≡ 0x10000000000000)
@@ -241,9 +241,9 @@ memory_examples : (lies_in_memory two_runs 0x1000 ≡ true) × (lies_in_memory t
     × (lies_in_memory (record { base = 0; size = 1; value = 128 } ∷ []) 0 ≡ true)
 memory_examples = (refl, refl, refl, refl, refl)
 
--- An image of two frames at 1 MiB may lie there, and so may one that ends where the tables of
--- memory end. One that begins in the middle of a frame, has one frame, or ends a frame later may
--- not. With 52 bits the tables of memory reach further.
+-- An image of two frames at 1 MiB may lie there, and so may one that ends at the limit of physical
+-- addresses. One that begins in the middle of a frame, has one frame, or ends a frame later may
+-- not. With 52 bits the limit is higher.
 kernel_tests : (is_kernel Bits46 (record { base = 0x100000; size = 8192 }) ≡ true)
     × (is_kernel Bits46 (record { base = 0x3FFFFFFFE000; size = 0x2000 }) ≡ true)
     × (is_kernel Bits46 (record { base = 0x100800; size = 0x2000000 }) ≡ false)
@@ -253,8 +253,8 @@ kernel_tests : (is_kernel Bits46 (record { base = 0x100000; size = 8192 }) ≡ t
     × (is_kernel Bits52 (record { base = 0xFFFFFFFFFF000; size = 0x2000 }) ≡ false)
 kernel_tests = (refl, refl, refl, refl, refl, refl, refl)
 
--- an image lies above the first MiB, has at least two frames, is whole frames, and ends within the
--- tables of memory
+-- an image lies above the first MiB, has at least two frames, is whole frames, and ends at or
+-- below the limit of physical addresses
 kernel_examples : IsKernel Bits46 (record { base = 0x1000000; size = 0x2000000 })
     × (IsKernel Bits46 (record { base = 0xFF000; size = 0x2000000 }) → ⊥)
     × (IsKernel Bits46 (record { base = 0x1000000; size = 4096 }) → ⊥)

@@ -165,7 +165,7 @@ memory_made given made ends =
       limit = chain_keeps bound_by (drop 1 (later_stages given)) (limit_keep given) behind.middle made behind.rest;
     }
 
--- within the kernel's tables of memory the map has the claims' types
+-- below the limit of physical addresses the map has the claims' types
 reached_same : (limit : ℕ) (c : Claims) (x : ℕ) → limit ≤ 2 ^ 52 → types_below limit (value_at (map_of c)) x ≡ types_below limit (kinds c) x
 reached_same limit c x small =
     elim (cases_Bool (nat_lt x limit)) [

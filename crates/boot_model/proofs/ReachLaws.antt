@@ -1,4 +1,4 @@
--- The highest end of the tables of memory, and that it is whole frames.
+-- The greatest limit of physical addresses, and that it is whole frames.
 use Rattle.std.proofs.Common.{◌≡◌, ◌%◌, ◌^◌, ◌≤◌, refl, arith}
 use Rattle.bm_base.specs.Width.{reach_of}
 use Rattle.bm_base.specs.declared.width.Width.{Width}

@@ -59,9 +59,9 @@ pub record EfiGiven : Type 0 where
   pub mirrors : List FrameRange
 
 -- The inputs of a boot. They are the zero page's entries and its initrd if there is one, the
--- entries of the extension, the options, and the table of domains if there is one. Then come the
--- width of addresses, the place of the kernel, which memory is mirrored, and whether searches go
--- from the lowest address up. The rest are the lines of both scripts, the table of distances if
+-- extension's entries, the options, and the table of domains if there is one. Then come the width
+-- of physical addresses, the place of the kernel, which memory is mirrored, and whether searches
+-- go from the lowest address up. The rest are the lines of both scripts, the table of distances if
 -- there is one, and the firmware's own map of memory if there is one.
 pub record Given : Type 0 where
   pub entries : List Entry
@@ -82,7 +82,8 @@ pub record Given : Type 0 where
 abbrev pub no_options : Chosen
 no_options = record { edits = []; crash = no_crash; numa_off = false; add_efi = false }
 
--- the inputs without any file: the width of addresses, the place of the kernel, and nothing else
+-- the inputs without any file: the width of physical addresses, the place of the kernel, and
+-- nothing else
 abbrev pub begun : Width → RangeView → Given
 begun width kernel = record {
   entries = [];
@@ -100,7 +101,7 @@ begun width kernel = record {
   efi = None;
 }
 
--- the address where the kernel's tables of memory end, in bytes (`MAX_PHYSMEM_BITS`)
+-- the limit of physical addresses, in bytes (`MAX_PHYSMEM_BITS`)
 abbrev pub reach : Given → ℕ
 reach given = reach_of given.width
 
@@ -139,9 +140,9 @@ pub record BootSoFar : Type 0 where
   pub answers : List Answer
 
 -- What is reported at the end: what the boot made, except for the live IDs and the fills, which
--- stand in the bytes of memory. It adds the width of addresses, the heads of the two tables, and
--- what the memory of each node spans. It also has the free frames, the order of zones for each
--- node, and the answers of the page script, with what that script left.
+-- are in the bytes of memory. It adds the width of physical addresses, the heads of the two
+-- tables, and what the memory of each node spans. It also has the free frames, the order of zones
+-- for each node, and the answers of the page script, with what that script left.
 pub record Told : Type 0 where
   pub width : Width
   pub map : List (RunOf ℕ)
@@ -195,7 +196,7 @@ handed_over items = free_node_in (memory_of items) (reserved_of (owner_of items)
 abbrev pub spanned : List Item → List Span
 spanned items = spans_of (node_of_frame (memory_of items))
 
--- the address where the kernel's tables of memory end, for a report
+-- the limit of physical addresses, for a report
 abbrev pub reach_told : Told → ℕ
 reach_told told = reach_of told.width
 
@@ -242,7 +243,7 @@ begin_with map options = record {
 abbrev pub begin : Given → BootSoFar
 begin given = begin_with (map_of (claims given)) given.options
 
--- the types of addresses, below the end of the kernel's tables of memory
+-- the types of the addresses below the limit of physical addresses
 abbrev pub types_in_reach : Given → TypeAt
 types_in_reach given = types_below (reach given) (kinds (claims given))
 
@@ -255,7 +256,7 @@ abbrev pub unless_stopped : Option MapStop → Stage
 unless_stopped None made = Ok made
 unless_stopped (Some reason) made = Err (cause_of_map reason)
 
--- the map has usable frames below the end of the kernel's tables of memory, and not too many
+-- the map has usable frames below the limit of physical addresses, and not too many
 -- (`e820__memblock_setup`)
 abbrev pub has_frames : Given → Stage
 has_frames given made = unless_stopped (judged (types_in_reach given)) made

@@ -39,7 +39,7 @@ pub HaveTypes-prop : (edits : List Edit) → IsProp (HaveTypes edits)
 HaveTypes-prop [] = Unit-prop
 HaveTypes-prop (e ∷ es) = ×_prop (HasTypes-prop e) (HaveTypes-prop es)
 
--- the numbers of each line of the script lie within its bounds
+-- the numbers in each line of the script lie within their bounds
 abbrev pub HaveBounds : List Line → Type 0
 HaveBounds lines = All (λ line. HasBounds line.act) lines
 

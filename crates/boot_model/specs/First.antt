@@ -14,8 +14,8 @@ use Rattle.stage_model.specs.Requests.{changes}
 unfoldable pub items_carried : List Item → Doing Refused (Unit {0})
 items_carried wanted = in_turn (λ done i. changes (change i)) tt wanted
 
--- memory is whole frames, each with one label, below the end of the kernel's tables of memory;
--- allocations end above 0, and all memory lies below their limit
+-- memory is whole frames, each with one label, below the limit of physical addresses; the limit of
+-- allocations is above 0, and all memory lies below it
 pub record IsFirstMemory (reach : ℕ) (items : List Item) : Type 0 where
   pub frames : AreOfFrames (memory_of items)
   pub within : NothingFrom reach (memory_of items)

@@ -7,8 +7,8 @@ use Rattle.bm_base.specs.Width.{reach_of}
 use Rattle.bm_base.specs.declared.width.Width.{Width}
 
 -- The image lies above the first MiB, which real mode keeps. Memblock's two tables fit in its last
--- two frames. It is whole frames and lies below the end of the kernel's tables of memory. These
--- bounds are this project's own, since the boot protocol leaves the place to the loader.
+-- two frames. It is whole frames and lies below the limit of physical addresses. These bounds are
+-- this project's own, since the boot protocol leaves the place to the loader.
 pub record IsKernel (width : Width) (image : RangeView) : Type 0 where
   pub above : 0x100000 ≤ image.base
   pub long : 2 * FRAME_SIZE ≤ image.size

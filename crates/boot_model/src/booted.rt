@@ -19,7 +19,7 @@ use zone_spans::Span;
 /// The results of a boot.
 #[derive(Drop)]
 pub struct Booted {
-    /// The width of addresses.
+    /// The width of physical addresses.
     pub width: Width,
     /// The map, as runs in the order of their addresses.
     pub map: Vec<Run>,
@@ -58,7 +58,7 @@ impl Booted {
     ghost use Rattle.boot_model.specs.Boot.{reach_told};
     ghost use Rattle.boot_model.specs.View.{booted_view};
 
-    /// Returns the address where the kernel's tables of memory end, in bytes (`MAX_PHYSMEM_BITS`).
+    /// Returns the limit of physical addresses, in bytes (`MAX_PHYSMEM_BITS`).
     pub fn reach(&self) -> u64
         ensures { result ≡ reach_told (booted_view self.now) }
     {

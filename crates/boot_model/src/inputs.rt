@@ -1,5 +1,5 @@
-//! The inputs of a boot: one field for each input file, and the place of the kernel. Each field's
-//! facts stand with the type, so a function that has inputs has these facts.
+//! The inputs of a boot: one field for each input file, and the place of the kernel. The facts
+//! about the fields are facts of the type, so a function that has inputs has these facts.
 
 ghost use Rattle.std.specs.Prelude.{◌≡◌, ◌^◌, ◌<◌, IfSome, length};
 ghost use Rattle.std.specs.List.{All};
@@ -37,7 +37,7 @@ pub struct Inputs {
     pub options: Options,
     /// The firmware's table of domains, if there is one. It has fewer than 2^32 ranges of memory.
     pub srat: Option<Srat>,
-    /// The width of addresses.
+    /// The width of physical addresses.
     pub width: Width,
     /// The place of the kernel's image.
     pub kernel: Range,
@@ -108,7 +108,7 @@ impl Inputs {
         }
     }
 
-    /// Returns the address where the kernel's tables of memory end, in bytes (`MAX_PHYSMEM_BITS`).
+    /// Returns the limit of physical addresses, in bytes (`MAX_PHYSMEM_BITS`).
     pub fn reach(&self) -> u64
         ensures { result ≡ reach (inputs_view self.now) }
     {

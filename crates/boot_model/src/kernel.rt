@@ -6,8 +6,8 @@ ghost use Rattle.boot_model.specs.Kernel.{IsKernel, is_kernel};
 
 use bm_base::{FRAME_SIZE, Range, Width};
 
-/// The lowest address of a kernel's image, in bytes: the end of the first MiB
-/// (`LOAD_PHYSICAL_ADDR`).
+/// The lowest address of a kernel's image, in bytes: the end of the first MiB, which real mode
+/// keeps.
 const LOWEST_KERNEL: u64 = 0x10_0000;
 
 /// The smallest size of a kernel's image, in bytes: two frames, for memblock's two tables at its
@@ -15,7 +15,7 @@ const LOWEST_KERNEL: u64 = 0x10_0000;
 const SMALLEST_KERNEL: u64 = 2 * FRAME_SIZE;
 
 /// Returns whether a kernel's image may lie at `range`: it begins at or above 1 MiB and ends at or
-/// below the width's limit. It is whole frames, at least two of them.
+/// below the limit of physical addresses. It is whole frames, at least two of them.
 pub fn is_kernel(range: &Range, width: Width) -> bool
     ensures value { result ≡ is_kernel width range.now }
     ensures facts { IsTrue result → IsKernel width range.now }

@@ -37,8 +37,8 @@ pub fn map_gives_types()
     ensures room { (given : Given) (made : BootSoFar) → boot given ≡ Ok made → length made.map ≤ E820_MAX_ENTRIES }
 {}
 
-/// Law: a frame below the end of the kernel's tables of memory is usable exactly if each of its
-/// bytes lies in a run of RAM, or of the kernel's own memory, of the boot's map. There are 1 to
+/// Law: a frame below the limit of physical addresses is usable exactly if all its bytes lie in
+/// runs of RAM or of the kernel's own memory. The runs are those of the boot's map. There are 1 to
 /// 2^32 usable frames.
 pub fn map_gives_frames()
     ensures each { (given : Given) (made : BootSoFar) (frame : ℕ) → boot given ≡ Ok made →

@@ -8,14 +8,13 @@
 //!
 //! The definition of the boot (`specs/Boot.antt`) is a sequence of stages in the order of
 //! `setup_arch`. Each stage adds its part to what the stages before it made, or stops the boot. A
-//! fact about one stage rests on that stage and those before it. Each stage after it has a law of
-//! its own that it leaves that part as it is.
+//! fact about one stage rests on that stage and those before it. For each stage after it, a law
+//! says that it leaves that part as it is.
 //!
-//! Each fact about an input's value stands with it in [`Inputs`], so every function that has
-//! inputs has these facts. [`is_kernel`] tests the place of the kernel. [`Inputs::begun`] are the
-//! inputs without any file, to which each file adds. Only [`Inputs::reach`] says how far the
-//! kernel's tables of memory reach. Mirrored memory is given in whole frames, so no law about a
-//! boot has to require it.
+//! The facts about each input's value are facts of the type [`Inputs`], so every function that has
+//! inputs has them. [`is_kernel`] tests the place of the kernel. [`Inputs::begun`] are the inputs
+//! without any file, to which each file adds. Only [`Inputs::reach`] gives the limit of physical
+//! addresses. Mirrored memory is given in whole frames, so no law about a boot has to require it.
 //!
 //! The layers above may rest on this crate's laws: the map of a boot that isn't stopped gives each
 //! address the type of its greatest claim, and says which frames are usable. At the end a byte is

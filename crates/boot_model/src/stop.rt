@@ -16,7 +16,7 @@ pub enum Cause {
     NoRam,
     /// More than 2^32 frames of the map are usable. `frames` is their number.
     TooMuchRam { frames: u64 },
-    /// The map has more runs than the table has room for, which is 3,200. `runs` is their number.
+    /// The map has more than 3,200 runs, the room of the kernel's table. `runs` is their number.
     MapFull { runs: u64 },
     /// No place was found for something that a boot can't do without.
     NoPlace { what: What },
@@ -32,7 +32,7 @@ pub enum Stop {
     NoRam,
     /// More than 2^32 frames of the map are usable. `frames` is their number.
     TooMuchRam { frames: u64 },
-    /// The map has more runs than the table has room for, which is 3,200. `runs` is their number.
+    /// The map has more than 3,200 runs, the room of the kernel's table. `runs` is their number.
     MapFull { runs: u64 },
     /// No place was found for something that a boot can't do without.
     NoPlace { what: What },

@@ -46,8 +46,8 @@ abbrev pub goes_on_with : Option MapStop → List (RunOf ℕ) → Result (List (
 goes_on_with None map = Ok map
 goes_on_with (Some reason) map = Err (stop_of (cause_of_map reason))
 
--- what the boot makes of the table's answer: it judges the map's frames below the address `reach`,
--- where the kernel's tables of memory end
+-- what the boot makes of the table's answer: it judges the map's frames below `reach`, the limit
+-- of physical addresses
 abbrev pub judged_answer : ℕ → MapAnswer → Result (List (RunOf ℕ)) Stop
 judged_answer reach (Ok runs) = goes_on_with (judged (types_below reach (value_at runs.items))) runs.items
 judged_answer reach (Err fault) = Err (stop_of_map fault)
@@ -96,7 +96,8 @@ made_behind given map m later ids fills = record {
 }
 
 -- The stages after the map ended with memblock `m` and the results `later`, as the definition
--- says. The kernel's image and the bytes are as they should be.
+-- says. The kernel's image is that of the inputs, and each byte is that of the items and the
+-- fills.
 pub record AreRun (given : Given) (map : List (RunOf ℕ)) (m : Contents) (later : Later) : Type 0 where
   pub ids : Ids
   pub fills : List Filled

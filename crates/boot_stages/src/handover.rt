@@ -30,11 +30,11 @@ use zone_spans::spans;
 /// Takes memblock apart and returns all that the boot made. What memory spans and which frames are
 /// free is read only from the bytes at the two heads (`free_area_init`, `memblock_free_all`). Each
 /// node gets its order of zones (`build_zonelists`). Then the page script runs on a copy of the
-/// free frames, which begins with no frame allocated.
+/// free frames, of which none is allocated at first.
 ///
 /// # Errors
 ///
-/// Out of memory, before any result is returned.
+/// Out of memory.
 pub fn hand_over_memory(
     alloc: Global,
     memblock: Memblock,

@@ -10,8 +10,8 @@ ghost use Rattle.boot_model.specs.Boot.{Given, claims};
 ghost use Rattle.boot_stages.specs.Boots.{IsDecided, MapAnswer};
 
 /// Law: the table's answer for its map decides how the boot's first stages end. If it is a map,
-/// the map's frames are judged. If it is a number of runs that the map has no room for, the boot
-/// stops with it. Of an answer that is out of memory the law says nothing.
+/// the map's frames are judged. If it is the number of runs of a map that the table has no room
+/// for, the boot stops with that number. If the table is out of memory, the law says nothing.
 pub fn map_is_judged()
     ensures { (given : Given) (answer : MapAnswer) →
         Answers faults.Memory (λ runs. runs.items) answer (in_room (map_of (claims given))) →

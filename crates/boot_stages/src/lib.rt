@@ -1,12 +1,12 @@
-//! Runs the whole boot, stage by stage: from the inputs to the free frames and the reports' data
-//! (`setup_arch` up to `mem_init`).
+//! Runs the whole boot, stage by stage: from the inputs to the free frames and the data of the
+//! reports (`setup_arch` up to `mem_init`).
 //!
-//! [`boot`] follows the definition `boot` in `specs/Boot.antt` of `boot_model`. Each function here
-//! carries out one stage of that definition, and its contract is the stage's equation:
+//! [`boot`] follows the definition `boot` in `specs/Boot.antt` of `boot_model`. Each call here
+//! carries out a stage of that definition or a part of one, and its contract says so:
 //!
-//! - `src/map.rt`: The zero page's entries, the extension's entries and the options' edits go into
-//!   one table of claims. The table is settled after each of the three. Then the BIOS range is
-//!   trimmed and the finished map is judged.
+//! - `src/map.rt`: The zero page's entries, the extension's entries, and the options' edits with
+//!   the firmware's own entries go into one table of claims. The table is settled after each of
+//!   the three. Then the BIOS range is trimmed and the finished map is judged.
 //! - `src/memory.rt`: The first claims are made, the map's runs become memory in whole frames,
 //!   mirrored memory is marked, and the first MiB is claimed. Each step is one call of memblock.
 //! - `src/later.rt`: Nodes, the crash area, the early script and the sections follow. Each is one

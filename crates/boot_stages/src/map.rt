@@ -88,7 +88,8 @@ fn edit_settled(table: &mut Table, edits: &[Edit], added: &[Entry]) -> Result<()
 /// # Errors
 ///
 /// - `MapFull`: the map has too many runs
-/// - the error for the judgement of the frames below `reach`, if it refuses the map
+/// - `NoRam`: no frame below `reach` is usable
+/// - `TooMuchRam`: more than 2^32 frames below `reach` are usable
 /// - `Memory`: exactly if the table's answer was `Memory`
 pub fn judged_map(answer: Result<Vec<Run>, MapFault>, reach: u64) -> Result<Vec<Run>, Stop>
     requires { IfOk answer (λ runs. AreRuns runs.items) }
@@ -105,6 +106,11 @@ pub fn judged_map(answer: Result<Vec<Run>, MapFault>, reach: u64) -> Result<Vec<
 
 /// Returns the map, or the stop if the judgement of its frames below `reach` refuses it. Takes no
 /// memory.
+///
+/// # Errors
+///
+/// - `NoRam`: no frame below `reach` is usable
+/// - `TooMuchRam`: more than 2^32 frames below `reach` are usable
 fn go_on(map: Vec<Run>, reach: u64) -> Result<Vec<Run>, Stop>
     requires { AreRuns map.items }
     ensures answers { Answers Stop.Memory (λ runs. runs.items) result

@@ -56,9 +56,9 @@ fn claim_early(memblock: &mut Memblock, kernel: Range, initrd: Option<Range>) ->
     }
 }
 
-/// Claims the run if firmware keeps it for a driver (`E820_TYPE_SOFT_RESERVED`). If it is memory,
-/// adds the part of it below `reach`, where the kernel's tables of memory end. Ignores other types
-/// (`e820__memblock_setup`).
+/// Claims the run if firmware sets it aside for a driver (`E820_TYPE_SOFT_RESERVED`). If it is
+/// memory, adds the part of it below `reach`, the limit of physical addresses, if there is one.
+/// Ignores all other runs (`e820__memblock_setup`).
 fn add_run(memblock: &mut Memblock, run: &Run, reach: u64) -> Result<(), Refusal>
     requires some { 0 < run.now.size }
     requires begun { HasBegun memblock.old.journal.items }
@@ -212,8 +212,8 @@ fn limit_memory(memblock: &mut Memblock, end: u64) -> Result<(), Refusal>
     memblock.claim(up_to(ISA_END_ADDRESS), Owner::Low1M)
 }
 
-/// Makes memory from the map, as far as the kernel's tables of memory reach, and makes the claims
-/// that come before nodes are known. Nothing may have happened to `memblock` yet.
+/// Makes memory from the map, below the limit of physical addresses, and makes the claims that
+/// come before nodes are known. Nothing may have happened to `memblock` yet.
 ///
 /// # Errors
 ///

@@ -32,7 +32,8 @@ use std::alloc::Global;
 /// 2. The map's memory becomes memblock's memory (`e820__memblock_setup`).
 /// 3. Memory gets its nodes (`initmem_init`).
 /// 4. The crash area is reserved (`reserve_crashkernel`).
-/// 5. The early script runs, and the sections are placed in the middle of it (`sparse_init`).
+/// 5. The early script runs. The sections are placed at its `sections` line, or after all lines if
+///    it has none (`sparse_init`).
 /// 6. The frames in which no byte is claimed become free (`memblock_free_all`).
 /// 7. Each node gets its order of zones (`build_zonelists`), and the page script runs on a copy of
 ///    the free frames.
@@ -41,7 +42,7 @@ use std::alloc::Global;
 ///
 /// # Errors
 ///
-/// In this order, as the definition stops:
+/// The first of these that holds, as in the definition:
 ///
 /// - the map has more than 3,200 runs
 /// - no frame of the map is usable
@@ -49,7 +50,7 @@ use std::alloc::Global;
 /// - a table must grow and finds no place, or the boot finds no place for something that it can't
 ///   do without
 ///
-/// Out of memory may come in place of each of these.
+/// Out of memory may come in place of each of these, and of success.
 pub fn boot(alloc: Global, inputs: Inputs) -> Result<Booted, Stop>
     ensures boots { Answers Stop.Memory booted_view result
         (with_error stop_of (told_boot (inputs_view inputs))) }

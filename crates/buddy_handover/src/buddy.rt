@@ -191,8 +191,8 @@ impl Buddy {
     }
 
     /// Returns whether the node and the zone have a block of `order` or a greater order. Takes no
-    /// memory, and looks at all runs for each order. So it is only used to choose the error of
-    /// `take` when that is out of memory.
+    /// memory, and looks at all runs for each order. So it is for the result of a call that is out
+    /// of memory.
     pub fn serves(&self, node: u32, zone: Zone, order: u32) -> bool
         requires { order ≤ 10 }
         ensures { result ≡ is_some (first_picked (free self.now) node zone order) }

@@ -9,8 +9,9 @@ ghost use Rattle.free_areas.specs.Areas.{AreAreas};
 use frame_blocks::{Block, MAX_FRAMES};
 use free_areas::Areas;
 
-/// Returns the index after the first `2^order` frames of `block` have left it. `behind` is the
-/// block with the frame after `block`. It is `None` if there is no memory for it.
+/// Returns the index after the first `2^order` frames of `block` have left it, or `None` if there
+/// is no memory for it. `behind` must be the block that has the frame after `block`, or `None` if
+/// that frame isn't free.
 pub fn split(areas: Areas, block: &Block, behind: Option<Block>, order: u32) -> Option<Areas>
     requires small { block.now.order ≤ 10 }
     requires low { block.now.first < MAX_FRAMES }
@@ -24,8 +25,8 @@ pub fn split(areas: Areas, block: &Block, behind: Option<Block>, order: u32) -> 
     }
 }
 
-/// Returns the index after `2^order` frames from `frame` on have come back into `block`. It is
-/// `None` if there was no index or no block, or no memory for it.
+/// Returns the index after `2^order` frames from `frame` on have come back into `block`, or `None`
+/// if there was no index or no block, or if there is no memory for it.
 pub fn join(areas: Option<Areas>, block: Option<Block>, order: u32, frame: u64) -> Option<Areas>
     requires small { IfSome block (λ block. block.order ≤ 10) }
     requires low { frame < MAX_FRAMES }

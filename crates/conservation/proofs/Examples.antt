@@ -108,12 +108,11 @@ usable_by_runs = (omega arith, λ x inside. grind (arith, nat_tests))
 reserved_by_runs : IsUsableBy (2 ^ 46) two_runs 2 → ⊥
 reserved_by_runs usable = let wrong : false ≡ true = usable.1 0x2000 refl in cc wrong
 
--- the frame at 64 TiB isn't usable, since the tables of memory end there
+-- the frame at 64 TiB isn't usable, since that is the limit of physical addresses
 out_of_reach : (map : List (RunOf ℕ)) → IsUsableBy (2 ^ 46) map 17179869184 → ⊥
 out_of_reach map usable = let low = usable.0 in absurd (omega (arith, low))
 
--- with page tables of five levels the tables of memory reach 4 PiB, and the frame at 4 PiB isn't
--- usable
+-- with page tables of five levels the limit is 4 PiB, and the frame at 4 PiB isn't usable
 out_of_reach_of_52 : (map : List (RunOf ℕ)) → IsUsableBy (2 ^ 52) map 1099511627776 → ⊥
 out_of_reach_of_52 map usable = let low = usable.0 in absurd (omega (arith, low))
 

@@ -12,7 +12,7 @@ use Rattle.conservation.specs.Headline.{IsUsable}
 use Rattle.conservation.proofs.ClaimedLaws.{covers_frame, frame_covers}
 use Rattle.conservation.proofs.ToldLaws.{is_told_of}
 
--- a usable frame lies below the end of the kernel's tables of memory
+-- a usable frame lies below the limit of physical addresses
 in_reach : (given : Given) (frame : ℕ) → IsUsable given frame → 4096 * frame + 4096 ≤ reach given
 in_reach given frame usable =
     let x : ℕ = 4096 * frame + 4095 in

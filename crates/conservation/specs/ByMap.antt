@@ -6,8 +6,8 @@ use Rattle.bm_base.specs.declared.range.TheConstants.{FRAME_SIZE}
 use Rattle.address_runs.specs.Runs.{RunOf}
 use Rattle.boot_model.specs.Boot.{lies_in_memory}
 
--- the frame lies below `reach`, the end of the kernel's tables of memory, and each of its bytes
--- lies in a run of RAM or of the kernel's own memory
+-- the frame lies below `reach`, the limit of physical addresses, and all its bytes lie in runs of
+-- RAM or of the kernel's own memory
 abbrev pub IsUsableBy : ℕ → List (RunOf ℕ) → ℕ → Type 0
 IsUsableBy reach map frame =
     (FRAME_SIZE * frame + FRAME_SIZE ≤ reach)

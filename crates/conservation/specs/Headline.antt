@@ -18,8 +18,7 @@ use Rattle.boot_model.specs.Boot.{Given, Told, types_in_reach}
 use Rattle.conservation.specs.Claimed.{IsTouched, IsUntouched}
 
 -- each byte of the frame is RAM, or the kernel's own memory, in the finished map, and the frame
--- lies below the end of the kernel's tables of memory (`e820__memblock_setup`,
--- `memblock_trim_memory`)
+-- lies below the limit of physical addresses (`e820__memblock_setup`, `memblock_trim_memory`)
 abbrev pub IsUsable : Given → ℕ → Type 0
 IsUsable given frame = is_usable_frame (types_in_reach given) frame ≡ true
 
