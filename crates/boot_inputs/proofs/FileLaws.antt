@@ -9,7 +9,7 @@ use Rattle.boot_inputs.specs.File.{File}
 use Rattle.boot_inputs.specs.Inputs.{named_step}
 use Rattle.program_end.specs.Program.{Held}
 
--- the step for a file refuses no other file
+-- the step for a file comes to that file: it refuses no other
 pub comes_to_own : (holds : Option Held) (other : Input) (file : File) (given : Given) (name : List ℕ) → other ≡ file.input
     → IfSome holds (λ held. ReachesFile place other (named_step held file given name))
 comes_to_own holds other file given name is = grind arith

@@ -37,7 +37,7 @@ use Rattle.boot_model.specs.View.{sections_view}
 use Rattle.boot_stages.specs.declared.later.Later.{Later}
 use Rattle.boot_stages.specs.Boots.{made_behind}
 
--- two tables with the records of the items stand in the bytes, at the places of the heads
+-- two tables with the records of the items lie in the bytes, at the places of the heads
 pub record Stand (items : List Item) (store : List Stored) (memory reserved : Head) : Type 0 where
   pub first : Table
   pub second : Table

@@ -59,7 +59,7 @@ IsDecided given (Ok runs) = map_judged given ≡ has_frames given (begin_with ru
 IsDecided given (Err (faults.MapFull runs)) = map_judged given ≡ Err (causes.MapFull runs)
 IsDecided given (Err faults.Memory) = Unit {0}
 
--- table `w` stands in the bytes of `store`, at the place that `head` gives, and has the records of
+-- table `w` lies in the bytes of `store`, at the place that `head` gives, and has the records of
 -- the items
 pub record TableStands (w : Which) (items : List Item) (store : List Stored) (head : Head) : Type 0 where
   pub table : Table

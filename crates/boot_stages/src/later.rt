@@ -1,6 +1,7 @@
 //! Runs the stages after the map in their order: memory, nodes, the crash area, and the early
-//! script with the sections placed in the middle of it. Each stage is one call over memblock that
-//! ends as its definition says (`StageEnds`). Its error is turned into the boot's error here.
+//! script. The sections are placed at the script's `sections` line, or after all its lines. Each
+//! stage is one call over memblock that ends as its definition says (`StageEnds`). Its error is
+//! turned into the boot's error here.
 
 ghost use Rattle.std.specs.Prelude.{◌≡◌, ◌^◌, [], Ok, IfOk, IfErr};
 ghost use Rattle.address_runs.specs.Runs.{AreRuns};

@@ -67,7 +67,7 @@ same_without f g h o x without same = record {
 pub runs_without : (f : Frames) (rs : List (RunOf ℕ)) (o x : ℕ) → IsRunsOf (without_set o x f) rs → IsWithout f (value_at rs) o x
 runs_without f rs o x runs = same_without f (without_set o x f) (value_at rs) o x (without_is o x f) runs.each
 
--- the runs with a set that came back are those of the frames with it
+-- a set came back: without it, the runs give the frames of before
 pub runs_with : (g : Frames) (rs : List (RunOf ℕ)) (o x n : ℕ) → ((y : ℕ) → IsInSet o x y → g y ≡ None) → IsRunsOf (with_set o x n g) rs
     → IsWithout (value_at rs) g o x
 runs_with g rs o x n held runs =

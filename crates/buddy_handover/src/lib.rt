@@ -1,16 +1,16 @@
-//! Hands memory over to the page allocator: at the end of the early boot, every frame in which no
-//! byte is reserved becomes free (`memblock_free_all`).
+//! Hands memory over to the page allocator: at the end of the early boot, each frame of memory in
+//! which no byte is reserved becomes free (`memblock_free_all`).
 //!
 //! [`hand_over`] reads memblock's two tables from the bytes in which they lie, in one pass. It
-//! frees each frame that is memory and has no reserved byte. The result is a [`Buddy`]: the free
-//! frames, each with its node. [`Buddy::blocks`], [`Buddy::rows`], [`Buddy::count`] and
-//! [`Buddy::block_of`] return its blocks (`frame_blocks`).
+//! frees each frame that is memory, has a node, and has no reserved byte. The result is a
+//! [`Buddy`]: the free frames, each with its node. [`Buddy::blocks`], [`Buddy::rows`],
+//! [`Buddy::count`] and [`Buddy::block_of`] return its blocks (`frame_blocks`).
 //!
 //! After the handover [`Buddy::free_frames`] frees more frames, [`Buddy::take`] allocates a block,
 //! and [`Buddy::put_back`] frees one.
 //!
 //! The kernel's lists have one entry for each block. Here the free frames are one ascending list
-//! of runs, however long a run is. A call adds at most two entries, and [`Buddy::ready`] allocates
+//! of runs, however long a run is. A call adds at most two entries, and [`Buddy::ready`] makes
 //! room for them beforehand. Blocks are computed on request. The first [`Buddy::take`] makes an
 //! index of them (`free_areas`).
 //!

@@ -13,8 +13,8 @@ use bm_base::Range;
 use frame_blocks::{FrameRun, MAX_FRAMES};
 use run_edits::{Replace, Uncover, amend};
 
-/// Makes the frames of the range free, for node `node`, whatever they were. Takes no memory, and
-/// looks only at runs that meet or touch the range.
+/// Makes the frames of the range free, for node `node`, whatever they were. An empty range changes
+/// nothing. Takes no memory, and looks only at runs that meet or touch the range.
 pub fn put(runs: &mut Vec<FrameRun>, frames: &Range, node: u32)
     requires low { frames.now.base + frames.now.size ≤ MAX_FRAMES }
     requires runs { AreRuns runs.old.items }

@@ -57,7 +57,7 @@ pub record IsWhole (given : Given) (items : List Item) (b : Block) : Type 0 wher
   pub aligned : b.first % 2 ^ b.order ≡ 0
   pub frames : AreAllFree given items b
 
--- the block has the greatest order, or the set with its buddy isn't all free for it
+-- if the block's order is below the greatest, not all frames of it and its buddy are free for it
 abbrev pub IsMaximal : Given → List Item → Block → Type 0
 IsMaximal given items b = b.order < MAX_ORDER → ¬ AreAllFree given items (with_buddy b)
 

@@ -1,4 +1,4 @@
--- Both tables stand in the bytes. After the nodes are assigned, the memory table covers whole
+-- Both tables lie in the bytes. After the nodes are assigned, the memory table covers whole
 -- frames.
 use Rattle.std.proofs.Common.{◌≡◌, ◌∙◌, ℕ, List, ap, sym, arith}
 use Rattle.boot_journal.specs.Contents.{Contents as Journal}
