@@ -34,7 +34,7 @@ use std::alloc::Global;
 /// 4. The crash area is reserved (`reserve_crashkernel`).
 /// 5. The early script runs. The sections are placed at its `sections` line, or after all lines if
 ///    it has none (`sparse_init`).
-/// 6. The frames in which no byte is claimed become free (`memblock_free_all`).
+/// 6. The frames of memory in which no byte is claimed become free (`memblock_free_all`).
 /// 7. Each node gets its order of zones (`build_zonelists`), and the page script runs on a copy of
 ///    the free frames.
 ///

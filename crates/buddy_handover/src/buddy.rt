@@ -1,6 +1,6 @@
 //! The free frames, and what the page allocator's lists hold of them. Beside the runs a `Buddy`
-//! keeps the number of list entries that it has room for. So a caller knows beforehand whether a
-//! call can run out of memory.
+//! keeps the number of further list entries that it has room for. So a caller of `free_frames`
+//! knows beforehand whether that call can run out of memory.
 //!
 //! The index of the blocks (`free_areas`) is a cache that contracts don't see. The first `take`
 //! makes it, and `take` and `put_back` keep it up to date. Frames that become free otherwise drop
