@@ -1,72 +1,155 @@
 #!/usr/bin/env python3
-"""definitions.py [--table [WORD..]]: whether docs/DEFINITIONS.md has each file of definitions, and names no definition that isn't in it.
+"""definitions.py [--write | --table [WORD..]]: compares docs/DEFINITIONS.md with the files of
+definitions, crates/*/specs/*.antt, from which it is made.
 
-A row of that page is `| words | file | ..`: words and files stand between backticks, a file as CRATE/FILE for crates/CRATE/specs/FILE.antt. Each
-file of definitions of a crate that isn't one of cases stands on the page, and each word of a row is a definition of one of the row's files. Prints a
-line for each difference, and how many files and definitions there are.
---table prints the definitions instead, a line each: file, name, and the comment above it in the file, behind a line of the file with the comment at
-its head; with words, the lines that have one of them.
+The page has a section for each storey and a heading for each crate, in the order of the tables of
+docs/ARCHITECTURE.md. Below them each file of definitions has an entry: its name, the comment at
+its head, and the names of its public definitions. In a crate a file comes after those that it
+uses. The crates of worked cases aren't on the page. The text above the first section is written
+by hand, and is kept.
+
+Without words, prints a line for each difference between the page and what would be written, and
+how many files and definitions there are. --write writes the page. --table prints the definitions
+instead, one a line: file, name and the comment above it. With words, it prints only the lines
+that have one of them.
 """
 
 import glob
 import os
 import re
 import sys
+import textwrap
 
 sys.dont_write_bytecode = True
 
 from documents import TOP, end, read
 
+PAGE = "docs/DEFINITIONS.md"
 DEFINED = re.compile(r"^\s*(?:(?:abbrev|unfoldable) pub|pub (?:record|data)) (\S+)")
+WIDTH = 100
 
 
-def definitions_of(path):
-    """The comment at the head of a file, by the empty name, and its definitions with the comments above them, in their order."""
+def definitions_of(text):
+    """The comment at the head of a file, by the empty name, and its definitions with the comments
+    above them, in their order."""
     found, comment = {"": ""}, []
-    for line in read(path).split("\n"):
-        text = line.strip()
+    for line in text.split("\n"):
         match = DEFINED.match(line)
-        if text.startswith("--"):
-            comment.append(text.lstrip("- "))
+        if line.strip().startswith("--"):
+            comment.append(line.strip().lstrip("- "))
         elif match:
             found.setdefault(match.group(1), " ".join(comment))
             comment = []
-        elif not text or text.startswith("use "):
+        elif not line.strip() or line.startswith("use "):
             found[""] = found[""] or " ".join(comment)
             comment = []
     return found
 
 
-def rows_of(page):
-    """The words and the files of each row of the page."""
-    for line in page.split("\n"):
-        cells = [re.findall(r"`([^`]+)`", cell) for cell in line.strip("|").split("|")]
-        if line.startswith("| `") and len(cells) > 1:
-            yield cells[0], cells[1]
+def storeys():
+    """The storeys of docs/ARCHITECTURE.md, each with its crates, in the order of its tables."""
+    found = []
+    for line in read("docs/ARCHITECTURE.md").partition("\n## The crates\n")[2].split("\n"):
+        if line.startswith("## "):
+            break
+        storey = re.fullmatch(r"\*\*(.+)\*\*", line)
+        row = re.match(r"\| `(\w+)` \|", line)
+        if storey:
+            found.append((storey.group(1), []))
+        elif row:
+            found[-1][1].append(row.group(1))
+    return found
+
+
+def files_of(crate):
+    """The files of definitions of a crate with their texts, each after those that it uses, and
+    otherwise in the order of the crate's list."""
+    texts = {os.path.basename(path)[: -len(".antt")]: read(path)
+             for path in glob.glob(f"{TOP}/crates/{crate}/specs/*.antt")}
+    order = re.findall(r"^pub mod (\w+)$", texts.pop("Lib", ""), re.MULTILINE)
+    placed = {}
+
+    def place(name):
+        """Places a file after those that it uses."""
+        if name in texts and name not in placed:
+            text = texts.pop(name)
+            for used in re.findall(rf"^use Rattle\.{crate}\.specs\.(\w+)\b", text, re.MULTILINE):
+                place(used)
+            placed[name] = text
+
+    for name in order + sorted(texts):
+        place(name)
+    return placed
+
+
+def entry(file, found):
+    """The lines of a file's entry."""
+    names = ", ".join(f"`{name}`" for name in found if name)
+    said = textwrap.wrap(f"- **`{file}`**. {found['']}", WIDTH, subsequent_indent="  ",
+                         break_long_words=False, break_on_hyphens=False)
+    return said + textwrap.wrap(f"Defines {names}.", WIDTH, initial_indent="  ",
+                                subsequent_indent="  ", break_long_words=False,
+                                break_on_hyphens=False)
+
+
+def page_of(top, files):
+    """The page: the text above the first section, and the entries of the files by crate."""
+    lines = [top.rstrip("\n"), ""]
+    for storey, crates in storeys():
+        lines += [f"## {storey}", ""]
+        for crate in crates:
+            entries = [entry(f"{crate}/{name}", found) for name, found in files[crate].items()]
+            if entries:
+                lines += [f"### {crate}", "", *(line for one in entries for line in one), ""]
+    return "\n".join(lines)
+
+
+def differences(page, wanted):
+    """A line for each line that one of two pages has and the other lacks."""
+    has, made = page.split("\n"), wanted.split("\n")
+    wrong = [f"{PAGE}: tests/definitions.py --write would drop: {line}"
+             for line in has if line not in set(made)]
+    wrong += [f"{PAGE}: tests/definitions.py --write would add: {line}"
+              for line in made if line not in set(has)]
+    return wrong or ([f"{PAGE}: its lines aren't in the order that tests/definitions.py writes"]
+                     if has != made else [])
+
+
+def print_table(files, words):
+    """Prints the definitions, those whose line has one of the words if there are words."""
+    for crate, found in files.items():
+        for file, name, comment in ((f"{crate}/{file}", name, comment)
+                                    for file, defined in found.items()
+                                    for name, comment in defined.items()):
+            line = f"{file}\t{name}\t{comment}"
+            if not words or any(word in line for word in words):
+                print(line)
 
 
 def main():
-    files = {}
-    for path in sorted(glob.glob(f"{TOP}/crates/*/specs/*.antt")):
-        crate, name = path.split("/")[-3], os.path.basename(path)[: -len(".antt")]
-        if name != "Lib" and not crate.endswith("_cases"):
-            files[f"{crate}/{name}"] = definitions_of(path)
+    crates = [os.path.basename(path) for path in sorted(glob.glob(f"{TOP}/crates/*"))]
+    files = {crate: {name: definitions_of(text) for name, text in files_of(crate).items()}
+             for crate in crates if not crate.endswith("_cases")}
     if "--table" in sys.argv[1:]:
-        wanted = [word for word in sys.argv[1:] if word != "--table"]
-        for file, found in files.items():
-            for name, comment in found.items():
-                line = f"{file}\t{name}\t{comment}"
-                if not wanted or any(word in line for word in wanted):
-                    print(line)
+        print_table(files, [word for word in sys.argv[1:] if word != "--table"])
         return 0
-    page = read("docs/DEFINITIONS.md")
-    named = set(re.findall(r"`(\w+/\w+)`", page))
-    wrong = [f"{file}: it doesn't stand there" for file in files if file not in named]
-    wrong += [f"{file}: there is no such file" for file in sorted(named) if file not in files]
-    for words, of_row in rows_of(page):
-        known = {name for file in of_row for name in files.get(file, {})}
-        wrong += [f"{', '.join(of_row)}: it has no {word}" for word in words if word not in known]
-    return end(f"definitions: {len(files)} files, {sum(len(found) - 1 for found in files.values())} definitions", wrong)
+    page = read(PAGE)
+    shown = [crate for _, crates in storeys() for crate in crates]
+    wrong = [f"docs/ARCHITECTURE.md: a crate that isn't there: {crate}"
+             for crate in shown if crate not in files]
+    wrong += [f"docs/ARCHITECTURE.md: no row for {crate}" for crate in files if crate not in shown]
+    wrong += [f"{crate}/{name}: no comment at the head of the file"
+              for crate, found in files.items() for name in found if not found[name][""]]
+    if not wrong:
+        wanted = page_of(page.partition("\n## ")[0], files)
+        if "--write" in sys.argv[1:]:
+            with open(os.path.join(TOP, PAGE), "w", encoding="utf-8") as file:
+                file.write(wanted)
+            page = wanted
+        wrong = differences(page, wanted)
+    defined = [found for crate in files.values() for found in crate.values()]
+    return end(f"definitions: {len(defined)} files, {sum(len(found) - 1 for found in defined)} "
+               "definitions", wrong)
 
 
 if __name__ == "__main__":
