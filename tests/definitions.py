@@ -85,11 +85,11 @@ def files_of(crate):
 def entry(file, found):
     """The lines of a file's entry."""
     names = ", ".join(f"`{name}`" for name in found if name)
+    defined = f"Defines {names}." if names else "It has laws and no definitions."
     said = textwrap.wrap(f"- **`{file}`**. {found['']}", WIDTH, subsequent_indent="  ",
                          break_long_words=False, break_on_hyphens=False)
-    return said + textwrap.wrap(f"Defines {names}.", WIDTH, initial_indent="  ",
-                                subsequent_indent="  ", break_long_words=False,
-                                break_on_hyphens=False)
+    return said + textwrap.wrap(defined, WIDTH, initial_indent="  ", subsequent_indent="  ",
+                                break_long_words=False, break_on_hyphens=False)
 
 
 def page_of(top, files):
