@@ -10,7 +10,7 @@ import re
 import struct
 from typing import Iterable, Iterator, NamedTuple, Sequence
 
-from bootmem_tools import inputs
+from bootmem_tools import inputs, linux_log
 from bootmem_tools.direct_map import DirectMap, Free, Span, down, is_within, united, up
 from bootmem_tools.ranges import FRAME, MIB, parse_size
 
@@ -57,7 +57,7 @@ class Machine(NamedTuple):
     `memory` is what memblock has after the trim, `end` the end of the last RAM (max_pfn),
     `soft` what is soft reserved, `image` the kernel's image, `line` the command line,
     `largest` the largest page of the direct map, `domains` the number of nodes if the
-    distances of a SLIT are kept, else 0."""
+    distances of a SLIT are kept, else 0, `told` what a log tells."""
 
     page: bytes
     line: str
@@ -71,13 +71,17 @@ class Machine(NamedTuple):
     largest: int
     has_five_levels: bool
     domains: int
+    told: linux_log.Told
 
 
 class Outcome(NamedTuple):
-    """The claims in the kernel's order, and the new place of an initrd that moves."""
+    """The claims in the kernel's order, the new place of an initrd that moves, what is free then,
+    and the end of what is mapped."""
 
     claims: list[Claim]
     moved: int | None
+    free: Free
+    mapped: int
 
 
 def read_descriptors(data: bytes) -> list[Descriptor]:
@@ -110,19 +114,29 @@ def move_initrd(page: bytes, place: int) -> bytes:
 
 
 def setup_data(machine: Machine, initrd: Span | None) -> Iterator[Claim]:
-    """Yields the first node of setup_data: the zero page has its address, not its length.
+    """Yields the nodes of setup_data: of the first the zero page has the address, and a log has
+    all of them."""
+    first: int = struct.unpack_from("<Q", machine.page, SETUP_DATA)[0]
+    rule = "memblock_x86_reserve_range_setup_data"
+    nodes = list(linux_log.nodes_of(machine.told.pieces, first)) if first else []
+    if first and not any(node[0] == first for node in nodes):
+        nodes = [first_node(machine, initrd, first), *nodes]
+    for node in nodes:
+        yield Claim(*node, "setup_data", rule)
+
+
+def first_node(machine: Machine, initrd: Span | None, first: int) -> Span:
+    """Returns the range of the first node of setup_data, of which the zero page has the address
+    alone.
 
     The extension's file tells the length if it is the node; else EFI's descriptor of loader
     data has it, up to an initrd there."""
-    first: int = struct.unpack_from("<Q", machine.page, SETUP_DATA)[0]
-    if not first:
-        return
     end = first + (machine.extension or 16)
     for one in machine.efi:
         if one.kind == LOADER_DATA and one.first <= first < one.end and not machine.extension:
             end = min([one.end] + [initrd[0] for _ in "x" if initrd and initrd[0] > first])
             break
-    yield Claim(first, end, "setup_data", "memblock_x86_reserve_range_setup_data")
+    return first, end
 
 
 def efi_map(machine: Machine) -> Iterator[Claim]:
@@ -132,6 +146,13 @@ def efi_map(machine: Machine) -> Iterator[Claim]:
     if signature in (b"EL64", b"EL32") and (low or high) and size:
         first = high << 32 | low
         yield Claim(first, first + size, "EFI's memory map", "efi_memblock_x86_reserve_range")
+
+
+def efi_tables(machine: Machine) -> Iterator[Claim]:
+    """Yields EFI's tables that a log tells, a frame each: it has their addresses alone."""
+    for name, place in machine.told.efi:
+        rule = "efi_memattr_init" if name == "MEMATTR" else "efi_tpm_eventlog_init"
+        yield Claim(place, down(place, FRAME) + FRAME, f"EFI's table {name}", rule)
 
 
 def boot_services(machine: Machine, held: Sequence[Span]) -> Iterator[Claim]:
@@ -172,7 +193,7 @@ def own_ranges(machine: Machine, initrd: Span | None) -> list[Span]:
 
 def fixed_claims(machine: Machine, initrd: Span | None) -> list[Claim]:
     """Returns the claims of ranges that are there before the kernel looks for any place."""
-    claims = [*setup_data(machine, initrd), *efi_map(machine)]
+    claims = [*setup_data(machine, initrd), *efi_map(machine), *efi_tables(machine)]
     claims.append(Claim(machine.image[1], machine.image[1] + machine.brk, "brk", "reserve_brk"))
     # boot services are looked at before the first MiB is claimed whole
     early = [(0, 64 << 10), *own_ranges(machine, initrd)[1:]]
@@ -201,10 +222,13 @@ def early_claims(machine: Machine) -> Outcome:
     for size, what in zip(log_sizes(machine.line), LOG_PARTS):
         claims += placed(free, size, LOG_ALIGN, tables.high, what, "setup_log_buf")
     moved = move_from(machine, free, tables, initrd) if initrd else None
+    for name, span in machine.told.acpi:
+        free.claim(*span)
+        claims.append(Claim(*span, f"the ACPI table {name}", "acpi_table_init"))
     if machine.domains:
         size, what = machine.domains**2, "the distances of the SLIT"
         claims += placed(free, size, FRAME, tables.high, what, "numa_alloc_distance")
-    return Outcome(claims, moved)
+    return Outcome(claims, moved, free, tables.high)
 
 
 def move_from(machine: Machine, free: Free, tables: DirectMap, initrd: Span) -> int | None:

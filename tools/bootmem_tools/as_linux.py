@@ -1,0 +1,617 @@
+"""A boot's inputs prepared as Linux 6.1 reads them, with what it claims before its crash area taken
+out of memory: what bootmem-linux does, for other tools, too."""
+
+from __future__ import annotations
+
+import argparse
+import contextlib
+import os
+import struct
+import tempfile
+from typing import Iterator, NamedTuple, Sequence
+
+from bootmem_tools import (
+    command_line,
+    direct_map,
+    inputs,
+    linux_claims,
+    linux_cma,
+    linux_log,
+    linux_srat,
+    ranges,
+    runner,
+    tool,
+    words,
+)
+from bootmem_tools.grammar import read_lines
+from bootmem_tools.reports import Span as Entry
+from bootmem_tools.reports import Texts, spans
+
+LINUX = "bootmem-linux"
+PAGES = {"4K": 4096, "2M": direct_map.PMD, "1G": direct_map.PUD}
+READ = ("cmdline", "e820ext", "srat", "slit", "efi")  # the files that are read here
+IMAGE = 16 * ranges.MIB, 48 * ranges.MIB  # what bootmem assumes
+FILE = tool.Kind("input of bootmem", 64 << 20, is_text=False)
+SOFT = str(inputs.SOFT_RESERVED)
+MIRRORED = 0x10000  # EFI_MEMORY_MORE_RELIABLE
+MADE = ("log_buf_len", "cma", "hugetlb_cma")  # options whose claims are made here
+SPLIT = "as_linux"  # the folder of the inputs before claims are cut out
+
+
+class Settings(NamedTuple):
+    """What no input of the program tells: the largest page of the direct map and what brk has in
+    use, None if they are assumed; whether x2APIC mode is on and whether the kernel has CMA; and
+    the path of its log, or None."""
+
+    pages: str | None = None
+    brk: int | None = None
+    x2apic: bool = False
+    cma: bool = False
+    log: str | None = None
+
+
+class Prepared(NamedTuple):
+    """The program's words for a boot as Linux makes it.
+
+    `read` are those for the inputs as the kernel reads them, and `words` the same with early
+    claims cut out of memory. `texts` has the reports map, memory and nodes of the first, empty if
+    the program refuses them. `line` is the command line of the second, `claims` what is cut out,
+    and `said` what was changed or assumed, or can't be known, a line each."""
+
+    read: list[str]
+    words: list[str]
+    texts: Texts
+    line: str
+    claims: list[linux_claims.Claim]
+    said: list[str]
+
+
+def add_options(parser: argparse.ArgumentParser) -> None:
+    """Adds the options for what no input tells."""
+    parser.add_argument(
+        "--pages",
+        metavar="SIZE",
+        action="append",
+        default=[],
+        help=(
+            "largest page of the direct map: 4K, 2M, or 1G where "
+            "/proc/cpuinfo has pdpe1gb; 2M without it"
+        ),
+    )
+    parser.add_argument(
+        "--brk", metavar="BYTES", help=f"what brk has in use, {linux_claims.BRK} without it"
+    )
+    parser.add_argument(
+        "--x2apic",
+        action="store_true",
+        help="the firmware left x2APIC mode on, so each x2APIC id can be used",
+    )
+    parser.add_argument(
+        "--cma",
+        action="store_true",
+        help="the kernel has CONFIG_CMA and CONFIG_DMA_CMA, so cma= and hugetlb_cma= count",
+    )
+    parser.add_argument(
+        "--log",
+        metavar="FILE",
+        help="a log of this kernel: it tells ACPI tables, EFI tables and nodes of setup_data",
+    )
+
+
+def add_raw(parser: argparse.ArgumentParser) -> None:
+    """Adds the option for the program's own reading, and those for what no input tells."""
+    parser.add_argument(
+        "--raw",
+        action="store_true",
+        help="the program's own reading of the inputs, without early claims",
+    )
+    add_options(parser)
+
+
+def settings_of(given: argparse.Namespace, parser: argparse.ArgumentParser) -> Settings:
+    """Returns what the tool's words tell; ends with status 2 for a size that isn't one."""
+    size = None if given.brk is None else ranges.parse_size(given.brk)
+    if given.brk is not None and size is None:
+        parser.error(f"--brk {given.brk}: no size")
+    for pages in given.pages:
+        if pages not in PAGES:
+            parser.error(f"--pages {pages}: none of {', '.join(PAGES)}")
+    pages = given.pages[-1] if given.pages else None
+    return Settings(pages, size, given.x2apic, given.cma, given.log)
+
+
+class Given(NamedTuple):
+    """The program's words: options by name with their values, and the path of the zero page."""
+
+    options: dict[str, str]
+    page: str
+
+
+def read_program_words(rest: list[str]) -> Given | None:
+    """Returns the program's words, or None if it will refuse them."""
+    options: dict[str, str] = {}
+    pages: list[str] = []
+    left = iter(rest)
+    for word in left:
+        if not word.startswith("--"):
+            pages.append(word)
+            continue
+        name, mark, value = word[2:].partition("=")
+        if name not in words.OPTIONS or name in options:
+            return None
+        if words.OPTIONS[name] and not mark:
+            value = next(left, "")
+        options[name] = value
+    return Given(options, pages[0]) if len(pages) == 1 else None
+
+
+class Boot:
+    """A boot's inputs while they are prepared, in a folder of their own, and what is to be said of
+    them."""
+
+    def __init__(
+        self, settings: Settings, given: Given, program: str, work: str, folder: str | None = None
+    ) -> None:
+        self.settings, self.given, self.program, self.work = settings, given, program, work
+        self.folder = folder or ""
+        self.page = self.read(given.page)
+        self.files = {
+            name: self.read(given.options[name]) for name in READ if name in given.options
+        }
+        self.told = linux_log.read_log(settings.log)
+        self.line = ""
+        self.texts: Texts = {}
+        self.entries: list[Entry] = []  # of the report map
+        self.claims: list[linux_claims.Claim] = []
+        self.said: list[str] = []
+        self.restored: direct_map.Span = (
+            0,
+            0,
+        )  # the image with brk, if words of the line make it RAM
+        pair = ranges.parse_pair(given.options.get("kernel", ""))
+        self.image = (pair[0], sum(pair)) if pair else IMAGE
+
+    def read(self, path: str) -> bytes:
+        """Returns the bytes of an input."""
+        return tool.read_bytes(os.path.join(self.folder, path), FILE)
+
+    def say(self, kind: str, what: str) -> None:
+        """Keeps what was changed or assumed, or can't be known."""
+        self.said.append(f"{kind}: {what}")
+
+    def write(self, name: str, data: bytes, part: str = "") -> str:
+        """Writes an input into a part of the folder, and returns its path."""
+        os.makedirs(os.path.join(self.work, part), exist_ok=True)
+        path = os.path.join(self.work, part, name)
+        with open(path, "wb") as file:
+            file.write(data)
+        return path
+
+    def words(self, with_rest: bool, part: str = "") -> list[str]:
+        """Returns the program's words for the prepared inputs, which are written into a part of
+        the folder; without the rest only those that the tool's own runs need."""
+        found = []
+        for name, value in self.given.options.items():
+            if name in READ:
+                if name in self.files and (with_rest or name != "slit"):
+                    found += [f"--{name}", self.write(name, self.files[name], part)]
+            elif with_rest or name in ("kernel", "la57", "mirror", "bottom-up"):
+                found += [f"--{name}"] + ([value] if words.OPTIONS[name] else [])
+        for name in sorted(self.files.keys() - self.given.options.keys()):
+            found += [f"--{name}", self.write(name, self.files[name], part)]
+        return found + [self.write("zeropage", self.page, part)]
+
+    def read_extension(self) -> None:
+        """Drops a far entry of the extension with what follows, and a part of an entry
+        (__append_e820_table)."""
+        data = self.files.get("e820ext")
+        if data is None or len(data) < 16 or struct.unpack_from("<I", data, 8)[0] != 1:
+            return
+        size = min(struct.unpack_from("<I", data, 12)[0], len(data) - 16) // 20 * 20
+        entries = inputs.entries_of(data[16 : 16 + size])
+        far = next(
+            (place for place, one in enumerate(entries) if one[0] + one[1] > 1 << 64), len(entries)
+        )
+        if far < len(entries):
+            self.say(
+                "changed",
+                (
+                    f"entry {far} of the extension goes beyond 2^64: it is dropped with all that"
+                    " follow (__append_e820_table)"
+                ),
+            )
+        if len(data) != 16 + 20 * far and far <= inputs.EXTENSION_ROOM:
+            self.files["e820ext"] = inputs.extension(entries[:far])
+
+    def read_line(self) -> None:
+        """Reads the command line as the kernel does; EFI memory of specific purpose acts as
+        add_efi_memmap."""
+        base = (
+            ["--e820ext", self.write("e820ext", self.files["e820ext"])]
+            if "e820ext" in self.files
+            else []
+        )
+        total = command_line.total_by(self.program, base + [self.write("zeropage", self.page)])
+        reading = command_line.read_line(self.files.get("cmdline", b""), total)
+        for change in reading.changes:
+            self.say("changed", f"the line: {change}")
+        for note in reading.notes:
+            if not any(f" {name}=" in note for name in MADE):
+                self.say("unknown", note)
+        self.line = reading.line
+        special = [
+            one
+            for one in linux_claims.read_descriptors(self.files.get("efi", b""))
+            if one.kind == linux_claims.CONVENTIONAL
+            and one.attributes & linux_claims.SPECIFIC_PURPOSE
+        ]
+        if (
+            special
+            and "efi=nosoftreserve" not in self.line.split()
+            and command_line.EFI not in self.line.split()
+        ):
+            self.say(
+                "changed",
+                (
+                    "EFI has memory of specific purpose: its descriptors are added, as by"
+                    f" {command_line.EFI} (do_efi_soft_reserve)"
+                ),
+            )
+            self.line = f"{command_line.EFI} {self.line}"
+        self.keep_line()
+
+    def keep_line(self) -> None:
+        """Makes the line the program's, if there is anything in it."""
+        if self.line or "cmdline" in self.files:
+            self.files["cmdline"] = self.line.encode("latin-1") + b"\n"
+
+    def add_words(self, added: list[str]) -> None:
+        """Adds words to the line's end, before a word `--`."""
+        _, end = command_line.words_of(self.line)
+        self.line = " ".join(
+            part for part in (self.line[:end].rstrip(), *added, self.line[end:].lstrip()) if part
+        )
+        self.keep_line()
+
+    def read_efi(self) -> None:
+        """Takes the attribute of mirrored memory out of EFI's descriptors, unless the line has
+        kernelcore=mirror (memblock_mark_mirror)."""
+        values = [word.value for word in command_line.words_of(self.line)[0] if word.name == "kernelcore"]
+        data = bytearray(self.files.get("efi", b""))
+        mirrored = [one for one in linux_claims.read_descriptors(bytes(data)) if one.attributes & MIRRORED]
+        if not mirrored or "mirror" in values:
+            return
+        stride: int = struct.unpack_from("<I", data)[0]
+        for place in range(8 + 32, len(data) - stride + 41, stride):
+            (attributes,) = struct.unpack_from("<Q", data, place)
+            struct.pack_into("<Q", data, place, attributes & ~MIRRORED)
+        self.files["efi"] = bytes(data)
+        self.say(
+            "changed",
+            (
+                "EFI has mirrored memory, but the line no kernelcore=mirror: it counts as any"
+                " other (memblock_mark_mirror)"
+            ),
+        )
+
+    def mark_setup_data(self) -> list[str]:
+        """Returns the program's words for the inputs as they are read, in which RAM of
+        setup_data's nodes has type 128 (e820__reserve_setup_data)."""
+        held_line, held = self.line, self.files.get("cmdline")
+        if self.texts and struct.unpack_from("<Q", self.page, linux_claims.SETUP_DATA)[0]:
+            nodes = linux_claims.setup_data(self.machine(), linux_claims.initrd_of(self.page))
+            self.add_words([f"memmap={one.end - one.first:#x}%{one.first:#x}-1+128" for one in nodes])
+        found = self.words(True, SPLIT)
+        self.line = held_line
+        self.files.pop("cmdline", None)
+        if held is not None:
+            self.files["cmdline"] = held
+        return found
+
+    def read_srat(self) -> None:
+        """Reads the SRAT as the kernel does."""
+        if "srat" not in self.files:
+            return
+        reading = linux_srat.read_table(self.files["srat"], self.settings.x2apic)
+        for change in reading.changes:
+            self.say("changed", f"the SRAT: {change}")
+        if reading.table is None:
+            del self.files["srat"]
+        else:
+            self.files["srat"] = reading.table
+
+    def run(self) -> bool:
+        """Keeps the reports of the map, of memory and of nodes; tells whether the program made
+        them."""
+        names = ["map", "memory", "nodes"]
+        status, text, _ = runner.call_program(self.program, names, self.words(False))
+        self.texts = runner.texts_of(names, text) if status == 0 else {}
+        self.entries = list(spans("map", self.texts.get("map", [])))
+        return status == 0
+
+    def ram(self) -> list[direct_map.Span]:
+        """Returns the usable RAM of the map."""
+        return direct_map.united(
+            (run.first, run.last + 1)
+            for run in self.entries
+            if run.fields["type"] == "1"
+        )
+
+    def restore_image(self) -> bool:
+        """Makes the kernel's image RAM again if the map says otherwise (e820_add_kernel_range);
+        tells whether the program still runs."""
+        first, end = self.image[0], self.image[1] + linux_claims.END_AFTER_BRK
+        if direct_map.is_within(self.ram(), first, end):
+            return True
+        if command_line.EFI in self.line.split():
+            self.say(
+                "unknown",
+                (
+                    f"the kernel's image isn't all RAM, and with {command_line.EFI} no word of the"
+                    " line makes it RAM"
+                ),
+            )
+            return True
+        self.say(
+            "changed",
+            (
+                f"the kernel's image isn't all RAM: {first:#x} to {end:#x}, with 192 KiB for brk,"
+                " becomes RAM (e820_add_kernel_range)"
+            ),
+        )
+        self.add_words(
+            [f"memmap={end - first:#x}%{first:#x}", f"memmap={end - first:#x}@{first:#x}"]
+        )
+        self.restored = first, end
+        return self.run()
+
+    def machine(self) -> linux_claims.Machine:
+        """Returns what the rules of the claims read."""
+        nodes = list(read_lines("nodes", self.texts["nodes"]))
+        used = any(one.kind == "numa" and one.fields["name"] == "used" for one in nodes)
+        ids = [int(one.fields["node"]) for one in nodes if "node" in one.fields]
+        memory = direct_map.united(
+            (one.first, one.last + 1) for one in spans("memory", self.texts["memory"])
+        )
+        soft = [
+            (one.first, one.last + 1)
+            for one in self.entries
+            if one.fields["type"] == SOFT
+        ]
+        ram = self.ram()
+        extension = (
+            len(self.files.get("e820ext", b""))
+            if struct.unpack_from("<Q", self.page, linux_claims.SETUP_DATA)[0]
+            else 0
+        )
+        return linux_claims.Machine(
+            self.page,
+            self.line,
+            memory,
+            direct_map.down(ram[-1][1], ranges.FRAME) if ram else 0,
+            soft,
+            self.image,
+            self.settings.brk or linux_claims.BRK,
+            linux_claims.read_descriptors(self.files.get("efi", b"")),
+            extension,
+            PAGES[self.settings.pages or "2M"],
+            "la57" in self.given.options,
+            max(ids) + 1 if used and ids and is_valid_slit(self.files.get("slit", b"")) else 0,
+            self.told,
+        )
+
+    def claim(self) -> None:
+        """Takes what the kernel claims early out of memory."""
+        machine = self.machine()
+        outcome = linux_claims.early_claims(machine)
+        self.claims = outcome.claims
+        cut = linux_claims.frames_to_cut(outcome.claims, machine.memory)
+        if outcome.moved:
+            self.say(
+                "changed",
+                f"the initrd isn't mapped whole: it moves to {outcome.moved:#x} (relocate_initrd)",
+            )
+            self.page = linux_claims.move_initrd(self.page, outcome.moved)
+        verdicts = [
+            one.fields["name"]
+            for one in read_lines("nodes", self.texts["nodes"])
+            if one.kind == "numa"
+        ]
+        if (
+            "uncovered" in verdicts and "srat" in self.files
+        ):  # less memory could change the verdict
+            self.say(
+                "changed", "the SRAT leaves memory uncovered, so it isn't used: it is left out"
+            )
+            del self.files["srat"]
+        self.take_away(cut)
+        self.claim_areas(machine, outcome)
+
+    def claim_areas(self, machine: linux_claims.Machine, outcome: linux_claims.Outcome) -> None:
+        """Takes the areas of cma= and hugetlb_cma= out of memory, if the kernel has them: they
+        come after node data."""
+        if not linux_cma.is_asked(self.line):
+            return
+        if not self.settings.cma:
+            self.say(
+                "assumed",
+                (
+                    "the kernel is built without CONFIG_CMA, as Debian's, so cma= and hugetlb_cma="
+                    " claim nothing; --cma if it has it"
+                ),
+            )
+            return
+        names = ["owners", "nodes"]
+        status, text, _ = runner.call_program(self.program, names, self.words(False))
+        if status != 0:
+            return
+        texts = runner.texts_of(names, text)
+        free = outcome.free
+        for one in spans("owners", texts["owners"]):
+            if one.name.startswith("node-data"):
+                free.claim(one.first, one.last + 1)
+        found = [
+            linux_claims.Claim(*span, what, rule)
+            for span, what, rule in linux_cma.areas(
+                self.line,
+                free,
+                linux_cma.nodes_of(machine.memory, spans("nodes", texts["nodes"])),
+                outcome.mapped,
+                machine.largest == direct_map.PUD,
+            )
+        ]
+        if "hugetlb_cma=" in self.line and machine.largest != direct_map.PUD:
+            self.say(
+                "assumed", "no pages of 1 GiB, so hugetlb_cma= claims nothing; --pages 1G if it has"
+            )
+        self.claims = self.claims + found
+        self.take_away(linux_claims.frames_to_cut(found, machine.memory))
+
+    def take_away(self, cut: list[direct_map.Span]) -> None:
+        """Takes these ranges out of memory: by entries of the extension, or by words where the
+        line forgets or changes entries."""
+        by_line = [
+            one
+            for one in cut
+            if "exactmap" in self.line or one[0] < self.restored[1] and self.restored[0] < one[1]
+        ]
+        if by_line:
+            self.add_words([f"memmap={end - first:#x}${first:#x}" for first, end in by_line])
+        data = self.files.get("e820ext", bytes(16))
+        entries = inputs.entries_of(data[16:])
+        entries += [
+            (first, end - first, inputs.RESERVED)
+            for first, end in cut
+            if (first, end) not in by_line
+        ]
+        if not entries:
+            return
+        if len(entries) > inputs.EXTENSION_ROOM:
+            raise tool.Trouble(
+                (
+                    f"{len(entries)} entries with the early claims: an extension has"
+                    f" {inputs.EXTENSION_ROOM} at most"
+                ),
+                2,
+            )
+        self.files["e820ext"] = inputs.extension(entries)
+
+    def explain(self) -> None:
+        """Says what was assumed and can't be known."""
+        if "kernel" not in self.given.options:
+            self.say("assumed", runner.ASSUMED)
+        if self.settings.pages is None:
+            self.say(
+                "assumed",
+                "pages of the direct map up to 2 MiB; --pages 1G where /proc/cpuinfo has pdpe1gb",
+            )
+        if linux_claims.has_kaslr(self.page):
+            self.say(
+                "unknown",
+                "KASLR: where the direct map begins, which can move places by a few pages",
+            )
+        if self.settings.brk is None:
+            self.say(
+                "assumed",
+                "brk has 16 pages for page tables and one for DMI's texts in use; --brk tells it",
+            )
+        tables = "the MP table" if self.told.has_log else "tables of ACPI and the MP table"
+        self.say(
+            "unknown",
+            (
+                f"what {tables} claim in RAM, ACPI tables in the initrd, and what drivers ask for"
+                " later"
+            ),
+        )
+        if struct.unpack_from("<Q", self.page, linux_claims.SETUP_DATA)[0] and not self.told.has_log:
+            self.say("unknown", "nodes of setup_data after the first; --log tells them")
+        if self.page[linux_claims.EFI_INFO : linux_claims.EFI_INFO + 4] in (b"EL64", b"EL32"):
+            if "efi" not in self.files:
+                self.say(
+                    "unknown",
+                    (
+                        "the firmware is UEFI and there is no --efi: what its boot services have"
+                        " isn't claimed"
+                    ),
+                )
+            elif not any(
+                one.kind in linux_claims.BOOT_SERVICES
+                for one in linux_claims.read_descriptors(self.files["efi"])
+            ):
+                self.say(
+                    "unknown",
+                    (
+                        "EFI's memory map has no boot services, so none of their memory is"
+                        " claimed; the log of a boot with efi=debug has it"
+                    ),
+                )
+            self.say(
+                "unknown",
+                (
+                    "how long EFI's memory attributes and TPM log are: a frame each"
+                    if self.told.has_log
+                    else "where EFI's memory attributes and TPM log lie; --log tells it"
+                ),
+            )
+
+
+def is_valid_slit(table: bytes) -> bool:
+    """Tells whether the kernel takes the distances of a SLIT (slit_valid)."""
+    if len(table) < 44 or table[:4] != b"SLIT":
+        return False
+    count: int = struct.unpack_from("<Q", table, 36)[0]
+    rows = table[44:]
+    return len(rows) >= count * count and all(
+        (rows[i * count + j] == 10) if i == j else (rows[i * count + j] > 10)
+        for i in range(count)
+        for j in range(count)
+    )
+
+
+def prepare(boot: Boot) -> Prepared:
+    """Returns the program's words for the boot as the kernel makes it; if the program refuses the
+    inputs, without early claims."""
+    boot.read_extension()
+    boot.read_line()
+    boot.read_efi()
+    boot.read_srat()
+    runs = boot.run() and boot.restore_image()
+    read = boot.mark_setup_data()
+    if runs:
+        try:
+            boot.claim()
+        except direct_map.Exhausted:
+            boot.say(
+                "unknown",
+                (
+                    "no memory is left for a page table of the direct map, and the kernel panics"
+                    " (alloc_low_pages)"
+                ),
+            )
+        boot.explain()
+    return Prepared(read, boot.words(True), boot.texts, boot.line, boot.claims, boot.said)
+
+
+def refuse_itself(program: str) -> None:
+    """Refuses bootmem-linux as the program of a tool that prepares the inputs itself."""
+    if os.path.basename(program) == LINUX:
+        raise tool.Trouble(f"{program}: this tool can't be its own program", 2)
+
+
+@contextlib.contextmanager
+def prepared(
+    program: str, program_words: Sequence[str], settings: Settings, folder: str | None = None
+) -> Iterator[Prepared]:
+    """Prepares the inputs that the program's words name, relative to a folder if it is given. If
+    the program will refuse them, the words stay as they are.
+
+    Files of the prepared inputs are there until the context ends."""
+    refuse_itself(program)
+    given = read_program_words(list(program_words))
+    untouched = Prepared(list(program_words), list(program_words), {}, "", [], [])
+    with tempfile.TemporaryDirectory() as work:
+        try:
+            boot = Boot(settings, given, program, work, folder) if given else None
+        except OSError:
+            boot = None
+        yield prepare(boot) if boot and len(boot.page) == inputs.PAGE_SIZE else untouched

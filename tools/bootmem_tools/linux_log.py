@@ -1,0 +1,69 @@
+"""What a kernel's log tells of early claims that no input of bootmem has: nodes of setup_data,
+ACPI tables, and tables of EFI that stay out of boot services' memory."""
+
+from __future__ import annotations
+
+import re
+from typing import Iterator, NamedTuple
+
+from bootmem_tools import tool
+from bootmem_tools.direct_map import Span
+
+# EFI tables that the kernel claims before it looks at boot services (efi_memattr_init,
+# efi_tpm_eventlog_init), by their names in the log.
+EFI_TABLES = ("MEMATTR", "TPMEventLog", "TPMFinalLog")
+NODE = re.compile(r"reserve setup_data: \[mem 0x([0-9a-f]{1,16})-0x([0-9a-f]{1,16})\] (.*)")
+TABLE = re.compile(
+    r"ACPI: Reserving (\S+) table memory at \[mem 0x([0-9a-f]{1,16})-0x([0-9a-f]{1,16})\]"
+)
+EFI_TABLE = re.compile(rf"\b({'|'.join(EFI_TABLES)})=0x([0-9a-f]{{1,16}})\b")
+
+
+class Told(NamedTuple):
+    """What a log tells: the pieces of RAM as setup_data splits it, ACPI tables by name, and the
+    addresses of EFI's tables by name. `has_log` says whether there is a log at all."""
+
+    has_log: bool
+    pieces: list[Span]
+    acpi: list[tuple[str, Span]]
+    efi: list[tuple[str, int]]
+
+
+def read_log(path: str | None) -> Told:
+    """Returns what the log in a file tells; nothing if the path is None."""
+    return Told(False, [], [], []) if path is None else told_by(tool.read_text(path, kind=tool.LOG))
+
+
+def told_by(text: str) -> Told:
+    """Returns what this text of a log tells."""
+    pieces = [
+        (int(first, 16), int(last, 16) + 1)
+        for first, last, kind in NODE.findall(text)
+        if kind.strip() == "usable"
+    ]
+    acpi = [
+        (name, (int(first, 16), int(last, 16) + 1)) for name, first, last in TABLE.findall(text)
+    ]
+    efi = [
+        (name, int(place, 16))
+        for line in text.splitlines()
+        if "efi:" in line
+        for name, place in EFI_TABLE.findall(line)
+    ]
+    return Told(True, sorted(pieces), acpi, efi)
+
+
+def nodes_of(pieces: list[Span], first_node: int) -> Iterator[Span]:
+    """Yields the nodes of setup_data among pieces of RAM, each with its header
+    (e820__reserve_setup_data).
+
+    Pieces that touch are RAM and nodes in turn, since the map joins pieces of one type. Which of
+    the two comes first is known for the pieces with the first node; elsewhere it is RAM."""
+    chain: list[Span] = []
+    for piece in [*pieces, (0, 0)]:
+        if chain and chain[-1][1] == piece[0]:
+            chain.append(piece)
+            continue
+        known = next((place for place, one in enumerate(chain) if one[0] == first_node), 1)
+        yield from chain[known % 2 :: 2]
+        chain = [piece]
