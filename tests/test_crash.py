@@ -11,10 +11,10 @@ from bootmem_tools import crash as crash_module
 
 
 def crash(name, *words):
-    """What bootmem-crash answers for a boot, without what is noted of its line."""
+    """What bootmem-crash answers for a boot, without what is assumed or unknown on most machines."""
     place = words_of(name)[words_of(name).index("--kernel") + 1]
     status, out, err = tool("bootmem-crash", "--kernel", place, *words, ".", folder=example(name))
-    return status, out, re.sub(r"bootmem-crash: word \d+: log_buf_len=.*\n", "", err)
+    return status, out, re.sub(r"bootmem-crash: (assumed|unknown): .*\n", "", err)
 
 
 PANICS = {
@@ -40,8 +40,12 @@ class Crash(Case):
                 size = int(re.search(rf"^{form} +at most (\d+)M", out, re.MULTILINE).group(1))
                 self.check(f"crash {name} {form}: {size}M", crash(name, "--size", f"{size}M{suffix}")[0], 0)
                 self.check(f"crash {name} {form}: {size + 1}M", crash(name, "--size", f"{size + 1}M{suffix}")[0], 1)
-        # between the kernel's image, up to 0x43fffff, and node data, from 0x1feb9000 on, at multiples of 16 MiB
+        # between brk, up to 0x4410fff, and node data, from 0x1fa39000 on, at multiples of 16 MiB: the log buffer and its companions have
+        # 1 MiB, 768 KiB and 2,816 KiB above it, below the initrd at 0x1fee4000
         self.check("crash, greatest", crash("pc-512m-crash64m")[1].splitlines()[0],
+                   "plain  at most 426M, at 0x0000000005000000-0x000000001f9fffff")
+        # the program alone claims no log buffer, so node data begins at 0x1feb9000
+        self.check("crash --raw, greatest", crash("pc-512m-crash64m", "--raw")[1].splitlines()[0],
                    "plain  at most 430M, at 0x0000000005000000-0x000000001fdfffff")
         self.check("crash, below 4 GiB", crash("q35-8g-numa2")[1].splitlines()[1],
                    "       below 4 GiB at most 1966M, at 0x0000000005000000-0x000000007fdfffff")
@@ -52,21 +56,26 @@ class Crash(Case):
         self.check("crash, sizes", (status, err, [line for line in out.splitlines() if line[0] != " "]),
                    (1, "", ["size   crashkernel=512M fits at 0x000000005f000000-0x000000007effffff", "size   crashkernel=8G doesn't fit",
                             "size   crashkernel=8G,high doesn't fit"]))
-        # the image ends at 0x43fffff, the initrd begins at 0x7fed4000; the gap above is cut by the nodes, at 6 GiB
+        # brk ends at 0x4410fff, the initrd begins at 0x7fed4000; the gap above is cut by the nodes, at 6 GiB
         self.has("crash, below 4 GiB", out, "       from 16 MiB on and below 4 GiB the greatest gap has room for 1966M: "
-                 "0x0000000004400000-0x000000007fed3fff, between kernel and initrd\n")
+                 "0x0000000004411000-0x000000007fed3fff, between brk and initrd\n")
         self.has("crash, above", out, "between another node and node-data 1\n")
         status, out, err = crash("q35-1g", "--size", "64M@16M")
-        self.check("crash, in use", (status, out, err), (1, "size   crashkernel=64M@16M doesn't fit\n       of the place kernel has bytes\n", ""))
+        self.check("crash, in use", (status, out, err), (1, "size   crashkernel=64M@16M doesn't fit\n       of the place brk and kernel have bytes\n", ""))
         write(self.path("low"), b"crashkernel=3G,low crashkernel=1G,high\n")
         status, out, _ = crash("q35-8g-numa2", "--cmdline", self.path("low"), "--size", "1G,high")
         self.check("crash, no low part", (status, "its low part hasn't: below 4 GiB the greatest gap" in out), (1, True))
+        assumed = "the kernel's place isn't known, so 16 MiB to 48 MiB is assumed; --kernel BASE,SIZE tells it\n"
         status, out, err = tool("bootmem-crash", "zp.bin", folder=example("q35-1g"))
-        self.check("crash, assumed", (status, err), (0, "bootmem-crash: the kernel's place isn't known, so 16 MiB to 48 MiB is assumed; "
-                                                   "--kernel BASE,SIZE tells it\n"))
-        self.has("crash, UEFI", crash("ovmf-4g-numa2")[2], "the firmware is UEFI: the kernel claims more before the area there")
+        self.check("crash, assumed", (status, err.startswith(f"bootmem-crash: assumed: {assumed}")), (0, True))
+        self.check("crash --raw, assumed", tool("bootmem-crash", "--raw", "zp.bin", folder=example("q35-1g"))[::2],
+                   (0, f"bootmem-crash: {assumed}"))
+        self.has("crash --raw, UEFI", crash("ovmf-4g-numa2", "--raw")[2], "the firmware is UEFI: the kernel claims more before the area")
         write(self.path("line"), b"crashkernel=auto\n")
         self.has("crash, as the kernel reads it", crash("q35-1g", "--cmdline", self.path("line"))[2], "word 1: crashkernel=auto: left out")
+        write(self.path("line"), b"mem=2GB\n")
+        status, _, err = crash("q35-1g", "--raw", "--cmdline", self.path("line"))
+        self.check("crash --raw, as the program reads it", (status, "cmdline: word 1: mem" in err), (2, True))
         for words in (["--size", "x"], ["--size", "0"], ["--size", "1M,low"], ["--size", "1M@2M,high"]):
             self.check(f"crash {words}", tool("bootmem-crash", *words, "zp.bin", folder=example("q35-1g"))[:2], (2, ""))
         self.check("crash, no machine", tool("bootmem-crash", "nothing", folder=self.work)[:2], (2, ""))
@@ -77,6 +86,7 @@ class Crash(Case):
         for size, most in ((16 * GIB, 8), (1000 * GIB, 10)):
             write(self.path("zp"), zero_page(machine_of(size)))
             own = crash_module.Machine(crash_module.read_words(["--kernel", "16M,52M", "--program", PROGRAM, self.path("zp")]))
+            self.addCleanup(own.files.close)
             texts, _ = own.run("", ["map", "nodes", "memory", "journal"])
             for suffix in ("", ",high"):
                 own.boots = 0

@@ -3,26 +3,29 @@
 from __future__ import annotations
 
 import argparse
+import contextlib
 import os
 import re
 import tempfile
 from typing import Iterable, Iterator, NamedTuple, NoReturn, Sequence
 
-from bootmem_tools import command_line, machine, notes, ranges, reports, runner, tool
+from bootmem_tools import as_linux, command_line, linux_claims, machine, notes, ranges, reports, runner, tool
 
 NAME = "bootmem-crash"
 USAGE = """bootmem-crash [--size SIZE].. [--kernel BASE,SIZE] [--cmdline FILE]
-                     [--e820ext FILE] [--srat FILE] [--program P]
-                     FOLDER|ZEROPAGE"""
-ABOUT = """Prints the greatest size of crashkernel= that fits on a machine in each form, plain and high, in whole MiB, and where it
+                     [--e820ext FILE] [--srat FILE] [--slit FILE] [--efi FILE]
+                     [--pages 4K|2M|1G] [--brk BYTES] [--x2apic] [--cma]
+                     [--log FILE] [--raw] [--program P] FOLDER|ZEROPAGE"""
+ABOUT = """Prints, for a boot of Linux 6.1, the greatest size of crashkernel= that fits on a machine in each form, plain and high, in whole MiB, and where it
 would lie; what the machine's own line asks for; and for each SIZE whether it fits, where, or why not: the greatest gap,
 and who cuts it."""
 EPILOG = f"""FOLDER is what bootmem-collect (collect.sh) gathered of a machine; or a zero page is named, and the other files by the
-options, which count before those of FOLDER. SIZE is S, S@BASE or S,high as in crashkernel=. The
-line is read as the kernel reads it (bootmem-line); the tool replaces its crashkernel=, except a form S,low, by what it tries.
+options, which count before those of FOLDER. SIZE is S, S@BASE or S,high as in crashkernel=. The tool
+replaces crashkernel= of the line, except a form S,low, by what it tries.
 
-What is found holds for a boot that claims no more before the area than bootmem does. A kernel with UEFI firmware does,
-and the tool says so.
+The inputs are read as that kernel reads them, and what it claims before the area is taken out of memory, as bootmem-linux
+does; what was changed or assumed, or can't be known, is said. With --raw the program reads the inputs itself, and nothing
+more is claimed than bootmem claims.
 
 {runner.FINDING}
 
@@ -39,6 +42,8 @@ ALIGN = 16 << 20  # of the area, and its least place (CRASH_ALIGN)
 LOW = 1 << 32  # CRASH_ADDR_LOW_MAX
 HIGH = 1 << 46  # CRASH_ADDR_HIGH_MAX
 MAP = 2 << 20  # bytes of the page structures of a section
+# the program's options for files, and the names that a folder has for them
+FILES = (("cmdline", "cmdline"), ("e820ext", "e820ext.bin"), ("srat", "srat.bin"), ("slit", "slit.bin"), ("efi", "efi.bin"))
 
 # A claim: its first and last byte, and its owner.
 Claim = tuple[int, int, str]
@@ -67,10 +72,12 @@ def read_words(words: list[str]) -> argparse.Namespace:
     parser.add_argument("machine", metavar="FOLDER|ZEROPAGE", help="the machine")
     parser.add_argument("--size", metavar="SIZE", action="append", default=[], help="try this size: S, S@BASE or S,high")
     parser.add_argument("--kernel", metavar="BASE,SIZE", help="where the kernel's image lies, as bootmem reads it")
-    for option in ("cmdline", "e820ext", "srat"):
+    for option, _ in FILES:
         parser.add_argument(f"--{option}", metavar="FILE", help="as bootmem's")
+    as_linux.add_raw(parser)
     runner.add_program(parser)
     given = parser.parse_args(words)
+    given.settings = as_linux.settings_of(given, parser)
     for size in given.size:
         said = command_line.program_plain(size.removesuffix(",high"))
         if said is None or size.count("@") and size.endswith(",high") or [one for one in said[0] if one[:2] != (0, None) or not one[2]]:
@@ -79,23 +86,42 @@ def read_words(words: list[str]) -> argparse.Namespace:
 
 
 class Machine:
-    """A machine's files, and its line as the kernel reads it, apart from what it asks for of the
-    crash area."""
+    """A machine's boot as Linux makes it, or as the program reads it, apart from what its line asks for of the crash
+    area. Its files are there until the context ends.
+
+    `words` are the program's for the boot without a line, `line` is its line, `read` are the words for the inputs
+    before `claims` are cut out of memory, and `said` is what was changed or assumed."""
 
     def __init__(self, given: argparse.Namespace) -> None:
         folder = given.machine if os.path.isdir(given.machine) else None
         self.program = os.path.abspath(runner.find_program(given.program))
         self.page = os.path.join(folder, "zp.bin") if folder else given.machine
         self.kernel = given.kernel or (machine.kernel_in(folder) if folder else None)
-        named = {name: getattr(given, name) or self.beside(folder, file) for name, file in
-                 (("cmdline", "cmdline"), ("e820ext", "e820ext.bin"), ("srat", "srat.bin"))}
-        extension = ["--e820ext", named["e820ext"]] if named["e820ext"] else []
-        self.words = extension + (["--srat", named["srat"]] if named["srat"] else [])
-        self.words += (["--kernel", self.kernel] if self.kernel else []) + [self.page]
-        data = command_line.read_file(named["cmdline"]) if named["cmdline"] else b""
         self.progress, self.boots = tool.Progress(NAME), 0
-        self.reading = command_line.read_line(data, command_line.total_by(self.program, extension + [self.page]))
-        self.split_line()
+        self.sizes: list[str] = given.size
+        named = {name: getattr(given, name) or self.beside(folder, file) for name, file in FILES}
+        self.is_raw: bool = given.raw
+        self.files = contextlib.ExitStack()
+        if self.is_raw:
+            named["slit"] = None  # it moves no memory
+        words = [word for name, path in named.items() if path for word in (f"--{name}", path)]
+        words += (["--kernel", self.kernel] if self.kernel else []) + [self.page]
+        if self.is_raw:
+            self.read, self.said, self.claims = words, [], []
+            data = command_line.read_file(named["cmdline"]) if named["cmdline"] else b""
+            line = command_line.raw_line(data)
+        else:
+            prepared = self.files.enter_context(as_linux.prepared(self.program, words, given.settings))
+            self.read, self.said, self.claims, line = prepared.read, prepared.said, prepared.claims, prepared.line
+            words = prepared.words
+        self.words = without_line(words)
+        self.split_line(line)
+
+    def __enter__(self) -> Machine:
+        return self
+
+    def __exit__(self, *_: object) -> None:
+        self.files.close()
 
     @staticmethod
     def beside(folder: str | None, name: str) -> str | None:
@@ -103,14 +129,14 @@ class Machine:
         path = os.path.join(folder or "", name)
         return path if folder and os.path.exists(path) else None
 
-    def split_line(self) -> None:
+    def split_line(self, line: str) -> None:
         """Splits what the line asks for from the rest of it, with which the low part stays."""
-        words, end = command_line.words_of(self.reading.line)
+        words, end = command_line.words_of(line)
         asking = [word.text for word in words if command_line.program_word(word.text)[0] == "crashkernel"]
         low = [text for text in asking if text.rstrip('"').endswith(",low")]
         self.asked = " ".join(text for text in asking if text not in low)
         self.rest = [word.text for word in words if word.text not in asking] + low
-        self.behind = self.reading.line[end:]
+        self.behind = line[end:]
 
     def run(self, asked: str, names: list[str]) -> tuple[reports.Texts, str | None]:
         """Returns the reports of these names for a line that asks for this besides, or why the
@@ -130,6 +156,12 @@ class Machine:
             return Tried([], stop)
         found = reports.crash_ranges(texts["crash"])
         return Tried(found, "" if found else texts["crash"][0][len("crash "):])
+
+
+def without_line(words: Sequence[str]) -> list[str]:
+    """Returns the program's words without the option for the line."""
+    place = list(words).index("--cmdline") if "--cmdline" in words else len(words)
+    return [*words[:place], *words[place + 2:]]
 
 
 def greatest(own: Machine, texts: reports.Texts, suffix: str, end: int = HIGH,
@@ -201,14 +233,18 @@ def parts_outside(one: Claim, item: reports.Span) -> Iterator[Claim]:
         yield max(first, item.last + 1), last, owner
 
 
-def gaps(memory: Iterable[reports.Span], claimed: Iterable[Claim], low: int, high: int) -> Iterator[Gap]:
-    """Yields the gaps of memory from `low` on and below `high`."""
+def gaps(memory: Iterable[reports.Span], claimed: Iterable[Claim], low: int, high: int,
+         cut: Sequence[linux_claims.Claim] = ()) -> Iterator[Gap]:
+    """Yields the gaps of memory from `low` on and below `high`; the claims `cut` lie beside memory, out of which they are
+    taken."""
     memory, claimed = list(memory), list(claimed)
+    cut_below = {-(-one.end // ranges.FRAME) * ranges.FRAME: one.what for one in cut}
+    cut_above = {one.first // ranges.FRAME * ranges.FRAME: one.what for one in cut}
     starts, ends = {record.first for record in memory}, {record.last + 1 for record in memory}
     for record in memory:
         cuts = [(first, last, owner) for first, last, owner in claimed if first <= record.last and record.first <= last]
-        below = "another node" if record.first in ends else "the start of memory"
-        above = "another node" if record.last + 1 in starts else "the end of memory"
+        below = "another node" if record.first in ends else cut_below.get(record.first, "the start of memory")
+        above = "another node" if record.last + 1 in starts else cut_above.get(record.last + 1, "the end of memory")
         start = record.first
         for first, last, owner in cuts + [(record.last + 1, record.last, above)]:
             if start < first:
@@ -230,22 +266,24 @@ def room(gap: Gap) -> int:
     return max(0, gap.last + 1 - -(-gap.first // ALIGN) * ALIGN)
 
 
-def gap_text(texts: reports.Texts, low: int, high: int, where: str) -> str:
+def gap_text(own: Machine, texts: reports.Texts, low: int, high: int, where: str) -> str:
     """Returns the greatest gap of a window, and who cuts it."""
-    found = max(gaps(reports.spans("memory", texts["memory"]), claims(texts["journal"]), low, high), key=room, default=None)
+    found = max(gaps(reports.spans("memory", texts["memory"]), claims(texts["journal"]), low, high, own.claims), key=room, default=None)
     if found is None or room(found) == 0:
         return f"{where} there is no gap at a multiple of 16 MiB"
     return (f"{where} the greatest gap has room for {room(found) // MIB}M: {ranges.range_text(found.first, found.last)}, "
             f"between {found.below} and {found.above}")
 
 
-def taken_text(texts: reports.Texts, asked: str) -> str:
+def taken_text(own: Machine, texts: reports.Texts, asked: str) -> str:
     """Returns who has bytes of the place that the line asks for."""
     said = command_line.program_plain(asked.split("crashkernel=")[-1])
     parts, base = said if said and len(said[0]) == 1 else ([], 0)
-    owners = [owner for first, last, owner in claims(texts["journal"]) if parts and first < base + parts[0][2] and base <= last]
+    claimed = claims(texts["journal"]) + [(one.first, one.end - 1, one.what) for one in own.claims]
+    owners = [owner for first, last, owner in claimed if parts and first < base + parts[0][2] and base <= last]
     if owners:
-        return f"of the place {' and '.join(sorted(set(owners)))} has bytes"
+        names = sorted(set(owners))
+        return f"of the place {' and '.join(names)} {'has' if len(names) == 1 else 'have'} bytes"
     return "the place isn't free memory of one node, from a multiple of 1 MiB on"
 
 
@@ -259,14 +297,14 @@ def reasons(own: Machine, asked: str, tried: Tried) -> Iterator[str]:
         yield f"without an area the boot stops, too: {stop}"
         return
     if tried.why == "low failed":
-        yield gap_text(texts, 0, LOW, "it has a place, but its low part hasn't: below 4 GiB")
+        yield gap_text(own, texts, 0, LOW, "it has a place, but its low part hasn't: below 4 GiB")
         return
     if tried.why == "in use":
-        yield taken_text(texts, asked)
+        yield taken_text(own, texts, asked)
         return
     if ",high" not in asked:
-        yield gap_text(texts, ALIGN, LOW, "from 16 MiB on and below 4 GiB")
-    yield gap_text(texts, ALIGN if ",high" in asked else LOW, HIGH, "from 16 MiB on" if ",high" in asked else "from 4 GiB on")
+        yield gap_text(own, texts, ALIGN, LOW, "from 16 MiB on and below 4 GiB")
+    yield gap_text(own, texts, ALIGN if ",high" in asked else LOW, HIGH, "from 16 MiB on" if ",high" in asked else "from 4 GiB on")
 
 
 def without_stop(said: str) -> str:
@@ -300,30 +338,35 @@ def tell_greatest(own: Machine, texts: reports.Texts, form: str, suffix: str, fi
 
 
 def warn(own: Machine, texts: reports.Texts) -> None:
-    """Prints what a reader should know before believing the answers."""
-    for said in own.reading.changes + own.reading.notes:
+    """Prints what a reader should know before believing the answers; the reports are those of the inputs as they are
+    read."""
+    for said in own.said:
         tool.complain(NAME, said)
-    if own.kernel is None:
+    if own.is_raw and own.kernel is None:
         tool.complain(NAME, runner.ASSUMED)
-    for note in notes.notes_for(own.words + (["--kernel", own.kernel] if own.kernel else []), texts):
+    for note in notes.notes_for(own.read, texts):
         tool.complain(NAME, note)
-    if machine.is_uefi(own.page):
+    if own.is_raw and machine.is_uefi(own.page):
         tool.complain(NAME, "the firmware is UEFI: the kernel claims more before the area there, so it may lie lower "
-                               "(by 32 MiB in four boots), or find no place")
+                            "(by 32 MiB in four boots), or find no place")
     for why in machine.panics(texts):
         tool.complain(NAME, f"Linux 6.1 panics on this boot: {why}")
 
 
 def main(words: list[str]) -> int:
     """Prints what fits; the status says whether what is asked for does."""
-    given = read_words(words)
-    own = Machine(given)
+    with Machine(read_words(words)) as own:
+        return answer(own)
+
+
+def answer(own: Machine) -> int:
+    """Prints what fits on a machine, and returns the status."""
     texts, stop = own.run("", ["map", "nodes", "memory", "journal"])
     if stop:
         raise tool.Trouble(f"the boot stops without a crash area: {without_stop(stop)}")
-    warn(own, texts)
-    if given.size:
-        return 0 if all([print_outcome(own, "size", f"crashkernel={size}") for size in given.size]) else 1
+    warn(own, runner.run_program(own.program, ["map", "nodes"], own.read))
+    if own.sizes:
+        return 0 if all([print_outcome(own, "size", f"crashkernel={size}") for size in own.sizes]) else 1
     plain = tell_greatest(own, texts, "plain", "")
     high = tell_greatest(own, texts, "high", ",high", plain)
     return 0 if (print_outcome(own, "line", own.asked) if own.asked else plain or high) else 1
