@@ -10,7 +10,13 @@ from schema import SCHEMA, fits
 from support import EXAMPLES, GIB, MIB, PROGRAM, Case, bytes_of, example, tool, write, zero_page
 from bootmem_tools import inputs
 
-FLEET = """q35-1g\t0\t-\t10\t262013\t244146\tnone\t-\tabsent\t1
+# Free frames are fewer than with --raw by what the kernels' logs have: 1,152 frames of the log buffer and its companions, 17 of brk, and
+# page tables.
+FLEET = """q35-1g\t0\t-\t10\t262013\t242977\tnone\t-\tabsent\t1
+q35-8g-crashhighlow\t0\t-\t11\t2097021\t1901855\t0x000000025f000000..0x000000027effffff\t0x000000007b000000..0x000000007effffff\tabsent\t1
+srat-overlap\t0\t-\t6\t1048222\t1016895\tnone\t-\toverlap 0 1\t1
+"""
+RAW = """q35-1g\t0\t-\t10\t262013\t244146\tnone\t-\tabsent\t1
 q35-8g-crashhighlow\t0\t-\t11\t2097021\t1903026\t0x000000025f000000..0x000000027effffff\t0x000000007b000000..0x000000007effffff\tabsent\t1
 srat-overlap\t0\t-\t6\t1048222\t1018067\tnone\t-\toverlap 0 1\t1
 """
@@ -25,6 +31,7 @@ class Fleet(Case):
         """Lines and objects of machines, folders with what is wrong, changed lines, and how long a thousand folders take."""
         names = [line.split("\t")[0] for line in FLEET.splitlines()]
         self.check("fleet", tool("bootmem-fleet", *names, folder=EXAMPLES), (0, FLEET, ""))
+        self.check("fleet --raw", tool("bootmem-fleet", "--raw", *names, folder=EXAMPLES), (0, RAW, ""))
         status, out, err = tool("bootmem-fleet", "--json", "--jobs", "2", *sorted(os.listdir(EXAMPLES)), folder=EXAMPLES)
         rows = [json.loads(line) for line in out.splitlines()]
         self.check("fleet --json", (status, [fits(row, SCHEMA["$defs"]["machine"]) for row in rows]), (1, [None] * len(rows)))
@@ -34,9 +41,12 @@ class Fleet(Case):
         shutil.copytree(example("q35-1g"), self.path("bad"))
         write(self.path("bad", "cmdline"), b"quiet mem=4GB\n")
         write(self.path("bad", "kernel"), b"0x1000000,0x3400000\n")
-        status, out, err = tool("bootmem-fleet", "--kernel", "16M,32M", "empty", "bad", "none", folder=self.work)
-        self.check("fleet: trouble", (status, err, [line.split("\t")[1:4] for line in out.splitlines()]),
+        status, out, err = tool("bootmem-fleet", "--raw", "--kernel", "16M,32M", "empty", "bad", "none", folder=self.work)
+        self.check("fleet --raw: trouble", (status, err, [line.split("\t")[1:4] for line in out.splitlines()]),
                    (1, "", [["3", "bootmem: cannot read zp.bin", "-"], ["5", "bootmem: cmdline: word 2: mem", "-"], ["2", "no folder", "-"]]))
+        status, out, err = tool("bootmem-fleet", "--kernel", "16M,32M", "empty", "bad", "none", folder=self.work)
+        self.check("fleet: trouble", (status, err, [line.split("\t")[1:3] for line in out.splitlines()]),
+                   (1, "", [["3", "bootmem: cannot read zp.bin"], ["0", "-"], ["2", "no folder"]]))
         for words, wanted in ((("--cmdline-drop", "mem"), "none"), (("--cmdline-drop", "mem", "--cmdline-add", "crashkernel=512M,high"),
                                                                    "0x000000001f000000..0x000000003effffff"),
                               (("--cmdline-drop", "mem", "--cmdline-add", "crashkernel=2G,high"), "no area")):
@@ -49,6 +59,7 @@ class Fleet(Case):
             self.check(f"fleet {words}: told once", (out.count("\n"), err), (2, f"bootmem-fleet: --cmdline-add: {wanted}\n"))
         self.check("fleet: ranges are no complaint", tool("bootmem-fleet", "--cmdline-drop", "mem", "--cmdline-add",
                                                           "crashkernel=1G-4G:192M,4G-:256M", "bad", folder=self.work)[2], "")
+        self.as_linux()
         os.makedirs(self.path("gap"))
         write(self.path("gap", "zp.bin"), zero_page([(0, 0x9FC00, 1), (MIB, GIB - MIB, 1)]))
         write(self.path("gap", "srat.bin"), inputs.srat([(0, GIB - 16 * 4096, 0)]))
@@ -75,6 +86,23 @@ class Fleet(Case):
         spent = after.ru_utime + after.ru_stime - before.ru_utime - before.ru_stime
         self.check("fleet: 500 changed lines, the processors' time", (status, out.count("\n"), spent < 20),  # 5 s on four
                    (0, 500, True))
+
+    def as_linux(self):
+        """A line by ranges, and one that asks for nothing: the area is the kernel's, by total memory rounded up, below an initrd from
+        0x72800000 on."""
+        os.makedirs(self.path("four"))
+        write(self.path("four", "zp.bin"), inputs.zero_page([(0, 0x9FC00, 1), (MIB, 0x7FFDF000 - MIB, 1), (4 * GIB, 2 * GIB, 1)],
+                                                            (0x72800000, 0xD7DF000)))
+        for words, lines in (("crashkernel=1G-4G:192M,4G-64G:256M,64G-:512M", ("0x0000000062000000..0x0000000071ffffff",
+                                                                                "0x0000000066000000..0x0000000071ffffff")),
+                             ("crashkernel=auto", ("none", None))):
+            write(self.path("four", "cmdline"), words)
+            for raw, wanted in zip(([], ["--raw"]), lines):
+                status, out, err = tool("bootmem-fleet", *raw, "--kernel", "16M,52M", "four", folder=self.work)
+                self.check(f"fleet {raw}: {words}", (status, out.split("\t")[1], out.split("\t")[6].rstrip(), err),
+                           (0, "0", wanted, "") if wanted else (1, "5", "-", ""))
+        status, _, err = tool("bootmem-fleet", "--verbose", "--kernel", "16M,52M", "four", folder=self.work)
+        self.has("fleet --verbose", err, "bootmem-fleet: four: changed: the line: word 1: crashkernel=auto: left out")
 
 
 if __name__ == "__main__":

@@ -18,6 +18,7 @@ from bootmem_tools import (
     linux_cma,
     linux_log,
     linux_srat,
+    notes,
     ranges,
     runner,
     tool,
@@ -56,7 +57,8 @@ class Prepared(NamedTuple):
     `read` are those for the inputs as the kernel reads them, and `words` the same with early
     claims cut out of memory. `texts` has the reports map, memory and nodes of the first, empty if
     the program refuses them. `line` is the command line of the second, `claims` what is cut out,
-    and `said` what was changed or assumed, or can't be known, a line each."""
+    and `said` what was changed or assumed, or can't be known, a line each. `place` is the note of
+    an image that doesn't lie in RAM of the map, or None."""
 
     read: list[str]
     words: list[str]
@@ -64,6 +66,7 @@ class Prepared(NamedTuple):
     line: str
     claims: list[linux_claims.Claim]
     said: list[str]
+    place: str | None = None
 
 
 def add_options(parser: argparse.ArgumentParser) -> None:
@@ -91,6 +94,10 @@ def add_options(parser: argparse.ArgumentParser) -> None:
         action="store_true",
         help="the kernel has CONFIG_CMA and CONFIG_DMA_CMA, so cma= and hugetlb_cma= count",
     )
+
+
+def add_log(parser: argparse.ArgumentParser) -> None:
+    """Adds the option for the log of a machine's kernel."""
     parser.add_argument(
         "--log",
         metavar="FILE",
@@ -117,7 +124,7 @@ def settings_of(given: argparse.Namespace, parser: argparse.ArgumentParser) -> S
         if pages not in PAGES:
             parser.error(f"--pages {pages}: none of {', '.join(PAGES)}")
     pages = given.pages[-1] if given.pages else None
-    return Settings(pages, size, given.x2apic, given.cma, given.log)
+    return Settings(pages, size, given.x2apic, given.cma, getattr(given, "log", None))
 
 
 class Given(NamedTuple):
@@ -164,6 +171,7 @@ class Boot:
         self.entries: list[Entry] = []  # of the report map
         self.claims: list[linux_claims.Claim] = []
         self.said: list[str] = []
+        self.place: str | None = None
         self.restored: direct_map.Span = (
             0,
             0,
@@ -341,6 +349,7 @@ class Boot:
         """Makes the kernel's image RAM again if the map says otherwise (e820_add_kernel_range);
         tells whether the program still runs."""
         first, end = self.image[0], self.image[1] + linux_claims.END_AFTER_BRK
+        self.place = notes.place_note(self.given.options.get("kernel"), self.texts)
         if direct_map.is_within(self.ram(), first, end):
             return True
         if command_line.EFI in self.line.split():
@@ -589,7 +598,8 @@ def prepare(boot: Boot) -> Prepared:
                 ),
             )
         boot.explain()
-    return Prepared(read, boot.words(True), boot.texts, boot.line, boot.claims, boot.said)
+    claimed = boot.words(True)
+    return Prepared(read, claimed, boot.texts, boot.line, boot.claims, boot.said, boot.place)
 
 
 def refuse_itself(program: str) -> None:

@@ -75,6 +75,7 @@ def read_words(words: list[str]) -> argparse.Namespace:
     for option, _ in FILES:
         parser.add_argument(f"--{option}", metavar="FILE", help="as bootmem's")
     as_linux.add_raw(parser)
+    as_linux.add_log(parser)
     runner.add_program(parser)
     given = parser.parse_args(words)
     given.settings = as_linux.settings_of(given, parser)
@@ -101,6 +102,7 @@ class Machine:
         self.sizes: list[str] = given.size
         named = {name: getattr(given, name) or self.beside(folder, file) for name, file in FILES}
         self.is_raw: bool = given.raw
+        self.place: str | None = None
         self.files = contextlib.ExitStack()
         if self.is_raw:
             named["slit"] = None  # it moves no memory
@@ -113,6 +115,7 @@ class Machine:
         else:
             prepared = self.files.enter_context(as_linux.prepared(self.program, words, given.settings))
             self.read, self.said, self.claims, line = prepared.read, prepared.said, prepared.claims, prepared.line
+            self.place = prepared.place
             words = prepared.words
         self.words = without_line(words)
         self.split_line(line)
@@ -344,8 +347,9 @@ def warn(own: Machine, texts: reports.Texts) -> None:
         tool.complain(NAME, said)
     if own.is_raw and own.kernel is None:
         tool.complain(NAME, runner.ASSUMED)
-    for note in notes.notes_for(own.read, texts):
-        tool.complain(NAME, note)
+    for note in (own.place, *notes.notes_for(own.read, texts)):
+        if note:
+            tool.complain(NAME, note)
     if own.is_raw and machine.is_uefi(own.page):
         tool.complain(NAME, "the firmware is UEFI: the kernel claims more before the area there, so it may lie lower "
                             "(by 32 MiB in four boots), or find no place")

@@ -11,20 +11,22 @@ import sys
 import tempfile
 from typing import IO, NamedTuple, NoReturn
 
-from bootmem_tools import command_line, machine, notes, objects, reports, runner, tool
+from bootmem_tools import as_linux, command_line, machine, notes, objects, ranges, reports, runner, tool
 
 NAME = "bootmem-fleet"
 USAGE = """bootmem-fleet [--json] [--cmdline-add WORDS] [--cmdline-drop NAME]..
-                     [--kernel BASE,SIZE] [--jobs N] [--program P] FOLDER.."""
-ABOUT = """Runs bootmem over folders that bootmem-collect (collect.sh) gathered, as many at once as there are processors, and
-prints a line for each, in the order of the words, with a tab between each two columns:
+                     [--kernel BASE,SIZE] [--jobs N] [--verbose] [--raw]
+                     [--pages 4K|2M|1G] [--brk BYTES] [--x2apic] [--cma]
+                     [--program P] FOLDER.."""
+ABOUT = """Boots the machines of folders that bootmem-collect (collect.sh) gathered, as many at once as there are processors, as
+Linux 6.1 does, and prints a line for each, in the order of the words, with a tab between each two columns:
 
   folder   as it was given
   status   that of bootmem; 0 if it printed its reports
   line     what it said on standard error, or why Linux 6.1 panics, or -
   runs     of the map
   usable   frames of 4,096 bytes
-  free     of them in free blocks
+  free     of them in free blocks, without what the kernel claims early
   crash    the area, or why there is none: none, no area, in use, low failed
   low      the area's low part
   numa     whether the SRAT is used, or why not
@@ -34,9 +36,12 @@ If bootmem ended with another status than 0, or a folder has no such thing, a co
 EPILOG = f"""A folder has zp.bin, and if they are there e820ext.bin, cmdline, srat.bin, efi.bin, and kernel (or words, as under examples)
 with the place of the kernel's image; without it the tool assumes 16 MiB to 48 MiB, and says so.
 
+The inputs are read as that kernel reads them, and what it claims before the crash area is taken out of memory, as
+bootmem-linux does; --verbose prints what was changed or assumed, or can't be known, of each machine. With --raw the
+program reads the inputs itself, and nothing more is claimed than bootmem claims.
+
 --cmdline-drop takes the words NAME and NAME=.. out of each line, --cmdline-add appends WORDS. What is wrong with WORDS
-is told once on standard error. A line that was changed
-is read as the machine's kernel would read it (bootmem-line); --verbose prints what that changes.
+is told once on standard error.
 
 --json prints one JSON object a line instead (FORMATS.md of the documents: "A fleet as JSON").
 
@@ -49,7 +54,7 @@ examples:
   bootmem-fleet host*/
   bootmem-fleet --cmdline-add crashkernel=512M,high host*/"""
 
-FILES = (("--e820ext", "e820ext.bin"), ("--cmdline", "cmdline"), ("--srat", "srat.bin"), ("--efi", "efi.bin"))
+FILES = (("--e820ext", "e820ext.bin"), ("--cmdline", "cmdline"), ("--srat", "srat.bin"), ("--efi", "efi.bin"), ("--slit", "slit.bin"))
 ASKED = ["map", "summary", "crash", "nodes"]
 PANICS = 3  # the status if each run ended with 0, and Linux 6.1 is known to panic on a machine
 
@@ -61,11 +66,13 @@ class Plan(NamedTuple):
     add: str | None
     drop: list[str]
     kernel: str | None
+    is_raw: bool = False
+    settings: as_linux.Settings = as_linux.Settings()
 
 
 class Answer(NamedTuple):
-    """The outcome for a folder: its row, whether the image's place was assumed, and what was
-    changed in its line."""
+    """The outcome for a folder: its row, whether the image's place was assumed, and what is to be said of its
+    inputs."""
 
     row: objects.Object
     assumed: bool
@@ -83,9 +90,11 @@ def read_words(words: list[str]) -> argparse.Namespace:
     parser.add_argument("--cmdline-drop", metavar="NAME", action="append", default=[], help="first take this option out of it")
     parser.add_argument("--kernel", metavar="BASE,SIZE", help="where every kernel's image lies")
     parser.add_argument("--jobs", metavar="N", type=int, help="so many runs at once")
-    parser.add_argument("--verbose", action="store_true", help="tell what bootmem-line changed")
+    parser.add_argument("--verbose", action="store_true", help="tell what was changed or assumed, or can't be known")
+    as_linux.add_raw(parser)
     runner.add_program(parser)
     given = parser.parse_args(words)
+    given.settings = as_linux.settings_of(given, parser)
     if given.jobs is not None and given.jobs < 1:
         parser.error(f"--jobs {given.jobs}: at least 1")
     return given
@@ -116,33 +125,21 @@ def dropped(line: str, names: list[str]) -> str:
     return " ".join(word for word in words if word and word.lstrip('"').split("=", 1)[0] not in names)
 
 
-def changed_line(folder: str, plan: Plan, file: IO[bytes]) -> list[str]:
-    """Writes the folder's line, changed as the plan says, to the file; returns what reading it
-    as the kernel does changed."""
+def changed_line(folder: str, plan: Plan, file: IO[bytes]) -> None:
+    """Writes the folder's line, changed as the plan says, to the file."""
     path = os.path.join(folder, "cmdline")
     line = b""
     if os.path.exists(path):
         line = command_line.read_file(path).split(b"\0")[0].rstrip(b"\n")
     text = dropped(line.decode("latin-1"), plan.drop) if plan.drop else line.decode("latin-1")
     made = f"{text} {plan.add}".strip() if plan.add else text
-    data = made.encode("latin-1") + b"\n"
-    extension = os.path.join(folder, "e820ext.bin")
-    words = ["--e820ext", extension] if os.path.exists(extension) else []
-    try:
-        reading = command_line.read_line(data, command_line.total_by(plan.program, words + [os.path.join(folder, "zp.bin")]))
-    except tool.Trouble as trouble:
-        said = [str(trouble)]
-    else:
-        said = reading.changes + reading.notes
-        data = reading.line.encode("latin-1") + b"\n"
-    file.write(data)
+    file.write(made.encode("latin-1") + b"\n")
     file.flush()
-    return said
 
 
-def run(folder: str, plan: Plan, words: list[str]) -> tuple[int, str, reports.Texts]:
-    """Returns the program's status, what it said, and its reports for these words in the folder; none if the status isn't 0."""
-    done = subprocess.run([plan.program, "--report", ",".join(ASKED), *words, "zp.bin"], stdin=subprocess.DEVNULL,
+def run(folder: str, plan: Plan, names: list[str], words: list[str]) -> tuple[int, str, reports.Texts]:
+    """Returns the program's status, what it said, and these reports for these words in the folder; none if the status isn't 0."""
+    done = subprocess.run([plan.program, "--report", ",".join(names), *words], stdin=subprocess.DEVNULL,
                           stdout=subprocess.PIPE, stderr=subprocess.PIPE, cwd=folder, check=False)
     said = "".join(done.stderr.decode("utf-8", "replace").splitlines()[:1])
     if done.returncode != 0:
@@ -155,7 +152,8 @@ def answer_of(work: tuple[str, Plan]) -> Answer:
     folder, plan = work
     if not os.path.isdir(folder):
         return Answer(row_of(folder, 2, "no folder", None), False, [])
-    words = [word for option, name in FILES if os.path.exists(os.path.join(folder, name)) for word in (option, name)]
+    words = [word for option, name in FILES if os.path.exists(os.path.join(folder, name)) for word in (option, name)
+             if not (plan.is_raw and option == "--slit")]
     try:
         return run_folder(folder, plan, words, kernel_words(folder, plan))
     except (tool.Trouble, OSError) as trouble:
@@ -164,21 +162,38 @@ def answer_of(work: tuple[str, Plan]) -> Answer:
 
 def run_folder(folder: str, plan: Plan, words: list[str], kernel: list[str]) -> Answer:
     """Returns the answer for one folder, whose files these words name."""
-    said: list[str] = []
     with tempfile.NamedTemporaryFile() as file:
         if plan.add or plan.drop:
-            said = changed_line(folder, plan, file)
+            changed_line(folder, plan, file)
             if "--cmdline" in words:
                 words[words.index("--cmdline") + 1] = file.name
             else:
                 words += ["--cmdline", file.name]
-        status, line, texts = run(folder, plan, words + kernel)
+        words += [*kernel, "zp.bin"]
+        if plan.is_raw:
+            return answer_for(folder, kernel, run(folder, plan, ASKED, words), as_linux.Prepared(words, words, {}, "", [], []))
+        with as_linux.prepared(plan.program, words, plan.settings, folder) as prepared:
+            names = ["summary", "crash"] if prepared.texts else ASKED
+            outcome = run(folder, plan, names, prepared.words)
+            return answer_for(folder, kernel, outcome, prepared)
+
+
+def answer_for(folder: str, kernel: list[str], outcome: tuple[int, str, reports.Texts], prepared: as_linux.Prepared) -> Answer:
+    """Returns the answer for the outcome of a folder's boot. If claims are cut out of memory, what is told of the map is that of the
+    inputs before."""
+    status, line, texts = outcome
+    read, said = prepared.texts, prepared.said
     if status != 0:
         return Answer(row_of(folder, status, line, None), not kernel, said)
-    why = next(machine.panics(texts), None)
+    whole = {**texts, **read}
+    why = next(machine.panics(whole), None)
     line = f"Linux 6.1 panics: {why}" if why else line
-    note = notes.place_note(notes.value_in(kernel, "--kernel"), texts)
-    return Answer(row_of(folder, 0, line, objects.as_object(texts)), not kernel, said, why is not None, note)
+    found = objects.as_object(whole)
+    if read:
+        memory = [one.last + 1 - one.first for one in reports.spans("memory", read["memory"])]
+        found["summary"].update(runs=len(read["map"]), usable=sum(memory) // ranges.FRAME)
+    note = prepared.place or notes.place_note(notes.value_in(kernel, "--kernel"), whole)
+    return Answer(row_of(folder, 0, line, found), not kernel, said, why is not None, note)
 
 
 def row_of(folder: str, status: int, line: str, found: objects.Object | None) -> objects.Object:
@@ -218,7 +233,9 @@ def complaints(plan: Plan) -> list[str]:
 def main(words: list[str]) -> int:
     """Prints a line for each folder; the status says whether each run ended with 0."""
     given = read_words(words)
-    plan = Plan(os.path.abspath(runner.find_program(given.program)), given.cmdline_add, given.cmdline_drop, given.kernel)
+    plan = Plan(os.path.abspath(runner.find_program(given.program)), given.cmdline_add, given.cmdline_drop, given.kernel, given.raw,
+                given.settings)
+    as_linux.refuse_itself(plan.program)
     jobs = min(given.jobs or len(os.sched_getaffinity(0)), len(given.folders))
     for line in complaints(plan):
         tool.complain(NAME, f"--cmdline-add: {line}")
@@ -237,7 +254,7 @@ def main(words: list[str]) -> int:
             if answer.note:
                 tool.complain(NAME, f"{answer.row['folder']}: {answer.note}")
             for line in answer.said if given.verbose else []:
-                tool.complain(NAME, f"{answer.row['folder']}: bootmem-line: {line}")
+                tool.complain(NAME, f"{answer.row['folder']}: {line}")
     progress.clear()
     if assumed:
         tool.complain(NAME, f"of {assumed} of {len(given.folders)} folders nothing tells where the kernel's image lies: 16 MiB to "

@@ -39,6 +39,7 @@ def read_words(given: list[str]) -> tuple[argparse.Namespace, as_linux.Settings,
     """Returns the tool's own words, what they tell of the boot, and the program's words."""
     parser = tool.new_parser(NAME, USAGE, ABOUT, EPILOG)
     as_linux.add_options(parser)
+    as_linux.add_log(parser)
     parser.add_argument(
         "--explain",
         action="store_true",
