@@ -69,7 +69,7 @@ def folder_of(case, name):
         write(os.path.join(folder, "iomem"), "".join(f"{first}-{last} : {'System RAM' if kind == '1' else 'Reserved'}\n"
                                                      for first, last, kind in lines).encode() + taken_by(name).encode())
         case.check(f"{name}: no zones", os.path.exists(zones), False)
-    for file in ("zp.bin", "cmdline", "e820ext.bin", "srat.bin"):
+    for file in ("zp.bin", "cmdline", "e820ext.bin", "srat.bin", "slit.bin", "efi.bin"):
         if has_file(name, file):
             shutil.copy(example(name, file), folder)
     write(os.path.join(folder, "kernel"), (words_of(name)[words_of(name).index("--kernel") + 1] + "\n").encode())

@@ -51,13 +51,20 @@ class Live(Case):
         """Machines on which the kernel has what the program tells, and differences of every kind."""
         for name in ("q35-1g", "q35-2g-numa2", "zp-holes129", "pc-1g-memmapmix", "srat-slit"):
             status, out, err = live(stand_in(self.work, name))
-            kinds = [line.split()[0] for line in out.splitlines()[1:-1]]
+            kinds = [line.split()[0] for line in out.splitlines()[1:-1] if not line.startswith("noted")]
             zones = text_of(example(name, "zones.txt")).count("\n")
-            self.check(f"live {name}", (status, err, kinds), (0, "", ["noted"] + ["agrees"] * (2 + zones)))
+            self.check(f"live {name}", (status, err, kinds), (0, "", ["agrees"] * (2 + zones)))
             self.check(f"live {name}: end", last_line(out),
                        f"{2 + zones} agree, 0 differ as docs/KERNEL.md says, 0 differ, 0 can't be compared")
         place = self.path("q35-1g")
-        self.has("live: the image by iomem", live(place)[1], "bootmem --cmdline cmdline --kernel 0x1000000,0x3400000 zp.bin\n")
+        self.has("live: the image by iomem", live(place)[1], "bootmem-linux --cmdline cmdline --kernel 0x1000000,0x3400000 zp.bin\n")
+        self.has("live: pages are assumed", live(place)[1], "noted    assumed: pages of the direct map up to 2 MiB; ")
+        write(os.path.join(place, "proc/cpuinfo"), b"processor\t: 0\nflags\t\t: fpu pdpe1gb lm\n")
+        status, out, _ = live(place)
+        self.check("live: pages by cpuinfo", (status, out.splitlines()[0], "of the direct map" in out),
+                   (0, "bootmem-linux --pages 1G --cmdline cmdline --kernel 0x1000000,0x3400000 zp.bin", False))
+        os.remove(os.path.join(place, "proc/cpuinfo"))
+        self.has("live --raw", live(place, "--raw")[1], "bootmem --cmdline cmdline --kernel 0x1000000,0x3400000 zp.bin\n")
         self.has("live --kernel", live(place, "--kernel", "0x2000000,0x3400000")[1], "--kernel 0x2000000,0x3400000 zp.bin\n")
         status, out, _ = self.edit(place, "iomem", "00100000-3ffdefff : System RAM", "00100000-3fedefff : System RAM")
         self.check("live: less RAM", (status, [line[:71] for line in out.splitlines() if line.startswith("differs")]),
@@ -105,17 +112,18 @@ class Live(Case):
                    (0, "4 agree, 0 differ as docs/KERNEL.md says, 0 differ, 2 can't be compared"))
 
     def test_folders(self):
-        """The kept folder of every boot: all agrees but for the area of the boot with UEFI, whose row of KERNEL.md is named."""
+        """The kept folder of every boot: all agrees. By the program alone the area of the boot with UEFI differs, as a row of
+        KERNEL.md says."""
         rows = text_of(os.path.join(TOP, "docs", "KERNEL.md"))
         for name in BOOTS:
             status, out, err = tool("bootmem-live", folder_of(self, name))
             kinds = [line.split()[0] for line in out.splitlines()[1:-1] if not line.startswith(("noted", "passed   zoneinfo"))]
-            known = ["known"] if name == "ovmf-4g-numa2" else []
             zones = text_of(example(name, "zones.txt")).count("\n") if has_file(name, "zones.txt") else 0
-            self.check(f"live {name}", (status, err, sorted(kinds)), (0, "", ["agrees"] * (2 + zones - len(known)) + known))
-            for found in re.findall(r"KERNEL\.md, row ([^:);]*)", out):
-                self.check(f"live {name}: row {found}", all(f"`{part}`" in rows for part in re.findall(r"\w+_\w+", found)), True)
-        self.has("live, 32 MiB lower", tool("bootmem-live", self.path("ovmf-4g-numa2"))[1],
+            self.check(f"live {name}", (status, err, sorted(kinds)), (0, "", ["agrees"] * (2 + zones)))
+        out = tool("bootmem-live", "--raw", self.path("ovmf-4g-numa2"))[1]
+        for found in re.findall(r"KERNEL\.md, row ([^:);]*)", out):
+            self.check(f"live: row {found}", all(f"`{part}`" in rows for part in re.findall(r"\w+_\w+", found)), True)
+        self.has("live --raw, 32 MiB lower", out,
                  "known    crash area: 0x0000000073000000-0x000000007affffff (128 MiB) here, 0x0000000075000000-0x000000007cffffff (128 MiB) "
                  "by bootmem: the kernel claims more before it: docs/KERNEL.md, row efi_init, efi_reserve_boot_services\n")
 
@@ -124,9 +132,9 @@ class Live(Case):
         boot services' data that a UEFI machine's kernel keeps."""
         rows = text_of(os.path.join(TOP, "docs", "KERNEL.md"))
 
-        def found(folder, status):
+        def found(folder, status, *more):
             """The lines that begin with known or differs, their rows looked up."""
-            got, out, err = tool("bootmem-live", folder)
+            got, out, err = tool("bootmem-live", *more, folder)
             self.check(f"live: {folder}", (got, err), (status, ""))
             lines = [line for line in out.splitlines() if line.startswith(("known", "differs"))]
             for names in re.findall(r"KERNEL\.md, row ([^;:()\n]*)", "\n".join(lines)):
@@ -136,7 +144,8 @@ class Live(Case):
         folder = folder_of(self, "q35-1g")
         line, shown = text_of(os.path.join(folder, "cmdline")), text_of(os.path.join(folder, "iomem"))
         write(os.path.join(folder, "cmdline"), line.rstrip("\n") + " memmap=1M%16M-1+2\n")
-        self.check("an image outside RAM", found(folder, 0),
+        self.check("an image outside RAM", found(folder, 0), [])
+        self.check("an image outside RAM, --raw", found(folder, 0, "--raw"),
                    ["known    iomem 0x0000000001000000-0x00000000010fffff (1 MiB): System RAM here, not usable by bootmem: the kernel makes its own "
                     "image usable again",
                     "known    zoneinfo node 0 DMA32: start 4096 spanned 258015 present 258015 here, start 4096 spanned 258015 present 257759 by "
@@ -145,7 +154,8 @@ class Live(Case):
         self.check("the same elsewhere", [text[:7] for text in found(folder, 1)], ["differs"] * 2)
         write(os.path.join(folder, "cmdline"), line)
         write(os.path.join(folder, "srat.bin"), inputs.srat([(0, 512 * MIB, 0), (512 * MIB, 512 * MIB, 1024)]))
-        self.check("a domain of 1,024", found(folder, 0), ["known    srat: the kernel drops an SRAT with a domain of 1,024 or more, so all memory "
+        self.check("a domain of 1,024", found(folder, 0), [])
+        self.check("a domain of 1,024, --raw", found(folder, 0, "--raw"), ["known    srat: the kernel drops an SRAT with a domain of 1,024 or more, so all memory "
                                                            "is of node 0"])
         write(os.path.join(folder, "srat.bin"), inputs.srat([(0, 512 * MIB, 0), (512 * MIB, 512 * MIB, 1023)]))
         self.check("a domain of 1,023", found(folder, 1)[0][:7], "differs")
@@ -176,10 +186,10 @@ class Live(Case):
         line = text_of(os.path.join(folder, "cmdline")).replace("crashkernel=256M", "crashkernel=1G-8G:64M,8G-:256M mem=1TB")
         write(os.path.join(folder, "cmdline"), line.encode())
         status, out, _ = tool("bootmem-live", folder)
-        self.check("live, by bootmem-line", (status, out.splitlines()[0], "noted    word 9: mem=1TB: read as mem=1T\n" in out,
+        self.check("live, the line", (status, out.splitlines()[0], "noted    changed: the line: word 9: mem=1TB: read as mem=1T\n" in out,
                                         "agrees   crash area: 0x000000006f000000-0x000000007effffff (256 MiB)\n" in out),
-              (0, "bootmem-line cmdline zp.bin > line", True, True))
-        self.has("live, by bootmem-line", out, "bootmem --cmdline line --srat srat.bin --kernel 0x1000000,0x3400000 zp.bin\n")
+              (0, "bootmem-linux --cmdline cmdline --srat srat.bin --kernel 0x1000000,0x3400000 zp.bin", True, True))
+        self.check("live --raw, the line", tool("bootmem-live", "--raw", folder)[:2], (2, ""))
         self.check("live, a folder and --keep", tool("bootmem-live", "--keep", folder, folder)[:2], (2, ""))
         self.check("live, no folder", tool("bootmem-live", self.path("nothing"))[:2], (2, ""))
         place = stand_in(self.work, "pc-128m")

@@ -29,6 +29,8 @@ that bootmem reads:
 and beside them, for bootmem-live and for those who read them later,
 
   slit.bin     the ACPI table SLIT, /sys/firmware/acpi/tables/SLIT (root alone)
+  pages        the largest page of the kernel's direct map, 1G or 2M, by the
+               flags in /proc/cpuinfo
   iomem, zoneinfo, buddyinfo
                what the kernel shows under these names in /proc; iomem where it
                shows its addresses (root alone)
@@ -95,7 +97,7 @@ cmdline=${cmdline:-$proc/cmdline}
 mkdir -p "$folder" || exit 1
 folder=$(cd "$folder" && pwd) || exit 1
 # what an earlier run left would be taken for this machine's
-for name in zp.bin e820ext.bin cmdline srat.bin efi.bin slit.bin release kernel iomem zoneinfo buddyinfo; do
+for name in zp.bin e820ext.bin cmdline srat.bin efi.bin slit.bin release kernel pages iomem zoneinfo buddyinfo; do
 	rm -f "$folder/$name" || exit 1
 done
 
@@ -231,6 +233,12 @@ shows() {
 	fi
 	if [ ! -f "$folder/iomem" ] || ! place; then
 		complain "kernel: its place isn't known, so 16 MiB to 48 MiB is assumed where --kernel BASE,SIZE doesn't tell it"
+	fi
+	if [ -r "$proc/cpuinfo" ]; then
+		pages=2M
+		first "$proc/cpuinfo" | grep -q '^flags.* pdpe1gb' && pages=1G
+		echo "$pages" >"$folder/pages"
+		echo "pages: the largest page of the direct map, $pages"
 	fi
 	take "$proc/zoneinfo" zoneinfo "zones"
 	take "$proc/buddyinfo" buddyinfo "free blocks"

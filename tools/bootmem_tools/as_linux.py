@@ -115,6 +115,28 @@ def add_raw(parser: argparse.ArgumentParser) -> None:
     add_options(parser)
 
 
+def add_flag(parser: argparse.ArgumentParser) -> None:
+    """Adds the option of a tool that runs the program for its user's words."""
+    parser.add_argument(
+        "--as-linux",
+        action="store_true",
+        help="the boot as Linux 6.1 makes it, as bootmem-linux does; WORDS are then those of it",
+    )
+
+
+def split_words(
+    parser: argparse.ArgumentParser, given: Sequence[str]
+) -> tuple[argparse.Namespace, Settings, list[str]]:
+    """Returns the words that a parser with the options of `add_options` and `add_log` knows, what
+    they tell of the boot, and the program's words."""
+    own, rest = parser.parse_known_args(list(given))
+    # bootmem has an option --pages, too, whose value is a file
+    files = [value for value in own.pages if value not in PAGES and os.path.exists(value)]
+    own.pages = [value for value in own.pages if value not in files]
+    rest += [f"--pages={value}" for value in files]
+    return own, settings_of(own, parser), rest
+
+
 def settings_of(given: argparse.Namespace, parser: argparse.ArgumentParser) -> Settings:
     """Returns what the tool's words tell; ends with status 2 for a size that isn't one."""
     size = None if given.brk is None else ranges.parse_size(given.brk)
@@ -374,6 +396,12 @@ class Boot:
         self.restored = first, end
         return self.run()
 
+    def largest_page(self) -> int:
+        """Returns the largest page of the direct map; the line can forbid those of 1 GiB."""
+        names = [word.name for word in command_line.words_of(self.line)[0]]
+        largest = PAGES[self.settings.pages or "2M"]
+        return min(largest, direct_map.PMD) if "nogbpages" in names else largest
+
     def machine(self) -> linux_claims.Machine:
         """Returns what the rules of the claims read."""
         nodes = list(read_lines("nodes", self.texts["nodes"]))
@@ -403,7 +431,7 @@ class Boot:
             self.settings.brk or linux_claims.BRK,
             linux_claims.read_descriptors(self.files.get("efi", b"")),
             extension,
-            PAGES[self.settings.pages or "2M"],
+            self.largest_page(),
             "la57" in self.given.options,
             max(ids) + 1 if used and ids and is_valid_slit(self.files.get("slit", b"")) else 0,
             self.told,
@@ -625,3 +653,25 @@ def prepared(
         except OSError:
             boot = None
         yield prepare(boot) if boot and len(boot.page) == inputs.PAGE_SIZE else untouched
+
+
+def run_for(
+    name: str, program: str, names: Sequence[str], given: Sequence[str], is_linux: bool
+) -> tuple[Texts, list[linux_claims.Claim]]:
+    """Returns the reports of these names for its user's words, for a tool of this name, and the
+    claims that are cut out of memory: none unless the boot is to be as Linux makes it. What is to
+    be known of the boot is said on standard error."""
+    if not is_linux:
+        return runner.run_for(name, program, names, given), []
+    parser = tool.Parser(prog=name, add_help=False, allow_abbrev=False)
+    add_options(parser)
+    add_log(parser)
+    _, settings, rest = split_words(parser, given)
+    program = os.path.abspath(program)
+    with prepared(program, rest, settings) as boot:
+        found = runner.run_program(program, names, boot.words)
+        uncovered = notes.uncovered_note(notes.value_in(boot.read, "--srat"), boot.texts)
+        for said in (*boot.said, uncovered):
+            if said:
+                tool.complain(name, said)
+        return found, boot.claims

@@ -10,20 +10,22 @@ import textwrap
 from typing import Iterator, NoReturn, Sequence
 from xml.sax.saxutils import escape
 
-from bootmem_tools import page, ranges, reports, runner, tool
+from bootmem_tools import as_linux, page, ranges, reports, runner, tool
 from bootmem_tools.columns import DRAWN, STRUCTURES, Column, Row, columns_of
 
 NAME = "bootmem-draw"
 USAGE = """bootmem-draw [--text] [--title TEXT] [--output FILE] [FILE]
-       bootmem-draw [--text] [--title TEXT] [--output FILE] [--program P]
-                    -- WORDS
-       bootmem-draw --html FILE [--title TEXT] [--program P] [A [B]]
-                    [-- WORDS]"""
+       bootmem-draw [--text] [--title TEXT] [--output FILE] [--as-linux]
+                    [--program P] -- WORDS
+       bootmem-draw --html FILE [--title TEXT] [--as-linux] [--program P]
+                    [A [B]] [-- WORDS]"""
 ABOUT = """Draws reports of bootmem side by side over one axis of addresses, the lowest on top, as an SVG picture or, with
 --text, as a table for a terminal. Gaps of the map are folded: heights grow with the logarithm of the size.
 Neighbouring blocks of one order, node and zone are one row with their number. The owner `map N` is drawn as the page
 structures of section N, which it is."""
 EPILOG = f"""After -- come the words of the program, without --report; the tool runs it with --report {','.join(DRAWN)}.
+
+With --as-linux the boot is drawn as Linux 6.1 makes it (bootmem-linux), without the memory that it claims early.
 
 Otherwise the tool reads the text of reports from FILE, or from standard input if there is none or it is -; those of
 {', '.join(DRAWN)} that are there are drawn. In a viewer that shows tool tips each row shows its exact range.
@@ -58,8 +60,11 @@ def read_words(words: list[str]) -> tuple[argparse.Namespace, Boots]:
     parser.add_argument("--text", action="store_true", help="a table for a terminal")
     parser.add_argument("--title", metavar="TEXT", help="a line above the picture")
     parser.add_argument("--output", metavar="FILE", help="write to FILE; without it to standard output")
+    as_linux.add_flag(parser)
     runner.add_program(parser)
     given = parser.parse_args(own)
+    if given.as_linux and program_words is None:
+        parser.error("--as-linux without words behind --")
     if given.html is not None and (given.text or given.output is not None):
         parser.error("--html beside --text or --output")
     most = 2 if given.html is not None else 1
@@ -70,8 +75,8 @@ def read_words(words: list[str]) -> tuple[argparse.Namespace, Boots]:
     named = given.files or (["-"] if program_words is None else [])
     boots = [(tool.shown_name(file), reports.read_reports(file, behind=True)) for file in named]
     if program_words is not None:
-        found = runner.run_for(NAME, runner.find_program(given.program), DRAWN, program_words)
-        boots.append((f"bootmem {' '.join(program_words)}", found))
+        found, _ = as_linux.run_for(NAME, runner.find_program(given.program), DRAWN, program_words, given.as_linux)
+        boots.append((f"{as_linux.LINUX if given.as_linux else 'bootmem'} {' '.join(program_words)}", found))
     return given, boots
 
 

@@ -5,16 +5,19 @@ from __future__ import annotations
 import json
 from typing import NoReturn
 
-from bootmem_tools import objects, reports, runner, tool
+from bootmem_tools import as_linux, objects, reports, runner, tool
 from bootmem_tools.words import REPORTS
 
 NAME = "bootmem-json"
 USAGE = """bootmem-json [--compact] [--report NAME] [FILE]
-       bootmem-json [--compact] [--report LIST] [--program P] -- WORDS"""
+       bootmem-json [--compact] [--report LIST] [--as-linux] [--program P]
+                    -- WORDS"""
 ABOUT = """Turns reports of bootmem into one JSON object with a member for each report, by its name, in the order in which they
 appear. FORMATS.md of the documents has the form ("Reports as JSON"). An address or a size in bytes is a string,
 as in the reports, since many readers of JSON cut numbers above 2^53; frames, records and the like are numbers."""
 EPILOG = f"""After -- come the words of the program, without --report, which is LIST, or else all reports except script, blocks, pages and pagesinfo.
+
+With --as-linux the reports are those of a boot as Linux 6.1 makes it (bootmem-linux).
 
 Otherwise the tool reads the text of reports from FILE, or from standard input if there is none or it is -. A text of one report
 without its line `== NAME` is known by its first line; --report NAME names it if that may be another's (reserved, which
@@ -38,8 +41,11 @@ def read_words(words: list[str]) -> tuple[bool, reports.Texts]:
     parser.add_argument("file", metavar="FILE", nargs="?", help="a text of reports; - is standard input")
     parser.add_argument("--report", metavar="LIST", help="the reports to ask for, or the name of the one in FILE")
     parser.add_argument("--compact", action="store_true", help="one line, without blanks")
+    as_linux.add_flag(parser)
     runner.add_program(parser)
     given = parser.parse_args(own)
+    if given.as_linux and program_words is None:
+        parser.error("--as-linux without words behind --")
     names = given.report.split(",") if given.report is not None else None
     for name in names or []:
         if name not in REPORTS:
@@ -47,7 +53,8 @@ def read_words(words: list[str]) -> tuple[bool, reports.Texts]:
     if program_words is not None:
         if given.file is not None:
             parser.error("a FILE and words behind -- at once")
-        return given.compact, runner.run_for(NAME, runner.find_program(given.program), names or WANTED, program_words)
+        texts, _ = as_linux.run_for(NAME, runner.find_program(given.program), names or WANTED, program_words, given.as_linux)
+        return given.compact, texts
     if names is None:
         return given.compact, reports.read_reports(given.file or "-", behind=True)
     lines = tool.read_text(given.file or "-").splitlines()

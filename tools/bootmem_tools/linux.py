@@ -23,8 +23,12 @@ else boot services' memory isn't claimed.
 
 What is made, in the kernel's order, as far as the inputs tell: setup_data, EFI's memory
 map, brk, boot services, page tables of the direct map, the log buffer of log_buf_len=, an
-initrd that moves, the distances of a SLIT. Memory is taken away in whole frames, so the
-reports of the map, of memory and of zones lack it.
+initrd that moves, the distances of a SLIT; with --cma the areas of cma= and hugetlb_cma=.
+A log of this kernel (--log; it needs no option on the line) tells more: all nodes of
+setup_data, ACPI tables, and EFI's memory attributes and TPM log. Memory is taken away in
+whole frames, so the reports of the map, of memory and of zones lack it.
+
+bootmem's own --pages FILE is taken if there is such a file.
 
 {runner.FINDING}
 
@@ -46,12 +50,7 @@ def read_words(given: list[str]) -> tuple[argparse.Namespace, as_linux.Settings,
         help="print each claim with the kernel function that makes it",
     )
     runner.add_program(parser)
-    own, rest = parser.parse_known_args(given)
-    # bootmem has an option of this name, too, whose value is a file
-    files = [value for value in own.pages if value not in as_linux.PAGES and os.path.exists(value)]
-    own.pages = [value for value in own.pages if value not in files]
-    rest += [f"--pages={value}" for value in files]
-    return own, as_linux.settings_of(own, parser), rest
+    return as_linux.split_words(parser, given)
 
 
 def claim_text(claim: linux_claims.Claim) -> str:

@@ -13,13 +13,15 @@ import sys
 import tempfile
 from typing import Iterable, Iterator, NamedTuple, NoReturn, Sequence
 
-from bootmem_tools import command_line, machine, notes, ranges, reports, runner, tool
+from bootmem_tools import as_linux, machine, notes, ranges, reports, runner, tool
 from bootmem_tools.grammar import read_lines
 
 NAME = "bootmem-live"
-USAGE = """bootmem-live [--kernel BASE,SIZE] [--program P] FOLDER
-       bootmem-live [--kernel BASE,SIZE] [--program P] [--keep FOLDER]
-                    [--sys DIR] [--proc DIR]"""
+USAGE = """bootmem-live [--kernel BASE,SIZE] [OPTIONS] [--program P] FOLDER
+       bootmem-live [--kernel BASE,SIZE] [OPTIONS] [--program P] [--keep FOLDER]
+                    [--sys DIR] [--proc DIR]
+
+OPTIONS: [--pages 4K|2M|1G] [--brk BYTES] [--x2apic] [--cma] [--log FILE] [--raw]"""
 ABOUT = """Compares what bootmem says of a machine with what its kernel shows: the map's usable ranges with the System RAM of
 /proc/iomem, the crash area with its Crash kernel, and start, spanned and present frames of each zone with
 /proc/zoneinfo. Each difference is one line, with what may explain it."""
@@ -28,11 +30,13 @@ more: the addresses of /proc/iomem are 0 for others, and ACPI's SRAT can't be re
 lies is taken from /proc/iomem, or from FOLDER, unless there is --kernel. What is gathered is removed at the end, or
 kept by --keep, with all that it is compared with.
 
-The command line is read as the kernel reads it, by what bootmem-line does. A zone is compared by the kernel's own rule:
-the hull of its node's memory, cut by the zone's borders.
+The inputs are read as Linux 6.1 reads them, and for the crash area what that kernel claims before it is taken out of
+memory, as bootmem-linux does; pages of the direct map are 1 GiB large if the processor has them. With --raw the program
+reads the inputs itself. A zone is compared by the kernel's own rule: the hull of its node's memory, cut by the zone's
+borders.
 
 A line begins with
-  noted    what the kernel reads otherwise, or what bootmem ignores
+  noted    what was changed as the kernel reads it, or assumed, or can't be known
   panics   why Linux 6.1 is known to panic on this boot
   agrees   the kernel has what bootmem says
   known    it differs as a row of docs/KERNEL.md says, which is named
@@ -91,8 +95,11 @@ def read_words(words: list[str]) -> argparse.Namespace:
     parser.add_argument("--keep", metavar="FOLDER", help="gather into FOLDER and leave it there")
     parser.add_argument("--sys", metavar="DIR", help="what stands for /sys")
     parser.add_argument("--proc", metavar="DIR", help="what stands for /proc")
+    as_linux.add_raw(parser)
+    as_linux.add_log(parser)
     runner.add_program(parser)
     given = parser.parse_args(words)
+    given.settings = as_linux.settings_of(given, parser)
     if given.folder and (given.keep or given.sys or given.proc):
         parser.error("a FOLDER is gathered already: --keep, --sys and --proc don't stand beside it")
     return given
@@ -321,22 +328,52 @@ def compare_zones(shown: Zones, told: Zones, made: Sequence[ranges.Range] = ()) 
                                      "zone, memory offline, or fewer nodes here")
 
 
-def run(given: argparse.Namespace, folder: str, reading: command_line.Reading,
-        with_srat: bool = True) -> tuple[list[str], Texts]:
-    """Returns the words of the program for the inputs in the folder, as they are printed, and
-    its reports for them."""
+class Told(NamedTuple):
+    """What the tools say of a machine: the command that says it, its words by their names in the folder, the reports, and what is
+    noted."""
+
+    command: str
+    words: list[str]
+    texts: Texts
+    notes: list[str]
+
+
+def folder_words(given: argparse.Namespace, folder: str) -> list[str]:
+    """Returns the program's words for the inputs in the folder, by their names there."""
     kernel = given.kernel or machine.kernel_in(folder)
-    files = machine.files_in(folder)
+    line = ["--cmdline", "cmdline"] if os.path.exists(os.path.join(folder, "cmdline")) else []
+    return line + machine.files_in(folder) + (["--kernel", kernel] if kernel else []) + ["zp.bin"]
+
+
+def settings_for(given: argparse.Namespace, folder: str) -> tuple[as_linux.Settings, list[str]]:
+    """Returns what the words and the folder tell that no input does, and the words for it."""
+    settings: as_linux.Settings = given.settings
+    pages = (machine.text_in(folder, "pages") or "").strip()
+    if settings.pages is None and pages in as_linux.PAGES:
+        settings = settings._replace(pages=pages)
+    return settings, ["--pages", settings.pages] if settings.pages else []
+
+
+def told_by_linux(given: argparse.Namespace, folder: str) -> Told:
+    """Returns what is said of the machine in the folder for a boot as Linux 6.1 makes it: its crash area goes by the early claims, all
+    else by the inputs before claims are cut out of memory."""
+    words = folder_words(given, folder)
+    settings, more = settings_for(given, folder)
+    slit = ["--slit", "slit.bin"] if os.path.exists(os.path.join(folder, "slit.bin")) else []
+    with as_linux.prepared(given.program, slit + words, settings, folder) as prepared:
+        texts = runner.run_program(given.program, ["map", "zones", "nodes"], prepared.read, folder)
+        texts.update(runner.run_program(given.program, ["crash"], prepared.words, folder))
+        noted = [said for said in (prepared.place, *prepared.said) if said]
+    return Told(" ".join([as_linux.LINUX, *more, *slit, *words]), words, texts, noted)
+
+
+def told_by_program(given: argparse.Namespace, folder: str, with_srat: bool = True) -> Told:
+    """Returns what the program says of the inputs in the folder by its own reading."""
+    words = folder_words(given, folder)
     if not with_srat:
-        del files[files.index("--srat"):files.index("--srat") + 2]
-    words = files + (["--kernel", kernel] if kernel else []) + ["zp.bin"]
-    if not os.path.exists(os.path.join(folder, "cmdline")):
-        return words, runner.run_program(given.program, ["map", "zones", "nodes", "crash"], words, folder)
-    with tempfile.TemporaryDirectory() as work:
-        path = os.path.join(work, "line")
-        command_line.write_line(path, reading.line)
-        texts = runner.run_program(given.program, ["map", "zones", "nodes", "crash"], ["--cmdline", path] + words, folder)
-    return ["--cmdline", "line" if reading.changes else "cmdline"] + words, texts
+        del words[words.index("--srat"):words.index("--srat") + 2]
+    texts = runner.run_program(given.program, ["map", "zones", "nodes", "crash"], words, folder)
+    return Told(f"bootmem {' '.join(words)}", words, texts, [])
 
 
 def uncovered_in(folder: str, words: Sequence[str], texts: Texts) -> str | None:
@@ -382,19 +419,15 @@ def drops_srat(texts: Texts) -> bool:
 
 
 def print_findings(given: argparse.Namespace, folder: str) -> collections.Counter[str]:
-    """Prints the commands and the findings for a folder; how many there are of each kind."""
-    reading = machine.line_in(given.program, folder)
-    words, texts = run(given, folder, reading)
-    findings = [Finding("noted", said) for said in reading.changes + reading.notes]
-    if drops_srat(texts):
+    """Prints the command and the findings for a folder; how many there are of each kind."""
+    told = told_by_program(given, folder) if given.raw else told_by_linux(given, folder)
+    findings = [Finding("noted", said) for said in told.notes]
+    if given.raw and drops_srat(told.texts):
         findings.append(Finding("known", f"srat: the kernel drops an SRAT with a domain of {DOMAINS:,} or more, so all memory is of node 0: "
                                          + row("x86_acpi_numa_init", "numa_init") + "; compared without it"))
-        words, texts = run(given, folder, reading, with_srat=False)
-    findings += compare(given, folder, words, texts)
-    if reading.changes:
-        extension = words[words.index("--e820ext"):][:2] if "--e820ext" in words else []
-        print(" ".join(["bootmem-line", *extension, "cmdline", "zp.bin > line"]))
-    print(f"bootmem {' '.join(words)}")
+        told = told_by_program(given, folder, with_srat=False)
+    findings += compare(given, folder, told.words, told.texts)
+    print(told.command)
     counts: collections.Counter[str] = collections.Counter()
     for finding in findings:
         counts[finding.kind] += 1
@@ -407,6 +440,7 @@ def main(words: list[str]) -> int:
     that isn't known."""
     given = read_words(words)
     given.program = os.path.abspath(runner.find_program(given.program))
+    as_linux.refuse_itself(given.program)
     with tempfile.TemporaryDirectory() as temporary:
         folder = given.folder or given.keep or temporary
         if not given.folder:

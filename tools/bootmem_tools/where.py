@@ -4,7 +4,7 @@ from __future__ import annotations
 
 from typing import Iterator, NoReturn
 
-from bootmem_tools import ranges, reports, runner, tool
+from bootmem_tools import as_linux, linux_claims, ranges, reports, runner, tool
 
 # What the lines of an answer say: a word and a text each.
 Sayings = Iterator[tuple[str, str]]
@@ -12,12 +12,16 @@ Spans = list[reports.Span]
 
 NAME = "bootmem-where"
 WANTED = ["map", "memory", "owners", "journal", "tables", "nodes", "zones", "sections", "blocks"]
-USAGE = "bootmem-where [--frame] ADDRESS [FILE]\n       bootmem-where [--frame] [--program P] ADDRESS -- WORDS"
+USAGE = """bootmem-where [--frame] ADDRESS [FILE]
+       bootmem-where [--frame] [--as-linux] [--program P] ADDRESS -- WORDS"""
 ABOUT = """Prints what becomes of one address: its frame, the entry of the map, whether it is memory, who owns it and the step of the
 journal that claimed it, node, zone, section with the place of its map and of the frame's page structure, and
 free block."""
 EPILOG = f"""ADDRESS is hexadecimal or decimal, with K, M, G or T after it or without. After -- come the words of the
 program, without --report; it is run with --report {','.join(WANTED)}.
+
+With --as-linux the boot is that of Linux 6.1 (bootmem-linux), and a line `early` has what it claims there early, with the
+kernel function that does.
 
 Otherwise the tool reads the text of these reports from FILE, or from standard input if there is none or it is -; it says nothing of a
 report that isn't there. A page structure has 64 bytes: the map of a section, of 2 MiB, has 32,768 of them.
@@ -31,25 +35,28 @@ examples:
   bootmem-where --frame 4096 reports.txt"""
 
 
-def read_words(words: list[str]) -> tuple[int, reports.Texts]:
-    """Returns the address and the reports that the words ask for."""
+def read_words(words: list[str]) -> tuple[int, reports.Texts, list[linux_claims.Claim]]:
+    """Returns the address, the reports that the words ask for, and the claims that are cut out of their memory."""
     own, program_words = tool.split_words(words)
     parser = tool.new_parser(NAME, USAGE, ABOUT, EPILOG)
     parser.add_argument("address", metavar="ADDRESS", help="what to tell of: 0x100000, 1048576, 1M")
     parser.add_argument("file", metavar="FILE", nargs="?", help="a text of reports; - is standard input")
     parser.add_argument("--frame", action="store_true", help="ADDRESS is the number of a frame of 4,096 bytes")
+    as_linux.add_flag(parser)
     runner.add_program(parser)
     given = parser.parse_args(own)
+    if given.as_linux and program_words is None:
+        parser.error("--as-linux without words behind --")
     address = ranges.parse_size(given.address)
     if address is not None and given.frame:
         address *= ranges.FRAME
     if address is None or address > ranges.TOP:
         parser.error(f"{given.address}: no address: 0x.. or decimal, with K, M, G or T or without, below 2^64")
     if program_words is None:
-        return address, reports.read_reports(given.file or "-", behind=True)
+        return address, reports.read_reports(given.file or "-", behind=True), []
     if given.file is not None:
         parser.error("a FILE and words behind -- at once")
-    return address, runner.run_for(NAME, runner.find_program(given.program), WANTED, program_words)
+    return address, *as_linux.run_for(NAME, runner.find_program(given.program), WANTED, program_words, given.as_linux)
 
 
 def last_step(steps: Spans, address: int) -> reports.Span | None:
@@ -123,12 +130,15 @@ def answer_lines(address: int, found: dict[str, Spans]) -> Sayings:
 
 def main(words: list[str]) -> int:
     """Prints what becomes of the address."""
-    address, texts = read_words(words)
+    address, texts, claims = read_words(words)
     found = {name: reports.spans(name, lines) for name, lines in texts.items() if name in WANTED}
     if not found:
         raise tool.Trouble(f"none of the reports {', '.join(WANTED)} is there")
     for word, text in answer_lines(address, found):
         print(f"{word:<8} {text}")
+    for one in claims:
+        if one.first <= address < one.end:
+            print(f"{'early':<8} {one.what} {ranges.range_text(one.first, one.end - 1)}, claimed by {one.rule}")
     return 0
 
 
