@@ -18,6 +18,7 @@ from support import (
     RESERVED,
     TOP,
     Case,
+    bytes_of,
     example,
     extension,
     has_file,
@@ -36,7 +37,7 @@ from support import (
 )
 from test_claims_from_log import ROOMS
 from test_commands import shown_examples
-from bootmem_tools import inputs, linux_claims, linux_srat
+from bootmem_tools import as_linux, inputs, linux_claims, linux_cma, linux_log, linux_srat
 from bootmem_tools.direct_map import PMD, PUD, DirectMap, Free
 
 FRAME = 4096
@@ -259,6 +260,25 @@ class Linux(Case):
             self.has(f"linux {more}: brk", err, place)
             self.check(f"linux {more}: page tables", err.count("page table of"), tables)
 
+    def test_as_linux(self):
+        """Tools that run the program for their user's words take --as-linux, and the words are those of bootmem-linux then."""
+        words = ["--as-linux", "--", "--pages", "2M", *boot_words("ovmf-4g-numa2")]
+        folder = example("ovmf-4g-numa2")
+        status, out, err = tool("bootmem-json", "--report", "crash", *words, folder=folder)
+        self.check("json --as-linux: status", (status, "assumed: pages" in err, "unknown: " in err), (0, False, True))
+        self.has("json --as-linux: the area", out, "0x0000000073000000")
+        # brk begins behind the image, at 0x1600000 + 0x3400000, and has 17 frames
+        for place, early in (("0x4a10fff", True), ("0x4a11000", False), ("0x49fffff", False)):
+            status, out, _ = tool("bootmem-where", place, *words, folder=folder)
+            self.check(f"where --as-linux {place}", (status, out.splitlines()[-1] == "early    brk 0x0000000004a00000-0x0000000004a10fff, "
+                                                     "claimed by reserve_brk"), (0, early))
+        status, out, _ = tool("bootmem-draw", "--text", *words, folder=folder)
+        self.check("draw --as-linux", (status, "0x73000000  |                  crash 128 MiB" in out), (0, True))
+        for name, more in (("json", []), ("draw", ["--text"]), ("where", ["1M"])):
+            self.check(f"{name} --as-linux, a text", tool(f"bootmem-{name}", *more, "--as-linux", "reports", folder=folder)[:2], (2, ""))
+            self.check(f"{name} --as-linux, no page size", tool(f"bootmem-{name}", *more, "--as-linux", "--", "--pages", "3M", "zp.bin",
+                                                                folder=folder)[:2], (2, ""))
+
     def test_as_program(self):
         """Other tools show a boot as Linux makes it if bootmem-linux is their program."""
         linux = os.path.join(TOP, "tools", "bootmem-linux")
@@ -272,6 +292,9 @@ class Linux(Case):
         self.has("bootmem-where: the area", where[1], "crash 0x0000000073000000")
         itself = tool("bootmem-linux", "--program", linux, "zp.bin", folder=folder)
         self.check("bootmem-linux as its own program", (itself[:2], itself[2].count("\n")), ((2, ""), 1))
+        for name in ("bootmem-crash", "bootmem-fleet", "bootmem-live"):
+            own = tool(name, "--program", linux, example("q35-1g"))
+            self.check(f"{name} with bootmem-linux as its program", (own[:2], own[2].count("\n")), ((2, ""), 1))
 
     def test_time(self):
         """A boot of 3,172 entries takes less than half a second of processor time, or on a slow
@@ -298,6 +321,8 @@ class Linux(Case):
                 (status, out.splitlines()[0], err.count("page table") > 1000),
                 (0, "runs 3177", True),
             )
+            if b"__asan_init" in bytes_of(PROGRAM):
+                return  # a sanitizer's program takes its own time
         bound = max(0.5, 10 * min(starts))
         self.check(f"linux, 3,172 entries: {min(took)} s, at most {bound}", min(took) < bound, True)
 
@@ -472,6 +497,128 @@ class Srat(Case):
         self.check("srat: a wrong checksum", (sum(wrong.table) % 256, len(wrong.changes)), (0, 1))
         for text in (b"", b"SRAT", b"SLIT" + bytes(60)):
             self.check(f"srat: {len(text)} bytes", linux_srat.read_table(text, False), (text, []))
+
+
+LOG = """[    0.000000] efi: SMBIOS=0x3f9ab000 ACPI=0x3fb7d000 MEMATTR=0x3e4f3018 TPMFinalLog=0x3ea00000 RNG=0x3e4f4018
+[    0.000000] reserve setup_data: [mem 0x0000000000001000-0x000000000009fbff] usable
+[    0.000000] reserve setup_data: [mem 0x0000000000100000-0x0000000030000fff] usable
+[    0.000000] reserve setup_data: [mem 0x0000000030001000-0x000000003000102b] usable
+[    0.000000] reserve setup_data: [mem 0x000000003000102c-0x00000000300fffff] usable
+[    0.000000] reserve setup_data: [mem 0x0000000030100000-0x000000003010001f] usable
+[    0.000000] reserve setup_data: [mem 0x0000000030100020-0x000000003ffdefff] usable
+[    0.000000] reserve setup_data: [mem 0x000000003ffdf000-0x000000003fffffff] reserved
+[    0.012345] ACPI: Reserving FACP table memory at [mem 0x3ff00000-0x3ff000f3]
+[    0.012346] ACPI: Reserving DSDT table memory at [mem 0x3ff10000-0x3ff12fff]
+"""
+
+
+class Told(Case):
+    """What no input of the program tells: a log of the kernel, areas of cma= and hugetlb_cma=."""
+
+    def linux(self, *words):
+        """The claims of a run over the test's files by their kernel function, its status and output."""
+        status, out, err = tool("bootmem-linux", "--explain", *words, folder=self.work)
+        found = collections.defaultdict(list)
+        for first, last, rule in re.findall(r"claim: (0x\w+)-(0x\w+) .*\((\w+)\)$", err, re.MULTILINE):
+            found[rule].append((int(first, 16), int(last, 16) + 1))
+        return found, status, out, err
+
+    def test_log(self):
+        """All nodes of setup_data, ACPI tables and EFI's tables are claimed if a log tells them; descriptors of boot services with such a
+        table aren't."""
+        page = bytearray(inputs.zero_page(machine_of(GIB)))
+        struct.pack_into("<Q", page, linux_claims.SETUP_DATA, 0x30001000)
+        page[linux_claims.EFI_INFO:linux_claims.EFI_INFO + 4] = b"EL64"
+        write(self.path("zp"), bytes(page))
+        write(self.path("efi"), inputs.efi_map([(4, 0x3E400000, 256, 15), (4, 0x3E900000, 16, 15), (4, 0x3EA00000, 16, 15)]))
+        write(self.path("log"), LOG)
+        words = ["--report", "map", "--kernel", "64M,16M", "--efi", "efi", "zp"]
+        found, status, out, err = self.linux("--log", "log", *words)
+        self.check("log: status", status, 0)
+        self.check("log: setup_data", found[SETUP_DATA], [(0x30001000, 0x3000102C), (0x30100000, 0x30100020)])
+        self.check("log: ACPI tables", found["acpi_table_init"], [(0x3FF00000, 0x3FF000F4), (0x3FF10000, 0x3FF13000)])
+        self.check("log: EFI's tables", (found["efi_memattr_init"], found["efi_tpm_eventlog_init"]),
+                   ([(0x3E4F3018, 0x3E4F4000)], [(0x3EA00000, 0x3EA01000)]))
+        self.check("log: boot services", found[BOOT_SERVICES], [(0x3E900000, 0x3E910000)])
+        self.check("log: what is left unknown", ("nodes of setup_data" in err, "tables of ACPI" in err, "a frame each" in err),
+                   (False, False, True))
+        self.has("log: an ACPI table is taken out", out, "0x000000003ff10000..0x000000003ff12fff 2 reserved")
+        found, _, _, err = self.linux(*words)
+        self.check("no log", (found[SETUP_DATA], found["acpi_table_init"], found[BOOT_SERVICES]),
+                   ([(0x30001000, 0x30001010)], [], [(0x3E400000, 0x3E500000), (0x3E900000, 0x3E910000), (0x3EA00000, 0x3EA10000)]))
+        self.check("no log: what is unknown", ("nodes of setup_data" in err, "tables of ACPI" in err, "--log tells it" in err),
+                   (True, True, True))
+        self.check("no such log", tool("bootmem-linux", "--log", "none", *words, folder=self.work)[:2], (2, ""))
+
+    def test_nodes(self):
+        """Pieces of RAM that touch are RAM and nodes in turn; the first node says which are which."""
+        pieces = [(0, 8), (16, 32), (32, 40), (40, 48), (64, 72), (72, 80)]
+        for first, wanted in ((32, [(32, 40), (72, 80)]), (16, [(16, 32), (40, 48), (72, 80)]), (64, [(32, 40), (64, 72)])):
+            self.check(f"setup_data from {first} on", list(linux_log.nodes_of(pieces, first)), wanted)
+
+    def test_type(self):
+        """RAM of a node has type 128 in the inputs before claims are cut out, as bootmem-live compares them."""
+        page = bytearray(inputs.zero_page(machine_of(GIB)))
+        struct.pack_into("<Q", page, linux_claims.SETUP_DATA, 0x30001000)
+        write(self.path("zp"), bytes(page))
+        with as_linux.prepared(PROGRAM, ["--kernel", "64M,16M", self.path("zp")], as_linux.Settings()) as boot:
+            self.has("a node's type", program(self.work, "--report", "map", *boot.read), "0x0000000030001000..0x000000003000100f 128 ")
+            self.has("a node is claimed whole", program(self.work, "--report", "map", *boot.words),
+                     "0x0000000030001000..0x0000000030001fff 2 reserved")
+
+    def test_cma(self):
+        """cma= lies as low as it can above 4 GiB, else as high as it can below node data, in whole 2 MiB; the crash area comes after it."""
+        write(self.path("small"), inputs.zero_page(machine_of(GIB)))
+        write(self.path("large"), inputs.zero_page(machine_of(8 * GIB)))
+        # on the machine of 1 GiB node data has the last 172 KiB of RAM, which ends at 0x3ffdf000
+        for page, line, wanted in (
+                ("small", "cma=63M", [(0x3BE00000, 0x3FE00000)]),
+                ("large", "cma=64M", [(4 * GIB, 4 * GIB + 64 * MIB)]),
+                ("small", "cma=64M@256M", [(256 * MIB, 320 * MIB)]),
+                ("small", "cma=64M@256M-512M", [(448 * MIB, 512 * MIB)]),
+                ("small", "cma=64M@60M", []),  # the image is there
+                ("small", "cma=2G", []),
+                ("small", "cma=1M cma=0", []),
+                ("small", "cma=x", [])):
+            write(self.path("line"), line)
+            found, status, _, err = self.linux("--cma", "--kernel", "64M,16M", "--cmdline", "line", page)
+            self.check(f"{page}: {line}", (status, found["dma_contiguous_reserve"], "word 1" in err), (0, wanted, False))
+        write(self.path("line"), "cma=64M crashkernel=128M")
+        words = ["--report", "crash", "--kernel", "64M,16M", "--cmdline", "line", "small"]
+        # below 0x3be00000, from a multiple of 16 MiB on
+        self.check("the crash area", self.linux("--cma", *words)[2], "crash at 0x0000000033000000..0x000000003affffff\n")
+        found, _, out, err = self.linux(*words)
+        self.check("a kernel without CMA", (found["dma_contiguous_reserve"], out, "is built without CONFIG_CMA" in err),
+                   ([], "crash at 0x0000000037000000..0x000000003effffff\n", True))
+
+    def test_hugetlb(self):
+        """hugetlb_cma= has whole GiB on the nodes, if there are pages of 1 GiB."""
+        write(self.path("zp"), inputs.zero_page(machine_of(12 * GIB)))
+        write(self.path("srat"), srat(memory_of(0, 0, 6 * GIB), memory_of(1, 6 * GIB, 7 * GIB)))
+        # of 3 GiB node 0 gets half, rounded up to 2 GiB: node data leaves too little from 4 GiB on, so the area ends below 3 GiB
+        for line, wanted in (("hugetlb_cma=1G", [4]), ("hugetlb_cma=2G", [4, 6]), ("hugetlb_cma=3G", [0, 6]),
+                             ("hugetlb_cma=1:2G", [6]), ("hugetlb_cma=0:1G,1:1G", [4, 6]), ("hugetlb_cma=512M", []),
+                             ("hugetlb_cma=7:1G", [])):
+            write(self.path("line"), line)
+            words = ["--cma", "--kernel", "64M,16M", "--cmdline", "line", "--srat", "srat", "zp"]
+            found = self.linux("--pages", "1G", *words)[0]["hugetlb_cma_reserve"]
+            self.check(line, [first // GIB for first, _ in found], wanted)
+        found, _, _, err = self.linux(*words)
+        self.check("without pages of 1 GiB", (found["hugetlb_cma_reserve"], "so hugetlb_cma= claims nothing" in err), ([], True))
+        sizes = [end - first for first, end, *_ in [span for span, _, _ in linux_cma.areas(
+            "hugetlb_cma=3G", Free([(MIB, 12 * GIB)]), [linux_cma.Node(0, [(MIB, 6 * GIB)]), linux_cma.Node(1, [(6 * GIB, 12 * GIB)])],
+            12 * GIB, True)]]
+        self.check("half of 3 GiB, rounded up, is all that is left", sizes, [2 * GIB, GIB])
+
+    def test_mirrored(self):
+        """Mirrored memory of EFI counts as any other unless the line has kernelcore=mirror."""
+        write(self.path("zp"), inputs.zero_page(machine_of(GIB)))
+        write(self.path("efi"), inputs.efi_map([(7, 128 * MIB, 4096, 0x1000F)]))
+        for line, wanted in (("quiet", False), ("kernelcore=mirror", True), ("kernelcore=1G", False)):
+            write(self.path("line"), line)
+            _, _, out, err = self.linux("--report", "owners", "--kernel", "64M,16M", "--efi", "efi", "--cmdline", "line", "zp")
+            place = int(re.search(r"0x(\w+)\.\.0x\w+ node-data 0", out).group(1), 16)
+            self.check(f"mirrored memory, {line}", (place < 144 * MIB, "memblock_mark_mirror" in err), (wanted, not wanted))
 
 
 class Tables(Case):

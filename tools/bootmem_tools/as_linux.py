@@ -41,14 +41,14 @@ SPLIT = "as_linux"  # the folder of the inputs before claims are cut out
 
 class Settings(NamedTuple):
     """What no input of the program tells: the largest page of the direct map and what brk has in
-    use, None if they are assumed; whether x2APIC mode is on and whether the kernel has CMA; and
-    the path of its log, or None."""
+    None if they are assumed; whether x2APIC mode is on and whether the kernel has CMA; and
+    what its log tells."""
 
     pages: str | None = None
     brk: int | None = None
     x2apic: bool = False
     cma: bool = False
-    log: str | None = None
+    told: linux_log.Told = linux_log.NOTHING
 
 
 class Prepared(NamedTuple):
@@ -146,7 +146,8 @@ def settings_of(given: argparse.Namespace, parser: argparse.ArgumentParser) -> S
         if pages not in PAGES:
             parser.error(f"--pages {pages}: none of {', '.join(PAGES)}")
     pages = given.pages[-1] if given.pages else None
-    return Settings(pages, size, given.x2apic, given.cma, getattr(given, "log", None))
+    told = linux_log.read_log(getattr(given, "log", None))
+    return Settings(pages, size, given.x2apic, given.cma, told)
 
 
 class Given(NamedTuple):
@@ -182,12 +183,12 @@ class Boot:
         self, settings: Settings, given: Given, program: str, work: str, folder: str | None = None
     ) -> None:
         self.settings, self.given, self.program, self.work = settings, given, program, work
+        self.told = settings.told
         self.folder = folder or ""
         self.page = self.read(given.page)
         self.files = {
             name: self.read(given.options[name]) for name in READ if name in given.options
         }
-        self.told = linux_log.read_log(settings.log)
         self.line = ""
         self.texts: Texts = {}
         self.entries: list[Entry] = []  # of the report map

@@ -29,9 +29,12 @@ class Told(NamedTuple):
     efi: list[tuple[str, int]]
 
 
+NOTHING = Told(False, [], [], [])  # without a log
+
+
 def read_log(path: str | None) -> Told:
     """Returns what the log in a file tells; nothing if the path is None."""
-    return Told(False, [], [], []) if path is None else told_by(tool.read_text(path, kind=tool.LOG))
+    return NOTHING if path is None else told_by(tool.read_text(path, kind=tool.LOG))
 
 
 def told_by(text: str) -> Told:
