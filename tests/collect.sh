@@ -98,6 +98,16 @@ says "a descriptor that can't be read" "$(cat "$work/err")" "efi.bin: can't read
 is "no file of descriptors" "$(ls "$work/efi/efi.bin" 2>/dev/null)" ""
 rm -r "$map"
 
+# the largest page of the direct map, by the flags of the processor; not without them
+is "pages without cpuinfo" "$(ls "$work/out/pages" 2>/dev/null)" ""
+for flag in 1G:pdpe1gb 2M:pdpe2gb; do
+	printf 'processor\t: 0\nflags\t\t: fpu %s lm\n' "${flag#*:}" >"$work/proc/cpuinfo"
+	collect pages
+	is "pages with ${flag#*:}" "$(cat "$work/pages/pages")" "${flag%:*}"
+	says "pages that are told" "$(cat "$work/said")" "pages: the largest page of the direct map, ${flag%:*}"
+done
+rm "$work/proc/cpuinfo"
+
 # a folder whose name a shell would split
 collect "a b'c"
 is "the next command's folder" "$(sed -n "s/^next: \(cd .*\) && .*/\1/p" "$work/said" | tail -n 1)" "cd '$work/a b'\\''c'"

@@ -610,6 +610,27 @@ class Told(Case):
             12 * GIB, True)]]
         self.check("half of 3 GiB, rounded up, is all that is left", sizes, [2 * GIB, GIB])
 
+    def test_initrd(self):
+        """An initrd that mem= leaves unmapped moves to the highest place that is mapped, and node data comes after it."""
+        write(self.path("zp"), inputs.zero_page(machine_of(GIB), (768 * MIB, 16 * MIB)))
+        for line, place, moves in (("mem=512M", 496 * MIB, True), ("mem=800M", 768 * MIB, False)):
+            write(self.path("line"), line)
+            _, _, out, err = self.linux("--report", "owners", "--kernel", "64M,16M", "--cmdline", "line", "zp")
+            self.has(f"the initrd, {line}", out, f"{place:#018x}..{place + 16 * MIB - 1:#018x} initrd\n")
+            self.check(f"it moves, {line}", f"it moves to {place:#x} (relocate_initrd)" in err, moves)
+        write(self.path("line"), "mem=512M")
+        _, _, out, _ = self.linux("--report", "owners", "--kernel", "64M,16M", "--cmdline", "line", "zp")
+        self.has("node data", out, f"{496 * MIB - 0x2B000:#018x}..{496 * MIB - 1:#018x} node-data 0\n")
+
+    def test_gigantic(self):
+        """nogbpages forbids pages of 1 GiB: each GiB then has a table, of which brk has room for 16 with the upper ones."""
+        write(self.path("zp"), inputs.zero_page(machine_of(40 * GIB)))
+        counts = []
+        for pages, line in (("1G", "quiet"), ("1G", "nogbpages"), ("2M", "quiet")):
+            write(self.path("line"), line)
+            counts.append(len(self.linux("--pages", pages, "--kernel", "64M,16M", "--cmdline", "line", "zp")[0]["alloc_low_pages"]))
+        self.check("page tables of memblock", (counts[0] < 16, counts[1] > 20, counts[1] == counts[2]), (True, True, True))
+
     def test_mirrored(self):
         """Mirrored memory of EFI counts as any other unless the line has kernelcore=mirror."""
         write(self.path("zp"), inputs.zero_page(machine_of(GIB)))
