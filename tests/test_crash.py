@@ -61,7 +61,8 @@ class Crash(Case):
                  "0x0000000004411000-0x000000007fed3fff, between brk and initrd\n")
         self.has("crash, above", out, "between another node and node-data 1\n")
         status, out, err = crash("q35-1g", "--size", "64M@16M")
-        self.check("crash, in use", (status, out, err), (1, "size   crashkernel=64M@16M doesn't fit\n       of the place brk and kernel have bytes\n", ""))
+        self.check("crash, in use", (status, out, err),
+                   (1, "size   crashkernel=64M@16M doesn't fit\n       of the place brk and kernel have bytes\n", ""))
         write(self.path("low"), b"crashkernel=3G,low crashkernel=1G,high\n")
         status, out, _ = crash("q35-8g-numa2", "--cmdline", self.path("low"), "--size", "1G,high")
         self.check("crash, no low part", (status, "its low part hasn't: below 4 GiB the greatest gap" in out), (1, True))

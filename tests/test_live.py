@@ -155,8 +155,9 @@ class Live(Case):
         write(os.path.join(folder, "cmdline"), line)
         write(os.path.join(folder, "srat.bin"), inputs.srat([(0, 512 * MIB, 0), (512 * MIB, 512 * MIB, 1024)]))
         self.check("a domain of 1,024", found(folder, 0), [])
-        self.check("a domain of 1,024, --raw", found(folder, 0, "--raw"), ["known    srat: the kernel drops an SRAT with a domain of 1,024 or more, so all memory "
-                                                           "is of node 0"])
+        self.check("a domain of 1,024, --raw", found(folder, 0, "--raw"),
+                   ["known    srat: the kernel drops an SRAT with a domain of 1,024 or more, so all memory "
+                    "is of node 0"])
         write(os.path.join(folder, "srat.bin"), inputs.srat([(0, 512 * MIB, 0), (512 * MIB, 512 * MIB, 1023)]))
         self.check("a domain of 1,023", found(folder, 1)[0][:7], "differs")
         os.remove(os.path.join(folder, "srat.bin"))

@@ -307,10 +307,12 @@ class Boot:
     def read_efi(self) -> None:
         """Takes the attribute of mirrored memory out of EFI's descriptors, unless the line has
         kernelcore=mirror (memblock_mark_mirror)."""
-        values = [word.value for word in command_line.words_of(self.line)[0] if word.name == "kernelcore"]
+        words_read = command_line.words_of(self.line)[0]
         data = bytearray(self.files.get("efi", b""))
-        mirrored = [one for one in linux_claims.read_descriptors(bytes(data)) if one.attributes & MIRRORED]
-        if not mirrored or "mirror" in values:
+        found = linux_claims.read_descriptors(bytes(data))
+        if not any(one.attributes & MIRRORED for one in found) or any(
+            (word.name, word.value) == ("kernelcore", "mirror") for word in words_read
+        ):
             return
         stride: int = struct.unpack_from("<I", data)[0]
         for place in range(8 + 32, len(data) - stride + 41, stride):
@@ -329,9 +331,11 @@ class Boot:
         """Returns the program's words for the inputs as they are read, in which RAM of
         setup_data's nodes has type 128 (e820__reserve_setup_data)."""
         held_line, held = self.line, self.files.get("cmdline")
-        if self.texts and struct.unpack_from("<Q", self.page, linux_claims.SETUP_DATA)[0]:
+        if self.texts and linux_claims.has_setup_data(self.page):
             nodes = linux_claims.setup_data(self.machine(), linux_claims.initrd_of(self.page))
-            self.add_words([f"memmap={one.end - one.first:#x}%{one.first:#x}-1+128" for one in nodes])
+            self.add_words(
+                [f"memmap={one.end - one.first:#x}%{one.first:#x}-1+128" for one in nodes]
+            )
         found = self.words(True, SPLIT)
         self.line = held_line
         self.files.pop("cmdline", None)
@@ -417,11 +421,8 @@ class Boot:
             if one.fields["type"] == SOFT
         ]
         ram = self.ram()
-        extension = (
-            len(self.files.get("e820ext", b""))
-            if struct.unpack_from("<Q", self.page, linux_claims.SETUP_DATA)[0]
-            else 0
-        )
+        has_node = linux_claims.has_setup_data(self.page)
+        extension = len(self.files.get("e820ext", b"")) if has_node else 0
         return linux_claims.Machine(
             self.page,
             self.line,
@@ -561,7 +562,7 @@ class Boot:
                 " later"
             ),
         )
-        if struct.unpack_from("<Q", self.page, linux_claims.SETUP_DATA)[0] and not self.told.has_log:
+        if linux_claims.has_setup_data(self.page) and not self.told.has_log:
             self.say("unknown", "nodes of setup_data after the first; --log tells them")
         if self.page[linux_claims.EFI_INFO : linux_claims.EFI_INFO + 4] in (b"EL64", b"EL32"):
             if "efi" not in self.files:

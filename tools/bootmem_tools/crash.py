@@ -16,8 +16,8 @@ USAGE = """bootmem-crash [--size SIZE].. [--kernel BASE,SIZE] [--cmdline FILE]
                      [--e820ext FILE] [--srat FILE] [--slit FILE] [--efi FILE]
                      [--pages 4K|2M|1G] [--brk BYTES] [--x2apic] [--cma]
                      [--log FILE] [--raw] [--program P] FOLDER|ZEROPAGE"""
-ABOUT = """Prints, for a boot of Linux 6.1, the greatest size of crashkernel= that fits on a machine in each form, plain and high, in whole MiB, and where it
-would lie; what the machine's own line asks for; and for each SIZE whether it fits, where, or why not: the greatest gap,
+ABOUT = """Prints, for a boot of Linux 6.1, the greatest size of crashkernel= that fits on a machine in each form, plain and high, in whole MiB,
+and where it would lie; what the machine's own line asks for; and for each SIZE whether it fits, where, or why not: the greatest gap,
 and who cuts it."""
 EPILOG = f"""FOLDER is what bootmem-collect (collect.sh) gathered of a machine; or a zero page is named, and the other files by the
 options, which count before those of FOLDER. SIZE is S, S@BASE or S,high as in crashkernel=. The tool

@@ -113,6 +113,11 @@ def move_initrd(page: bytes, place: int) -> bytes:
     return bytes(moved)
 
 
+def has_setup_data(page: bytes) -> bool:
+    """Tells whether the zero page has the address of a first node of setup_data."""
+    return any(page[SETUP_DATA : SETUP_DATA + 8])
+
+
 def setup_data(machine: Machine, initrd: Span | None) -> Iterator[Claim]:
     """Yields the nodes of setup_data: of the first the zero page has the address, and a log has
     all of them."""
