@@ -565,33 +565,37 @@ class Boot:
         if linux_claims.has_setup_data(self.page) and not self.told.has_log:
             self.say("unknown", "nodes of setup_data after the first; --log tells them")
         if self.page[linux_claims.EFI_INFO : linux_claims.EFI_INFO + 4] in (b"EL64", b"EL32"):
-            if "efi" not in self.files:
-                self.say(
-                    "unknown",
-                    (
-                        "the firmware is UEFI and there is no --efi: what its boot services have"
-                        " isn't claimed"
-                    ),
-                )
-            elif not any(
-                one.kind in linux_claims.BOOT_SERVICES
-                for one in linux_claims.read_descriptors(self.files["efi"])
-            ):
-                self.say(
-                    "unknown",
-                    (
-                        "EFI's memory map has no boot services, so none of their memory is"
-                        " claimed; the log of a boot with efi=debug has it"
-                    ),
-                )
+            self.explain_efi()
+
+    def explain_efi(self) -> None:
+        """Says what can't be known of a boot with UEFI firmware."""
+        if "efi" not in self.files:
             self.say(
                 "unknown",
                 (
-                    "how long EFI's memory attributes and TPM log are: a frame each"
-                    if self.told.has_log
-                    else "where EFI's memory attributes and TPM log lie; --log tells it"
+                    "the firmware is UEFI and there is no --efi: what its boot services have"
+                    " isn't claimed"
                 ),
             )
+        elif not any(
+            one.kind in linux_claims.BOOT_SERVICES
+            for one in linux_claims.read_descriptors(self.files["efi"])
+        ):
+            self.say(
+                "unknown",
+                (
+                    "EFI's memory map has no boot services, so none of their memory is"
+                    " claimed; the log of a boot with efi=debug has it"
+                ),
+            )
+        self.say(
+            "unknown",
+            (
+                "how long EFI's memory attributes and TPM log are: a frame each"
+                if self.told.has_log
+                else "where EFI's memory attributes and TPM log lie; --log tells it"
+            ),
+        )
 
 
 def is_valid_slit(table: bytes) -> bool:

@@ -121,9 +121,11 @@ class Machine:
         self.split_line(line)
 
     def __enter__(self) -> Machine:
+        """Returns the machine."""
         return self
 
     def __exit__(self, *_: object) -> None:
+        """Removes its files."""
         self.files.close()
 
     @staticmethod

@@ -21,7 +21,8 @@ USAGE = """bootmem-live [--kernel BASE,SIZE] [OPTIONS] [--program P] FOLDER
        bootmem-live [--kernel BASE,SIZE] [OPTIONS] [--program P] [--keep FOLDER]
                     [--sys DIR] [--proc DIR]
 
-OPTIONS: [--pages 4K|2M|1G] [--brk BYTES] [--x2apic] [--cma] [--log FILE] [--raw]"""
+OPTIONS: [--pages 4K|2M|1G] [--brk BYTES] [--x2apic] [--cma] [--log FILE]
+         [--raw]"""
 ABOUT = """Compares what bootmem says of a machine with what its kernel shows: the map's usable ranges with the System RAM of
 /proc/iomem, the crash area with its Crash kernel, and start, spanned and present frames of each zone with
 /proc/zoneinfo. Each difference is one line, with what may explain it."""
@@ -36,7 +37,7 @@ reads the inputs itself. A zone is compared by the kernel's own rule: the hull o
 borders.
 
 A line begins with
-  noted    what was changed as the kernel reads it, or assumed, or can't be known
+  noted    what was changed as Linux reads it, or assumed, or can't be known
   panics   why Linux 6.1 is known to panic on this boot
   agrees   the kernel has what bootmem says
   known    it differs as a row of docs/KERNEL.md says, which is named
