@@ -166,6 +166,9 @@ class Live(Case):
         write(os.path.join(folder, "efi.bin"), inputs.efi_map([(4, 0x3FE00000, 4, 1 << 63)]))
         self.check("kept by EFI", found(folder, 0), ["known    iomem 0x000000003fe00000-0x000000003fe03fff (16 KiB): usable by bootmem, no System "
                                                      "RAM here: boot services' data that the kernel keeps"])
+        write(os.path.join(folder, "efi.bin"), inputs.efi_map([(4, 0x3FD00000, 0x110, 0)]))
+        write(self.path("log"), b"[    0.000000] e820: update [mem 0x3fe00000-0x3fe03fff] usable ==> reserved\n")
+        self.check("kept by EFI, by a log", [text[:7] for text in found(folder, 0, "--log", self.path("log"))], ["known  "])
         for descriptor in ((4, 0x3FE00000, 4, 0), (6, 0x3FE00000, 4, 1 << 63), (4, 0x3FE00000, 3, 1 << 63)):
             write(os.path.join(folder, "efi.bin"), inputs.efi_map([descriptor]))
             self.check(f"not kept: {descriptor}", [text[:7] for text in found(folder, 1)], ["differs"])

@@ -554,12 +554,12 @@ class Boot:
                 "assumed",
                 "brk has 16 pages for page tables and one for DMI's texts in use; --brk tells it",
             )
-        tables = "the MP table" if self.told.has_log else "tables of ACPI and the MP table"
+        has_log = self.told.has_log
+        tables = "the MP table claims" if has_log else "tables of ACPI and the MP table claim"
         self.say(
             "unknown",
             (
-                f"what {tables} claim in RAM, ACPI tables in the initrd, and what drivers ask for"
-                " later"
+                f"what {tables} in RAM, ACPI tables in the initrd, and what drivers ask for later"
             ),
         )
         if linux_claims.has_setup_data(self.page) and not self.told.has_log:

@@ -16,20 +16,25 @@ NODE = re.compile(r"reserve setup_data: \[mem 0x([0-9a-f]{1,16})-0x([0-9a-f]{1,1
 TABLE = re.compile(
     r"ACPI: Reserving (\S+) table memory at \[mem 0x([0-9a-f]{1,16})-0x([0-9a-f]{1,16})\]"
 )
+RESERVED = re.compile(
+    r"e820: update \[mem 0x([0-9a-f]{1,16})-0x([0-9a-f]{1,16})\] usable ==> reserved"
+)
 EFI_TABLE = re.compile(rf"\b({'|'.join(EFI_TABLES)})=0x([0-9a-f]{{1,16}})\b")
 
 
 class Told(NamedTuple):
     """What a log tells: the pieces of RAM as setup_data splits it, ACPI tables by name, and the
-    addresses of EFI's tables by name. `has_log` says whether there is a log at all."""
+    addresses of EFI's tables by name, and RAM that became reserved later. `has_log` says whether
+    there is a log at all."""
 
     has_log: bool
     pieces: list[Span]
     acpi: list[tuple[str, Span]]
     efi: list[tuple[str, int]]
+    reserved: list[Span]
 
 
-NOTHING = Told(False, [], [], [])  # without a log
+NOTHING = Told(False, [], [], [], [])  # without a log
 
 
 def read_log(path: str | None) -> Told:
@@ -53,7 +58,8 @@ def told_by(text: str) -> Told:
         if "efi:" in line
         for name, place in EFI_TABLE.findall(line)
     ]
-    return Told(True, sorted(pieces), acpi, efi)
+    reserved = [(int(first, 16), int(last, 16) + 1) for first, last in RESERVED.findall(text)]
+    return Told(True, sorted(pieces), acpi, efi, reserved)
 
 
 def nodes_of(pieces: list[Span], first_node: int) -> Iterator[Span]:

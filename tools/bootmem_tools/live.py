@@ -7,13 +7,12 @@ import collections
 import os
 import re
 import shutil
-import struct
 import subprocess
 import sys
 import tempfile
 from typing import Iterable, Iterator, NamedTuple, NoReturn, Sequence
 
-from bootmem_tools import as_linux, machine, notes, ranges, reports, runner, tool
+from bootmem_tools import as_linux, linux_claims, machine, notes, ranges, reports, runner, tool
 from bootmem_tools.grammar import read_lines
 
 NAME = "bootmem-live"
@@ -151,21 +150,19 @@ class Shown(NamedTuple):
     kept: list[ranges.Range]
 
 
-def kept_data(folder: str) -> list[ranges.Range]:
+def kept_data(folder: str, reserved: Sequence[ranges.Range] = ()) -> list[ranges.Range]:
     """Returns boot services' data with the attribute of runtime services, by the folder's EFI
-    memory map: what the kernel keeps of it has this attribute (efi_arch_mem_reserve)."""
+    memory map: what the kernel keeps of it has this attribute (efi_arch_mem_reserve). In a map
+    from before it kept any, it is what a log has as RAM that became `reserved`."""
     path = os.path.join(folder, "efi.bin")
     if not os.path.isfile(path):
         return []
     with open(path, "rb") as file:
-        data = file.read(1 << 20)
-    stride = int.from_bytes(data[:4], "little")
-    found = []
-    for place in range(8, len(data) - 39, stride) if stride >= 40 else ():
-        kind, first, pages, attributes = struct.unpack_from("<I4xQ8xQQ", data, place)
-        if kind == BOOT_DATA and attributes & RUNTIME and pages:
-            found.append((first, first + pages * ranges.FRAME - 1))
-    return found
+        descriptors = linux_claims.read_descriptors(file.read(1 << 20))
+    data = [one for one in descriptors if one.kind == BOOT_DATA and one.first < one.end]
+    found = [(one.first, one.end - 1) for one in data if one.attributes & RUNTIME]
+    return found + [(first, last) for first, last in reserved
+                    if any(one.first <= first and last < one.end for one in data)]
 
 
 def ram_finding(first: int, last: int, here: bool, shown: Shown) -> Finding:
@@ -404,7 +401,8 @@ def compare(given: argparse.Namespace, folder: str, words: Sequence[str], texts:
         image = image_of(resources)
         usable = [(entry.first, entry.last) for entry in reports.spans("map", texts["map"]) if entry.fields["type"] in reports.MEMORY]
         made = ranges_outside(*image, usable) if image else []
-        yield from compare_ram(resources, reports.spans("map", texts["map"]), kept_data(folder))
+        reserved = [(first, end - 1) for first, end in given.settings.told.reserved]
+        yield from compare_ram(resources, reports.spans("map", texts["map"]), kept_data(folder, reserved))
         yield compare_crash(resources, texts["crash"], machine.is_uefi(os.path.join(folder, "zp.bin")))
     if zoneinfo is None:
         yield Finding("passed", "zoneinfo: it isn't there")
