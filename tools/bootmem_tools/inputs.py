@@ -95,18 +95,28 @@ def memory_affinity(first: int, size: int, domain: int, flags: int = 1) -> bytes
     return struct.pack("<BBIHQQIIQ", 1, 40, domain, 0, first, size, 0, flags, 0)
 
 
-def processor_affinity(domain: int) -> bytes:
-    """Returns an SRAT's entry for processor 0 in this domain (struct acpi_srat_cpu_affinity)."""
+def processor_affinity(domain: int, apic: int = 0) -> bytes:
+    """Returns an SRAT's entry for the processor of this APIC id (struct acpi_srat_cpu_affinity)."""
     low, high = domain & 0xFF, (domain >> 8).to_bytes(3, "little")
-    return struct.pack("<BBBBIB", 0, 16, low, 0, 1, 0) + high + bytes(4)
+    return struct.pack("<BBBBIB", 0, 16, low, apic, 1, 0) + high + bytes(4)
+
+
+def x2apic_affinity(domain: int, apic: int) -> bytes:
+    """Returns an SRAT's entry for the processor of this x2APIC id (struct
+    acpi_srat_x2apic_cpu_affinity)."""
+    return struct.pack("<BBHIIIII", 2, 24, 0, domain, apic, 1, 0, 0)
 
 
 def srat(blocks: Iterable[tuple[int, int, int]], domains: Iterable[int] = ()) -> bytes:
     """Returns an SRAT, revision 3: a processor for each of the domains, and these blocks, each a
     base, a size and a domain."""
     entries = [processor_affinity(domain) for domain in domains]
-    body = b"".join(entries + [memory_affinity(*block) for block in blocks])
-    return acpi_table(b"SRAT", struct.pack("<IQ", 1, 0) + body, 3)
+    return srat_of(entries + [memory_affinity(*block) for block in blocks])
+
+
+def srat_of(entries: Iterable[bytes]) -> bytes:
+    """Returns an SRAT, revision 3, of these entries."""
+    return acpi_table(b"SRAT", struct.pack("<IQ", 1, 0) + b"".join(entries), 3)
 
 
 def slit(rows: Sequence[Sequence[int]]) -> bytes:

@@ -1,0 +1,174 @@
+"""What a kernel's log tells of its boot: the firmware's map, the descriptors of UEFI firmware, the
+initrd, the command line, the kernel's image and its release; and lists of entries."""
+
+from __future__ import annotations
+
+import re
+from typing import Sequence
+
+from bootmem_tools import claims_from_log, ranges, tool
+from bootmem_tools.inputs import Entry, Initrd
+
+TYPES = {"usable": 1, "reserved": 2, "ACPI data": 3, "ACPI NVS": 4, "unusable": 5, "soft reserved": 0xEFFFFFFF}
+# Lines of a log, each with its number from 1 on.
+Numbered = list[tuple[int, str]]
+# A descriptor: its type, address, pages and attributes.
+Descriptor = tuple[int, int, int, int]
+HEAD = "BIOS-provided physical RAM map:"
+BEGUN = re.compile(r"Linux version \d|\bCommand line: ")
+ENTRY = r"\[mem 0x([0-9a-f]+)-0x([0-9a-f]+)\] (.+)"
+DESCRIPTOR = r"efi: mem(\d+): \[(.+?)\] range=\[0x([0-9a-f]+)-0x([0-9a-f]+)\]"
+# Types and attributes of descriptors by the names that the kernel prints (efi_md_typeattr_format;
+# UEFI, section 7.2.3).
+EFI_TYPES = ("Reserved", "Loader Code", "Loader Data", "Boot Code", "Boot Data", "Runtime Code", "Runtime Data", "Conventional",
+             "Unusable", "ACPI Reclaim", "ACPI Mem NVS", "MMIO", "MMIO Port", "PAL Code", "Persistent")
+ATTRIBUTES = {"UC": 0x1, "WC": 0x2, "WT": 0x4, "WB": 0x8, "UCE": 0x10, "WP": 0x1000, "RP": 0x2000, "XP": 0x4000, "NV": 0x8000,
+              "MR": 0x10000, "RO": 0x20000, "SP": 0x40000, "CC": 0x80000, "RUN": 1 << 63}
+
+
+def type_of(text: str) -> int | None:
+    """Returns the number of a type by the name that the kernel prints, or by a number; None if
+    it is neither."""
+    match = re.fullmatch(r"(?:persistent \(type (\d+)\)|type (\d+)|(0[xX][0-9a-fA-F]+|\d+))", text)
+    if match is None:
+        return TYPES.get(text)
+    named = match.group(1) or match.group(2)
+    number = int(named) if named else ranges.parse_size(match.group(3))
+    return number if number is not None and number < 1 << 32 else None
+
+
+def clean(line: str) -> str:
+    """Returns the line without colours and without blanks at its end."""
+    return re.sub(r"\x1b\[[0-9;]*[mK]", "", line).rstrip()
+
+
+def entry_of(number: int, base: int, size: int, name: str) -> Entry:
+    """Returns an entry of line `number`, checked as the program checks it."""
+    kind = type_of(name)
+    if kind is None:
+        raise tool.Trouble(f"line {number}: {tool.quoted(name)} is no type that is known")
+    if size < 0 or base + size > ranges.TOP:
+        raise tool.Trouble(f"line {number}: a range that ends before it begins, or beyond 2^64 - 1")
+    return base, size, kind
+
+
+def last_boot(lines: Numbered) -> tuple[Numbered, int]:
+    """Returns the lines of the last boot of a log, and how many boots it has: those from the line
+    `Linux version` or `Command line:` before its last line `BIOS-provided physical RAM map:` on."""
+    heads = [place for place, (_, line) in enumerate(lines) if HEAD in line]
+    if not heads:
+        return lines, 1
+    before = heads[-2] + 1 if len(heads) > 1 else 0
+    begun = [place for place in range(before, heads[-1]) if BEGUN.search(lines[place][1])]
+    named = [place for place in begun if "Linux version" in lines[place][1]]
+    return lines[(named or begun[-1:] or heads)[-1]:], len(heads)
+
+
+def entries_of_log(lines: Numbered) -> list[Entry]:
+    """Returns the entries of a log's lines `BIOS-e820`, or of the last table of its lines
+    `extended` if it has some."""
+    found: dict[str, list[Entry]] = {"BIOS-e820": [], "extended": []}
+    headed = any(HEAD in line for _, line in lines)
+    for number, line in lines:
+        match = re.search(r"(BIOS-e820|extended): " + ENTRY, line)
+        if match is None:
+            if re.search(r"(BIOS-e820|extended): \[mem", line):
+                raise tool.Trouble(f"line {number}: no whole entry: {tool.quoted(line)}")
+            continue
+        table, first, last = match.group(1), int(match.group(2), 16), int(match.group(3), 16)
+        if found[table] and first <= found[table][-1][0]:
+            if table == "BIOS-e820" and not headed:
+                raise tool.Trouble(f"line {number}: the addresses don't ascend: of a log with several boots and without "
+                                      f"their lines '{HEAD}', hand over one")
+            if table == "extended":  # printed once for each node of the extension, each time the whole map
+                found[table] = []
+        found[table].append(entry_of(number, first, last + 1 - first, match.group(4)))
+    return found["extended"] or found["BIOS-e820"]
+
+
+def entries_of_list(lines: Numbered) -> list[Entry]:
+    """Returns the entries of lines `base size type`; empty lines and those that begin with # are
+    ignored."""
+    entries = []
+    for number, line in lines:
+        words = line.split(None, 2)
+        if not words or words[0].startswith("#"):
+            continue
+        base, size = (ranges.parse_size(word) for word in (words + ["", ""])[:2])
+        if len(words) < 3 or base is None or size is None:
+            raise tool.Trouble(f"line {number}: neither 'base size type' nor a log with lines 'BIOS-e820: [mem ..] type'")
+        entries.append(entry_of(number, base, size, words[2]))
+    return entries
+
+
+def attributes_of(number: int, names: Sequence[str]) -> int:
+    """Returns the attributes of a descriptor by the names that the kernel prints, or by
+    `attr=0x..` if it has no name for one of them."""
+    if len(names) == 1 and names[0].startswith("attr=0x"):
+        return int(names[0][7:], 16)
+    unknown = [name for name in names if name and name not in ATTRIBUTES]
+    if unknown:
+        raise tool.Trouble(f"line {number}: {tool.quoted(unknown[0])} is no attribute that is known")
+    return sum(ATTRIBUTES[name] for name in names if name)
+
+
+def efi_type(number: int, name: str) -> int:
+    """Returns the number of a descriptor's type by the name that the kernel prints, or by
+    `type=N`."""
+    match = re.fullmatch(r"type=(\d+)", name)
+    if match:
+        return int(match.group(1))
+    if name not in EFI_TYPES:
+        raise tool.Trouble(f"line {number}: {tool.quoted(name)} is no type of a descriptor that is known")
+    return EFI_TYPES.index(name)
+
+
+def descriptors_of_log(lines: Numbered) -> list[Descriptor]:
+    """Returns the descriptors of the first list `efi: mem00 ..` of a log: type, address, pages
+    and attributes of each; none if the kernel didn't list them."""
+    found: list[Descriptor] = []
+    for number, line in lines:
+        match = re.search(DESCRIPTOR, line)
+        if match is None:
+            continue
+        index, first, last = int(match.group(1)), int(match.group(3), 16), int(match.group(4), 16)
+        if index == 0 and found:
+            break
+        if index != len(found):
+            raise tool.Trouble(f"line {number}: a descriptor is missing before mem{match.group(1)}")
+        name, *names = (part.strip() for part in match.group(2).split("|"))
+        pages = (last + 1 - first) % (ranges.TOP + 1) // ranges.FRAME  # one of no pages ends a byte before it begins
+        found.append((efi_type(number, name), first, pages, attributes_of(number, names)))
+    return found
+
+
+def initrd_of_log(lines: Numbered) -> Initrd | None:
+    """Returns base and size of the initrd by the log's last line RAMDISK, or None. A line
+    `Allocated new RAMDISK` has the place to which the kernel moved it (relocate_initrd)."""
+    found = None
+    for _, line in lines:
+        match = claims_from_log.RAMDISK.search(line)
+        if match:
+            found = int(match.group(1), 16), int(match.group(2), 16) + 1 - int(match.group(1), 16)
+    return found
+
+
+def line_of_log(lines: Numbered) -> str | None:
+    """Returns the command line of the line `Command line:`, or None."""
+    found = (re.search(r"\bCommand line: (.*)", line) for _, line in lines)
+    return next((match.group(1) for match in found if match), None)
+
+
+def release_of_log(lines: Numbered) -> str | None:
+    """Returns the kernel's release of the line `Linux version`, or None."""
+    found = (re.search(r"Linux version (\d\S*)", line) for _, line in lines)
+    return next((match.group(1) for match in found if match), None)
+
+
+def image_of_log(lines: Numbered) -> str | None:
+    """Returns the place of the kernel's image as --kernel takes it, which a log with memblock=debug
+    tells; None of another log."""
+    if not any("MEMBLOCK configuration:" in line for _, line in lines):
+        return None
+    image = claims_from_log.image_of(claims_from_log.read_log(line for _, line in lines))
+    return claims_from_log.kernel_text(image) if image else None

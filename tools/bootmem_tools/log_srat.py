@@ -1,0 +1,124 @@
+"""The ACPI table SRAT that a kernel's log tells: its processors and its ranges of memory
+(arch/x86/mm/srat.c, drivers/acpi/numa/srat.c)."""
+
+from __future__ import annotations
+
+import re
+from typing import NamedTuple, Sequence
+
+from bootmem_tools import inputs, ranges, tool
+
+# SRAT: PXM 1 -> APIC 0x01 -> Node 1, with four digits or more if the entry is an x2APIC's.
+PROCESSOR = re.compile(r"SRAT: PXM (\d{1,10}) -> APIC 0x([0-9a-f]{1,8}) -> Node (\d{1,10})\b")
+# ACPI: SRAT: Node 1 PXM 1 [mem 0x80000000-0xbfffffff] hotplug non-volatile
+MEMORY = re.compile(
+    r"SRAT: Node (\d{1,10}) PXM (\d{1,10}) \[mem 0x([0-9a-f]{1,16})-0x([0-9a-f]{1,16})\]"
+    r"( hotplug)?( non-volatile)?"
+)
+BEGUN = re.compile(r"SRAT: (Node \d+ PXM|PXM \d+ -> APIC)")
+LISTED = re.compile(r"ACPI: SRAT 0x[0-9A-Fa-f]+ ")
+ENABLED, HOTPLUG, NON_VOLATILE = 1, 2, 4  # flags of a range
+APIC_DIGITS = 2  # of an APIC id; an x2APIC id has four or more
+UNUSABLE = 255  # the first x2APIC id that takes x2APIC mode
+
+# Lines of a log, each with its number from 1 on.
+Numbered = Sequence["tuple[int, str]"]
+
+
+class Found(NamedTuple):
+    """The table, None if the log has none, and what a reader should know, a line each."""
+
+    table: bytes | None
+    notes: list[str]
+
+
+class Nodes:
+    """The nodes of domains: numbered from 0 on, in the order in which the table names the domains
+    (acpi_map_pxm_to_node)."""
+
+    def __init__(self) -> None:
+        self.domains: list[int] = []
+        self.notes: list[str] = []
+
+    def check(self, number: int, domain: int, node: int) -> None:
+        """Notes the first line whose node isn't the one that follows from the lines before."""
+        if domain not in self.domains:
+            self.domains.append(domain)
+        place = self.domains.index(domain)
+        if place != node and not self.notes:
+            self.notes.append(
+                f"line {number}: domain {domain} is node {node}, and by the lines before it would "
+                f"be node {place}: the log lacks some of the SRAT's entries"
+            )
+
+
+def processor_entry(number: int, match: re.Match[str]) -> bytes:
+    """Returns the entry of a processor."""
+    domain, apic = check_domain(number, int(match.group(1))), int(match.group(2), 16)
+    if len(match.group(2)) <= APIC_DIGITS:
+        return inputs.processor_affinity(domain, apic)
+    return inputs.x2apic_affinity(domain, apic)
+
+
+def memory_entry(number: int, match: re.Match[str]) -> bytes:
+    """Returns the entry of a range of memory.
+
+    A range without bytes is logged with its last byte below its first. So is one that passes 2^64,
+    which the kernel passes over but for its domain (numa_add_memblk_to); it becomes one without
+    bytes.
+    """
+    domain = check_domain(number, int(match.group(2)))
+    first, last = int(match.group(3), 16), int(match.group(4), 16)
+    flags = ENABLED | (HOTPLUG if match.group(5) else 0) | (NON_VOLATILE if match.group(6) else 0)
+    size = last + 1 - first if first <= last < ranges.TOP else 0
+    return inputs.memory_affinity(first, size, domain, flags)
+
+
+def check_domain(number: int, domain: int) -> int:
+    """Returns the domain.
+
+    # Errors
+    A Trouble if an entry has no room for it.
+    """
+    if domain >= 1 << 32:
+        raise tool.Trouble(f"line {number}: no domain has the number {domain}")
+    return domain
+
+
+def read_entries(lines: Numbered) -> tuple[list[bytes], list[str]]:
+    """Returns the entries of the lines in their order, and what a reader should know of them.
+
+    # Errors
+    A Trouble if a line of an entry isn't whole.
+    """
+    nodes, entries = Nodes(), []
+    for number, line in lines:
+        processor, memory = PROCESSOR.search(line), MEMORY.search(line)
+        if processor:
+            entries.append(processor_entry(number, processor))
+            nodes.check(number, int(processor.group(1)), int(processor.group(3)))
+        elif memory:
+            entries.append(memory_entry(number, memory))
+            nodes.check(number, int(memory.group(2)), int(memory.group(1)))
+        elif BEGUN.search(line):
+            raise tool.Trouble(f"line {number}: no whole entry of an SRAT: {tool.quoted(line)}")
+    return entries, nodes.notes
+
+
+def read_srat(lines: Numbered) -> Found:
+    """Returns the SRAT that these lines of one boot tell.
+
+    # Errors
+    A Trouble if a line of an entry isn't whole.
+    """
+    text = "\n".join(line for _, line in lines)
+    if "SRAT: SRAT not used" in text:
+        return Found(None, ["the kernel dropped its SRAT ('SRAT not used'), so none is made"])
+    entries, notes = read_entries(lines)
+    if not entries:
+        why = " (NUMA turned off)" if "NUMA turned off" in text else ""
+        lacking = [f"the log lists an SRAT, but none of its entries{why}: no SRAT is made"]
+        return Found(None, lacking if LISTED.search(text) else [])
+    if any(entry[0] == 2 and int.from_bytes(entry[8:12], "little") >= UNUSABLE for entry in entries):
+        notes.append(f"x2APIC ids of {UNUSABLE} or more: bootmem-linux takes --x2apic for them")
+    return Found(inputs.srat_of(entries), notes)
