@@ -3,7 +3,9 @@
 import os
 import re
 import shutil
+import signal
 import subprocess
+import time
 import unittest
 
 from kernels import folder_of, stand_in
@@ -33,6 +35,41 @@ class Commands(Case):
             self.check(f"{name} --help: lines of 80 letters", max(len(line) for line in out.splitlines()) <= 80, True)
             status, out, err = tool(name, "--unknown")
             self.check(f"{name} --unknown", (status, out, err == ""), (2, "", False))
+
+    def installed(self, program):
+        """The installed script over a stand-in for the program, a shell script of these lines."""
+        for folder in ("bin", "libexec/bootmem"):
+            os.makedirs(self.path(folder), exist_ok=True)
+        write(self.path("libexec/bootmem/bootmem"), f"#!/bin/sh\n{program}\n")
+        write(self.path("bin/bootmem"), text_of(os.path.join(TOP, "tools", "command.sh")).replace("@PROGRAM@", "bootmem"))
+        for file in ("libexec/bootmem/bootmem", "bin/bootmem"):
+            os.chmod(self.path(file), 0o755)
+        return self.path("bin/bootmem")
+
+    def test_signals(self):
+        """A signal to the installed script alone ends the program, too, and the script ends by it."""
+        script = self.installed(f"echo $$ >'{self.path('pid')}.new'; mv '{self.path('pid')}.new' '{self.path('pid')}'; exec sleep 100")
+        for number in (signal.SIGTERM, signal.SIGINT, signal.SIGHUP):
+            with subprocess.Popen([script, "zp"]) as running:
+                while not os.path.exists(self.path("pid")):
+                    time.sleep(0.01)
+                program = int(text_of(self.path("pid")))
+                running.send_signal(number)
+                status = running.wait(60)
+            self.check(f"{number.name}: the script, and the program", (status, os.path.exists(f"/proc/{program}")), (-number, False))
+            os.remove(self.path("pid"))
+
+    def test_hands_over(self):
+        """The installed script hands over words, standard input and status as they are."""
+        script = self.installed("for word; do printf '%s\\n' \"$word\"; done; cat; exit 6")
+        done = subprocess.run([script, "a b", "", "*"], input=b"given\n", stdout=subprocess.PIPE, check=False)
+        self.check("words, input, status", (done.stdout, done.returncode), (b"a b\n\n*\ngiven\n", 6))
+        script = self.installed("kill -9 $$")
+        self.check("a program that is killed", subprocess.run([script], check=False).returncode, 137)
+        script = self.installed("if true 9<&0; then echo open; else echo closed; fi 2>/dev/null")
+        for words, wanted in (("<&-", "closed\n"), ("</dev/null", "open\n")):
+            done = subprocess.run(["sh", "-c", f"'{script}' {words}"], stdout=subprocess.PIPE, stderr=subprocess.PIPE, check=False)
+            self.check(f"standard input: {words}", (done.stdout.decode(), done.stderr), (wanted, b""))
 
     def test_examples(self):
         """The commands that --help shows run where the files that they name are those of a machine, and complain of nothing."""

@@ -8,8 +8,28 @@ case ${1-} in
 --help | -h | --version) ;;
 *)
 	# pages of 2 MiB, if the system gives them on advice: the system hands out the 194 MB of a long report sooner
-	GLIBC_TUNABLES=glibc.malloc.hugetlb=1${GLIBC_TUNABLES:+:$GLIBC_TUNABLES} "$program" "$@"
+	GLIBC_TUNABLES=glibc.malloc.hugetlb=1${GLIBC_TUNABLES:+:$GLIBC_TUNABLES}
+	export GLIBC_TUNABLES
+	# A signal that reaches this script alone ends the program, too: so the program runs in the background. There a shell hands out
+	# /dev/null as standard input, so the script's own comes as 9.
+	child='' signal=''
+	trap 'signal=HUP; kill "$child" 2>/dev/null' HUP
+	trap 'signal=INT; kill "$child" 2>/dev/null' INT
+	trap 'signal=TERM; kill "$child" 2>/dev/null' TERM
+	if { true 9<&0; } 2>/dev/null; then
+		{ "$program" "$@" <&9 9<&- & } 9<&0
+	else
+		"$program" "$@" <&- &
+	fi
+	child=$!
+	[ -z "$signal" ] || kill "$child" 2>/dev/null
+	wait "$child"
 	status=$?
+	if [ -n "$signal" ]; then
+		wait "$child"
+		trap - "$signal"
+		kill -s "$signal" $$
+	fi
 	case $status in
 	2 | 3) ;;
 	*) exit "$status" ;;
