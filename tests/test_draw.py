@@ -5,6 +5,7 @@ import unittest
 import xml.dom.minidom
 
 from support import TOP, Case, example, text_of, tool, words_of
+from bootmem_tools import columns
 
 FIRST = """  address  map
       0x0  gap 1 MiB
@@ -71,7 +72,7 @@ class Draw(Case):
             self.check(f"draw {name}: entries", [row[4][0] for row in rows if row[0] == rows[0][0] and row[4][0] != "gap"],
                        [line.split(" ", 2)[2] for line in lines])
             for x, y, width, height, texts in rows:
-                self.check(f"draw {name}: room for {texts}", height >= 16 and width >= 6 * len("".join(texts)), True)
+                self.check(f"draw {name}: room for {texts}", height >= 16 and width >= 6 * len("".join(texts[:2])), True)
                 over = [one for one in rows if one[:2] != (x, y) and one[0] < x + width and x < one[0] + one[2]
                         and one[1] < y + height and y < one[1] + one[3]]
                 self.check(f"draw {name}: over {texts}", over, [])
@@ -81,6 +82,40 @@ class Draw(Case):
         self.check("draw, no report", tool("bootmem-draw", given="hello\n")[:2], (1, ""))
         self.check("draw, nothing drawn", tool("bootmem-draw", given="== tables\n")[:2], (1, ""))
         self.check("draw, a folder", tool("bootmem-draw", "--output", "/", given=OVER)[:2], (1, ""))
+
+    def test_part(self):
+        """A part of memory: rows that are cut keep their whole size, and nothing else is drawn."""
+        self.check("draw --from --to", tool("bootmem-draw", "--text", "--from", "3M", "--to", "0x7ff0000", example("first", "map.txt")),
+                   (0, "  address  map\n 0x300000  usable 126.9 MiB\n0x7fe0000  reserved 128 KiB\n0x7ff0000\n", ""))
+        self.check("draw --from alone", tool("bootmem-draw", "--text", "--from", "0x7fe0000", example("first", "map.txt"))[1],
+                   "  address  map\n0x7fe0000  reserved 128 KiB\n0x8000000\n")
+        self.check("draw, nothing there", tool("bootmem-draw", "--from", "1T", example("first", "map.txt")),
+                   (1, "", "bootmem-draw: nothing lies from 0x10000000000 up to 0x10000000000000000\n"))
+        for words in (["--from", "x"], ["--to", "0"], ["--from", "2M", "--to", "2M"], ["--from", "1M", "--html", "page"]):
+            self.check(f"draw {words}", tool("bootmem-draw", *words, example("first", "map.txt"))[:2], (2, ""))
+
+    def test_many(self):
+        """A picture of very many runs is below 4,000 pixels, and its rows stand for all of them; a tall row tells its name again."""
+        runs = 2500
+        lines = [f"{4096 * number:#018x}..{4096 * number + 4095:#018x} {1 + number % 2} {('usable', 'reserved')[number % 2]}\n"
+                 for number in range(runs)]
+        nodes = f"numa used\n{''.join(f'domain {node} node {node}' + chr(10) for node in range(28))}uncovered 0\n"
+        nodes += "".join(f"node {node} {node << 18:#018x}..{((node + 1) << 18) - 1:#018x}\n" for node in range(28))
+        status, picture, err = tool("bootmem-draw", "--title", "many", given=f"== map\n{''.join(lines)}== nodes\n{nodes}")
+        self.check("draw, many runs", (status, err), (0, ""))
+        self.check("draw, many runs: its height", int(xml.dom.minidom.parseString(picture).documentElement.getAttribute("height")) < 4000, True)
+        rows = rows_of(picture)
+        drawn = [row[4][0] for row in rows if row[0] == rows[0][0]]
+        self.check("draw, many runs: none is lost", sum(int(name.split()[0]) if name[0].isdigit() else 1 for name in drawn), runs)
+        for x, y, width, height, texts in rows:
+            self.check(f"draw, many runs: room for {texts}", height >= 16 and width >= 6 * len("".join(texts[:2])), True)
+        colours = {columns.node_colour(node) for node in range(28)}
+        self.check("draw: 28 nodes in 28 colours", len(colours), 28)
+        self.check("draw: dark text on them", [one for one in colours if sum(bytes.fromhex(one[1:])) < 300], [])
+        zones = "== zones\nNode 0, zone DMA32 start 0 end 1048576 present 9 free 9\n== nodes\nnuma absent\nuncovered 0\n"
+        zones += "".join(f"node 0 {2 * number << 20:#018x}..{(2 * number + 1 << 20) - 1:#018x}\n" for number in range(60))
+        tall = [row for row in rows_of(tool("bootmem-draw", given=zones)[1]) if "DMA32" in row[4][0]]
+        self.check("draw, a tall row", [len(row[4]) > 2 and set(row[4][::2]) == {"node 0 DMA32"} for row in tall], [True])
 
 
 if __name__ == "__main__":

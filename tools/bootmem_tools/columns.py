@@ -26,17 +26,25 @@ COLOURS = {
     "DMA": ORANGE, "DMA32": YELLOW, "Normal": BLUE,
 }
 NODES = [BLUE, YELLOW, MINT, PINK, CYAN, ORANGE, PEAR]
+# How far each further round of these goes to black, or if it is negative to white.
+SHADES = (0, 0.18, -0.5, 0.32)
 
 
 class Row(NamedTuple):
-    """A row of the picture: its bytes, its name, its colour, None for a gap, and the text of its
-    tool tip."""
+    """A row of the picture: its bytes, its name, its colour, None for a gap, the text of its tool
+    tip, and its whole size if not all of it is drawn."""
 
     first: int
     last: int
     name: str
     colour: str | None
     tip: str
+    whole: int | None = None
+
+    @property
+    def size(self) -> int:
+        """Returns the bytes of the whole row."""
+        return self.last + 1 - self.first if self.whole is None else self.whole
 
 
 class Column(NamedTuple):
@@ -46,11 +54,19 @@ class Column(NamedTuple):
     lanes: list[list[Row]]
 
 
+def node_colour(node: int) -> str:
+    """Returns the colour of a node: of 28 nodes each has its own."""
+    shade = SHADES[node // len(NODES) % len(SHADES)]
+    parts = bytes.fromhex(NODES[node % len(NODES)][1:])
+    to = 0 if shade > 0 else 255
+    return "#" + bytes(round(part + (to - part) * abs(shade)) for part in parts).hex()
+
+
 def colour_of(report: str, span: reports.Span) -> str:
     """Returns the colour of a row: of a node by its number, of a block by its order, else by its
     name."""
     if report == "nodes":
-        return NODES[int(span.fields["node"]) % len(NODES)]
+        return node_colour(int(span.fields["node"]))
     if report == "blocks":
         part = int(span.fields["order"]) / 10
         low, high = (238, 245, 252), (139, 184, 228)

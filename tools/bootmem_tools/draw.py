@@ -7,22 +7,27 @@ import collections
 import math
 import shutil
 import textwrap
-from typing import Iterator, NoReturn, Sequence
+from typing import Iterator, Mapping, NoReturn, Sequence
 from xml.sax.saxutils import escape
 
-from bootmem_tools import as_linux, page, ranges, reports, runner, tool
+from bootmem_tools import as_linux, fold, page, ranges, reports, runner, tool
 from bootmem_tools.columns import DRAWN, STRUCTURES, Column, Row, columns_of
 
 NAME = "bootmem-draw"
-USAGE = """bootmem-draw [--text] [--title TEXT] [--output FILE] [FILE]
-       bootmem-draw [--text] [--title TEXT] [--output FILE] [--as-linux]
-                    [--program P] -- WORDS
+MOST = 3990  # pixels of a picture's height
+USAGE = """bootmem-draw [--text] [--title TEXT] [--from A] [--to B]
+                    [--output FILE] [FILE]
+       bootmem-draw [--text] [--title TEXT] [--from A] [--to B]
+                    [--output FILE] [--as-linux] [--program P] -- WORDS
        bootmem-draw --html FILE [--title TEXT] [--as-linux] [--program P]
                     [A [B]] [-- WORDS]"""
-ABOUT = """Draws reports of bootmem side by side over one axis of addresses, the lowest on top, as an SVG picture or, with
+ABOUT = f"""Draws reports of bootmem side by side over one axis of addresses, the lowest on top, as an SVG picture or, with
 --text, as a table for a terminal. Gaps of the map are folded: heights grow with the logarithm of the size.
 Neighbouring blocks of one order, node and zone are one row with their number. The owner `map N` is drawn as the page
-structures of section N, which it is."""
+structures of section N, which it is.
+
+A picture is at most {MOST:,} pixels high: rows for which there is no room are folded into rows with their number. --from and
+--to draw a part of memory."""
 EPILOG = f"""After -- come the words of the program, without --report; the tool runs it with --report {','.join(DRAWN)}.
 
 With --as-linux the boot is drawn as Linux 6.1 makes it (bootmem-linux), without the memory that it claims early.
@@ -44,6 +49,7 @@ exit status: 0; 1 if the reports couldn't be had or the picture not be written; 
 examples:
   bootmem-draw --output machine.svg -- --kernel 16M,52M zp.bin
   bootmem --report map,zones zp.bin | bootmem-draw --text
+  bootmem-draw --from 4G --to 5G --output part.svg -- --kernel 16M,52M zp.bin
   bootmem-draw --html machine.html -- --kernel 16M,52M zp.bin
   bootmem-draw --html changed.html old.txt new.txt"""
 
@@ -59,6 +65,8 @@ def read_words(words: list[str]) -> tuple[argparse.Namespace, Boots]:
     parser.add_argument("--html", metavar="FILE", help="write a page to FILE, also of two boots")
     parser.add_argument("--text", action="store_true", help="a table for a terminal")
     parser.add_argument("--title", metavar="TEXT", help="a line above the picture")
+    parser.add_argument("--from", metavar="A", dest="low", help="draw no address below A, such as 4G or 0x100000000")
+    parser.add_argument("--to", metavar="B", dest="high", help="draw no address from B on")
     parser.add_argument("--output", metavar="FILE", help="write to FILE; without it to standard output")
     as_linux.add_flag(parser)
     runner.add_program(parser)
@@ -67,6 +75,7 @@ def read_words(words: list[str]) -> tuple[argparse.Namespace, Boots]:
         parser.error("--as-linux without words behind --")
     if given.html is not None and (given.text or given.output is not None):
         parser.error("--html beside --text or --output")
+    read_range(given, parser)
     most = 2 if given.html is not None else 1
     if len(given.files) + (program_words is not None) > most:
         parser.error(f"more than {most} of FILE and words behind --")
@@ -80,6 +89,27 @@ def read_words(words: list[str]) -> tuple[argparse.Namespace, Boots]:
     return given, boots
 
 
+def read_range(given: argparse.Namespace, parser: tool.Parser) -> None:
+    """Reads the addresses of --from and --to."""
+    if given.html is not None and (given.low is not None or given.high is not None):
+        parser.error("--html beside --from or --to: the page zooms itself")
+    low, high = (address_of(parser, name, text, missing) for name, text, missing in
+                 (("--from", given.low, 0), ("--to", given.high, ranges.TOP + 1)))
+    if low >= high:
+        parser.error("--from isn't below --to")
+    given.low, given.high = low, high
+
+
+def address_of(parser: tool.Parser, name: str, text: str | None, missing: int) -> int:
+    """Returns the address that an option names, or `missing` without it."""
+    if text is None:
+        return missing
+    address = ranges.parse_size(text)
+    if address is None:
+        parser.error(f"{name} {text}: no address like 4G or 0x100000000")
+    return address
+
+
 # The picture's measures, in pixels.
 LETTER = 6.7     # the width of a letter of 11 pixels in a wide font
 DIGIT = 6.1      # of a letter of 10 pixels in a font of fixed width
@@ -89,6 +119,8 @@ MARGIN = 14
 LINE = 12        # between two addresses of the axis
 ROW = 17         # of a row with its text
 HEAD = 22        # of the heads of the columns
+AGAIN = 420      # of a row for each time that its text is written
+TALL = 1200      # of a picture that has the heads of its columns at its end, too
 
 STYLE = """text { font: 11px "DejaVu Sans", Verdana, "Segoe UI", Helvetica, Arial, sans-serif; fill: #1c1c1c }
 .address { font: 10px "DejaVu Sans Mono", Menlo, Consolas, "Liberation Mono", monospace; fill: #555 }
@@ -122,7 +154,7 @@ def lane_width(lane: Sequence[Row], head: str) -> int:
 
 def size_of(row: Row) -> str:
     """Returns the text of a row's size."""
-    return ranges.size_text(row.last + 1 - row.first)
+    return ranges.size_text(row.size)
 
 
 def text_at(x: float, y: float, text: str, kind: str = "") -> str:
@@ -132,39 +164,56 @@ def text_at(x: float, y: float, text: str, kind: str = "") -> str:
 
 def draw_row(row: Row, x: int, top: int, bottom: int, width: int) -> Iterator[str]:
     """Yields the lines of one row of the picture."""
-    middle = (top + bottom) / 2 + 4
+    times = max(1, round((bottom - top) / AGAIN))
     look = 'fill="none" stroke="#bbb" stroke-dasharray="3 3"' if row.colour is None else f'fill="{row.colour}" stroke="#8c8c8c"'
     kind = "gap" if row.colour is None else ""
     yield (f'<g><title>{escape(row.tip)}</title><rect x="{x + .5}" y="{top + .5}" width="{width - 1}" '
            f'height="{bottom - top}" {look}/>')
-    yield text_at(x + PADDING, middle, row.name, kind)
-    yield text_at(x + width - PADDING, middle, size_of(row), "gap end" if kind else "end") + "</g>"
+    for place in range(times):
+        middle = top + (bottom - top) * (2 * place + 1) / (2 * times) + 4
+        yield text_at(x + PADDING, middle, row.name, kind)
+        size = text_at(x + width - PADDING, middle, size_of(row), "gap end" if kind else "end")
+        yield size + ("</g>" if place == times - 1 else "")
 
 
-def draw(columns: Sequence[Column], title: str | None) -> str:
-    """Returns the text of the SVG picture."""
-    place = heights(columns)
-    axis = math.ceil(max(len(f"{end:#x}") for end in place) * DIGIT)
-    top = MARGIN + (24 if title else 0) + HEAD
+def height_of(columns: Sequence[Column]) -> int:
+    """Returns the height of all rows of the picture."""
+    return max(heights(columns).values())
+
+
+def draw_columns(columns: Sequence[Column], place: Mapping[int, int], x: int, top: int, end: int) -> tuple[list[str], int]:
+    """Returns the lines of the columns from x on, and where the last one ends; each has its head above, and below the picture's
+    end unless it is 0."""
     body: list[str] = []
-    x = MARGIN + axis + 8
     for column in columns:
-        body.append(text_at(x + PADDING, top - 8, column.head, "head"))
+        body += [text_at(x + PADDING, y, column.head, "head") for y in (top - 8, end) if y]
         for lane in column.lanes:
             width = lane_width(lane, column.head)
             for row in lane:
                 body += draw_row(row, x, top + place[row.first], top + place[row.last + 1], width)
             x += width
         x += BETWEEN
-    width, height = x - BETWEEN + MARGIN, top + max(place.values()) + MARGIN
+    return body, x - BETWEEN
+
+
+def draw(columns: Sequence[Column], title: str | None) -> str:
+    """Returns the text of the SVG picture, which is at most MOST pixels high."""
+    top = MARGIN + (24 if title else 0) + HEAD
+    columns = fold.folded(columns, height_of, MOST - top - HEAD - MARGIN)
+    place = heights(columns)
+    axis = math.ceil(max(len(f"{end:#x}") for end in place) * DIGIT)
+    bottom = top + max(place.values())
+    end = bottom + HEAD - 4 if bottom > TALL else 0
+    body, right = draw_columns(columns, place, MARGIN + axis + 8, top, end)
+    width, height = right + MARGIN, max(bottom, end) + MARGIN
     lines = [f'<svg xmlns="http://www.w3.org/2000/svg" width="{width}" height="{height}" viewBox="0 0 {width} {height}">',
              f"<title>{escape(title or 'reports of bootmem')}</title>", f"<style>{STYLE}</style>",
              f'<rect width="{width}" height="{height}" fill="#fff"/>']
     if title:
         lines.append(text_at(MARGIN, MARGIN + 12, title, "title"))
-    for end, y in place.items():
+    for address, y in place.items():
         lines.append(f'<path d="M{MARGIN + axis + 3} {top + y}.5H{width - MARGIN}" stroke="#e6e6e6"/>')
-        lines.append(text_at(MARGIN + axis, top + y + 4, f"{end:#x}", "address end"))
+        lines.append(text_at(MARGIN + axis, top + y + 4, f"{address:#x}", "address end"))
     return "\n".join(lines + body + ["</svg>", ""])
 
 
@@ -210,7 +259,9 @@ def main(words: list[str]) -> int:
     if given.html is not None:
         tool.write_output(page.page(boots, given.title), given.html)
         return 0
-    columns = columns_of(boots[0][1])
+    columns = fold.cut(columns_of(boots[0][1]), given.low, given.high - 1)
+    if not any(lane for column in columns for lane in column.lanes):
+        raise tool.Trouble(f"nothing lies from {given.low:#x} up to {given.high:#x}")
     text = table(columns, given.title, shutil.get_terminal_size((tool.WIDTH, 24)).columns) if given.text else draw(columns, given.title)
     tool.write_output(text, given.output)
     return 0
