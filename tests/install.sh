@@ -39,6 +39,10 @@ there "the audit" "$root/bin/bootaudit" "$share/man/man1/bootaudit.1" "$share/ba
 if command -v bash >/dev/null 2>&1; then
 	is "the installed completion" "$(bash -c '. "$1"; COMP_WORDS=(bootmem --sr); COMP_CWORD=1; _bootmem; echo "${COMPREPLY[*]}"' \
 		install.sh "$share/bash-completion/completions/bootmem" 2>/dev/null)" --srat
+	is "the installed completion of a tool" "$(PATH=$root/bin:$PATH bash -c '. "$1"; COMP_WORDS=(bootmem-draw --tit); COMP_CWORD=1
+		_bootmem_tool bootmem-draw; echo "${COMPREPLY[*]}"' install.sh "$share/bash-completion/completions/bootmem-draw" 2>/dev/null)" --title
+	is "the words of bootmem behind it" "$(PATH=$root/bin:$PATH bash -c '. "$1"; COMP_WORDS=(bootmem-draw -- --sr); COMP_CWORD=2
+		_bootmem_tool bootmem-draw; echo "${COMPREPLY[*]}"' install.sh "$share/bash-completion/completions/bootmem-draw" 2>/dev/null)" --srat
 fi
 is "the first run" "$("$root/bin/bootmem" --report map "$share/bootmem/examples/first/zp.bin")" "$(cat examples/first/map.txt)"
 

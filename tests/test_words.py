@@ -121,6 +121,24 @@ class Completions(Case):
         for line, wanted in ((["--"], AUDIT), (["--la57", "z"], ["zp.bin"]), (["zp.bin", "--"], [])):
             self.check(f"bootaudit {' '.join(line)}", self.completed("bootaudit", *line), wanted)
 
+    def test_tools(self):
+        """Of each tool the options of its --help; values, files, and after -- the words of bootmem."""
+        path = os.path.join(TOP, "tools", "bootmem-tools.bash-completion")
+        named = re.search(r"^complete -F _bootmem_tool (.*?)\Z", text_of(path), re.MULTILINE | re.DOTALL).group(1).replace("\\", " ").split()
+        tools = re.findall(r"[\w-]+", " ".join(re.findall(r'^tools="(.*)"$', text("tools", "install.sh"), re.MULTILINE)))
+        self.check("the tools that it is for", sorted(named), sorted({*tools, "bootmem-collect", "collect.sh"} - {"tools"}))
+        script = ('. "$1"; PATH=$2:$PATH; shift 2; COMP_WORDS=("$@"); COMP_CWORD=$(($# - 1)); _bootmem_tool "$1"; '
+                  'printf "%s\\n" "${COMPREPLY[@]}"')
+        for line, wanted in ((["zp-from-log", "--e"], ["--e820ext", "--efi"]), (["bootmem-draw", "--fr"], ["--from"]),
+                             (["bootmem-draw", "--from", ""], []), (["bootmem-draw", "--output", "z"], ["zp.bin"]),
+                             (["bootmem-draw", "z"], ["zp.bin"]), (["bootmem-draw", "--title", "x", "--", "--sr"], ["--srat"]),
+                             (["bootmem-draw", "--", "--srat", "z"], ["zp.bin"]), (["bootmem-linux", "--pages", "z"], []),
+                             (["bootmem-diff", "--report", "map,z"], ["map,zones", "map,zonelists"]),
+                             (["collect.sh", "--p"], ["--proc"]), (["bootmem-fleet", "--he"], ["--help"])):
+            done = subprocess.run(["bash", "-c", script, "test_words.py", path, os.path.join(TOP, "tools"), *line], stdout=subprocess.PIPE,
+                                  stderr=subprocess.PIPE, cwd=example("first"), check=False)
+            self.check(" ".join(line), (sorted(done.stdout.decode().split()), done.stderr), (sorted(wanted), b""))
+
 
 if __name__ == "__main__":
     unittest.main()

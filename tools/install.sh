@@ -9,7 +9,7 @@
 #   PREFIX/lib/python3*/*-packages/bootmem_tools  the Python package of the tools: in the folder there that python3 looks into, if it
 #                             looks into one, else in lib/python3/dist-packages, which the installed tools name
 #   PREFIX/share/bootmem      the machines of examples/, words.txt for the completions, and what --help of the programs prints
-#   PREFIX/share/bash-completion/completions/bootmem, bootaudit
+#   PREFIX/share/bash-completion/completions  a file for bootmem, for bootaudit, and one for the tools, under the name of each
 #   PREFIX/lib, PREFIX/include  where libbootmem.a is there: the library, its header and lib/pkgconfig/bootmem.pc, and in
 #                             PREFIX/share/bootmem/bindings what calls it; VERSION is that of the library
 set -eu
@@ -34,7 +34,9 @@ uninstall() {
 		rm -f "$man/man1/$tool.1"
 	done
 	rm -f "$man/man1/bootmem.1" "$man/man1/bootaudit.1" "$man/man5/bootmem.5"
-	rm -f "$share/bash-completion/completions/bootmem" "$share/bash-completion/completions/bootaudit"
+	for word in bootmem bootaudit bootmem-tools bootmem-collect $tools; do
+		rm -f "$share/bash-completion/completions/$word"
+	done
 	rm -f "$lib"/libbootmem.a "$lib"/libbootmem.so* "$lib/pkgconfig/bootmem.pc" "$include/bootmem.h"
 	rm -rf "$libexec" "$share/doc/bootmem" "$share/bootmem" "$lib"/python3*/*-packages/bootmem_tools
 }
@@ -111,6 +113,11 @@ install_all() {
 		[ -f "tools/$program.bash-completion" ] || continue
 		install -d "$share/bash-completion/completions"
 		install -m 644 "tools/$program.bash-completion" "$share/bash-completion/completions/$program"
+	done
+	completions=$share/bash-completion/completions
+	install -m 644 tools/bootmem-tools.bash-completion "$completions/bootmem-tools"
+	for tool in bootmem-collect $tools; do
+		ln -sf bootmem-tools "$completions/$tool"
 	done
 	# the completions read the words there
 	install -m 644 tools/bootmem_tools/words.txt "$share/bootmem/words.txt"
