@@ -4,7 +4,7 @@ import os
 import subprocess
 import unittest
 
-from support import PROGRAM, TOP, Case, ran, rows_of, write
+from support import MACHINE, PROGRAM, TOP, Case, bytes_of, example, ran, rows_of, unsealed, write, zero_page
 from bootmem_tools import explain
 from bootmem_tools.words import OPTIONS
 
@@ -110,6 +110,23 @@ class Explained(Case):
                                    "bootmem", "3", self.path("zp")], stderr=subprocess.PIPE, check=False)
             self.check("no permission", done.stderr.decode(), f"bootmem: {self.path('zp')}: there is no permission to read it\n")
         self.check("nothing to say of files that can be read", explain.explain("bootmem", 3, ["/dev/null"]), None)
+
+    def test_checksum(self):
+        """The checksum that a table should have, and nothing of other faults; the program refuses exactly these tables for it."""
+        write(self.path("zp"), zero_page(MACHINE))
+        whole = bytes_of(example("q35-8g-numa2", "srat.bin"))
+        for table, line, why in ((whole, None, None), (unsealed(whole), "bootmem: srat: checksum",
+                                  "bad: its bytes sum to 0x01, not 0: its checksum, the byte at 9, is "
+                                  f"{whole[9] + 1:#04x}; {whole[9]:#04x} is right"),
+                                 (whole[:-1] + b"\x05", "bootmem: srat: checksum",
+                                  "bad: its bytes sum to 0x05, not 0: its checksum, the byte at 9, is "
+                                  f"{whole[9]:#04x}; {whole[9] - 5:#04x} is right"),
+                                 (whole[:-1], "bootmem: srat: length", None), (b"", "bootmem: srat: short", None)):
+            write(self.path("bad"), table)
+            status, _, err = ran([PROGRAM, "--report", "map", "--srat", "bad", "zp"], folder=self.work)
+            self.check(f"{line}: the program", (status, err.decode().rstrip()), (0 if line is None else 5, line or ""))
+            got = ran([os.path.join(TOP, "tools", "bootmem-explain"), "bootmem", "5", "--srat", "bad", "zp"], folder=self.work)[2].decode()
+            self.check(f"{line}: why", got, f"bootmem: {why}\n" if why else "")
 
 
 if __name__ == "__main__":

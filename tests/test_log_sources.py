@@ -144,7 +144,8 @@ class Sources(Case):
         status, _, err = tool("zp-from-log", "--output", "zp", "--srat", "srat", "--no-initrd", given=stamped(MAP + RARE), folder=self.work)
         self.check("rare entries", (status, bytes_of(self.path("srat"))[48:], err),
                    (0, RARE_ENTRIES, "zp-from-log: x2APIC ids of 255 or more: bootmem-linux takes --x2apic for them\n"))
-        self.check("rare entries: no block has memory", program(self.work, "--report", "nodes", "--srat", "srat", "zp").splitlines()[0], "numa no blocks")
+        self.check("rare entries: no block has memory", program(self.work, "--report", "nodes", "--srat", "srat", "zp").splitlines()[0],
+                   "numa no blocks")
 
     def test_no_srat(self):
         """Logs without a whole SRAT."""

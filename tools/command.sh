@@ -1,6 +1,7 @@
 #!/bin/sh
 # @PROGRAM@: hands its words to the proved program and ends with its status. It answers --help, -h and --version by itself, and after a
-# refusal (status 2) or a file that can't be read (status 3) it adds a line to the program's own that says why. Nothing here is proved.
+# refusal (status 2), a file that can't be read (3) or a table whose checksum is wrong (5) it adds a line to the program's own that says
+# why. Nothing here is proved.
 # What runs on every call comes first and starts no process besides the program's.
 program=${0%/*}/../libexec/bootmem/@PROGRAM@
 [ -x "$program" ] || program=@PREFIX@/libexec/bootmem/@PROGRAM@
@@ -31,7 +32,7 @@ case ${1-} in
 		kill -s "$signal" $$
 	fi
 	case $status in
-	2 | 3) ;;
+	2 | 3 | 5) ;;
 	*) exit "$status" ;;
 	esac
 	;;
@@ -49,6 +50,6 @@ case ${1-} in
 	;;
 esac
 explain=${program%/*}/explain
-command -v python3 >/dev/null 2>&1 && python3 "$explain" @PROGRAM@ "$status" "$@" </dev/null >/dev/null ||
+command -v python3 >/dev/null 2>&1 && python3 "$explain" @PROGRAM@ "$status" "$@" </dev/null >/dev/null || [ "$status" = 5 ] ||
 	echo "@PROGRAM@: '@PROGRAM@ --help' lists the words" >&2
 exit "$status"

@@ -1,4 +1,5 @@
-"""Why bootmem or bootaudit refused its words, or couldn't read a file: one line, which the installed commands print after the program's own.
+"""Why bootmem or bootaudit refused its words, couldn't read a file, or refused a table by its checksum: one line,
+which the installed commands print after the program's own.
 
 It is called as `explain PROGRAM STATUS WORDS`, and reads the words as the program's grammar has them. It never decides anything: the
 program has ended with the status before it starts.
@@ -20,7 +21,9 @@ LEAST_PLACE = MIB  # of the kernel's image
 LEAST_SIZE = 2 * FRAME
 MOST_MIRRORS = 64
 ENTRIES = range(2, 3001)  # of --make
-USAGE, UNREADABLE = 2, 3
+USAGE, UNREADABLE, MALFORMED = 2, 3, 5
+TABLES = ("srat", "slit")  # inputs with a checksum, the byte at 9, by which all bytes sum to 0 modulo 256
+CHECKSUM, LONGEST_TABLE = 9, 1 << 20
 
 
 class Refused(Exception):
@@ -260,6 +263,27 @@ def missing(path: str) -> str:
     return f"there is no folder {folder}" if folder and not os.path.isdir(folder) else "it doesn't exist"
 
 
+def checksum_fault(words: Sequence[str]) -> str | None:
+    """Returns what the checksum of a table should be, or None if no table of the words has a wrong one. Only plain files of the length
+    that they state are read."""
+    try:
+        values = split(words).values
+    except Refused:
+        return None
+    for name in TABLES:
+        path = values.get(name)
+        if path is None or not os.path.isfile(path):
+            continue
+        with open(path, "rb") as file:
+            table = file.read(LONGEST_TABLE)
+        wrong = sum(table) % 256
+        if table[:4] == name.upper().encode() and int.from_bytes(table[4:8], "little") == len(table) > CHECKSUM and wrong:
+            own = table[CHECKSUM]
+            return (f"{path}: its bytes sum to {wrong:#04x}, not 0: its checksum, the byte at {CHECKSUM}, is {own:#04x}; "
+                    f"{(own - wrong) % 256:#04x} is right")
+    return None
+
+
 def explain(program: str, status: int, words: Sequence[str]) -> str | None:
     """Returns why the program ended with this status, or None if the words don't tell."""
     if status == USAGE:
@@ -267,6 +291,8 @@ def explain(program: str, status: int, words: Sequence[str]) -> str | None:
             if any("\udc80" <= letter <= "\udcff" for letter in word):
                 return f"word {number} isn't UTF-8"
         return bootmem_fault(words) if program == "bootmem" else audit_fault(words)
+    if status == MALFORMED and program == "bootmem":
+        return checksum_fault(words)
     for path in files_of(program, words) if status == UNREADABLE else []:
         why = unreadable(path)
         if why:
