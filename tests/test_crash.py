@@ -1,11 +1,12 @@
 """bootmem-crash: the kernels' own crash areas, the greatest sizes, why one doesn't fit, and boots that panic."""
 
+import json
 import os
 import re
 import subprocess
 import unittest
 
-from support import (BOOTS, GIB, MIB, PROGRAM, TOP, Case, example, has_file, machine_of, memory_of, srat, text_of, tool, words_of, write,
+from support import (BOOTS, EXAMPLES, GIB, MIB, PROGRAM, TOP, Case, example, has_file, machine_of, memory_of, srat, text_of, tool, words_of, write,
                      zero_page)
 from bootmem_tools import crash as crash_module
 
@@ -81,6 +82,36 @@ class Crash(Case):
             self.check(f"crash {words}", tool("bootmem-crash", *words, "zp.bin", folder=example("q35-1g"))[:2], (2, ""))
         self.check("crash, no machine", tool("bootmem-crash", "nothing", folder=self.work)[:2], (2, ""))
         self.check("crash, no zero page", tool("bootmem-crash", "cmdline", folder=example("q35-1g"))[:2], (2, ""))
+
+    def test_ranges(self):
+        """Of a size by ranges of total memory the one counts that the kernel picks: 1 GiB with a hole counts as 1 GiB."""
+        for size, picked, first in (("512M-1G:64M,1G-2G:192M,2G-:256M", "192M", "0x0000000033000000"),
+                                    ("1G-:64M@128M", "64M@128M", "0x0000000008000000")):
+            status, out, _ = crash("q35-1g", "--raw", "--size", size)
+            self.check(f"crash {size}", (status, out.startswith(f"size   crashkernel={size}, {picked} here, fits at {first}")), (0, True))
+        self.check("crash, no range", crash("q35-1g", "--raw", "--size", "2G-:64M")[:2],
+                   (1, "size   crashkernel=2G-:64M, nothing here, doesn't fit\n       none of its ranges has this machine's total memory\n"))
+        self.check("crash, ranges and high", crash("q35-1g", "--size", "1G-:64M,high")[:2], (2, ""))
+
+    def test_several(self):
+        """Several machines, as text and as objects; one with trouble doesn't end the others."""
+        status, out, err = tool("bootmem-crash", "--raw", "--size", "512M", "pc-512m-crash64m", "none", "q35-8g-numa2", folder=EXAMPLES)
+        self.check("several", (status, [line for line in out.splitlines() if line[0] != " "]),
+                   (2, ["== pc-512m-crash64m", "size   crashkernel=512M doesn't fit", "== q35-8g-numa2",
+                        "size   crashkernel=512M fits at 0x000000005f000000-0x000000007effffff"]))
+        self.has("several: trouble", err, "bootmem-crash: none: ")
+        self.check("several: one doesn't fit",
+                   tool("bootmem-crash", "--raw", "--size", "512M", "pc-512m-crash64m", "q35-8g-numa2", folder=EXAMPLES)[0], 1)
+        status, out, err = tool("bootmem-crash", "--raw", "--json", "pc-512m-crash64m", "q35-8g-numa2", folder=EXAMPLES)
+        found = [json.loads(line) for line in out.splitlines()]
+        self.check("several --json", (status, err, [(one["machine"], one["fits"]) for one in found]),
+                   (0, "", [("pc-512m-crash64m", True), ("q35-8g-numa2", True)]))
+        area = {"first": "0x0000000005000000", "last": "0x000000001fdfffff", "low": None}
+        self.check("--json: greatest", found[0]["greatest"], {form: {"size": 430 * MIB, "area": area} for form in ("plain", "high")})
+        self.check("--json: below 4 GiB", found[1]["greatest"]["plain"]["below_4g"]["size"], 1966 * MIB)
+        area = {"first": "0x000000001b000000", "last": "0x000000001effffff", "low": None}
+        self.check("--json: the line", found[0]["asked"], [{"from": "line", "asked": "crashkernel=64M", "picked": None, "fits": True, "area": area,
+                                                            "reasons": []}])
 
     def test_few_boots(self):
         """The greatest size is found in a few boots, also where the maps behind the area have no place for themselves: each next size fails."""

@@ -51,7 +51,7 @@ class Fleet(Case):
                                                                    "0x000000001f000000..0x000000003effffff"),
                               (("--cmdline-drop", "mem", "--cmdline-add", "crashkernel=2G,high"), "no area")):
             status, out, err = tool("bootmem-fleet", *words, "bad", folder=self.work)
-            self.check(f"fleet {words}", (status, out.split("\t")[6], err), (0, wanted, ""))
+            self.check(f"fleet {words}", (status, out.split("\t")[6], err), (4 if wanted == "no area" else 0, wanted, ""))
         for words, wanted in (("crashkernel=512MB,high", "word 1: crashkernel=512MB,high: left out: the kernel warns: unrecognized char: B"),
                               ("crashkernl=512M", "word 1: crashkernl=512M: passed over, by the kernel too: is crashkernel= meant?")):
             status, out, err = tool("bootmem-fleet", "--kernel", "16M,32M", "--cmdline-drop", "mem", "--cmdline-add", words, "bad", "bad",
@@ -67,6 +67,13 @@ class Fleet(Case):
         self.check("fleet: a known panic", (status, out.split("\t")[1], out.split("\t")[2][:56], err),
                    (3, "0", "Linux 6.1 panics: 16 frames of memory are in no block of", ""))
         self.check("fleet: a status goes before a panic", tool("bootmem-fleet", "--kernel", "16M,32M", "gap", "none", folder=self.work)[0], 1)
+        status, out, err = tool("bootmem-fleet", "--raw", "--greatest", "pc-512m-crash64m", "q35-8g-numa2", "none", folder=EXAMPLES)
+        self.check("fleet --greatest",
+                   (status, [line.split("\t")[10:] for line in out.splitlines()]), (1, [["430", "430"], ["4095", "4095"], ["-", "-"]]))
+        status, out, _ = tool("bootmem-fleet", "--raw", "--json", "--greatest", "pc-512m-crash64m", folder=EXAMPLES)
+        row = json.loads(out)
+        self.check("fleet --greatest --json",
+                   (status, row["greatest"], fits(row, SCHEMA["$defs"]["machine"])), (0, {"plain": 430, "high": 430}, None))
         self.check("fleet, no folder", tool("bootmem-fleet")[:2], (2, ""))
         self.check("fleet, no program", tool("bootmem-fleet", "--program", "/nowhere", "bad", folder=self.work)[:2], (2, ""))
         status, out, err = tool("bootmem-fleet", "--kernel", "0xc0000000,32M", "--cmdline-drop", "mem", "bad", folder=self.work)

@@ -4,24 +4,27 @@ from __future__ import annotations
 
 import argparse
 import contextlib
+import json
 import os
 import re
 import tempfile
 from typing import Iterable, Iterator, NamedTuple, NoReturn, Sequence
 
-from bootmem_tools import as_linux, command_line, linux_claims, machine, notes, ranges, reports, runner, tool
+from bootmem_tools import as_linux, command_line, crash_sizes, linux_claims, machine, notes, ranges, reports, runner, tool
+from bootmem_tools.crash_sizes import Found, Greatest, Outcome
 
 NAME = "bootmem-crash"
-USAGE = """bootmem-crash [--size SIZE].. [--kernel BASE,SIZE] [--cmdline FILE]
-                     [--e820ext FILE] [--srat FILE] [--slit FILE] [--efi FILE]
+USAGE = """bootmem-crash [--size SIZE].. [--json] [--kernel BASE,SIZE]
+                     [--cmdline FILE] [--e820ext FILE] [--srat FILE]
+                     [--slit FILE] [--efi FILE]
                      [--pages 4K|2M|1G] [--brk BYTES] [--x2apic] [--cma]
-                     [--log FILE] [--raw] [--program P] FOLDER|ZEROPAGE"""
+                     [--log FILE] [--raw] [--program P] FOLDER|ZEROPAGE.."""
 ABOUT = """Prints, for a boot of Linux 6.1, the greatest size of crashkernel= that fits on a machine in each form, plain and high, in whole MiB,
 and where it would lie; what the machine's own line asks for; and for each SIZE whether it fits, where, or why not: the greatest gap,
 and who cuts it."""
 EPILOG = f"""FOLDER is what bootmem-collect (collect.sh) gathered of a machine; or a zero page is named, and the other files by the
-options, which count before those of FOLDER. SIZE is S, S@BASE or S,high as in crashkernel=. The tool
-replaces crashkernel= of the line, except a form S,low, by what it tries.
+options, which count before those of FOLDER. SIZE is S, S@BASE, S,high or A-B:S,.. as in crashkernel=; of
+ranges the one counts that the kernel picks by total memory. The tool replaces crashkernel= of the line, except a form S,low, by what it tries.
 
 The inputs are read as that kernel reads them, and what it claims before the area is taken out of memory, as bootmem-linux
 does; what was changed or assumed, or can't be known, is said. With --raw the program reads the inputs itself, and nothing
@@ -29,12 +32,16 @@ more is claimed than bootmem claims.
 
 {runner.FINDING}
 
+Of several machines each has a line == with its name; --json prints an object for each instead (FORMATS.md of the documents: "Crash areas as
+JSON").
+
 exit status: 0 if each SIZE fits (without one: what the line asks for, or anything if it asks for nothing), 1
 if one doesn't, 2 for trouble.
 
 examples:
   bootmem-crash --kernel 0x1000000,0x3400000 zp.bin
   bootmem-crash --size 512M --size 1G,high --cmdline cmdline zp.bin
+  bootmem-crash --size 1G-4G:192M,4G-:256M --json host*/
   bootmem-crash ."""
 
 MIB = ranges.MIB
@@ -44,6 +51,8 @@ HIGH = 1 << 46  # CRASH_ADDR_HIGH_MAX
 MAP = 2 << 20  # bytes of the page structures of a section
 # the program's options for files, and the names that a folder has for them
 FILES = (("cmdline", "cmdline"), ("e820ext", "e820ext.bin"), ("srat", "srat.bin"), ("slit", "slit.bin"), ("efi", "efi.bin"))
+
+RANGES = re.compile(r"^crashkernel=[^@]*-[^@]*:")  # a size by ranges of total memory
 
 # A claim: its first and last byte, and its owner.
 Claim = tuple[int, int, str]
@@ -69,8 +78,9 @@ class Gap(NamedTuple):
 def read_words(words: list[str]) -> argparse.Namespace:
     """Returns the tool's words."""
     parser = tool.new_parser(NAME, USAGE, ABOUT, EPILOG)
-    parser.add_argument("machine", metavar="FOLDER|ZEROPAGE", help="the machine")
-    parser.add_argument("--size", metavar="SIZE", action="append", default=[], help="try this size: S, S@BASE or S,high")
+    parser.add_argument("machines", metavar="FOLDER|ZEROPAGE", nargs="+", help="the machines")
+    parser.add_argument("--size", metavar="SIZE", action="append", default=[], help="try this size: S, S@BASE, S,high or ranges")
+    parser.add_argument("--json", action="store_true", help="one JSON object a line")
     parser.add_argument("--kernel", metavar="BASE,SIZE", help="where the kernel's image lies, as bootmem reads it")
     for option, _ in FILES:
         parser.add_argument(f"--{option}", metavar="FILE", help="as bootmem's")
@@ -79,10 +89,11 @@ def read_words(words: list[str]) -> argparse.Namespace:
     runner.add_program(parser)
     given = parser.parse_args(words)
     given.settings = as_linux.settings_of(given, parser)
+    given.machine = given.machines[0]
     for size in given.size:
         said = command_line.program_plain(size.removesuffix(",high"))
-        if said is None or size.count("@") and size.endswith(",high") or [one for one in said[0] if one[:2] != (0, None) or not one[2]]:
-            parser.error(f"--size {size}: none of S, S@BASE and S,high with a size S above 0")
+        if said is None or (size.count("@") or ":" in size) and size.endswith(",high") or [one for one in said[0] if not one[2]]:
+            parser.error(f"--size {size}: none of S, S@BASE, S,high and ranges A-B:S,.. with a size S above 0")
     return given
 
 
@@ -206,15 +217,6 @@ def lacking(why: str, texts: reports.Texts) -> int:
     return (len(sections) + between) * MAP // MIB
 
 
-def area_text(found: Sequence[ranges.Range]) -> str:
-    """Returns the area, and its low part if it has one."""
-    area = f"at {ranges.range_text(*found[-1])}"
-    if len(found) == 1:
-        return area
-    first, last = found[0]
-    return f"{area}, low part {ranges.range_text(first, last)} ({ranges.size_text(last + 1 - first)})"
-
-
 def claims(lines: Iterable[str]) -> list[Claim]:
     """Returns who has what when the kernel looks for the area, ascending: the journal's claims
     up to those of the sections."""
@@ -317,65 +319,105 @@ def without_stop(said: str) -> str:
     return said[len("stopped: "):] if said.startswith("stopped: ") else said
 
 
-def print_outcome(own: Machine, head: str, asked: str) -> bool:
-    """Prints the outcome of asking for an area; whether it fits."""
-    tried = own.tried(asked)
-    if tried.ranges:
-        print(f"{head:<6} {asked} fits {area_text(tried.ranges)}")
-        return True
-    print(f"{head:<6} {asked} doesn't fit")
-    for reason in reasons(own, asked, tried):
-        print(f"{'':<6} {reason}")
-    return False
+def outcome(own: Machine, head: str, asked: str, picked: str | None = None) -> Outcome:
+    """Returns the outcome of asking for an area, by what is picked of its ranges if it has some."""
+    what = asked if picked is None else picked
+    if not what:
+        return Outcome(head, asked, "nothing", [], ["none of its ranges has this machine's total memory"])
+    tried = own.tried(what)
+    return Outcome(head, asked, picked and picked[len("crashkernel="):], tried.ranges, [] if tried.ranges else list(reasons(own, what, tried)))
 
 
-def tell_greatest(own: Machine, texts: reports.Texts, form: str, suffix: str, first: int = 0) -> int:
-    """Prints the greatest size that fits in a form, and returns it; `first` is the first guess."""
+def picked_of(own: Machine, asked: str) -> str | None:
+    """Returns what the kernel picks of a size by ranges of total memory, an empty text if no range has it; None of another size."""
+    if not RANGES.search(asked):
+        return None
+    data = " ".join(own.rest + [asked]).encode("latin-1") + b"\n"
+    reading = command_line.read_line(data, command_line.total_by(own.program, without_line(own.read)))
+    words = [word.text for word in command_line.words_of(reading.line)[0] if command_line.program_word(word.text)[0] == "crashkernel"]
+    return next((text for text in words if not text.rstrip('"').endswith(",low") and not RANGES.search(text)), "")
+
+
+def greatest_of(own: Machine, texts: reports.Texts, form: str, suffix: str, first: int = 0) -> Greatest:
+    """Returns the greatest size that fits in a form; `first` is the first guess."""
     size, best = greatest(own, texts, suffix, first=first)
-    if size == 0:
-        print(f"{form:<6} no size fits")
-        return 0
-    print(f"{form:<6} at most {size}M, {area_text(best.ranges)}")
-    if not suffix and best.ranges[-1][0] >= LOW:
-        low, best = greatest(own, texts, suffix, LOW)
-        print(f"{'':<6} below 4 GiB at most {low}M" + (f", {area_text(best.ranges)}" if low else ""))
-    return size
+    below = None
+    if size and not suffix and best.ranges[-1][0] >= LOW:
+        low, under = greatest(own, texts, suffix, LOW)
+        below = Greatest("", low, under.ranges)
+    return Greatest(form, size, best.ranges, below)
 
 
-def warn(own: Machine, texts: reports.Texts) -> None:
-    """Prints what a reader should know before believing the answers; the reports are those of the inputs as they are
+def warnings(own: Machine, texts: reports.Texts) -> Iterator[str]:
+    """Yields what a reader should know before believing the answers; the reports are those of the inputs as they are
     read."""
-    for said in own.said:
-        tool.complain(NAME, said)
+    yield from own.said
     if own.is_raw and own.kernel is None:
-        tool.complain(NAME, runner.ASSUMED)
-    for note in (own.place, *notes.notes_for(own.read, texts)):
-        if note:
-            tool.complain(NAME, note)
+        yield runner.ASSUMED
+    yield from (note for note in (own.place, *notes.notes_for(own.read, texts)) if note)
     if own.is_raw and machine.is_uefi(own.page):
-        tool.complain(NAME, "the firmware is UEFI: the kernel claims more before the area there, so it may lie lower "
-                            "(by 32 MiB in four boots), or find no place")
+        yield ("the firmware is UEFI: the kernel claims more before the area there, so it may lie lower "
+               "(by 32 MiB in four boots), or find no place")
     for why in machine.panics(texts):
-        tool.complain(NAME, f"Linux 6.1 panics on this boot: {why}")
+        yield f"Linux 6.1 panics on this boot: {why}"
 
 
 def main(words: list[str]) -> int:
-    """Prints what fits; the status says whether what is asked for does."""
-    with Machine(read_words(words)) as own:
-        return answer(own)
+    """Prints what fits on each machine; the status says whether what is asked for does, on all of them."""
+    given = read_words(words)
+    status = 0
+    for name in given.machines:
+        given.machine = name
+        try:
+            with Machine(given) as own:
+                fits = answer(own, given)
+        except (tool.Trouble, OSError) as trouble:
+            if len(given.machines) == 1:
+                raise
+            tool.complain(NAME, f"{name}: {trouble}")
+            status = 2
+            continue
+        status = max(status, 0 if fits else 1)
+    return status
 
 
-def answer(own: Machine) -> int:
-    """Prints what fits on a machine, and returns the status."""
+def answer(own: Machine, given: argparse.Namespace) -> bool:
+    """Prints what fits on a machine; tells whether what is asked for does."""
     texts, stop = own.run("", ["map", "nodes", "memory", "journal"])
     if stop:
         raise tool.Trouble(f"the boot stops without a crash area: {without_stop(stop)}")
-    warn(own, runner.run_program(own.program, ["map", "nodes"], own.read))
-    if own.sizes:
-        return 0 if all([print_outcome(own, "size", f"crashkernel={size}") for size in own.sizes]) else 1
-    plain = tell_greatest(own, texts, "plain", "")
-    high = tell_greatest(own, texts, "high", ",high", plain)
-    return 0 if (print_outcome(own, "line", own.asked) if own.asked else plain or high) else 1
+    said = list(warnings(own, runner.run_program(own.program, ["map", "nodes"], own.read)))
+    several = len(given.machines) > 1
+    for note in said if not given.json else []:
+        tool.complain(NAME, f"{given.machine}: {note}" if several else note)
+    if several and not given.json:
+        print(f"== {given.machine}")
+    found = find(own, texts, given.machine, not given.json)
+    if given.json:
+        print(json.dumps(crash_sizes.as_object(found, said)))
+    return found.fits
+
+
+def find(own: Machine, texts: reports.Texts, name: str, is_shown: bool) -> Found:
+    """Returns what fits on a machine; each line is printed as soon as it is found if it is to be shown."""
+    def show(lines: list[str]) -> None:
+        """Prints the lines."""
+        for line in lines if is_shown else []:
+            print(line)
+    sizes: list[Greatest] = []
+    outcomes: list[Outcome] = []
+    for size in own.sizes:
+        asked = f"crashkernel={size}"
+        outcomes.append(outcome(own, "size", asked, picked_of(own, asked)))
+        show(crash_sizes.outcome_lines(outcomes[-1]))
+    if not own.sizes:
+        for form, suffix in (("plain", ""), ("high", ",high")):
+            sizes.append(greatest_of(own, texts, form, suffix, sizes[0].size if sizes else 0))
+            show(crash_sizes.greatest_lines(sizes[-1]))
+        if own.asked:
+            outcomes.append(outcome(own, "line", own.asked))
+            show(crash_sizes.outcome_lines(outcomes[-1]))
+    return Found(name, sizes, outcomes)
 
 
 def command() -> NoReturn:

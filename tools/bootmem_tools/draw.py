@@ -49,7 +49,7 @@ exit status: 0; 1 if the reports couldn't be had or the picture not be written; 
 examples:
   bootmem-draw --output machine.svg -- --kernel 16M,52M zp.bin
   bootmem --report map,zones zp.bin | bootmem-draw --text
-  bootmem-draw --from 4G --to 5G --output part.svg -- --kernel 16M,52M zp.bin
+  bootmem-draw --from 4G --to 5G -- --kernel 16M,52M zp.bin > part.svg
   bootmem-draw --html machine.html -- --kernel 16M,52M zp.bin
   bootmem-draw --html changed.html old.txt new.txt"""
 

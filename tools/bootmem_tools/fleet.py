@@ -11,13 +11,13 @@ import sys
 import tempfile
 from typing import IO, NamedTuple, NoReturn
 
-from bootmem_tools import as_linux, command_line, machine, notes, objects, ranges, reports, runner, tool
+from bootmem_tools import as_linux, command_line, crash, machine, notes, objects, ranges, reports, runner, tool
 
 NAME = "bootmem-fleet"
 USAGE = """bootmem-fleet [--json] [--cmdline-add WORDS] [--cmdline-drop NAME]..
-                     [--kernel BASE,SIZE] [--jobs N] [--verbose] [--raw]
-                     [--pages 4K|2M|1G] [--brk BYTES] [--x2apic] [--cma]
-                     [--program P] FOLDER.."""
+                     [--greatest] [--kernel BASE,SIZE] [--jobs N]
+                     [--verbose] [--raw] [--pages 4K|2M|1G]
+                     [--brk BYTES] [--x2apic] [--cma] [--program P] FOLDER.."""
 ABOUT = """Boots the machines of folders that bootmem-collect (collect.sh) gathered, as many at once as there are processors, as
 Linux 6.1 does, and prints a line for each, in the order of the words, with a tab between each two columns:
 
@@ -31,6 +31,9 @@ Linux 6.1 does, and prints a line for each, in the order of the words, with a ta
   low      the area's low part
   numa     whether the SRAT is used, or why not
   nodes    how many have memory
+  plain, high
+           with --greatest: the greatest area that fits in these two forms
+           (crashkernel=S and S,high), in MiB
 
 If bootmem ended with another status than 0, or a folder has no such thing, a column has -."""
 EPILOG = f"""A folder has zp.bin, and if they are there e820ext.bin, cmdline, srat.bin, efi.bin, and kernel (or words, as under examples)
@@ -48,15 +51,19 @@ is told once on standard error.
 {runner.FINDING}
 
 exit status: 0 if each run ended with 0, 1 if one didn't, 2 for words that aren't those above, 3 if each run ended with 0 and
-Linux 6.1 is known to panic on a machine.
+Linux 6.1 is known to panic on a machine, 4 if none of this and the area that a machine's line asks for doesn't fit there.
 
 examples:
   bootmem-fleet host*/
+  bootmem-fleet --greatest host*/
   bootmem-fleet --cmdline-add crashkernel=512M,high host*/"""
 
 FILES = (("--e820ext", "e820ext.bin"), ("--cmdline", "cmdline"), ("--srat", "srat.bin"), ("--efi", "efi.bin"), ("--slit", "slit.bin"))
 ASKED = ["map", "summary", "crash", "nodes"]
 PANICS = 3  # the status if each run ended with 0, and Linux 6.1 is known to panic on a machine
+LACKS = 4  # the status if none of this, and an area that is asked for doesn't fit
+LACKING = ("no area", "in use", "low failed")  # outcomes of such an area
+FORMS = {"plain": "", "high": ",high"}
 
 
 class Plan(NamedTuple):
@@ -68,6 +75,7 @@ class Plan(NamedTuple):
     kernel: str | None
     is_raw: bool = False
     settings: as_linux.Settings = as_linux.Settings()
+    greatest: bool = False
 
 
 class Answer(NamedTuple):
@@ -88,6 +96,7 @@ def read_words(words: list[str]) -> argparse.Namespace:
     parser.add_argument("--json", action="store_true", help="one JSON object a line")
     parser.add_argument("--cmdline-add", metavar="WORDS", help="append WORDS to each command line")
     parser.add_argument("--cmdline-drop", metavar="NAME", action="append", default=[], help="first take this option out of it")
+    parser.add_argument("--greatest", action="store_true", help="also find the greatest areas that fit, by some ten boots each")
     parser.add_argument("--kernel", metavar="BASE,SIZE", help="where every kernel's image lies")
     parser.add_argument("--jobs", metavar="N", type=int, help="so many runs at once")
     parser.add_argument("--verbose", action="store_true", help="tell what was changed or assumed, or can't be known")
@@ -170,12 +179,33 @@ def run_folder(folder: str, plan: Plan, words: list[str], kernel: list[str]) -> 
             else:
                 words += ["--cmdline", file.name]
         words += [*kernel, "zp.bin"]
-        if plan.is_raw:
-            return answer_for(folder, kernel, run(folder, plan, ASKED, words), as_linux.Prepared(words, words, {}, "", [], []))
-        with as_linux.prepared(plan.program, words, plan.settings, folder) as prepared:
-            names = ["summary", "crash"] if prepared.texts else ASKED
-            outcome = run(folder, plan, names, prepared.words)
-            return answer_for(folder, kernel, outcome, prepared)
+        answer = boot_folder(folder, plan, words, kernel)
+        if plan.greatest and answer.row["status"] == 0:
+            answer.row["greatest"] = greatest_of(folder, plan, notes.value_in(words, "--cmdline"), notes.value_in(kernel, "--kernel"))
+        return answer
+
+
+def boot_folder(folder: str, plan: Plan, words: list[str], kernel: list[str]) -> Answer:
+    """Returns the answer for one folder by its boot with these words."""
+    if plan.is_raw:
+        return answer_for(folder, kernel, run(folder, plan, ASKED, words), as_linux.Prepared(words, words, {}, "", [], []))
+    with as_linux.prepared(plan.program, words, plan.settings, folder) as prepared:
+        names = ["summary", "crash"] if prepared.texts else ASKED
+        outcome = run(folder, plan, names, prepared.words)
+        return answer_for(folder, kernel, outcome, prepared)
+
+
+def greatest_of(folder: str, plan: Plan, line: str | None, kernel: str | None) -> objects.Object:
+    """Returns the greatest sizes in MiB that fit on a folder's machine in both forms, 0 if none does."""
+    line = line if line is None or os.path.isabs(line) else os.path.join(folder, line)
+    given = argparse.Namespace(machine=folder, program=plan.program, kernel=kernel, cmdline=line, e820ext=None, srat=None, slit=None, efi=None,
+                               size=[], raw=plan.is_raw, settings=plan.settings)
+    with crash.Machine(given) as own:
+        own.progress.shown = False
+        texts, stop = own.run("", ["map", "memory", "journal"])
+        if stop:
+            return dict.fromkeys(FORMS, 0)
+        return {form: crash.greatest(own, texts, suffix)[0] for form, suffix in FORMS.items()}
 
 
 def answer_for(folder: str, kernel: list[str], outcome: tuple[int, str, reports.Texts], prepared: as_linux.Prepared) -> Answer:
@@ -212,13 +242,15 @@ def range_of(found: objects.Object) -> str:
     return f"{found['first']}..{found['last']}"
 
 
-def columns(row: objects.Object) -> list[str]:
+def columns(row: objects.Object, has_greatest: bool = False) -> list[str]:
     """Returns the texts of a row."""
     crash, numa = row["crash"], row["numa"]
     texts = [row[name] for name in ("folder", "status", "line", "runs", "usable", "free")]
     texts += [crash and (range_of(crash) if crash["outcome"] == "at" else crash["outcome"]), crash and crash["low"] and range_of(crash["low"])]
     texts += [numa and " ".join(str(part) for part in [numa["numa"], *numa.get("blocks", []), *([numa["frames"]] if "frames" in numa else [])])]
-    return ["-" if text is None else str(text) for text in texts + [row["nodes"]]]
+    greatest = row.get("greatest") or dict.fromkeys(FORMS)
+    texts += [row["nodes"], *([greatest[form] for form in FORMS] if has_greatest else [])]
+    return ["-" if text is None else str(text) for text in texts]
 
 
 def complaints(plan: Plan) -> list[str]:
@@ -234,22 +266,23 @@ def main(words: list[str]) -> int:
     """Prints a line for each folder; the status says whether each run ended with 0."""
     given = read_words(words)
     plan = Plan(os.path.abspath(runner.find_program(given.program)), given.cmdline_add, given.cmdline_drop, given.kernel, given.raw,
-                given.settings)
+                given.settings, given.greatest)
     as_linux.refuse_itself(plan.program)
     jobs = min(given.jobs or len(os.sched_getaffinity(0)), len(given.folders))
     for line in complaints(plan):
         tool.complain(NAME, f"--cmdline-add: {line}")
-    failed, panics, assumed = False, False, 0
+    failed, panics, lacks, assumed = False, False, False, 0
     progress, done = tool.Progress(NAME), 0
     with multiprocessing.get_context("fork").Pool(jobs) as pool:
         for answer in pool.imap(answer_of, [(folder, plan) for folder in given.folders], chunksize=max(1, min(16, len(given.folders) // jobs))):
             progress.clear()
-            print(json.dumps(answer.row) if given.json else "\t".join(columns(answer.row)))
+            print(json.dumps(answer.row) if given.json else "\t".join(columns(answer.row, given.greatest)))
             done += 1
             if not sys.stdout.isatty():
                 progress.show(f"{done} of {len(given.folders)} folders")
             failed = failed or answer.row["status"] != 0
             panics = panics or answer.panics
+            lacks = lacks or bool(answer.row["crash"]) and answer.row["crash"]["outcome"] in LACKING
             assumed += answer.assumed
             if answer.note:
                 tool.complain(NAME, f"{answer.row['folder']}: {answer.note}")
@@ -259,7 +292,7 @@ def main(words: list[str]) -> int:
     if assumed:
         tool.complain(NAME, f"of {assumed} of {len(given.folders)} folders nothing tells where the kernel's image lies: 16 MiB to "
                                "48 MiB is assumed")
-    return 1 if failed else PANICS if panics else 0
+    return 1 if failed else PANICS if panics else LACKS if lacks else 0
 
 
 def command() -> NoReturn:

@@ -1,0 +1,102 @@
+"""What bootmem-crash finds of a machine: the greatest sizes and whether what is asked for fits, as
+lines and as an object."""
+
+from __future__ import annotations
+
+from typing import NamedTuple, Optional, Sequence
+
+from bootmem_tools import ranges
+from bootmem_tools.objects import Object
+
+
+class Greatest(NamedTuple):
+    """The greatest size in MiB that fits in a form, 0 if none does, and its area; `below` is the
+    same for areas below 4 GiB, if the first isn't one of them."""
+
+    form: str
+    size: int
+    area: Sequence[ranges.Range]
+    below: Optional[Greatest] = None
+
+
+class Outcome(NamedTuple):
+    """What becomes of asking for an area: `what` was asked for, and what that is on this machine if
+    it goes by total memory; the area, or why there is none."""
+
+    head: str
+    what: str
+    picked: str | None
+    area: Sequence[ranges.Range]
+    reasons: Sequence[str] = ()
+
+
+class Found(NamedTuple):
+    """All that was found of a machine."""
+
+    machine: str
+    greatest: Sequence[Greatest]
+    outcomes: Sequence[Outcome]
+
+    @property
+    def fits(self) -> bool:
+        """Tells whether all that is asked for fits, or if nothing is, whether anything does."""
+        if self.outcomes:
+            return all(one.area for one in self.outcomes)
+        return any(one.size for one in self.greatest)
+
+
+def area_text(found: Sequence[ranges.Range]) -> str:
+    """Returns the area, and its low part if it has one."""
+    area = f"at {ranges.range_text(*found[-1])}"
+    if len(found) == 1:
+        return area
+    first, last = found[0]
+    return f"{area}, low part {ranges.range_text(first, last)} ({ranges.size_text(last + 1 - first)})"
+
+
+def greatest_lines(found: Greatest) -> list[str]:
+    """Returns the lines for a greatest size."""
+    if found.size == 0:
+        return [f"{found.form:<6} no size fits"]
+    lines = [f"{found.form:<6} at most {found.size}M, {area_text(found.area)}"]
+    if found.below is not None:
+        below = found.below
+        lines.append(f"{'':<6} below 4 GiB at most {below.size}M" + (f", {area_text(below.area)}" if below.size else ""))
+    return lines
+
+
+def outcome_lines(found: Outcome) -> list[str]:
+    """Returns the lines for what was asked for."""
+    asked = found.what + (f", {found.picked} here," if found.picked is not None else "")
+    if found.area:
+        return [f"{found.head:<6} {asked} fits {area_text(found.area)}"]
+    return [f"{found.head:<6} {asked} doesn't fit", *(f"{'':<6} {reason}" for reason in found.reasons)]
+
+
+def range_object(found: ranges.Range) -> Object:
+    """Returns a range as an object."""
+    return {"first": ranges.hex_text(found[0]), "last": ranges.hex_text(found[1])}
+
+
+def area_object(found: Sequence[ranges.Range]) -> Object | None:
+    """Returns the area with its low part as an object, or None if there is none."""
+    if not found:
+        return None
+    return {**range_object(found[-1]), "low": range_object(found[0]) if len(found) > 1 else None}
+
+
+def greatest_object(found: Greatest) -> Object:
+    """Returns a greatest size as an object."""
+    made: Object = {"size": found.size * ranges.MIB, "area": area_object(found.area)}
+    if found.below is not None:
+        made["below_4g"] = greatest_object(found.below)
+    return made
+
+
+def as_object(found: Found, notes: Sequence[str]) -> Object:
+    """Returns all that was found as an object; the notes are what is printed on standard error
+    otherwise."""
+    asked = [{"from": one.head, "asked": one.what, "picked": one.picked, "fits": bool(one.area), "area": area_object(one.area),
+              "reasons": list(one.reasons)} for one in found.outcomes]
+    return {"machine": found.machine, "fits": found.fits, "greatest": {one.form: greatest_object(one) for one in found.greatest},
+            "asked": asked, "notes": list(notes)}
