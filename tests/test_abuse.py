@@ -168,6 +168,46 @@ class Abuse(Case):
             self.is_refused(name, words, 1)
         self.check("what was there", bytes_of(self.path("there")), b"old")
 
+    def test_closed(self):
+        """Closed standard input and output: one line, no traceback; a file is written without standard output."""
+        for name, words, status in (("bootmem-where", ["1M", "map"], 1), ("bootmem-json", ["map"], 1), ("bootmem-draw", ["map"], 1),
+                                    ("bootmem-line", ["ranges"], 2), ("bootmem-where", ["1M"], 1), ("bootmem-draw", [], 1)):
+            closing = "<&-" if name == "bootmem-draw" and not words or words == ["1M"] else ">&-"
+            done = subprocess.run(["sh", "-c", f'"$0" "$@" {closing}', os.path.join(TOP, "tools", name), *words], stdout=subprocess.PIPE,
+                                  stderr=subprocess.PIPE, cwd=self.work, env={**os.environ, "BOOTMEM": PROGRAM}, check=False)
+            self.check(f"{name} {words} {closing}", (done.returncode, done.stdout, done.stderr.count(b"\n"), b"Traceback" in done.stderr),
+                       (status, b"", 1, False))
+        done = subprocess.run(["sh", "-c", f'"$0" --output out map >&- 2>&-', os.path.join(TOP, "tools", "bootmem-draw")], cwd=self.work, check=False)
+        self.check("bootmem-draw --output >&- 2>&-", (done.returncode, os.path.exists(self.path("out"))), (0, True))
+
+    def test_no_program(self):
+        """A program that isn't bootmem, and prints nothing: one line or one row says so."""
+        shutil.copytree(example("q35-1g"), self.path("machine"))
+        for name, words, status in (("bootmem-where", ["1M", "--", "--kernel", "16M,52M", "zp"], 1), ("bootmem-crash", ["machine"], 2),
+                                    ("bootmem-draw", ["--", "--kernel", "16M,52M", "zp"], 1), ("bootmem-crash", ["--raw", "machine"], 2),
+                                    ("bootmem-live", ["machine"], 2)):
+            got, out, err, _ = self.run_tool(name, ["--program", "/bin/true", *words])
+            self.check(f"{name} {words} by /bin/true", (got, out, "is it bootmem?" in err, "Traceback" in err), (status, "", True, False))
+        got, out, err, _ = self.run_tool("bootmem-fleet", ["--program", "/bin/true", "machine"])
+        self.check("bootmem-fleet by /bin/true", (got, "is it bootmem?" in out, err), (1, True, ""))
+
+    def test_texts(self):
+        """Texts with numbers that no report has, or with a UTF-8 mark; outputs that are read."""
+        for order in ("99999999999999999999999", "62", "11"):
+            write(self.path("orders"), f"== blocks\nnode 0 zone DMA order {order} 0x0000000000001000\n")
+            for name, words in (("bootmem-draw", ["--output", "out"]), ("bootmem-where", ["1M"]), ("bootmem-json", [])):
+                self.is_refused(name, [*words, "orders"], 1)
+        write(self.path("marked"), b"\xef\xbb\xbf" + MAP.encode())
+        self.is_refused("bootmem-where", ["1M", "marked"], 1)
+        self.has("a mark is told", self.run_tool("bootmem-where", ["1M", "marked"])[2], "marked: it begins with a UTF-8 mark")
+        write(self.path("lines"), MAP.replace("\n", "\r\n"))
+        self.check("lines that end with CR and LF", self.run_tool("bootmem-where", ["1M", "lines"])[:2], self.run_tool("bootmem-where", ["1M", "map"])[:2])
+        for name, words in (("bootmem-draw", ["--output", "map", "map"]), ("bootmem-draw", ["--html", "./map", "map"]),
+                            ("bootmem-draw", ["--output", "zp", "--", "--kernel", "16M,52M", "zp"]),
+                            ("claims-from-log", ["--e820ext", "claims", "claims"])):
+            self.is_refused(name, words, 1)
+        self.check("what was read stays", (text_of(self.path("map")), text_of(self.path("claims"))), (MAP, CLAIMS))
+
 
 if __name__ == "__main__":
     unittest.main()

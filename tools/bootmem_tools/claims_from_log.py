@@ -431,6 +431,7 @@ def read_words(words: list[str]) -> argparse.Namespace:
 def main(words: list[str]) -> int:
     """Writes what the words ask for."""
     given = read_words(words)
+    tool.refuse_over([path for path in (given.e820ext, given.script) if path], [given.log, *([given.over] if given.over else [])])
     text = re.sub(r"\x1b\[[0-9;]*[mK]", "", tool.read_text(given.log, kind=tool.LOG))
     lines = last_boot(text.splitlines())
     log = read_log(lines)

@@ -81,6 +81,7 @@ def read_words(words: list[str]) -> tuple[argparse.Namespace, Boots]:
         parser.error(f"more than {most} of FILE and words behind --")
     if given.files.count("-") > 1:
         parser.error("two texts from standard input")
+    tool.refuse_over([path for path in (given.html, given.output) if path is not None], [*given.files, *(program_words or [])])
     named = given.files or (["-"] if program_words is None else [])
     boots = [(tool.shown_name(file), reports.read_reports(file, behind=True)) for file in named]
     if program_words is not None:

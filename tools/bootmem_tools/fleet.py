@@ -153,7 +153,7 @@ def run(folder: str, plan: Plan, names: list[str], words: list[str]) -> tuple[in
     said = "".join(done.stderr.decode("utf-8", "replace").splitlines()[:1])
     if done.returncode != 0:
         return done.returncode, said, {}
-    return 0, said, reports.split_reports(done.stdout.decode())
+    return 0, said, runner.texts_of(names, done.stdout.decode())
 
 
 def answer_of(work: tuple[str, Plan]) -> Answer:

@@ -12,7 +12,7 @@ from typing import Iterable, Iterator, NamedTuple
 
 from bootmem_tools.tool import Trouble, quoted
 
-ADDRESS, NUMBER, WORD, TEXT = r"0x[0-9a-f]{16}", r"\d+", r"\S+", r".+"
+ADDRESS, NUMBER, WORD, TEXT = r"0x[0-9a-f]{16}", r"\d{1,20}", r"\S+", r".+"
 
 # The fields of lines: what each looks like. A field that isn't named here is a NUMBER.
 FIELDS = {
@@ -27,6 +27,7 @@ FIELDS = {
     "zones": r"(?: \d+/\w+)*",
     "orders": r"(?: +\d+){11}",
     "on": "on|off",
+    "order": "10|[0-9]",
 }
 
 # The rows of each report, by the report's name: the kind of a line, and its form, in which

@@ -73,8 +73,16 @@ def call_program(program: str, names: Sequence[str], words: Sequence[str],
 
 
 def texts_of(names: Sequence[str], text: str) -> Texts:
-    """Returns the reports that a run for these names printed."""
-    return split_reports(text) if len(names) > 1 else {names[0]: text.splitlines()}
+    """Returns the reports that a run for these names printed.
+
+    # Errors
+    A Trouble if one of several is missing: what ran isn't bootmem.
+    """
+    found = split_reports(text) if len(names) > 1 else {names[0]: text.splitlines()}
+    missing = [name for name in names if name not in found]
+    if missing:
+        raise Trouble(f"the program printed no report {missing[0]}: is it bootmem?")
+    return found
 
 
 def failed(status: int, said: str) -> Trouble:

@@ -36,6 +36,7 @@ class Trouble(Exception):
 def run_tool(name: str, main: Callable[[list[str]], int], failure: int = 1) -> NoReturn:
     """Ends the process with the status of main(words); a Trouble is one line on standard error,
     and the status `failure`."""
+    open_missing()
     if hasattr(signal, "SIGPIPE"):
         signal.signal(signal.SIGPIPE, signal.SIG_DFL)
     try:
@@ -56,6 +57,14 @@ def run_tool(name: str, main: Callable[[list[str]], int], failure: int = 1) -> N
     if status:
         os._exit(status)  # what couldn't be written has been told
     sys.exit(0)
+
+
+def open_missing() -> None:
+    """Gives a process whose output or standard error is closed one that fails, or one that is passed over."""
+    if sys.stdout is None:
+        sys.stdout = open(os.open(os.devnull, os.O_RDONLY), "w", encoding="utf-8")  # each write is an error
+    if sys.stderr is None:
+        sys.stderr = open(os.devnull, "w", encoding="utf-8")
 
 
 def complain(name: str, message: str) -> None:
@@ -177,6 +186,8 @@ def read_limited(file: BinaryIO, name: str, kind: Kind, hint: str = "") -> bytes
             raise Trouble(f"{name}: no {kind.what}: longer than {kind.limit} bytes{hint}")
         if kind.is_text and b"\0" in part:
             raise Trouble(f"{name}: no {kind.what}: it has a zero byte{hint}")
+        if kind.is_text and not parts and part.startswith(b"\xef\xbb\xbf"):
+            raise Trouble(f"{name}: it begins with a UTF-8 mark, the bytes ef bb bf: save it without one")
         why = kind.judge(part) if kind.judge and not parts else None
         if why:
             raise Trouble(f"{name}: {why}{hint}")
@@ -190,6 +201,8 @@ def read_bytes(path: str, kind: Kind, hint: str = "") -> bytes:
     As `read_limited`.
     """
     if path == "-":
+        if sys.stdin is None:
+            raise Trouble(f"standard input is closed{hint}")
         return read_limited(sys.stdin.buffer, shown_name(path), kind, hint)
     with open(path, "rb") as file:
         return read_limited(file, path, kind, hint)
@@ -203,7 +216,7 @@ def read_text(path: str, behind: bool = False, kind: Kind = TEXT) -> str:
     A Trouble if standard input is a terminal, or as `read_limited`.
     """
     hint = BEHIND if behind else ""
-    if path == "-" and sys.stdin.isatty():
+    if path == "-" and sys.stdin is not None and sys.stdin.isatty():
         raise Trouble(f"nothing to read: name a file{hint}", 2)
     return read_bytes(path, kind, hint).decode("utf-8", "replace")
 
@@ -236,6 +249,18 @@ def write_files(files: Mapping[str, bytes]) -> None:
         for path, temporary in made.items():
             os.replace(temporary, os.path.realpath(path))
         undo.pop_all()
+
+
+def refuse_over(outputs: Sequence[str], read: Sequence[str]) -> None:
+    """Refuses to write over a file that is read.
+
+    # Errors
+    A Trouble for the first output that is one of them; devices may be both.
+    """
+    files = {os.path.realpath(path) for path in read if os.path.isfile(path)}
+    for path in outputs:
+        if os.path.realpath(path) in files:
+            raise Trouble(f"{path}: it is read, and would be written over")
 
 
 def mode_of(path: str) -> int:

@@ -199,20 +199,12 @@ def write_folder(folder: str, found: dict[str, bytes]) -> None:
     print(f"next: cd {shlex.quote(folder)} && bootmem {' '.join(words + ['zp.bin'])}")
 
 
-def check_outputs(outputs: Sequence[str], sources: Sequence[str]) -> None:
-    """Refuses to write over a source."""
-    read = {os.path.realpath(source) for source in sources if source != "-"}
-    for path in outputs:
-        if os.path.realpath(path) in read:
-            raise tool.Trouble(f"{path}: it is read, and would be written over")
-
-
 def main(words: list[str]) -> int:
     """Writes the zero page, and what else is named or told."""
     given = read_words(words)
     sources = given.sources or ["-"]
     named = [path for path in (given.output, given.e820ext, given.srat, given.efi) if path is not None]
-    check_outputs(named or [os.path.join(given.folder, name) for name in FILES], sources)
+    tool.refuse_over(named or [os.path.join(given.folder, name) for name in FILES], sources)
     boot = boot_sources.Boot(lambda line: tool.complain(NAME, line))
     boot.kernel = given.kernel
     for source in sources:
