@@ -62,6 +62,8 @@ libbootmem: the memory set-up of x86-64 Linux 6.1 from C
  and a shared library, the C header, and a crate for Rust; the package bootmem
  has a module of Python over it.
 END
+else
+	echo "deb.sh: there is no libbootmem.a, so no package bootmem-dev is made; 'make lib' proves and builds it" >&2
 fi
 package "$root" bootmem "$(printf '%s\n' "${depends:-libc6 (>= $library)}" | paste -s -d , - | sed 's/,/, /g')" <<END
 boot-time memory set-up of x86-64 Linux 6.1, proved
@@ -71,4 +73,6 @@ boot-time memory set-up of x86-64 Linux 6.1, proved
  whether a crash area fits and where, which node and zone each range has, who
  holds what, and which frames are free. bootaudit says of such reports, saved
  from another machine or another program, whether memory was conserved.
+ .
+ bootmem was built from $(cat bootmem.built 2>/dev/null || echo "a commit and with a kit that nothing names").
 END
