@@ -177,7 +177,7 @@ class Abuse(Case):
                                   stderr=subprocess.PIPE, cwd=self.work, env={**os.environ, "BOOTMEM": PROGRAM}, check=False)
             self.check(f"{name} {words} {closing}", (done.returncode, done.stdout, done.stderr.count(b"\n"), b"Traceback" in done.stderr),
                        (status, b"", 1, False))
-        done = subprocess.run(["sh", "-c", f'"$0" --output out map >&- 2>&-', os.path.join(TOP, "tools", "bootmem-draw")], cwd=self.work, check=False)
+        done = subprocess.run(["sh", "-c", '"$0" --output out map >&- 2>&-', os.path.join(TOP, "tools", "bootmem-draw")], cwd=self.work, check=False)
         self.check("bootmem-draw --output >&- 2>&-", (done.returncode, os.path.exists(self.path("out"))), (0, True))
 
     def test_no_program(self):
@@ -201,7 +201,8 @@ class Abuse(Case):
         self.is_refused("bootmem-where", ["1M", "marked"], 1)
         self.has("a mark is told", self.run_tool("bootmem-where", ["1M", "marked"])[2], "marked: it begins with a UTF-8 mark")
         write(self.path("lines"), MAP.replace("\n", "\r\n"))
-        self.check("lines that end with CR and LF", self.run_tool("bootmem-where", ["1M", "lines"])[:2], self.run_tool("bootmem-where", ["1M", "map"])[:2])
+        self.check("lines that end with CR and LF", self.run_tool("bootmem-where", ["1M", "lines"])[:2],
+                   self.run_tool("bootmem-where", ["1M", "map"])[:2])
         for name, words in (("bootmem-draw", ["--output", "map", "map"]), ("bootmem-draw", ["--html", "./map", "map"]),
                             ("bootmem-draw", ["--output", "zp", "--", "--kernel", "16M,52M", "zp"]),
                             ("claims-from-log", ["--e820ext", "claims", "claims"])):
