@@ -27,7 +27,7 @@ class Commands(Case):
     def test_help(self):
         """Each tool tells how it is used and that it isn't proved; words that it doesn't know are refused."""
         for name in ("bootmem-draw", "bootmem-where", "bootmem-diff", "bootmem-live", "zp-from-log", "collect.sh", "bootmem-json",
-                     "bootmem-fleet", "claims-from-log", "bootmem-line", "bootmem-crash", "bootmem-linux", "free-lists"):
+                     "bootmem-fleet", "claims-from-log", "bootmem-line", "bootmem-crash", "bootmem-linux", "free-lists", "boot-example"):
             status, out, err = tool(name, "--help")
             self.check(f"{name} --help", (status, err), (0, ""))
             self.has(f"{name} --help", out, "isn't proved")

@@ -134,7 +134,8 @@ class Completions(Case):
                              (["bootmem-draw", "z"], ["zp.bin"]), (["bootmem-draw", "--title", "x", "--", "--sr"], ["--srat"]),
                              (["bootmem-draw", "--", "--srat", "z"], ["zp.bin"]), (["bootmem-linux", "--pages", "z"], []),
                              (["bootmem-diff", "--report", "map,z"], ["map,zones", "map,zonelists"]),
-                             (["collect.sh", "--p"], ["--proc"]), (["bootmem-fleet", "--he"], ["--help"])):
+                             (["collect.sh", "--p"], ["--proc"]), (["bootmem-fleet", "--he"], ["--help"]),
+                             (["boot-example", "--timeout", "z"], []), (["boot-example", "--line", "x", "--", "qemu", "z"], ["zp.bin"])):
             done = subprocess.run(["bash", "-c", script, "test_words.py", path, os.path.join(TOP, "tools"), *line], stdout=subprocess.PIPE,
                                   stderr=subprocess.PIPE, cwd=example("first"), check=False)
             self.check(" ".join(line), (sorted(done.stdout.decode().split()), done.stderr), (sorted(wanted), b""))

@@ -24,7 +24,7 @@ share=$2$3/share
 man=$2$4
 tools="bootmem-draw bootmem-where bootmem-diff bootmem-live zp-from-log"
 tools="$tools bootmem-line bootmem-crash bootmem-linux"
-tools="$tools bootmem-fleet bootmem-json claims-from-log free-lists"
+tools="$tools bootmem-fleet bootmem-json claims-from-log free-lists boot-example"
 
 uninstall() {
 	for tool in bootmem bootaudit bootmem-collect $tools; do
@@ -100,7 +100,7 @@ library() {
 
 # examples FOLDER: the files of the machines of examples/, and nothing else that lies there
 examples() {
-	(cd examples && find . -type f \( -name '*.bin' -o -name '*.txt' -o -name cmdline -o -name words -o -name script -o -name log \
+	(cd examples && find . -type f \( -name '*.bin' -o -name '*.txt' -o -name cmdline -o -name words -o -name script -o -name log -o -name linux \
 		-o -name README.md \) -print | tar -c -f - -T -) | (cd "$1" && tar -x --no-same-owner -f -)
 	chmod -R u=rwX,go=rX "$1"
 }

@@ -343,8 +343,12 @@ def own_rooms(log: Log) -> dict[int, Range]:
     return found
 
 
-def write_replay(log: Log, image: Range, folder: str) -> None:
-    """Writes the files of a whole boot."""
+def replay_files(log: Log, image: Range) -> tuple[dict[str, bytes], list[str]]:
+    """Returns the files of a whole boot, and the words for bootmem.
+
+    # Errors
+    Trouble: zero page and extension have no room for the log's memory.
+    """
     rooms = own_rooms(log)
     entries = sorted([(first, last + 1 - first, 1) for first, last in joined(log.added or log.memory)]
                      + [(first, last + 1 - first, inputs.SOFT_RESERVED) for first, last in log.soft])
@@ -357,15 +361,23 @@ def write_replay(log: Log, image: Range, folder: str) -> None:
              "places": text_of(f"{line}: {'no gap' if place is None else 'at ' + ranges.hex_text(place)}" for line, place in places)}
     if len({node for _, _, node in log.noded}) > 1:
         blocks = [(first, last + 1 - first, node) for first, last, node in log.noded]
-        files["srat.bin"] = inputs.srat(blocks + [(base, size, node) for node, (base, size) in rooms.items()], sorted(rooms))
+        files["srat.bin"] = inputs.srat(blocks + [(base, size, node) for node, (base, size) in rooms.items()],
+                                        range(max(rooms) + 1))  # a domain each, so that its number is the node's
         words += ["--srat", "srat.bin"]
     if entries[inputs.ROOM:]:
         files["e820ext.bin"] = inputs.extension(entries[inputs.ROOM:])
         words += ["--e820ext", "e820ext.bin"]
-    files["words"] = text_of([" ".join(words + ["zp.bin"])])
+    words.append("zp.bin")
+    files["words"] = text_of([" ".join(words)])
+    return files, words
+
+
+def write_replay(log: Log, image: Range, folder: str) -> None:
+    """Writes the files of a whole boot, and prints the words for bootmem."""
+    files, words = replay_files(log, image)
     os.makedirs(folder, exist_ok=True)
     tool.write_files({os.path.join(folder, name): data for name, data in files.items()})
-    print(" ".join(words + ["zp.bin"]))
+    print(" ".join(words))
 
 
 def text_of(lines: Iterable[str]) -> bytes:

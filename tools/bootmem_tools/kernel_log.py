@@ -1,13 +1,18 @@
 """What a kernel's log tells of its boot: the firmware's map, the descriptors of UEFI firmware, the
-initrd, the command line, the kernel's image and its release; and lists of entries."""
+initrd, the command line, the kernel's image and its release; and lists of entries.
+
+It also has what a log says of memory, as the texts of bootmem's reports. No rule of bootmem
+computes them: a text has the lines that the log has, with the edits that it names."""
 
 from __future__ import annotations
 
 import re
-from typing import Sequence
+from typing import Iterator, Sequence
 
-from bootmem_tools import claims_from_log, ranges, tool
+from bootmem_tools import claims_from_log as claims
+from bootmem_tools import log_srat, ranges, tool
 from bootmem_tools.inputs import Entry, Initrd
+from bootmem_tools.ranges import Range
 
 TYPES = {"usable": 1, "reserved": 2, "ACPI data": 3, "ACPI NVS": 4, "unusable": 5, "soft reserved": 0xEFFFFFFF}
 # Lines of a log, each with its number from 1 on.
@@ -16,7 +21,8 @@ Numbered = list[tuple[int, str]]
 Descriptor = tuple[int, int, int, int]
 HEAD = "BIOS-provided physical RAM map:"
 BEGUN = re.compile(r"Linux version \d|\bCommand line: ")
-ENTRY = r"\[mem 0x([0-9a-f]+)-0x([0-9a-f]+)\] (.+)"
+SPAN = r"\[mem 0x([0-9a-f]+)-0x([0-9a-f]+)\]"
+ENTRY = rf"{SPAN} (.+)"
 DESCRIPTOR = r"efi: mem(\d+): \[(.+?)\] range=\[0x([0-9a-f]+)-0x([0-9a-f]+)\]"
 # Types and attributes of descriptors by the names that the kernel prints (efi_md_typeattr_format;
 # UEFI, section 7.2.3).
@@ -24,6 +30,21 @@ EFI_TYPES = ("Reserved", "Loader Code", "Loader Data", "Boot Code", "Boot Data",
              "Unusable", "ACPI Reclaim", "ACPI Mem NVS", "MMIO", "MMIO Port", "PAL Code", "Persistent")
 ATTRIBUTES = {"UC": 0x1, "WC": 0x2, "WT": 0x4, "WB": 0x8, "UCE": 0x10, "WP": 0x1000, "RP": 0x2000, "XP": 0x4000, "NV": 0x8000,
               "MR": 0x10000, "RO": 0x20000, "SP": 0x40000, "CC": 0x80000, "RUN": 1 << 63}
+# The heads of the maps that a kernel prints, with what their lines begin with.
+MAPS = (
+    (HEAD, "BIOS-e820:"),
+    ("extended physical RAM map:", "reserve setup_data:"),
+    ("user-defined physical RAM map:", "user:"),
+)
+UPDATE = re.compile(rf"e820: update {SPAN} (.+) ==> (.+)$")
+REMOVE = re.compile(rf"e820: remove {SPAN}(?: (.+))?$")
+# Types by number, as the report `map` has them.
+NAMES = {number: name for name, number in TYPES.items()}
+NAMES |= {7: "persistent (type 7)", 12: "persistent (type 12)"}
+JOIN = re.compile(rf"NUMA: Node (\d+) {SPAN} \+ {SPAN} -> {SPAN}")
+FAKED = re.compile(rf"Faking a node at {SPAN}")
+# A run of the map: its type, its first and its last byte.
+Run = tuple[int, int, int]
 
 
 def type_of(text: str) -> int | None:
@@ -147,7 +168,7 @@ def initrd_of_log(lines: Numbered) -> Initrd | None:
     `Allocated new RAMDISK` has the place to which the kernel moved it (relocate_initrd)."""
     found = None
     for _, line in lines:
-        match = claims_from_log.RAMDISK.search(line)
+        match = claims.RAMDISK.search(line)
         if match:
             found = int(match.group(1), 16), int(match.group(2), 16) + 1 - int(match.group(1), 16)
     return found
@@ -170,5 +191,138 @@ def image_of_log(lines: Numbered) -> str | None:
     tells; None of another log."""
     if not any("MEMBLOCK configuration:" in line for _, line in lines):
         return None
-    image = claims_from_log.image_of(claims_from_log.read_log(line for _, line in lines))
-    return claims_from_log.kernel_text(image) if image else None
+    image = claims.image_of(claims.read_log(line for _, line in lines))
+    return claims.kernel_text(image) if image else None
+
+
+def spans_of(match: re.Match[str], group: int = 1) -> Range:
+    """Returns the range whose first byte is this group of a match, and its last byte the next."""
+    return int(match.group(group), 16), int(match.group(group + 1), 16)
+
+
+def last_map(lines: Sequence[str]) -> tuple[list[Run], int]:
+    """Returns the last map that the log prints whole, and the number of the line after it."""
+    heads = [
+        (number, begin)
+        for number, line in enumerate(lines)
+        for head, begin in MAPS
+        if head in line
+    ]
+    if not heads:
+        return [], 0
+    number, begin = heads[-1]
+    found: list[Run] = []
+    for end, line in enumerate(lines[number + 1 :], number + 1):
+        match = re.search(rf"{begin} {ENTRY}$", line)
+        if match is None:
+            return found, end
+        kind = type_of(match.group(3).rstrip())
+        found.append((kind if kind is not None else 0, *spans_of(match)))
+    return found, len(lines)
+
+
+def edited(runs: Sequence[Run], span: Range, old: int | None, new: int | None) -> list[Run]:
+    """Returns the map in which what has the old type (any, if it is None) in this span has the
+    new one, or is gone if that is None."""
+    found: list[Run] = []
+    for kind, first, last in runs:
+        low, high = max(first, span[0]), min(last, span[1])
+        if low > high or old is not None and kind != old:
+            found.append((kind, first, last))
+            continue
+        found += [(kind, first, low - 1)] if first < low else []
+        found += [(new, low, high)] if new is not None else []
+        found += [(kind, high + 1, last)] if high < last else []
+    return found
+
+
+def united(runs: Sequence[Run]) -> Iterator[Run]:
+    """Yields the runs in order, with those of one type that touch as one."""
+    held: Run | None = None
+    for kind, first, last in sorted(runs, key=lambda run: run[1]):
+        if held and held[0] == kind and held[2] + 1 == first:
+            held = kind, held[1], last
+            continue
+        if held:
+            yield held
+        held = kind, first, last
+    if held:
+        yield held
+
+
+def map_text(lines: Sequence[str]) -> str:
+    """Returns the report `map` of the last map that the log prints, with the edits after it up
+    to the memory of memblock."""
+    runs, start = last_map(lines)
+    for line in lines[start:]:
+        if "MEMBLOCK configuration:" in line:
+            break
+        match = UPDATE.search(line)
+        if match:
+            old, new = (type_of(match.group(group)) for group in (3, 4))
+            runs = edited(runs, spans_of(match), old, new)
+        match = REMOVE.search(line)
+        if match:
+            kind = type_of(match.group(3)) if match.group(3) else None
+            runs = edited(runs, spans_of(match), kind, None)
+    return "".join(
+        f"{ranges.hex_text(first)}..{ranges.hex_text(last)} {kind} {NAMES.get(kind, 'unknown')}\n"
+        for kind, first, last in united(runs)
+    )
+
+
+def memory_records(lines: Sequence[str]) -> list[Range]:
+    """Returns the records of memory in memblock's last dump."""
+    dumps = [number for number, line in enumerate(lines) if "MEMBLOCK configuration:" in line]
+    matches = (claims.RECORD.search(line) for line in lines[dumps[-1] if dumps else len(lines) :])
+    return [spans_of(one, 2) for one in matches if one and one.group(1) == "memory"]
+
+
+def memory_text(lines: Sequence[str]) -> str:
+    """Returns the report `memory` of memblock's last dump."""
+    return "".join(
+        f"{number:4}: {ranges.hex_text(first)}..{ranges.hex_text(last)}\n"
+        for number, (first, last) in enumerate(memory_records(lines))
+    )
+
+
+def nodes_text(lines: Sequence[str]) -> str:
+    """Returns the report `nodes` where the log has no SRAT, or the kernel took it; else an empty
+    text.
+
+    The log doesn't name the domain of a generic initiator, so there is no text if a node has
+    no domain."""
+    faked = [match for match in map(FAKED.search, lines) if match]
+    blocks = [match for match in map(log_srat.MEMORY.search, lines) if match]
+    if faked:
+        if blocks:
+            return ""
+        first, last = spans_of(faked[0])
+        return f"numa absent\nuncovered 0\n{node_line(0, first, last)}"
+    domains = {int(match.group(1)): int(match.group(2)) for match in blocks}
+    for line in lines:
+        match = log_srat.PROCESSOR.search(line)
+        if match:
+            domains[int(match.group(3))] = int(match.group(1))
+    if not blocks or sorted(domains) != list(range(len(domains))):
+        return ""
+    named = "".join(f"domain {domains[node]} node {node}\n" for node in sorted(domains))
+    spans = node_spans(lines, [(int(one.group(1)), *spans_of(one, 3)) for one in blocks])
+    return f"numa used\n{named}uncovered 0\n" + "".join(node_line(*span) for span in spans)
+
+
+def node_line(node: int, first: int, last: int) -> str:
+    """Returns a node's line of the report `nodes`."""
+    return f"node {node} {ranges.hex_text(first)}..{ranges.hex_text(last)}\n"
+
+
+def node_spans(lines: Sequence[str], blocks: Sequence[Run]) -> list[Run]:
+    """Returns the blocks of the SRAT by node, joined where the log says so."""
+    found = list(blocks)
+    for line in lines:
+        match = JOIN.search(line)
+        if match:
+            node, (first, last) = int(match.group(1)), spans_of(match, 6)
+            rest = [one for one in found if one[0] != node or one[2] < first or last < one[1]]
+            found = rest + [(node, first, last)]
+    return sorted(found, key=lambda one: one[1])
