@@ -25,8 +25,11 @@ EXAMPLES = os.path.join(TOP, "examples")
 MACHINES = sorted(
     name
     for name in os.listdir(EXAMPLES)
-    if os.path.exists(os.path.join(EXAMPLES, name, "zp.bin")) and name != "first"
+    if os.path.exists(os.path.join(EXAMPLES, name, "lists", "kernel.txt"))
 )
+# Machines whose folder has the log of another boot, of a kernel whose line lacked LATER.
+LOGGED = ("ovmf-4g-numa2", "pc-1g-crashfixed", "q35-8g-numa2")
+LATER = " early_page_ext"
 PROGRAM = os.path.abspath(os.environ.get("BOOTMEM_TESTED") or os.path.join(TOP, "bootmem"))
 
 
@@ -390,6 +393,27 @@ class FreeLists(unittest.TestCase):
                 )
                 self.assertIn(part, done.stderr.decode())
                 self.assertFalse(os.path.exists(os.path.join(work, "made")))
+
+    def test_made(self) -> None:
+        """The inputs that are made of a kernel's tables and of a log are those of the folder,
+        but for the copies of the line, which was longer, and what lies below them."""
+        for name in LOGGED:
+            with self.subTest(machine=name):
+                boot, folder = boot_of(name), os.path.join(EXAMPLES, name)
+                lines = tool.read_text(os.path.join(folder, "log")).splitlines()
+                kernel = lists.parse_kernel(boot.text)
+                made = free_lists.make_machine(kernel, lines, None, PROGRAM).files
+                for file in sorted(made.keys() - {"script", "kernel.txt"}):
+                    path = os.path.join(folder, "lists", file)
+                    self.assertEqual(made[file], tool.read_bytes(path, tool.TEXT._replace(is_text=False)))
+                script = tool.read_text(os.path.join(folder, "lists", "script")).splitlines()
+                pairs = list(zip(script, made["script"].decode().splitlines()))
+                other = [pair for pair in pairs if pair[0] != pair[1]]
+                copies = [pair for pair in other if pair[0].startswith("alloc ")]
+                self.assertEqual((len(pairs), len(copies), len(other) - len(copies) <= 1),
+                                 (len(script), 2, True))
+                for theirs, ours in copies:
+                    self.assertEqual(int(theirs.split()[2]), int(ours.split()[2]) + len(LATER))
 
     def test_texts(self) -> None:
         """What is read of each file is written again as the same text."""

@@ -252,30 +252,23 @@ class Writer:
             if freed:
                 self.put(f"free {self.number}")
 
-    def claim(self, claim: Any, spans: Sequence[Span]) -> None:
+    def claim(self, claim: claims.Claim, spans: Sequence[Span]) -> None:
         """Appends the lines for a claim of the log. An allocation is searched anew, unless it
         was made over a border of nodes, before nodes were set."""
-        request = claim.request
+        request, place = claim.request, claim.place
+        if place is None:
+            if request is not None:
+                self.number += 1
+                self.put(claims.alloc_line(self.number, request), "no gap")
+            return
+        nodes = {span.node for span in spans if span.start <= place[1] and place[0] < span.end}
         if claim.deed != "alloc" or request is None:
-            self.reserve(claim.first, claim.last + 1, claim.deed == "free")
-        elif claim.first is None:
-            self.number += 1
-            self.put(claims.alloc_line(self.number, claim), "no gap")
-        elif (
-            request.node is None
-            and len(
-                {
-                    span.node
-                    for span in spans
-                    if span.start <= claim.last and claim.first < span.end
-                }
-            )
-            > 1
-        ):
-            self.reserve(claim.first, claim.last + 1)
+            self.reserve(place[0], place[1] + 1, claim.deed == "free")
+        elif request.node is None and len(nodes) > 1:
+            self.reserve(place[0], place[1] + 1)
         else:
             self.number += 1
-            self.put(claims.alloc_line(self.number, claim), f"at {ranges.hex_text(claim.first)}")
+            self.put(claims.alloc_line(self.number, request), f"at {ranges.hex_text(place[0])}")
 
 
 class Spare(NamedTuple):
@@ -290,7 +283,7 @@ class Spare(NamedTuple):
         return whole + [(place, place + lists.FRAME) for place in self.frames]
 
 
-def spare_memory(kernel: lists.Kernel, log: Any, surplus: Sequence[int]) -> Spare:
+def spare_memory(kernel: lists.Kernel, log: claims.Log, surplus: Sequence[int]) -> Spare:
     """The memory that the program gets above the kernel's. Each range of it takes a record of the
     program's reserved table once it is claimed. There are as many as make that table as long as
     the kernel's where the kernel's grew, which `surplus` says.
@@ -298,7 +291,7 @@ def spare_memory(kernel: lists.Kernel, log: Any, surplus: Sequence[int]) -> Spar
     # Errors
     Trouble: the kernel's table grew without a surplus, and no record of it ends where the room
     starts."""
-    last = [claim.last for claim in log.claims if claim.last is not None]
+    last = [claim.place[1] for claim in log.claims if claim.place is not None]
     top = max([lists.top_of(kernel)] + [place + 1 for place in last])
     room = own_room(memory_spans(kernel), -(-top // SECTION) * SECTION)
     touches = any(record.last + 1 == room[0].start for record in kernel.reserved.records)
@@ -351,7 +344,7 @@ def make_machine(
 OPTIONS = {"e820ext.bin": "--e820ext", "srat.bin": "--srat"}
 
 
-def machine_files(log: Any, spans: Sequence[Span], spare: Spare) -> Dict[str, bytes]:
+def machine_files(log: claims.Log, spans: Sequence[Span], spare: Spare) -> Dict[str, bytes]:
     """The zero page of the kernel's memory and of the program's own above it, and, if they are
     needed, an extension and an SRAT."""
     entries = sorted(
@@ -370,7 +363,9 @@ def machine_files(log: Any, spans: Sequence[Span], spare: Spare) -> Dict[str, by
     if nodes != {0}:
         own = spare.room[-1].node
         owned = [Span(place, place + lists.FRAME, own) for place in spare.frames]
-        blocks = [(span.start, span.end - 1, span.node) for span in [*spans, *spare.room, *owned]]
+        blocks = [
+            (span.start, span.end - span.start, span.node) for span in [*spans, *spare.room, *owned]
+        ]
         files["srat.bin"] = inputs.srat(blocks, range(max(nodes) + 1))
     return files
 
