@@ -8,7 +8,7 @@
 program=$(built "${1:-$top/bootmem}") || exit 2
 reports="map memory nodes zones crash script"
 # so many texts there are
-all=218
+all=264
 answers=0
 addresses=0
 texts=

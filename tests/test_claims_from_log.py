@@ -123,7 +123,7 @@ class Claims(Case):
                 real += 1
                 self.check(f"claims {name}, its log", tool("claims-from-log", "--replay", folder, example(name, "log"))[::2], (0, ""))
                 self.same_replay(f"claims {name}, its log", name, folder)
-        self.check("claims: replays, and logs of their kernels", (made, real), (37, 3))
+        self.check("claims: replays, and logs of their kernels", (made, real), (47, 13))
 
     def test_brk(self):
         """Each replay claims brk, which follows the image in one record of the first dump."""

@@ -9,6 +9,11 @@ from support import BOOTS, GIB, MIB, PROGRAM, Case, bytes_of, example, has_file,
 ADDED = "add_efi_memmap: EFI's descriptors are added to the map (do_add_efi_memmap): by bootmem those of --efi alone\n"
 
 NOTED = "log_buf_len=1M: passed over: a longer log buffer is claimed before the crash area (setup_log_buf)\n"
+AREA = "{}: passed over: {} claimed before the crash area ({})\n"
+AREAS = (
+    ("cma=64M", "an area is", "dma_contiguous_reserve"),
+    ("hugetlb_cma=1G", "areas are", "hugetlb_cma_reserve"),
+)
 
 # Ranges as distributions have them, and the size that the kernel takes by them on a virtual machine of so many bytes.
 FIRST, SECOND = "1G-4G:192M,4G-64G:256M,64G-:512M", "2G-4G:320M,4G-32G:512M,32G-64G:1G,64G-128G:2G,128G-:4G"
@@ -66,7 +71,9 @@ class Line(Case):
             status, out, err = tool("bootmem-line", *extension, "cmdline", "zp.bin", folder=example(name))
             line = bytes_of(example(name, "cmdline")).rstrip(b"\n")
             self.check(f"line {name}", (status, out.encode("latin-1").rstrip(b"\n")), (0, line))
-            said = NOTED + (ADDED if b"add_efi_memmap" in line else "")
+            said = NOTED if b"log_buf_len=1M" in line else ""
+            said += "".join(AREA.format(*area) for area in AREAS if f" {area[0]} ".encode() in line)
+            said += ADDED if b"add_efi_memmap" in line else ""
             self.check(f"line {name}: said", re.sub(r"(?m)^bootmem-line: word \d+: ", "", err), said)
 
     def test_ranges(self):

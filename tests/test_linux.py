@@ -37,10 +37,19 @@ from support import (
 )
 from test_claims_from_log import ROOMS
 from test_commands import shown_examples
-from bootmem_tools import as_linux, inputs, linux_claims, linux_cma, linux_log, linux_srat
+from bootmem_tools import (
+    as_linux,
+    inputs,
+    kernel_log,
+    linux_claims,
+    linux_cma,
+    linux_log,
+    linux_srat,
+)
 from bootmem_tools.direct_map import PMD, PUD, DirectMap, Free
 
 FRAME = 4096
+NODE_DATA = re.compile(r"NODE_DATA\((\d+)\) allocated \[mem 0x(\w+)-0x(\w+)\]")
 SETUP_DATA, BOOT_SERVICES = "memblock_x86_reserve_range_setup_data", "efi_reserve_boot_services"
 # Who makes the claims of the kernels' logs, from the first dump of memblock up to the sections:
 # the kernel function by whose rule
@@ -48,20 +57,20 @@ SETUP_DATA, BOOT_SERVICES = "memblock_x86_reserve_range_setup_data", "efi_reserv
 # are.
 RULES = rows_of(
     """
-memblock_x86_reserve_range_setup_data | 4
-efi_memblock_x86_reserve_range | 2
-reserve_brk | 37
-efi_reserve_boot_services | 206
-alloc_low_pages | 102
-setup_log_buf | 111
+memblock_x86_reserve_range_setup_data | 6
+efi_memblock_x86_reserve_range | 4
+reserve_brk | 47
+efi_reserve_boot_services | 413
+alloc_low_pages | 110
+setup_log_buf | 132
 numa_alloc_distance | 1
-bootmem: low-1m | 75
-bootmem: initrd | 37
-bootmem: node-data | 51
-bootmem: crash | 10
-reason: given back | 86
-reason: not in memory | 248
-reason: a table of EFI, whose place no input tells | 2
+bootmem: low-1m | 95
+bootmem: initrd | 47
+bootmem: node-data | 64
+bootmem: crash | 20
+reason: given back | 108
+reason: not in memory | 322
+reason: a table of EFI, whose place no input tells | 4
 """
 )
 
@@ -72,6 +81,11 @@ def boot_words(name):
     for option, file in (("--efi", "efi.bin"), ("--slit", "slit.bin")):
         words = [option, file] * (has_file(name, file) and option not in words) + words
     return words
+
+
+def linux_words(name):
+    """The words of bootmem-linux for a machine besides the program's."""
+    return text_of(example(name, "linux")).split() if has_file(name, "linux") else []
 
 
 def kernel_claims(name):
@@ -116,6 +130,7 @@ class Boot:
             "bootmem-linux",
             "--explain",
             *more,
+            *linux_words(name),
             "--report",
             "owners",
             *boot_words(name),
@@ -172,8 +187,7 @@ def rule_of(claim, boot, given_back):
     if not any(low < end and first < high for low, high in boot.memory):
         return "reason: not in memory"
     if any(
-        rule == BOOT_SERVICES and frames_of(low, high) == frames_of(first, end)
-        for low, high, rule in boot.claims
+        rule == BOOT_SERVICES and low <= first and end <= high for low, high, rule in boot.claims
     ):
         return "reason: a table of EFI, whose place no input tells"
     return None
@@ -208,6 +222,7 @@ class Linux(Case):
                 )
                 counts[rule] += 1
             logged = {frames_of(first, end) for first, end, _, _ in claims}
+            # the kernel leaves boot services free that hold EFI's memory attributes (ovmf-2g-tpm)
             over += sum(
                 first >= MIB and frames_of(first, end) not in logged
                 for first, end, _ in boot.claims
@@ -215,11 +230,35 @@ class Linux(Case):
         self.check(
             "linux: node data, crash areas, and claims that the log lacks",
             (nodes, crashes, over),
-            (51, 10, 0),
+            (64, 20, 1),
         )
         self.check(
             "linux: who makes the claims", counts, {rule: int(count) for rule, count in RULES}
         )
+
+    def test_nodes(self):
+        """Nodes and their data have the numbers that the kernel's log has, also with generic
+        initiators, of which the disabled one ends the processors' pass."""
+        compared = []
+        for name in machines():
+            lines = text_of(example(name, "log")).splitlines() if has_file(name, "log") else []
+            data = [match for match in map(NODE_DATA.search, lines) if match]
+            if not data:
+                continue
+            places = [f"node-data {match[1]}: {match[2]}..{match[3]}" for match in data]
+            words = [*linux_words(name), "--report", "owners,nodes", *boot_words(name)]
+            _, out, _ = tool("bootmem-linux", *words, folder=example(name))
+            ours = re.findall(r"0x0*(\w+)\.\.0x0*(\w+) (node-data \d+)$", out, re.MULTILINE)
+            self.check(
+                f"{name}: node data by node",
+                sorted(f"{owner}: {first}..{last}" for first, last, owner in ours),
+                sorted(places),
+            )
+            domains = re.findall("^domain.*", kernel_log.nodes_text(lines), re.MULTILINE)
+            if domains:
+                compared.append(name)
+                self.check(f"{name}: nodes", re.findall("^domain.*", out, re.MULTILINE), domains)
+        self.check("linux: domains that a log has", compared, ["srat-initiator-off"])
 
     def test_alone(self):
         """With UEFI firmware the crash area of the program alone lies elsewhere."""
