@@ -72,6 +72,8 @@ def folder_of(case, name):
     for file in ("zp.bin", "cmdline", "e820ext.bin", "srat.bin", "slit.bin", "efi.bin"):
         if has_file(name, file):
             shutil.copy(example(name, file), folder)
+    if has_file(name, "linux"):  # the words of bootmem-linux, --pages and its value
+        write(os.path.join(folder, "pages"), text_of(example(name, "linux")).split()[1] + "\n")
     write(os.path.join(folder, "kernel"), (words_of(name)[words_of(name).index("--kernel") + 1] + "\n").encode())
     return folder
 
@@ -81,10 +83,10 @@ def taken_by(name):
     if has_file(name, "crash.txt"):
         found = re.findall(r"0x(\w+)\.\.0x(\w+)", text_of(example(name, "crash.txt")))
     elif "crashkernel=" in text_of(example(name, "cmdline")):
-        lines = text_of(example(name, "replay/script")).splitlines()
-        number = next(number for number, line in enumerate(lines, 1) if re.match(r"alloc \d+ 134217728 16777216 ", line))
-        start = int(re.search(rf"^{number}: at 0x(\w+)", text_of(example(name, "replay/script.txt")), re.MULTILINE).group(1), 16)
-        found = [(f"{start:08x}", f"{start + 134217728 - 1:08x}")]
+        searches = [re.match(r"alloc \d+ (\d+) 16777216 ", line) for line in text_of(example(name, "replay/script")).splitlines()]
+        sizes = {number: int(match.group(1)) for number, match in enumerate(searches, 1) if match}
+        places = re.findall(r"^(\d+): at 0x(\w+)", text_of(example(name, "replay/script.txt")), re.MULTILINE)
+        found = [(start, f"{int(start, 16) + sizes[int(line)] - 1:08x}") for line, start in places if int(line) in sizes]
     else:
         found = []
     return "".join(f"  {first}-{last} : Crash kernel\n" for first, last in found)

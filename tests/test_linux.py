@@ -51,10 +51,16 @@ from bootmem_tools.direct_map import PMD, PUD, DirectMap, Free
 FRAME = 4096
 NODE_DATA = re.compile(r"NODE_DATA\((\d+)\) allocated \[mem 0x(\w+)-0x(\w+)\]")
 SETUP_DATA, BOOT_SERVICES = "memblock_x86_reserve_range_setup_data", "efi_reserve_boot_services"
+# The kernel functions whose claims bootmem-linux makes as a log has them.
+LOGGED = (
+    "efi_memattr_init",
+    "efi_tpm_eventlog_init",
+    "acpi_reserve_initial_tables",
+    BOOT_SERVICES,
+)
 # Who makes the claims of the kernels' logs, from the first dump of memblock up to the sections:
-# the kernel function by whose rule
-# bootmem-linux makes one, the owner by whom bootmem does, or why neither does; and how many there
-# are.
+# the kernel function by whose rule bootmem-linux makes one without a log, the owner by whom bootmem
+# does, or why neither does; and how many there are.
 RULES = rows_of(
     """
 memblock_x86_reserve_range_setup_data | 6
@@ -259,6 +265,26 @@ class Linux(Case):
                 compared.append(name)
                 self.check(f"{name}: nodes", re.findall("^domain.*", out, re.MULTILINE), domains)
         self.check("linux: domains that a log has", compared, ["srat-initiator-off"])
+
+    def test_logs(self):
+        """With the log of its own boot bootmem-linux claims the tables of EFI and ACPI that this
+        kernel claimed, and leaves free the boot services that it left free."""
+        counts = collections.Counter()
+        for name in machines():
+            log = text_of(example(name, "log")) if has_file(name, "log") else ""
+            if "ACPI: Reserving" not in log:  # three have the lines about memory alone
+                continue
+            boot = Boot(name, "--log", "log")
+            for rule in LOGGED:
+                theirs = re.findall(rf"memblock_reserve: \[0x(\w+)-0x\w+\] {rule}\+", log)
+                ours = sorted(first for first, _, by in boot.claims if by == rule)
+                self.check(f"{name}: {rule}", ours, sorted(int(first, 16) for first in theirs))
+                counts[rule] += len(ours)
+            asked = list(kernel_claims(name))
+            for asks, owners in ((is_node_data, ["node-data"]), (is_crash, ["crash", "crash-low"])):
+                wanted = sorted((first, end) for first, end, words, _ in asked if asks(words))
+                self.check(f"{name}, its log: {owners[0]}", boot.places(*owners), wanted)
+        self.check("linux: claims by logs", all(counts[rule] for rule in LOGGED), True)
 
     def test_alone(self):
         """With UEFI firmware the crash area of the program alone lies elsewhere."""
@@ -575,7 +601,7 @@ class Told(Case):
         found, status, out, err = self.linux("--log", "log", *words)
         self.check("log: status", status, 0)
         self.check("log: setup_data", found[SETUP_DATA], [(0x30001000, 0x3000102C), (0x30100000, 0x30100020)])
-        self.check("log: ACPI tables", found["acpi_table_init"], [(0x3FF00000, 0x3FF000F4), (0x3FF10000, 0x3FF13000)])
+        self.check("log: ACPI tables", found["acpi_reserve_initial_tables"], [(0x3FF00000, 0x3FF000F4), (0x3FF10000, 0x3FF13000)])
         self.check("log: EFI's tables", (found["efi_memattr_init"], found["efi_tpm_eventlog_init"]),
                    ([(0x3E4F3018, 0x3E4F4000)], [(0x3EA00000, 0x3EA01000)]))
         self.check("log: boot services", found[BOOT_SERVICES], [(0x3E900000, 0x3E910000)])
@@ -583,7 +609,7 @@ class Told(Case):
                    (False, False, True))
         self.has("log: an ACPI table is taken out", out, "0x000000003ff10000..0x000000003ff12fff 2 reserved")
         found, _, _, err = self.linux(*words)
-        self.check("no log", (found[SETUP_DATA], found["acpi_table_init"], found[BOOT_SERVICES]),
+        self.check("no log", (found[SETUP_DATA], found["acpi_reserve_initial_tables"], found[BOOT_SERVICES]),
                    ([(0x30001000, 0x30001010)], [], [(0x3E400000, 0x3E500000), (0x3E900000, 0x3E910000), (0x3EA00000, 0x3EA10000)]))
         self.check("no log: what is unknown", ("nodes of setup_data" in err, "tables of ACPI" in err, "--log tells it" in err),
                    (True, True, True))

@@ -229,7 +229,7 @@ def early_claims(machine: Machine) -> Outcome:
     moved = move_from(machine, free, tables, initrd) if initrd else None
     for name, span in machine.told.acpi:
         free.claim(*span)
-        claims.append(Claim(*span, f"the ACPI table {name}", "acpi_table_init"))
+        claims.append(Claim(*span, f"the ACPI table {name}", "acpi_reserve_initial_tables"))
     if machine.domains:
         size, what = machine.domains**2, "the distances of the SLIT"
         claims += placed(free, size, FRAME, tables.high, what, "numa_alloc_distance")
