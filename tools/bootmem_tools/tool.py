@@ -93,6 +93,8 @@ class Progress:
 def printable(text: str) -> str:
     """Returns the text with what a terminal would act on, or standard error can't encode, as
     escapes."""
+    if text.isprintable():  # as nearly all is, and it is asked for each line of --explain
+        return text
     return "".join(letter if letter.isprintable() else letter.encode("unicode_escape").decode()
                    for letter in text)
 
