@@ -141,7 +141,7 @@ done
 is "bootmem-collect without a folder" "$("$root/bin/bootmem-collect" 2>&1 | grep -c '^usage: ')" 1
 
 # the tools' pages: one each, of the tool's own words, without complaint, and narrow enough behind their 7 columns
-for tool in "$root"/bin/bootmem-* "$root"/bin/*-from-log; do
+for tool in "$root"/bin/bootmem-* "$root"/bin/*-from-log "$root/bin/free-lists" "$root/bin/boot-example"; do
 	page=$share/man/man1/$(basename "$tool").1
 	"$tool" --help >"$work/help" 2>/dev/null || continue
 	there "the pages of tools" "$page"

@@ -44,7 +44,8 @@ exit status: 0; 1 where something differs without a row of KERNEL.md, or the ker
 
 examples:
   free-lists --vmlinux vmlinux --output lists -- qemu-system-x86_64 -m 1G
-      -nic none -kernel vmlinuz -append 'memblock=debug nokaslr console=ttyS0'
+      -kernel vmlinuz -append 'memblock=debug nokaslr console=ttyS0'
+      -nic none
   free-lists --compare lists"""
 
 MIB = 1 << 20

@@ -17,8 +17,8 @@ from bootmem_tools.grammar import read_lines
 
 NAME = "bootmem-live"
 USAGE = """bootmem-live [--kernel BASE,SIZE] [OPTIONS] [--program P] FOLDER
-       bootmem-live [--kernel BASE,SIZE] [OPTIONS] [--program P] [--keep FOLDER]
-                    [--sys DIR] [--proc DIR]
+       bootmem-live [--kernel BASE,SIZE] [OPTIONS] [--program P]
+                    [--keep FOLDER] [--sys DIR] [--proc DIR]
 
 OPTIONS: [--pages 4K|2M|1G] [--brk BYTES] [--x2apic] [--cma] [--log FILE]
          [--raw]"""
