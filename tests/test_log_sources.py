@@ -190,11 +190,12 @@ next: cd here && bootmem --cmdline cmdline --kernel 0x1000000,0x3400000 zp.bin
         for words in (["--folder", "x", "--output", "y"], [], ["--folder", "x", "--srat", "y"], ["--output", "x", "--kernel", "1M,1M"],
                       ["--folder", "x", "--kernel", "1M"]):
             self.check(f"refused: {words}", tool("zp-from-log", *words, folder=self.work)[:2], (2, ""))
-        write(self.path("log"), MAP)
+        for name in ("log", "zp.bin"):
+            write(self.path(name), MAP)
         for words in (["--output", "log", "log"], ["--output", "zp", "--srat", "./log", "log"], ["--folder", ".", "zp.bin"]):
             status, out, err = tool("zp-from-log", *words, folder=self.work)
             self.check(f"refused: {words}", (status, out, err.endswith(": it is read, and would be written over\n")), (1, "", True))
-        self.check("the log stays", text_of(self.path("log")), MAP)
+        self.check("what was read stays", (text_of(self.path("log")), text_of(self.path("zp.bin"))), (MAP, MAP))
 
     def test_shown(self):
         """What a running kernel shows: /sys/firmware/memmap and /proc/iomem."""
