@@ -28,7 +28,7 @@ pub enum Fault {
 }
 
 /// The causes for which well-formed reports have no verdict: there is none.
-#[derive(Clone, Copy, Debug, PartialEq, Eq)]
+#[derive(Clone, Copy)]
 pub enum NoCause {}
 
 /// Why the command line and the files give no verdict.

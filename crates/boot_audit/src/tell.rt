@@ -1,12 +1,12 @@
 //! The lines of the audit's failures.
 
-ghost use Rattle.std.specs.Prelude.{◌≡◌};
+ghost use Rattle.std.specs.Prelude.{◌≡◌, []};
 ghost use Rattle.std.specs.Option.{option_map};
 ghost use Rattle.program_end.specs.Line.{PutsLine};
-ghost use Rattle.boot_audit.specs.Line.{cause_line, fault_line, line_fault_line, name_text, numbered_line, program_name, report_line};
+ghost use Rattle.boot_audit.specs.Line.{fault_line, line_fault_line, name_text, numbered_line, program_name, report_line};
 ghost use Rattle.boot_audit.specs.View.{wanted_view};
 
-use crate::failure::{Fault, NoCause, Report};
+use crate::failure::{Fault, Report};
 use crate::words::Names;
 use audit_lines::LineFault;
 use bm_io::Sink;
@@ -20,14 +20,14 @@ pub struct AuditLines<'a, 'w> {
     pub names: &'a Option<Names<'w>>,
 }
 
-impl<'a, 'w> Lines<Report, Fault, NoCause> for AuditLines<'a, 'w> {
+impl<'a, 'w, C: Copy> Lines<Report, Fault, C> for AuditLines<'a, 'w> {
     ghost program_name = { program_name };
 
     ghost file_name = { λ lines report. name_text (option_map wanted_view lines.names.now) report };
 
     ghost fault_line = { report_line };
 
-    ghost cause_line = { cause_line };
+    ghost cause_line = { λ _. [] };
 
     fn program() -> &'static str {
         "bootaudit"
@@ -44,9 +44,7 @@ impl<'a, 'w> Lines<Report, Fault, NoCause> for AuditLines<'a, 'w> {
         tell_fault(err, report.word(), fault)
     }
 
-    fn tell_cause<E: Sink>(_err: &mut E, cause: NoCause) {
-        match cause {}
-    }
+    fn tell_cause<E: Sink>(_err: &mut E, _cause: C) {}
 }
 
 /// Puts the line of a fault of the report `word`.
