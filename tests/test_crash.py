@@ -97,6 +97,9 @@ class Crash(Case):
                                     ("1G-:64M@128M", "64M@128M", "0x0000000008000000")):
             status, out, _ = crash("q35-1g", "--raw", "--size", size)
             self.check(f"crash {size}", (status, out.startswith(f"size   crashkernel={size}, {picked} here, fits at {first}")), (0, True))
+        status, out, _ = crash("q35-8g-numa2", "--raw", "--size", "1G-4G:192M,4G-:256M")
+        self.check("crash, a range that bootmem reads as the kernel does",
+                   (status, out.startswith("size   crashkernel=1G-4G:192M,4G-:256M, 256M here, fits at ")), (0, True))
         self.check("crash, no range", crash("q35-1g", "--raw", "--size", "2G-:64M")[:2],
                    (1, "size   crashkernel=2G-:64M, nothing here, doesn't fit\n       none of its ranges has this machine's total memory\n"))
         self.check("crash, ranges and high", crash("q35-1g", "--size", "1G-:64M,high")[:2], (2, ""))

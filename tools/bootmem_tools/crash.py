@@ -332,10 +332,13 @@ def picked_of(own: Machine, asked: str) -> str | None:
     """Returns what the kernel picks of a size by ranges of total memory, an empty text if no range has it; None of another size."""
     if not RANGES.search(asked):
         return None
-    data = " ".join(own.rest + [asked]).encode("latin-1") + b"\n"
-    reading = command_line.read_line(data, command_line.total_by(own.program, without_line(own.read)))
-    words = [word.text for word in command_line.words_of(reading.line)[0] if command_line.program_word(word.text)[0] == "crashkernel"]
-    return next((text for text in words if not text.rstrip('"').endswith(",low") and not RANGES.search(text)), "")
+    total = command_line.total_by(own.program, without_line(own.read))(" ".join(own.rest + [asked]))
+    try:
+        size, base = command_line.ranged(asked, asked.index("=") + 1, command_line.round_up(total.kernel))
+    except command_line.Malformed:
+        return ""
+    place = f"@{command_line.size_text(base)}" if base else ""
+    return f"crashkernel={command_line.size_text(size)}{place}" if size else ""
 
 
 def greatest_of(own: Machine, texts: reports.Texts, form: str, suffix: str, first: int = 0) -> Greatest:

@@ -14,7 +14,7 @@ from bootmem_tools.tool import Trouble, quoted
 
 ADDRESS, NUMBER, WORD, TEXT = r"0x[0-9a-f]{16}", r"\d{1,20}", r"\S+", r".+"
 
-# The fields of lines: what each looks like. A field that isn't named here is a NUMBER.
+# The fields of lines that aren't numbers: what each looks like. A field that isn't named here is a number.
 FIELDS = {
     **dict.fromkeys(("first", "last", "place", "start", "size", "base", "map", "usage", "limit"),
                     ADDRESS),
@@ -27,6 +27,9 @@ FIELDS = {
     "zones": r"(?: \d+/\w+)*",
     "orders": r"(?: +\d+){11}",
     "on": "on|off",
+}
+# The numbers that have bounds.
+BOUNDED = {
     "order": "10|[0-9]",
 }
 
@@ -123,7 +126,7 @@ def compiled(form: str) -> re.Pattern[str]:
     def field(match: re.Match[str]) -> str:
         """Returns the group for a field."""
         name, _, values = match.group(1).partition(":")
-        return f"(?P<{name}>{values or FIELDS.get(name, NUMBER)})"
+        return f"(?P<{name}>{values or FIELDS.get(name) or BOUNDED.get(name, NUMBER)})"
     return re.compile(re.sub(r"<([a-z_]+(?::[^>]+)?)>", field, form.replace("..", r"\.\.")))
 
 
