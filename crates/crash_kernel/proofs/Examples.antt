@@ -19,9 +19,9 @@ use Rattle.stage_model.specs.Doing.{returns}
 use Rattle.crash_kernel.specs.declared.area.Spot.TheVariants as spot
 use Rattle.crash_kernel.specs.declared.crash.Crash.TheVariants as crash
 use Rattle.crash_kernel.specs.Total.{memory_bytes}
-use Rattle.crash_kernel.specs.Area.{area_for, is_in, size_for, spot_for}
-use Rattle.crash_kernel.specs.Places.{fixed_range, low_size, main_range, needs_low, unplaced}
-use Rattle.crash_kernel.specs.Reserved.{reserved, with_main}
+use Rattle.crash_kernel.specs.Area.{area_for, is_in, size_for}
+use Rattle.crash_kernel.specs.Places.{fixed_range, low_size, main_range, needs_low}
+use Rattle.crash_kernel.specs.Reserved.{reserved}
 use Rattle.crash_kernel.specs.Told.{HasLowPart, IsArea, IsFree}
 use Rattle.crash_kernel.proofs.TotalLaws.{runs-bytes}
 
@@ -54,9 +54,6 @@ nothing_behind x le =
 counted : memory_bytes (value_at two_nodes) ≡ 0x19F002
 counted = runs-bytes two_nodes are_runs nothing_behind
 
-no_bytes : memory_bytes (value_at []) ≡ 0
-no_bytes = runs-bytes [] tt (λ x le. refl)
-
 -- a range has its start, and not its end
 abbrev middle : CrashRange
 middle = record { start = 0x10000000; end = Some 0x20000000; size = 0x1000000 }
@@ -72,10 +69,6 @@ in_examples = (refl, refl, refl, refl, refl)
 size_examples : (size_for 0x18000000 (middle ∷ (record { start = 0; end = None; size = 7 } ∷ [])) ≡ 0x1000000)
     × (size_for 0x20000000 (middle ∷ (open_range ∷ [])) ≡ 0x4000000) × (size_for 0x1000 (middle ∷ (open_range ∷ [])) ≡ 0)
 size_examples = (refl, refl, refl)
-
--- base 0 leaves the place to the kernel
-spot_examples : (spot_for 0 ≡ spot.Automatic) × (spot_for 0x2000000 ≡ spot.Fixed 0x2000000)
-spot_examples = (refl, refl)
 
 -- the high form counts only if the plain form requests no byte
 abbrev both_forms : Asked
@@ -142,12 +135,6 @@ two_told = record {
 
 low_part_wanting : HasLowPart two_asked three (record { base = 0x100000000; size = 2 }) None → ⊥
 low_part_wanting known = let clash : true ≡ false = known in cc
-
--- the outcomes of an area without a range
-unplaced_examples : (with_main (record { size = 2; spot = spot.Fixed 0x100000 }) 0x10000000 None three ≡ returns crash.InUse three)
-    × (with_main (record { size = 2; spot = spot.Automatic }) 0x10000000 None three ≡ returns crash.NoArea three)
-    × (unplaced spot.High ≡ crash.NoArea)
-unplaced_examples = (refl, refl, refl)
 
 -- a low part is needed from 4 GiB on, of 256 MiB by default, and not if its size is 0
 low_examples : (needs_low (record { base = 0xFF000000; size = 0x2000000 }) 0x10000000 ≡ false)
