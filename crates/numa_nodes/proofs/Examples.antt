@@ -1,19 +1,14 @@
 -- Worked examples: the ranges that get a node, memory with its nodes, the nodes that have memory,
 -- and the requests for their data.
-use Rattle.std.proofs.Common.{◌≡◌, ℕ, true, false, Some, None, [], ◌∷◌, Ok, Err, refl, ap, arith}
+use Rattle.std.proofs.Common.{◌≡◌, ℕ, true, false, Some, None, [], ◌∷◌, refl, ap, arith}
 use Rattle.std.specs.List.{Contains}
-use Rattle.memblock_model.specs.declared.owner.Which.TheVariants as which
 use Rattle.memblock_model.specs.declared.item.Item.TheVariants as item
 use Rattle.memblock_model.specs.Labels.{LabelView, Labels, plain_label, with_node}
 use Rattle.memblock_model.specs.Items.{memory_of}
 use Rattle.node_hulls.specs.declared.reasons.Why.TheVariants as why
 use Rattle.node_hulls.specs.Hulls.{NumaBlock}
 use Rattle.node_hulls.specs.Judgement.{Judgement, unused}
-use Rattle.growth_model.specs.Outcome.{refuse}
-use Rattle.stage_model.specs.Causes.{NoTablePlace}
-use Rattle.stage_model.specs.Doing.{in_turn}
-use Rattle.stage_model.specs.Requests.{carried}
-use Rattle.numa_nodes.specs.Assigned.{given, has_node, is_memory, is_of_node, node_data_request, nodes_from, noded_by, nodes_with_memory, ranges_given, with_data}
+use Rattle.numa_nodes.specs.Assigned.{has_node, is_of_node, node_data_request, nodes_from, nodes_with_memory, ranges_given}
 use Rattle.numa_nodes.proofs.ListedLaws.{nodes-listed, nodes-lists}
 use Rattle.numa_nodes.proofs.MemoryLaws.{noded_all}
 
@@ -50,20 +45,6 @@ byte_of_each : (noded_all (low ∷ (high ∷ (last ∷ []))) (memory_below 0x900
 unfolding noded_all
 byte_of_each = (refl, refl, refl, refl)
 
-memory_is : (is_memory (item.Mem (record { base = 0x1000; size = 0x1000 }) ∷ []) 0x1FFF ≡ true)
-    × (is_memory (item.Mem (record { base = 0x1000; size = 0x1000 }) ∷ []) 0x2000 ≡ false)
-memory_is = (refl, refl)
-
--- a table that finds no place to grow stops the boot, and then no further range gets its node
-given_examples : (carried (refuse which.Memory 128) [] ≡ record { steps = []; answer = Err (NoTablePlace which.Memory 128) })
-    × (in_turn given tt [] (item.Trim ∷ []) ≡ record { steps = []; answer = Ok tt })
-given_examples = (refl, refl)
-
--- memory of node 5, memory without a node, and no memory
-of_node_5 : (is_of_node 5 (Some (of_node 5)) ≡ true) × (is_of_node 4 (Some (of_node 5)) ≡ false)
-    × (is_of_node 5 (Some plain_label) ≡ false) × (is_of_node 5 None ≡ false)
-of_node_5 = (refl, refl, refl, refl)
-
 -- one byte of memory is enough
 one_byte : (f : Labels) → f 0x1234 ≡ Some (of_node 5) → Contains (nodes_with_memory f) 5
 one_byte f at = nodes-lists f 5 0x1234 (omega arith) (omega arith) (ap (is_of_node 5) at)
@@ -76,10 +57,6 @@ too_high f listed = let below = (nodes-listed f 1024 listed).0 in absurd (omega 
 third_and_fifth : (f : Labels) → has_node f 3 ≡ true → has_node f 4 ≡ false → has_node f 5 ≡ true → nodes_from f 3 3 ≡ 3 ∷ (5 ∷ [])
 third_and_fifth f third fourth fifth = rw (third, fourth, fifth) refl
 
--- the request for the data of node 3; without nodes there is none
-data_examples : (node_data_request 3 ≡ record { size = 176128; align = 64; min = 0; max = None; node = Some 3; exact = false })
-    × (with_data two_nodes [] [] ≡ record { steps = []; answer = Ok (noded_by two_nodes []) })
-data_examples = (refl, refl)
-
-told : noded_by two_nodes (0 ∷ (1 ∷ [])) ≡ record { why = why.Used; domains = 9 ∷ (4 ∷ []); uncovered = 1; with_memory = 0 ∷ (1 ∷ []) }
-told = refl
+-- the request for the data of node 3
+data_example : node_data_request 3 ≡ record { size = 176128; align = 64; min = 0; max = None; node = Some 3; exact = false }
+data_example = refl
