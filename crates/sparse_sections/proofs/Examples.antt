@@ -1,13 +1,12 @@
 -- Worked examples: memory in some frames, records that end inside sections, sections and their
 -- roots.
-use Rattle.std.proofs.Common.{◌≡◌, ℕ, true, false, Some, None, List, [], ◌∷◌, ◌++◌, refl, sym, ◌∙◌, ap, subst, arith, lit<, lit≤}
+use Rattle.std.proofs.Common.{◌≡◌, ℕ, Some, None, List, [], ◌∷◌, ◌++◌, refl, sym, ◌∙◌, ap, arith, lit<, lit≤}
 use Rattle.address_runs.specs.Runs.{RunOf, value_at, AreRuns}
 use Rattle.memblock_model.specs.Labels.{LabelView, Labels, plain_label, with_node}
 use Rattle.memblock_grow.specs.declared.section.Section.{Section}
-use Rattle.sparse_sections.specs.Present.{first_label, section_for, present, sections_from, IsWholeNoded, IsLowest, IsSectionAt, AreSections}
-use Rattle.sparse_sections.specs.Roots.{root_of, is_root, firsts_behind, small_request}
+use Rattle.sparse_sections.specs.Present.{first_label, present, sections_from, IsWholeNoded, IsLowest}
+use Rattle.sparse_sections.specs.Roots.{root_of, firsts_behind}
 use Rattle.sparse_sections.proofs.PresentLaws.{IsLeft, left-all, left-next, sections-record, present-none, present-end}
-use Rattle.sparse_sections.proofs.AscendLaws.{present-ascends}
 use Rattle.address_runs.proofs.RunsLaws.{none_below}
 
 abbrev of_node : ℕ → LabelView
@@ -31,15 +30,6 @@ first_of_frames : (first_label two_frames 0 2 ≡ None) × (first_label two_fram
     × (first_label two_frames 3 1 ≡ Some (of_node 5)) × (first_label two_frames 4 3 ≡ None) × (first_label within_a_frame 0 3 ≡ None)
 unfolding first_label
 first_of_frames = (refl, refl, refl, refl, refl)
-
--- a section with its node; no section if nothing is memory, or if memory has no node
-of_labels : (section_for 7 None ≡ []) × (section_for 7 (Some (of_node 2)) ≡ section 7 2 ∷ [])
-    × (section_for 7 (Some plain_label) ≡ [])
-of_labels = (refl, refl, refl)
-
-one_node : (sections_from 4 0 1 ≡ []) × (sections_from 4 2 1 ≡ section 4 1 ∷ section 5 1 ∷ [])
-unfolding sections_from
-one_node = (refl, refl)
 
 -- the last frame of section 0 and the first of section 1
 abbrev across : List (RunOf LabelView)
@@ -77,10 +67,6 @@ one_section =
     sym (present-end f 1 last (lit≤ tt)) ∙ sections-record f 0 r (s ∷ []) 0 1 1 left refl refl refl refl
     ∙ ap (λ (ss : List Section). ss ++ sections_from 0 1 1) (present-none f)
 
--- a record in whole frames with a node
-whole : IsWholeNoded (record_at 0x1000 0x9E000 0)
-whole = record { node = 0; has = refl; base = refl; end = refl; reach = lit≤ tt }
-
 -- the last frame below 2^52, and the one after it
 last_frame : IsWholeNoded (record_at 0xFFFFFFFFFF000 0x1000 0) × (IsWholeNoded (record_at 0x10000000000000 0x1000 0) → ⊥)
 last_frame = (record { node = 0; has = refl; base = refl; end = refl; reach = lit≤ tt }, λ known. omega (arith, known.reach))
@@ -88,25 +74,12 @@ last_frame = (record { node = 0; has = refl; base = refl; end = refl; reach = li
 -- a root has 256 sections, and is placed with the first of them
 root_numbers : (root_of (section 255 0) ≡ 0) × (root_of (section 256 0) ≡ 1) × (root_of (section 524287 0) ≡ 2047)
     × (root_of (section 33554431 0) ≡ 131071)
-    × (is_root None 0 ≡ false) × (is_root (Some 0) 0 ≡ true) × (is_root (Some 0) 1 ≡ false)
-root_numbers = (refl, refl, refl, refl, refl, refl, refl)
+root_numbers = (refl, refl, refl, refl)
 
-roots_once : (firsts_behind None [] ≡ [])
-    × (firsts_behind None (section 0 0 ∷ section 3 1 ∷ section 255 1 ∷ section 256 2 ∷ section 300 0 ∷ [])
+roots_once : (firsts_behind None (section 0 0 ∷ section 3 1 ∷ section 255 1 ∷ section 256 2 ∷ section 300 0 ∷ [])
     ≡ section 0 0 ∷ section 256 2 ∷ [])
     × (firsts_behind (Some 1) (section 256 2 ∷ section 512 0 ∷ []) ≡ section 512 0 ∷ [])
-roots_once = (refl, refl, refl)
-
-root_page : small_request 4096 (Some 1) ≡ record { size = 4096; align = 64; min = 0; max = None; node = Some 1; exact = false }
-root_page = refl
-
--- the second of the two sections is at index 1; they are ascending; section 0 has the node of its
--- lowest byte
-found_at : IsSectionAt (section 0 3 ∷ section 1 3 ∷ []) 1 1
-found_at = record { within = lit< tt; is = λ d. refl }
-
-they_ascend : AreSections (section 0 3 ∷ section 1 3 ∷ [])
-they_ascend = subst AreSections both_sections (present-ascends (value_at across))
+roots_once = (refl, refl)
 
 lowest_byte : IsLowest (value_at across) (section 0 3)
 lowest_byte = record {
