@@ -2,8 +2,7 @@
 use Rattle.std.proofs.Common.{◌≡◌, ℕ, true, false, Some, None, List, [], ◌∷◌, refl, arith}
 use Rattle.std.proofs.lemmas.List.Elements.{All-head, All-tail}
 use Rattle.memblock_grow.specs.declared.section.Section.{Section}
-use Rattle.stage_model.specs.Doing.{returns, listed}
-use Rattle.section_maps.specs.Maps.{Group, sections_in, groups_of, usage_request, map_request, spread, map_each, maps}
+use Rattle.section_maps.specs.Maps.{Group, groups_of, usage_request, map_request, spread}
 use Rattle.section_maps.specs.Stretches.{AreMaximalStretches, HasOneNode}
 use Rattle.section_maps.proofs.StretchLaws.{maximal}
 
@@ -19,9 +18,6 @@ grouped : (groups_of [] ≡ []) × (groups_of (section 0 1 ∷ []) ≡ group (se
     × (groups_of (section 0 0 ∷ section 1 0 ∷ section 32 0 ∷ section 33 1 ∷ section 34 0 ∷ [])
     ≡ group (section 0 0) (section 1 0 ∷ section 32 0 ∷ []) ∷ group (section 33 1) [] ∷ group (section 34 0) [] ∷ [])
 grouped = (refl, refl, refl)
-
-all_of_a_group : sections_in (group (section 4 1) (section 5 1 ∷ [])) ≡ section 4 1 ∷ section 5 1 ∷ []
-all_of_a_group = refl
 
 -- two sections of node 0 and one of node 1 are two stretches; with any other cut they aren't
 abbrev three : List Section
@@ -53,7 +49,3 @@ request_examples : (usage_request 3 1 ≡ record { size = 120; align = 64; min =
     × (map_request 1 1 false
     ≡ record { size = 0x200000; align = 0x200000; min = 0x1000000; max = None; node = Some 1; exact = false })
 request_examples = (refl, refl, refl)
-
-no_sections : (map_each 0x1000 [] [] [] ≡ returns [] []) × (maps [] [] ≡ listed (λ items. []) [])
-unfolding maps
-no_sections = (refl, refl)
