@@ -2,9 +2,9 @@
 use Rattle.std.proofs.Common.{◌≡◌, ℕ, true, false, Some, None, [], ◌∷◌, refl, arith}
 use Rattle.address_runs.specs.Runs.{RunOf, value_at}
 use Rattle.memblock_model.specs.Labels.{LabelView, Labels, plain_label, with_node}
-use Rattle.table_frames.specs.Frames.{node_below, node_told, frames_of, node_of_frame, is_unclaimed, free_node_in, IsPassed}
+use Rattle.table_frames.specs.Frames.{node_below, frames_of, node_of_frame, is_unclaimed, free_node_in}
 use Rattle.table_frames.specs.Tables.{AscendBelow, AreWholeFrames}
-use Rattle.table_frames.proofs.ClaimLaws.{claimed_byte, unclaimed_bare, passed_none}
+use Rattle.table_frames.proofs.ClaimLaws.{claimed_byte, unclaimed_bare}
 use Rattle.table_frames.proofs.WholeLaws.{free_by_first}
 
 abbrev of_node : ℕ → LabelView
@@ -17,9 +17,8 @@ forty = record { base = 0x4FC0; size = 0x28; value = plain_label }
 abbrev two : RunOf LabelView
 two = record { base = 0x1000; size = 0x2000; value = of_node 3 }
 
-told_examples : (node_below (Some 1023) ≡ Some 1023) × (node_below (Some 1024) ≡ None) × (node_below None ≡ None)
-    × (node_told (Some (of_node 3)) ≡ Some 3) × (node_told (Some plain_label) ≡ None) × (node_told None ≡ None)
-told_examples = (refl, refl, refl, refl, refl, refl)
+told_examples : (node_below (Some 1023) ≡ Some 1023) × (node_below (Some 1024) ≡ None)
+told_examples = (refl, refl)
 
 frames_examples : (frames_of forty ≡ record { first = 4; end = 5; node = None })
     × (frames_of two ≡ record { first = 1; end = 3; node = Some 3 })
@@ -40,9 +39,6 @@ unclaimed_example = unclaimed_bare nobody 4 (λ y above below. refl)
 free_example : free_node_in (value_at (two ∷ [])) nobody 2 ≡ Some 3
 free_example =
     rw (← free_by_first (two ∷ []) nobody 2 (refl, refl, tt), unclaimed_bare nobody 2 (λ y above below. refl)) refl
-
-passed_example : IsPassed (forty ∷ []) 0 7
-passed_example = passed_none (forty ∷ []) 7
 
 ascend_examples : AscendBelow 0x5000 (two ∷ (forty ∷ [])) × (AscendBelow 0x5000 (forty ∷ (two ∷ [])) → ⊥)
 ascend_examples = (
