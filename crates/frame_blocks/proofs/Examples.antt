@@ -3,8 +3,7 @@ use Rattle.std.proofs.Common.{◌≡◌, ℕ, ◌+◌, ◌*◌, ◌^◌, ◌/◌
 use Rattle.std.proofs.lemmas.Bool.Decides.{nat_tests}
 use Rattle.std.proofs.Math.Nat.{div-one}
 use Rattle.std.proofs.lemmas.Option.{cond_some}
-use Rattle.std.specs.List.{find}
-use Rattle.std.specs.Option.{option_map, option_or}
+use Rattle.std.specs.Option.{option_map}
 use Rattle.address_runs.specs.Edits.{NothingFrom}
 use Rattle.bm_base.specs.Each.{each_from, each_in}
 use Rattle.bm_base.specs.declared.zone.Zone.TheVariants as zone
@@ -12,16 +11,15 @@ use Rattle.bm_base.specs.Zones.{zone_of}
 use Rattle.frame_blocks.specs.declared.block.Block.{Block}
 use Rattle.frame_blocks.specs.declared.block.TheConstants.{MAX_ORDER}
 use Rattle.frame_blocks.specs.declared.block.BlockRow.{BlockRow}
-use Rattle.frame_blocks.specs.Frames.{Frames, IsInSet, AreFree, IsGood, IsBlock, IsInBlock}
-use Rattle.frame_blocks.specs.Listed.{is_node, set_around, are_free, order_up_to, block_around, block_for, block_of, led_by_block, blocks_from, blocks_of, same_zone, is_of, Lists, AscendFrom}
-use Rattle.frame_blocks.specs.Rows.{row_end, CouldBeOne, AreRows}
-use Rattle.frame_blocks.specs.Sets.{IsRun, SetFits, IsStart, OfLast, EndsFree}
+use Rattle.frame_blocks.specs.Frames.{Frames, IsInSet, IsGood, IsBlock}
+use Rattle.frame_blocks.specs.Listed.{are_free, order_up_to, block_around, AscendFrom}
+use Rattle.frame_blocks.specs.Rows.{CouldBeOne, AreRows}
+use Rattle.frame_blocks.specs.Sets.{IsRun, SetFits, OfLast, EndsFree}
 use Rattle.frame_blocks.specs.declared.run.TheConstants.{MAX_FRAMES}
-use Rattle.frame_blocks.specs.Buddies.{without_set, with_set, IsWithout, other_half, buddy_first, buddy_in, IsBuddy}
-use Rattle.frame_blocks.specs.Picked.{Serves, IsPicked, NoneServes, picked_up, picked, first_picked}
+use Rattle.frame_blocks.specs.Buddies.{without_set, with_set, IsWithout, buddy_first, buddy_in, IsBuddy}
+use Rattle.frame_blocks.specs.Picked.{Serves, IsPicked, NoneServes, picked, first_picked}
 use Rattle.frame_blocks.proofs.BuddyLaws.{one_at, without_is}
 use Rattle.frame_blocks.proofs.PickLaws.{picked_is, picked_none}
-use Rattle.frame_blocks.proofs.RunLaws.{start_first}
 
 -- frames of addresses below 2^52; and the largest order of the page allocator's lists (`MAX_ORDER`
 -- of 6.1 is the number of orders, 11)
@@ -38,27 +36,10 @@ lone x = if nat_le 5 x && nat_lt x 6 then Some 7 else None
 set_examples : IsInSet 1 4 5 × (IsInSet 1 4 6 → ⊥) × IsInSet 2 4 6
 set_examples = (refl, (λ same. absurd (omega arith)), refl)
 
-around_examples : (set_around 1 5 ≡ record { base = 4; size = 2 }) × (set_around 2 5 ≡ record { base = 4; size = 4 })
-around_examples = (refl, refl)
-
-node_examples : (is_node (Some 7) 7 ≡ true) × (is_node (Some 7) 8 ≡ false) × (is_node None 7 ≡ false)
-node_examples = (refl, refl, refl)
-
-free_examples : (are_free pair 1 5 7 ≡ true) × (are_free pair 2 5 7 ≡ false) × (are_free pair 1 5 8 ≡ false)
-unfolding are_free each_in each_from
-free_examples = (refl, refl, refl)
-
 -- the pair is one set of order 1, and the lone frame one of order 0
 order_examples : (order_up_to pair 5 7 2 ≡ 1) × (order_up_to lone 5 7 2 ≡ 0)
 unfolding order_up_to are_free each_in each_from
 order_examples = (refl, refl)
-
-around_as_block : (block_around 1 5 7 ≡ record { order = 1; first = 4; node = 7; zone = zone.Dma })
-    × (block_around 10 1048577 0 ≡ record { order = 10; first = 1048576; node = 0; zone = zone.Normal })
-around_as_block = (refl, refl)
-
-held_examples : (block_of pair 3 ≡ None) × (block_for pair 6 None ≡ None)
-held_examples = (refl, refl)
 
 -- frame 5 alone is a block, since its buddy isn't free
 lone_is : (x : ℕ) → x / 1 ≡ 5 → x ≡ 5
@@ -76,41 +57,14 @@ lone_is_block = record {
   whole = λ less good. let none : None ≡ Some 7 = (good 4 refl).0 in cc none;
 }
 
-in_block_examples : IsInBlock one_block 5 × (IsInBlock one_block 4 → ⊥)
-unfolding one_block
-in_block_examples = (refl, λ same. absurd (omega arith))
-
--- the larger set around it isn't good, and a set with a frame that isn't free isn't free
+-- the larger set around it isn't good
 not_good : IsGood lone 1 5 7 zone.Dma → ⊥
 not_good good = let none : None ≡ Some 7 = (good 4 refl).0 in cc none
-
-not_free : AreFree lone 0 6 7 → ⊥
-not_free free = let none : None ≡ Some 7 = free 6 refl in cc none
-
-led_examples : (led_by_block 5 (Some (block_around 0 5 7)) [] ≡ block_around 0 5 7 ∷ [])
-    × (led_by_block 5 (Some (block_around 1 5 7)) [] ≡ [])
-    × (led_by_block 5 None [] ≡ [])
-led_examples = (refl, refl, refl)
-
-nothing_begins : blocks_from pair 0 3 ≡ []
-unfolding blocks_from
-nothing_begins = refl
-
-zone_examples : (same_zone zone.Dma zone.Dma ≡ true) × (same_zone zone.Dma zone.Normal ≡ false)
-zone_examples = (refl, refl)
-
-of_examples : (is_of 7 zone.Dma 1 (block_around 1 5 7) ≡ true) × (is_of 7 zone.Dma32 1 (block_around 1 5 7) ≡ false)
-    × (is_of 6 zone.Dma 1 (block_around 1 5 7) ≡ false) × (is_of 7 zone.Dma 0 (block_around 1 5 7) ≡ false)
-of_examples = (refl, refl, refl, refl)
-
-list_examples : Lists (block_around 0 5 7 ∷ (block_around 1 9 7 ∷ [])) (block_around 1 9 7) × (Lists [] (block_around 0 5 7) → ⊥)
-list_examples = (inr (inl refl), λ has. has)
 
 ascend_examples : AscendFrom 0 (block_around 0 5 7 ∷ (block_around 1 9 7 ∷ [])) × (AscendFrom 6 (block_around 0 5 7 ∷ []) → ⊥)
 ascend_examples = ((omega arith, (omega arith, tt)), λ ascend. absurd (omega (arith, ascend.0)))
 
--- the pair is a run, and only the set of order 1 is the largest that fits; it begins at the first
--- frame
+-- the pair is a run, and only the set of order 1 fits
 pair_is_run : IsRun pair 4 6 7
 pair_is_run = record {
   inside = λ x above below. let on : (nat_le 4 x && nat_lt x 6) ≡ true = grind (arith, nat_tests) in rw on refl;
@@ -123,16 +77,10 @@ pair_is_run = record {
 fit_examples : SetFits 4 6 5 2 × (SetFits 4 6 5 4 → ⊥)
 fit_examples = (record { above = omega arith; below = omega arith }, λ fits. let low = fits.below in absurd (omega (arith, low)))
 
-start_example : IsStart 4 6 4
-start_example = start_first 4 6
-
 -- two blocks of the largest order; a row that could be joined with theirs, and one of another node
 -- instead
 abbrev great_row : ℕ → ℕ → ℕ → BlockRow
 great_row first count node = record { order = 10; first = first; count = count; node = node; zone = zone.Dma }
-
-end_example : row_end (great_row 1024 2 0) ≡ 3072
-end_example = refl
 
 one_row_examples : CouldBeOne (great_row 0 2 0) (great_row 2048 1 0) × (CouldBeOne (great_row 0 2 0) (great_row 2048 1 1) → ⊥)
     × (CouldBeOne (great_row 0 1 0) (great_row 2048 1 0) → ⊥)
@@ -194,10 +142,6 @@ pick_examples =
     let none = picked_none lone 7 zone.Dma 1 lone_low none_of_two in
     (some, none, ap (option_map (λ (b : Block). b.first)) some, ap (option_map (λ (b : Block). b.first)) none)
 
-up_examples : (picked_up pair 7 zone.Dma 3 0 ≡ None)
-    × (picked_up lone 7 zone.Dma 3 1 ≡ option_or (find (is_of 7 zone.Dma 3) (blocks_of lone)) None)
-up_examples = (refl, refl)
-
 -- frame 4 is removed from the pair: frame 5 is left, and is its buddy; then frame 4 is added back
 leave_examples : (without_set 0 4 pair 4 ≡ None) × (without_set 0 4 pair 5 ≡ Some 7) × (without_set 1 4 pair 5 ≡ None)
 leave_examples = (refl, refl, refl)
@@ -207,9 +151,6 @@ back_examples = (refl, refl, refl)
 
 without_examples : IsWithout pair (without_set 0 4 pair) 0 4 × (IsWithout pair pair 0 4 → ⊥)
 without_examples = (without_is 0 4 pair, λ without. let none : Some 7 ≡ None = without.gone 4 refl in cc none)
-
-half_examples : (other_half 2 ≡ 3) × (other_half 3 ≡ 2)
-half_examples = (refl, refl)
 
 buddy_examples : (buddy_first 0 4 ≡ 5) × (buddy_first 1 5 ≡ 6) × (buddy_first 10 1024 ≡ 0)
     × (buddy_in (block_around 1 5 7) 0 4 ≡ block_around 0 5 7)
