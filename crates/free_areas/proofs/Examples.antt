@@ -8,8 +8,7 @@ use Rattle.bm_base.specs.Zones.{zone_of}
 use Rattle.frame_blocks.specs.declared.block.Block.{Block}
 use Rattle.frame_blocks.specs.Frames.{Frames, IsBlock}
 use Rattle.frame_blocks.proofs.BuddyLaws.{one_at}
-use Rattle.free_areas.specs.Areas.{IsRightBehind, AreAreas, lead, IsLike, HasBuddies, LacksBuddies}
-use Rattle.free_areas.proofs.AreaLaws.{has_none, lacks_none}
+use Rattle.free_areas.specs.Areas.{IsRightBehind, AreAreas, IsLike}
 
 -- frame 5 alone is free, on node 7
 abbrev lone : Frames
@@ -63,24 +62,10 @@ follow_examples = (
   λ follows. let ten = follows.great in absurd (omega (arith, ten)),
 )
 
-lead_examples : (lead (record { order = 10; first = 0; count = 3; node = 7; zone = zone.Dma }) ≡ great 0)
-    × (lead (record { order = 10; first = 1024; count = 1; node = 7; zone = zone.Dma }) ≡ great 1024)
-lead_examples = (refl, refl)
-
 like_examples : IsLike (great 0) (great 1024) × (IsLike (great 0) (record { order = 10; first = 1024; node = 8; zone = zone.Dma }) → ⊥)
     × (IsLike (great 0) lone_block → ⊥)
 like_examples = (
   record { great = refl; order = refl; node = refl; zone = refl },
   λ like. let node = like.node in absurd (omega (arith, node)),
   λ like. let order = like.order in absurd (omega (arith, order)),
-)
-
--- for an empty range of orders there are no buddies
-buddies_examples : HasBuddies (great 0) 3 3 5 (lone_block ∷ []) (lone_block ∷ []) × LacksBuddies (great 0) 3 3 5 [] []
-    × (HasBuddies (great 0) 3 3 5 (lone_block ∷ []) [] → ⊥) × (LacksBuddies (great 0) 3 3 5 [] (lone_block ∷ []) → ⊥)
-buddies_examples = (
-  has_none (great 0) 3 5 (lone_block ∷ []),
-  lacks_none (great 0) 3 5 [],
-  λ has. (has lone_block).1 (inr (inl refl)),
-  λ lacks. ((lacks lone_block).0 (inl refl)).1,
 )
