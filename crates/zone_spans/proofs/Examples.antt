@@ -1,10 +1,10 @@
 -- Worked examples with a few frames.
-use Rattle.std.proofs.Common.{◌≡◌, nat_le, nat_lt, ◌&&◌, true, false, Some, None, [], ◌∷◌, if◌then◌else◌, refl}
+use Rattle.std.proofs.Common.{◌≡◌, nat_le, nat_lt, ◌&&◌, true, false, Some, None, if◌then◌else◌, refl}
 use Rattle.bm_base.specs.declared.zone.Zone.TheVariants as zone
 use Rattle.frame_blocks.specs.Frames.{Frames}
 use Rattle.zone_spans.specs.declared.span.Span.{Span}
 use Rattle.zone_spans.specs.Spans.{is_in, with_frames, span_below, number_below}
-use Rattle.zone_spans.specs.Slots.{place_of, with_run, slot_with, somes}
+use Rattle.zone_spans.specs.Slots.{place_of, with_run, slot_with}
 
 -- frames 1 and 3 are memory of node 7
 abbrev holed : Frames
@@ -28,5 +28,4 @@ place_examples : (place_of zone.Dma ≡ 0) × (place_of zone.Dma32 ≡ 1) × (pl
     × (with_run 4 6 7 holed 5 ≡ Some 7) × (with_run 4 6 7 holed 6 ≡ None) × (with_run 4 6 8 holed 3 ≡ Some 7)
     × (slot_with 7 zone.Dma 1 2 None 21 ≡ Some (record { node = 7; zone = zone.Dma; start = 1; end = 2; present = 1 }))
     × (slot_with 7 zone.Dma 1 2 None 22 ≡ None)
-    × (somes (None ∷ (Some both ∷ (None ∷ []))) ≡ both ∷ []) × (somes [] ≡ [])
-place_examples = (refl, refl, refl, refl, refl, refl, refl, refl, refl, refl)
+place_examples = (refl, refl, refl, refl, refl, refl, refl, refl)
