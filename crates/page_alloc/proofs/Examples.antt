@@ -17,19 +17,18 @@ use Rattle.frame_blocks.specs.Buddies.{without_set}
 use Rattle.frame_blocks.proofs.BuddyLaws.{one_at, without_is, in_set_or_not}
 use Rattle.frame_blocks.proofs.PickLaws.{picked_is, picked_none}
 use Rattle.script_reader.specs.declared.fault.Wrong.TheVariants as wrong
-use Rattle.script_reader.specs.Numbers.{Words, bounded}
+use Rattle.script_reader.specs.Numbers.{Words}
 use Rattle.page_alloc.specs.declared.act.PageAct.TheVariants as acts
 use Rattle.page_alloc.specs.declared.act.PageLine.{PageLine}
 use Rattle.page_alloc.specs.declared.fault.PageFault.TheVariants as faults
 use Rattle.page_alloc.specs.declared.outcome.Held.{Held}
 use Rattle.page_alloc.specs.declared.outcome.PageOutcome.{PageOutcome}
 use Rattle.page_alloc.specs.declared.outcome.PageOutcome.TheVariants as outcomes
-use Rattle.page_alloc.specs.Book.{Book, held_in, state_of}
-use Rattle.page_alloc.specs.Forms.{greatest_order, zone_named, pages_line, near_line, give_line, by_name, asked}
+use Rattle.page_alloc.specs.Forms.{zone_named, pages_line, give_line, asked}
 use Rattle.page_alloc.specs.Spelling.{pages as pages_form, give as give_form, zone_word, words_of, HasNumbers, HasForm, SpellsAct, HasFault}
 use Rattle.page_alloc.specs.Kept.{HoldsFrame, IsInOne, IsInNone, AreHeldApart}
-use Rattle.page_alloc.specs.Pages.{State, begun, with_held, served, unless_taken as asked_of, given_back, step, HasOrder, HaveOrders, NamesNoNode, TakesMemory}
-use Rattle.page_alloc.specs.Reading.{fault_at, line_at, lines_from, pages_of}
+use Rattle.page_alloc.specs.Pages.{State, begun, with_held, served, given_back, step, HasOrder, HaveOrders}
+use Rattle.page_alloc.specs.Reading.{pages_of}
 use Rattle.page_alloc.proofs.KeptLaws.{Goes, in_one, in_none, begun_goes, begun_kept, step_goes, step_kept}
 
 -- frame 5 alone is free, on node 7
@@ -61,8 +60,8 @@ block_is = record {
   whole = λ less good. let none : None ≡ Some 7 = (good 4 refl).0 in cc none;
 }
 
-picked_block : IsPicked lone 7 zones.Dma 0 block
-picked_block = record {
+block_is_picked : IsPicked lone 7 zones.Dma 0 block
+block_is_picked = record {
   block = block_is;
   serves = record { node = refl; zone = refl; enough = omega arith };
   least = λ c is serves.
@@ -72,7 +71,7 @@ picked_block = record {
 }
 
 picked_first : first_picked lone 7 zones.Dma 0 ≡ Some 5
-picked_first = ap (option_map (λ (b : Block). b.first)) (picked_is lone 7 zones.Dma 0 block lone_low picked_block)
+picked_first = ap (option_map (λ (b : Block). b.first)) (picked_is lone 7 zones.Dma 0 block lone_low block_is_picked)
 
 -- after it is allocated no frame is free
 nothing_left : (x : ℕ) → without_set 0 5 lone x ≡ None
@@ -91,19 +90,9 @@ picked_none_left =
     ap (option_map (λ (b : Block). b.first)) (picked_none (without_set 0 5 lone) 7 zones.Dma 0 (λ x high. nothing_left x)
     (λ b is serves. cc (sym (is.good b.first refl).0 ∙ nothing_left b.first)))
 
--- what an ID holds, in a book and after a change
+-- what an ID holds
 abbrev five : Held
 five = record { first = 5; order = 0; node = 7 }
-
-held_examples : (held_in ((1, five) ∷ []) 1 ≡ Some five) × (held_in ((1, five) ∷ []) 2 ≡ None)
-held_examples = (refl, refl)
-
-book_examples : (let b : Book = record { buddy = record { runs = []; spare = 0 }; ids = (1, five) ∷ [] } in (state_of b).held 1) ≡ Some five
-book_examples = refl
-
-with_held_examples : (with_held 1 (Some five) (λ id. None) 1 ≡ Some five) × (with_held 1 (Some five) (λ id. None) 2 ≡ None)
-    × (with_held 1 None (λ id. Some five) 1 ≡ None)
-with_held_examples = (refl, refl, refl)
 
 -- the state while ID 1 holds the frame
 abbrev taken : State
@@ -111,14 +100,6 @@ taken = record { frames = without_set 0 5 lone; held = with_held 1 (Some five) (
 
 abbrev at_five : PageOutcome × State
 at_five = (outcomes.At 20480, taken)
-
-served_examples : (served (begun lone) 1 0 7 (Some 5) ≡ at_five)
-    × (served (begun lone) 1 0 7 None ≡ (let p : PageOutcome × State = (outcomes.NoBlock, begun lone) in p))
-served_examples = (refl, refl)
-
-asked_examples : (asked_of (begun lone) 1 0 7 zones.Dma None ≡ at_five)
-    × (asked_of taken 1 0 7 zones.Dma (Some five) ≡ (let p : PageOutcome × State = (outcomes.Taken, taken) in p))
-asked_examples = (ap (served (begun lone) 1 0 7) picked_first, refl)
 
 -- the frame is free again on its node, and the ID holds nothing
 back_examples : ((given_back taken 1 (Some five)).0 ≡ outcomes.Done) × ((given_back taken 1 (Some five)).1.frames 5 ≡ Some 7)
@@ -136,25 +117,10 @@ give n = record { number = n; act = acts.Give 1 }
 step_examples : (step (begun lone) (acts.Pages 1 0 7 zones.Dma) ≡ at_five)
     × (step taken (acts.Pages 2 0 7 zones.Dma) ≡ (let p : PageOutcome × State = (outcomes.NoBlock, taken) in p))
     × (step taken (acts.Pages 1 0 7 zones.Dma) ≡ (let p : PageOutcome × State = (outcomes.Taken, taken) in p))
-step_examples = (asked_examples.0, ap (served taken 2 0 7) picked_none_left, refl)
-
-plain_examples : NamesNoNode (acts.Pages 1 11 7 zones.Dma) × NamesNoNode (acts.Give 1) × (NamesNoNode (acts.Near 1 0 7) → ⊥)
-    × (step taken (acts.Near 2 0 7) ≡ (let p : PageOutcome × State = (outcomes.NoBlock, taken) in p))
-plain_examples = (tt, tt, λ plain. plain, refl)
+step_examples = (ap (served (begun lone) 1 0 7) picked_first, ap (served taken 2 0 7) picked_none_left, refl)
 
 order_examples : HasOrder (acts.Pages 1 10 7 zones.Dma) × (HasOrder (acts.Pages 1 11 7 zones.Dma) → ⊥) × HaveOrders (line 1 ∷ give 2 ∷ [])
 order_examples = (omega arith, λ small. absurd (omega (arith, small)), (omega arith, (tt, tt)))
-
-memory_examples : TakesMemory (step (begun lone) (acts.Pages 1 0 7 zones.Dma)).0
-    × (TakesMemory (step taken (acts.Pages 2 0 7 zones.Dma)).0 → ⊥) × (TakesMemory (step taken (acts.Pages 1 0 7 zones.Dma)).0 → ⊥)
-    × TakesMemory (step taken (acts.Give 1)).0 × (TakesMemory (step (begun lone) (acts.Give 1)).0 → ⊥)
-memory_examples = (
-  subst (λ (p : PageOutcome × State). TakesMemory p.0) (sym step_examples.0) tt,
-  λ takes. subst (λ (p : PageOutcome × State). TakesMemory p.0) step_examples.1 takes,
-  λ takes. takes,
-  tt,
-  λ takes. takes,
-)
 
 -- frame 5 is in a block at first, and then held by ID 1; frame 4 is neither
 holds_examples : HoldsFrame taken 1 5 × (HoldsFrame taken 2 5 → ⊥)
@@ -188,11 +154,7 @@ zone_examples : (zone_named (codes "DMA") ≡ Ok zones.Dma) × (zone_named (code
     × (zone_named (codes "Normal") ≡ Ok zones.Normal) × (zone_named (codes "normal") ≡ Err wrong.Form)
 zone_examples = (refl, refl, refl, refl)
 
-bound_examples : (bounded greatest_order (codes "0xa") ≡ Ok 10) × (bounded greatest_order (codes "11") ≡ Err wrong.Number)
-bound_examples = (refl, refl)
-
--- a request, and one with each fault: the form is checked before the numbers, and the name of the
--- zone belongs to the form
+-- a request; the form is checked before the numbers, and the name of the zone belongs to the form
 request_example : pages_line (codes "1" ∷ codes "10" ∷ codes "1023" ∷ codes "Normal" ∷ []) ≡ Ok (acts.Pages 1 10 1023 zones.Normal)
 request_example = refl
 
@@ -201,40 +163,20 @@ request_forms : (pages_line (codes "x" ∷ codes "11" ∷ codes "0" ∷ codes "d
     × (pages_line (codes "x" ∷ codes "11" ∷ codes "0" ∷ codes "DMA" ∷ codes "1" ∷ []) ≡ Err wrong.Form)
 request_forms = (refl, refl, refl)
 
+-- an ID has 32 bits, and a node is below 1,024
 request_id : pages_line (codes "4294967296" ∷ codes "0" ∷ codes "0" ∷ codes "DMA" ∷ []) ≡ Err wrong.Number
 request_id = refl
 
-request_order : pages_line (codes "1" ∷ codes "11" ∷ codes "0" ∷ codes "DMA" ∷ []) ≡ Err wrong.Number
-request_order = refl
-
 request_node : pages_line (codes "1" ∷ codes "0" ∷ codes "1024" ∷ codes "DMA" ∷ []) ≡ Err wrong.Number
 request_node = refl
-
-near_examples : (near_line (in_words (codes "1 10 1023")) ≡ Ok (acts.Near 1 10 1023))
-    × (near_line (in_words (codes "x 0 0 DMA")) ≡ Err wrong.Form) × (near_line (in_words (codes "1 0")) ≡ Err wrong.Form)
-    × (near_line (in_words (codes "4294967296 0 0")) ≡ Err wrong.Number) × (near_line (in_words (codes "1 11 0")) ≡ Err wrong.Number)
-    × (near_line (in_words (codes "1 0 1024")) ≡ Err wrong.Number)
-near_examples = (refl, refl, refl, refl, refl, refl)
 
 give_examples : (give_line (in_words (codes "4294967295")) ≡ Ok (acts.Give 4294967295))
     × (give_line (in_words (codes "4294967296")) ≡ Err wrong.Number) × (give_line (in_words (codes "x 1")) ≡ Err wrong.Form)
 give_examples = (refl, refl, refl)
 
-name_examples : (by_name (codes "give") (in_words (codes "1")) ≡ Ok (acts.Give 1))
-    × (by_name (codes "near") (in_words (codes "1 0 0")) ≡ Ok (acts.Near 1 0 0))
-    × (by_name (codes "Give") (in_words (codes "1")) ≡ Err wrong.Form)
-name_examples = (refl, refl, refl)
-
 line_examples : (asked (codes "# give") ≡ Ok None) × (asked (codes "\t\r") ≡ Ok None)
     × (asked (codes " give\t1\r") ≡ Ok (Some (acts.Give 1)))
 line_examples = (refl, refl, refl)
-
-fault_examples : (fault_at 3 wrong.Form ≡ faults.BadLine 3) × (fault_at 7 wrong.Number ≡ faults.BadNumber 7)
-fault_examples = (refl, refl)
-
-kept_line_examples : (line_at 4 None ≡ None) × (line_at 4 (Some (acts.Give 1)) ≡ Some (give 4))
-    × (lines_from 5 (codes "" ∷ codes "give 1" ∷ []) ≡ Ok (give 6 ∷ []))
-kept_line_examples = (refl, refl, refl)
 
 -- whole scripts: the last line may lack its newline; the fault of the lowest line is reported,
 -- whatever lines follow
@@ -243,9 +185,6 @@ two_lines = refl
 
 no_lines : (pages_of [] ≡ Ok []) × (pages_of (codes "\n") ≡ Ok [])
 no_lines = (refl, refl)
-
-one_request : pages_of (codes "pages 1 0 7 DMA") ≡ Ok (line 1 ∷ [])
-one_request = refl
 
 great_order : pages_of (codes "pages 1 11 0 DMA") ≡ Err (faults.BadNumber 1)
 great_order = refl
