@@ -1,10 +1,7 @@
 -- Three domains with distances that differ by direction, and their lists: what the definitions say
 -- of them.
-use Rattle.std.proofs.Common.{◌≡◌, ℕ, ◌+◌, ◌<◌, true, false, is_some, Option, Some, None, List, [], ◌∷◌, ◌++◌, length, drop, get_or, Ok, Err, codes, replicate, refl, sym, ◌∙◌, ap, subst, length-append, inl, inr, arith}
-use Rattle.std.specs.Option.{option_map}
+use Rattle.std.proofs.Common.{◌≡◌, ℕ, ◌+◌, true, false, Some, None, List, [], ◌∷◌, ◌++◌, length, drop, get_or, Ok, codes, replicate, refl, sym, ◌∙◌, ap, subst, length-append, arith}
 use Rattle.bm_base.specs.declared.zone.Zone.TheVariants as zones
-use Rattle.frame_blocks.specs.declared.block.Block.{Block}
-use Rattle.frame_blocks.proofs.PickLaws.{picked_none}
 use Rattle.zone_spans.specs.declared.span.Span.{Span}
 use Rattle.page_alloc.specs.declared.act.PageAct.TheVariants as acts
 use Rattle.page_alloc.specs.declared.act.PageLine.{PageLine}
@@ -12,19 +9,15 @@ use Rattle.page_alloc.specs.declared.outcome.Held.{Held}
 use Rattle.page_alloc.specs.declared.outcome.PageAnswer.{PageAnswer}
 use Rattle.page_alloc.specs.declared.outcome.PageOutcome.{PageOutcome}
 use Rattle.page_alloc.specs.declared.outcome.PageOutcome.TheVariants as outcomes
-use Rattle.page_alloc.specs.Book.{Book}
 use Rattle.page_alloc.specs.Pages.{State, begun, TakesMemory}
 use Rattle.slit_zonelists.specs.declared.entry.ListZone.{ListZone}
 use Rattle.slit_zonelists.specs.declared.table.SlitFault.TheVariants as faults
 use Rattle.slit_zonelists.specs.declared.uses.SlitUse.TheVariants as uses
-use Rattle.slit_zonelists.specs.Buckets.{in_bucket, bucket_at, all_in}
-use Rattle.slit_zonelists.specs.Lists.{Known, used_of, where_used, told, own_distance, distance_in, rank, goes_before, put_in, by_node, entry_of, known, with_node, nodes_of, at_distance, zones_of}
-use Rattle.slit_zonelists.specs.Matrix.{Matrix, cell_of, HasBytes, IsSquare}
-use Rattle.slit_zonelists.specs.Near.{has_block, first_zone, near_by, asked_near, step_with, answers_with, after_with, EndsBefore, EndsAmid}
-use Rattle.slit_zonelists.specs.Order.{IsLower, IsNearer}
-use Rattle.slit_zonelists.proofs.LineLaws.{first_none}
-use Rattle.slit_zonelists.specs.Table.{localities, fills, slit_fault, unless_fault, slit_of}
-use Rattle.slit_zonelists.specs.Uses.{is_bad, bad_column, bad_in_row, first_of, bad_cell, by_cells, slit_use}
+use Rattle.slit_zonelists.specs.Lists.{Known, distance_in, known, at_distance, zones_of}
+use Rattle.slit_zonelists.specs.Matrix.{Matrix, cell_of, IsSquare}
+use Rattle.slit_zonelists.specs.Near.{first_zone, near_by, asked_near, step_with, answers_with, after_with, EndsAmid}
+use Rattle.slit_zonelists.specs.Table.{localities, slit_fault, slit_of}
+use Rattle.slit_zonelists.specs.Uses.{is_bad, bad_cell, slit_use}
 
 -- the distance from domain 0 to 1 is 40, and the distance back is 30
 abbrev three : Matrix
@@ -32,9 +25,6 @@ three = record { count = 3; cells = 10 ∷ 40 ∷ 15 ∷ 30 ∷ 10 ∷ 25 ∷ 12
 
 cell_examples : (cell_of three 0 1 ≡ 40) × (cell_of three 1 0 ≡ 30) × (cell_of three 2 1 ≡ 13) × IsSquare three
 cell_examples = (refl, refl, refl, refl)
-
-byte_examples : HasBytes (record { count = 1; cells = 256 ∷ [] }) → ⊥
-byte_examples = λ bytes. let low : 256 < 256 = bytes 0 0 in absurd (omega (arith, low))
 
 -- the bytes of a table of one domain, with its stated length, its checksum, and its number of
 -- localities
@@ -48,20 +38,13 @@ table_examples : (slit_of (table 45 140 1) ≡ Ok (record { count = 1; cells = 1
     × (slit_fault (table 45 139 2) ≡ Some faults.Localities)
 table_examples = (refl, refl, refl, refl, refl, refl, refl)
 
-fill_examples : (fills 3 9 ≡ true) × (fills 3 10 ≡ false) × (fills 4294967296 0 ≡ false)
-    × (unless_fault (Some faults.Length) three ≡ Err faults.Length) × (unless_fault None three ≡ Ok three)
-fill_examples = (refl, refl, refl, refl, refl)
-
 -- two domains; the cells of row 1 are bad
 abbrev bad : Matrix
 bad = record { count = 2; cells = 10 ∷ 20 ∷ 10 ∷ 11 ∷ [] }
 
-bad_examples : (is_bad bad 0 1 ≡ false) × (is_bad bad 1 0 ≡ true) × (is_bad bad 1 1 ≡ true) × (bad_column bad 0 ≡ None)
-    × (bad_column bad 1 ≡ Some 0) × (bad_in_row bad 1 ≡ Some (1, 0)) × (bad_cell bad ≡ Some (1, 0)) × (bad_cell three ≡ None)
-bad_examples = (refl, refl, refl, refl, refl, refl, refl, refl)
-
-first_examples : (first_of {X = ℕ} (7 ∷ 8 ∷ []) ≡ Some 7) × (by_cells None ≡ uses.Used) × (by_cells (Some (1, 0)) ≡ uses.NotValid 1 0)
-first_examples = (refl, refl, refl)
+bad_examples : (is_bad bad 0 1 ≡ false) × (is_bad bad 1 0 ≡ true) × (is_bad bad 1 1 ≡ true) × (bad_cell bad ≡ Some (1, 0))
+    × (bad_cell three ≡ None)
+bad_examples = (refl, refl, refl, refl, refl)
 
 use_examples : (slit_use None (0 ∷ []) ≡ uses.Absent) × (slit_use (Some bad) [] ≡ uses.NoSrat)
     × (slit_use (Some bad) (0 ∷ []) ≡ uses.NotValid 1 0) × (slit_use (Some three) (0 ∷ []) ≡ uses.Used)
@@ -84,31 +67,11 @@ zone n = record { node = n; zone = zones.Dma32 }
 abbrev low_zone : ListZone
 low_zone = record { node = 0; zone = zones.Dma }
 
--- the distances in the matrix, and without it
-told_examples : (used_of nodes ≡ uses.Used) × (where_used (uses.NotValid 1 0) (Some three) ≡ None)
-    × (told (Some three) (Some 1) (Some 0) ≡ Some 30)
-    × (told (Some three) (Some 1) (Some 3) ≡ None) × (told (Some three) None (Some 0) ≡ None) × (told None (Some 1) (Some 0) ≡ None)
-    × (own_distance 3 3 ≡ 10) × (own_distance 3 0 ≡ 20)
-told_examples = (refl, refl, refl, refl, refl, refl, refl, refl)
-
+-- the distances from the table, and without it
 distance_examples : (distance_in nodes 0 2 ≡ 30) × (distance_in nodes 2 0 ≡ 40) × (distance_in nodes 0 1 ≡ 20)
     × (distance_in nodes 1 1 ≡ 10)
     × (distance_in nodes 3 0 ≡ 20)
 distance_examples = (refl, refl, refl, refl, refl)
-
--- this and the next two: the order of zones
-rank_examples : (rank zones.Normal ≡ 0) × (rank zones.Dma32 ≡ 1) × (rank zones.Dma ≡ 2) × (goes_before (zone 0) low_zone ≡ true)
-    × (goes_before low_zone (zone 0) ≡ false) × (goes_before low_zone (zone 1) ≡ true)
-rank_examples = (refl, refl, refl, refl, refl, refl)
-
-order_examples : (entry_of low_span ≡ low_zone) × (put_in (zone 0) (low_zone ∷ zone 1 ∷ []) ≡ zone 0 ∷ low_zone ∷ zone 1 ∷ [])
-    × (by_node (low_zone ∷ zone 1 ∷ zone 0 ∷ []) ≡ zone 0 ∷ low_zone ∷ zone 1 ∷ [])
-    × (with_node (0 ∷ []) low_zone ≡ 0 ∷ []) × (nodes_of (zone 0 ∷ low_zone ∷ zone 2 ∷ []) ≡ 0 ∷ 2 ∷ [])
-order_examples = (refl, refl, refl, refl, refl)
-
-lower_examples : IsLower (zone 0) low_zone × IsLower low_zone (zone 1) × IsNearer nodes 2 (zone 2) (zone 0)
-    × IsNearer nodes 0 (zone 1) (zone 2)
-lower_examples = (inr (refl, omega arith), inl (omega arith), inl (omega arith), inl (omega arith))
 
 -- the table has no distance for node 1, so both other nodes are at 20
 list_examples : (at_distance nodes 1 20 ≡ zone 0 ∷ low_zone ∷ zone 2 ∷ [])
@@ -117,9 +80,6 @@ list_examples : (at_distance nodes 1 20 ≡ zone 0 ∷ low_zone ∷ zone 2 ∷ [
     × (zones_of nodes 2 ≡ zone 2 ∷ zone 1 ∷ zone 0 ∷ low_zone ∷ [])
 unfolding zones_of
 list_examples = (refl, refl, refl, refl)
-
-bucket_examples : (in_bucket {A = Unit {0}} None ≡ []) × (bucket_at {A = Unit {0}} [] 0 ≡ []) × (all_in {A = Unit {0}} [] ≡ [])
-bucket_examples = (refl, refl, refl)
 
 -- this and the next: nothing is free, and what an ID holds
 abbrev empty : State
@@ -167,22 +127,3 @@ refused_out s (x ∷ xs) line behind is refused takes =
 -- never at a line that is refused since its ID holds something
 held_wants_none : (later : State) → EndsAmid nodes holding (near 5 ∷ []) later → ⊥
 held_wants_none later ends = refused_out holding ends.before ends.line ends.behind ends.is (λ takes. takes) ends.takes
-
-nothing_has : (z : ListZone) → has_block empty 0 z ≡ false
-nothing_has z =
-    ap (λ (b : Option Block). is_some (option_map (λ (c : Block). c.first) b))
-    (picked_none (λ x. None) z.node z.zone 0 (λ x high. refl)
-    (λ b is serves. let none : None ≡ Some b.node = (is.good b.first refl).0 in cc none))
-
-nothing_near : first_zone empty 0 (zones_of nodes 0) ≡ None
-nothing_near = first_none empty 0 (zones_of nodes 0) (λ i z within. nothing_has (get_or (zones_of nodes 0) i z))
-
--- never at a line that is refused since no zone has a block
-full_wants_none : (later : State) → EndsAmid nodes empty (near 5 ∷ []) later → ⊥
-full_wants_none later ends =
-    refused_out empty ends.before ends.line ends.behind ends.is
-    (λ takes. subst (λ (o : Option ListZone). TakesMemory (near_by empty 1 0 o).0) nothing_near takes) ends.takes
-
--- never without lines
-no_line_wants_none : (b later : Book) → EndsBefore b [] later → ⊥
-no_line_wants_none b later ends = let some : 0 < 0 = ends.some in absurd (omega (arith, some))
