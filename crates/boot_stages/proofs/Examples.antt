@@ -1,5 +1,5 @@
 -- The boot's answer for small answers of the table, and the parts of a small memory.
-use Rattle.std.proofs.Common.{◌≡◌, inr, ⊎_elim, ℕ, true, List, [], ◌∷◌, Some, None, Ok, Err, refl, arith}
+use Rattle.std.proofs.Common.{◌≡◌, inr, ⊎_elim, ℕ, true, List, [], ◌∷◌, None, Err, refl, arith}
 use Rattle.bm_base.specs.Range.{RangeView}
 use Rattle.address_runs.specs.Runs.{RunOf}
 use Rattle.memblock_model.specs.declared.owner.Owner.TheVariants as owner
@@ -9,30 +9,11 @@ use Rattle.growth_model.specs.declared.refusal.Refusal.TheVariants as refusal
 use Rattle.stage_model.specs.Causes.{refusal_for}
 use Rattle.stage_model.specs.Doing.{StageEnds}
 use Rattle.early_stages.specs.Early.{Early}
-use Rattle.e820_sanitise.specs.declared.fault.MapFault.TheVariants as faults
-use Rattle.e820_usable.specs.declared.stop.MapStop.TheVariants as reasons
-use Rattle.boot_model.specs.declared.stop.Stop.TheVariants as stops
-use Rattle.boot_model.specs.Boot.{Given}
 use Rattle.boot_model.specs.First.{items_carried}
-use Rattle.boot_stages.specs.Boots.{IsDecided, judged_answer, stop_of_map, goes_on_with}
 use Rattle.boot_stages.specs.Parts.{beginning, ending, mapping}
 
 abbrev one_run : List (RunOf ℕ)
 one_run = record { base = 0x1000; size = 0x1000; value = 1 } ∷ []
-
-unless_examples : (goes_on_with None one_run ≡ Ok one_run) × (goes_on_with (Some reasons.NoRam) one_run ≡ Err stops.NoRam)
-unless_examples = (refl, refl)
-
-fault_examples : (stop_of_map (faults.MapFull 3201) ≡ stops.MapFull 3201) × (stop_of_map faults.Memory ≡ stops.Memory)
-fault_examples = (refl, refl)
-
-judged_examples : (judged_answer 0x1000 (Err (faults.MapFull 3201)) ≡ Err (stops.MapFull 3201))
-    × (judged_answer 0x1000 (Err faults.Memory) ≡ Err stops.Memory)
-judged_examples = (refl, refl)
-
--- an answer that is out of memory decides nothing
-undecided : (given : Given) → IsDecided given (Err faults.Memory)
-undecided given = tt
 
 -- this and the next: a kernel's image, and the values that the first items are made of, for
 -- `parts`
