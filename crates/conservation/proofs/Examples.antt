@@ -18,7 +18,7 @@ use Rattle.frame_blocks.proofs.BlockLaws.{listed_complete, listed_sound}
 use Rattle.page_alloc.specs.Pages.{State, begun}
 use Rattle.boot_model.specs.Boot.{Given, Told}
 use Rattle.conservation.specs.ByMap.{IsUsableBy}
-use Rattle.conservation.specs.Claimed.{IsRecorded, IsTouched, IsUntouched, decides}
+use Rattle.conservation.specs.Claimed.{IsRecorded, IsTouched, IsUntouched}
 use Rattle.conservation.specs.Headline.{AllTouchedOrInOne, BlocksAreMaximal, BlocksAreWhole, IsFreeFor, IsMaximal, IsUsable, IsWhole, NoOtherInABlock, blocks_with, has_frame, with_buddy}
 use Rattle.conservation.specs.Paged.{AllInOneOrHeld, NoOtherInOneOrHeld}
 use Rattle.conservation.proofs.CountLaws.{no_block_with, one_block_with}
@@ -33,11 +33,6 @@ byte_of_five = record { base = 0x5800; size = 1 }
 
 abbrev journal : List Item
 journal = item.Claim byte_of_four (owner.Script 3) ∷ (item.Claim byte_of_five owner.Kernel ∷ (item.Free byte_of_four ∷ []))
-
-decide_examples : (decides (item.Free byte_of_four) 0x4FFF ≡ true) × (decides (item.Free byte_of_four) 0x4FFE ≡ false)
-    × (decides (item.Claim byte_of_five owner.Kernel) 0x5800 ≡ true)
-    × (decides (item.Mem byte_of_five) 0x5800 ≡ false)
-decide_examples = (refl, refl, refl, refl)
 
 -- this and the next: the claim of frame 5 is in force, so the frame is touched
 five_recorded : IsRecorded journal 0x5800 owner.Kernel
@@ -111,10 +106,6 @@ reserved_by_runs usable = let wrong : false ≡ true = usable.1 0x2000 refl in c
 -- the frame at 64 TiB isn't usable, since that is the limit of physical addresses
 out_of_reach : (map : List (RunOf ℕ)) → IsUsableBy (2 ^ 46) map 17179869184 → ⊥
 out_of_reach map usable = let low = usable.0 in absurd (omega (arith, low))
-
--- with page tables of five levels the limit is 4 PiB, and the frame at 4 PiB isn't usable
-out_of_reach_of_52 : (map : List (RunOf ℕ)) → IsUsableBy (2 ^ 52) map 1099511627776 → ⊥
-out_of_reach_of_52 map usable = let low = usable.0 in absurd (omega (arith, low))
 
 -- a boot that reports these items and these free frames, whatever else it reports
 abbrev telling : Told → List Item → Frames → Told
