@@ -10,8 +10,8 @@ use Rattle.memblock_model.specs.declared.item.Item.{Item}
 use Rattle.memblock_model.specs.declared.item.Item.TheVariants as item
 use Rattle.memblock_ranges.specs.Spelling.{spelled_table, fields_of}
 use Rattle.memblock_ranges.specs.Tables.{Table}
-use Rattle.growth_model.specs.Bytes.{table_for, spelled_at, shown_by, AreSpelled, left_by, shown, leaves, is_left, beyond, byte_after, Filled, put, filled, written, byte, AreMadeBy, Follows, Holds}
-use Rattle.growth_model.proofs.BytesLaws.{shown_by-again, after-byte}
+use Rattle.growth_model.specs.Bytes.{shown_by, AreSpelled, is_left, byte_after, Filled, byte, AreMadeBy}
+use Rattle.growth_model.proofs.BytesLaws.{shown_by-again}
 
 abbrev at_base : ℕ → ℕ → RangeView
 at_base base size = record { base = base; size = size }
@@ -26,12 +26,7 @@ small_table = record { records = one_run ∷ []; place = 0x500000; room = 2 }
 abbrev empty_table : Table
 empty_table = record { records = []; place = 0x600000; room = 1 }
 
--- bytes of its base, its size and its node (1,024), and one after its record
-spelled_examples : (spelled_at small_table 0x500001 ≡ 0x10) × (spelled_at small_table 0x500009 ≡ 8) × (spelled_at small_table 0x500015 ≡ 4)
-    × (spelled_at small_table 0x500018 ≡ 0)
-unfolding spelled_table fields_of
-spelled_examples = (refl, refl, refl, refl)
-
+-- a byte of the record's base, one of an empty slot, and one outside both tables
 shown_by_examples : (shown_by small_table empty_table 0x500001 7 ≡ 0x10) × (shown_by small_table empty_table 0x600000 7 ≡ 0)
     × (shown_by small_table empty_table 0x500030 7 ≡ 7)
 unfolding spelled_table fields_of
@@ -44,9 +39,6 @@ are_spelled = λ x. sym (shown_by-again small_table empty_table x 7)
 not_spelled : ¬ AreSpelled small_table empty_table (λ x. 7)
 unfolding spelled_table fields_of
 not_spelled = λ spelled. let clash : 7 ≡ 0x10 = spelled 0x500001 in omega (arith, clash)
-
-left_examples : (left_by small_table 0x500010 9 ≡ 0) × (left_by small_table 0x500030 9 ≡ 9)
-left_examples = (refl, refl)
 
 -- the image ends at 0x1100000; at first the memory table is at 0x10FE000 and the reserved one at
 -- 0x10FF000
@@ -68,30 +60,12 @@ moved_once = begun ++ first_move ∷ []
 abbrev moved_twice : List Item
 moved_twice = moved_once ++ second_move ∷ []
 
-table_examples : ((table_for which.Memory kernel begun).place ≡ 0x10FE000) × ((table_for which.Memory kernel begun).room ≡ 128)
-    × ((table_for which.Memory kernel moved_once).place ≡ 0x2000000)
-    × ((table_for which.Memory kernel moved_once).room ≡ 256)
-table_examples = (refl, refl, refl, refl)
-
--- the first move leaves the frame in the image, and the second leaves the place of the first
-leaves_examples : (leaves kernel begun first_move 0x10FE000 ≡ true) × (leaves kernel begun first_move 0x10FF000 ≡ false)
-    × (leaves kernel moved_once second_move 0x2000000 ≡ true)
-    × (leaves kernel moved_once (item.Mem kernel) 0x2000000 ≡ false)
-leaves_examples = (refl, refl, refl, refl)
-
 is_left_examples : (is_left kernel begun (first_move ∷ second_move ∷ []) 0x10FE000 ≡ true)
     × (is_left kernel begun (first_move ∷ second_move ∷ []) 0x2000000 ≡ true)
     × (is_left kernel begun (first_move ∷ second_move ∷ []) 0x3000000 ≡ false)
 is_left_examples = (refl, refl, refl)
 
-beyond_examples : (beyond begun moved_twice ≡ first_move ∷ second_move ∷ []) × (beyond moved_twice moved_twice ≡ [])
-beyond_examples = (refl, refl)
-
--- outside the tables the given byte is shown, and the old bytes of a table are 0, whatever they
--- were
-shown_example : shown kernel moved_once 0x10FE000 7 ≡ 7
-shown_example = refl
-
+-- the old bytes of a table are 0, whatever they were
 after_examples : (byte_after kernel begun moved_twice 0x10FE000 7 ≡ 0) × (byte_after kernel begun moved_twice 0x2000000 7 ≡ 0)
     × (byte_after kernel begun moved_twice 0x4000000 7 ≡ 7)
 unfolding byte_after
@@ -110,19 +84,8 @@ late = record { range = at_base 0x2000000 0x10; byte = 3; at = 3 }
 abbrev fills : List Filled
 fills = early ∷ between ∷ late ∷ []
 
-put_examples : (put early 0x10FE000 9 ≡ 1) × (put early 0x10FF000 9 ≡ 9)
-put_examples = (refl, refl)
-
-filled_examples : (filled 1 fills 0x10FE000 9 ≡ 1) × (filled 2 fills 0x10FE000 9 ≡ 9) × (filled 2 fills 0x10FE900 9 ≡ 2)
-filled_examples = (refl, refl, refl)
-
 -- the early fill is lost when the table moves; the fill between stays; the late one overwrites the
 -- bytes that the second move left
-written_examples : (written kernel fills [] moved_twice 0x10FE000 0 ≡ 0) × (written kernel fills [] moved_twice 0x10FE900 0 ≡ 2)
-    × (written kernel fills [] moved_twice 0x2000000 0 ≡ 3)
-    × (written kernel fills [] moved_twice 0x2000010 0 ≡ 0)
-written_examples = (refl, refl, refl, refl)
-
 byte_examples : (byte kernel moved_twice fills 0x10FE000 ≡ 0) × (byte kernel moved_twice fills 0x10FE900 ≡ 2)
     × (byte kernel moved_twice fills 0x2000000 ≡ 3)
 unfolding byte
@@ -130,15 +93,3 @@ byte_examples = (refl, refl, refl)
 
 made_examples : AreMadeBy 3 fills × ¬ AreMadeBy 2 fills
 made_examples = ((lit≤ tt, (lit≤ tt, (lit≤ tt, tt))), λ made. absurd (omega (arith, made.1.1.0)))
-
--- by the law on parts: the bytes of the items and the first two fills, after the second move
-follows_example : Follows kernel moved_once moved_twice (byte kernel moved_once (early ∷ between ∷ []))
-    (byte kernel moved_twice (early ∷ between ∷ []))
-follows_example = record {
-  more = second_move ∷ [];
-  goes_on = refl;
-  each = λ x. sym (after-byte kernel moved_once (second_move ∷ []) (early ∷ between ∷ []) x (lit≤ tt, (lit≤ tt, tt)));
-}
-
-holds_example : Holds kernel moved_twice fills (byte kernel moved_twice fills)
-holds_example = record { made = (lit≤ tt, (lit≤ tt, (lit≤ tt, tt))); each = λ x. refl }

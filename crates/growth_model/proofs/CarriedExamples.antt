@@ -1,13 +1,11 @@
 -- Examples: small lists of items that are to be written.
-use Rattle.std.proofs.Common.{◌≡◌, List, [], ◌∷◌, Some, None, Ok, Err, true, false, refl}
+use Rattle.std.proofs.Common.{◌≡◌, [], ◌∷◌, Some, None, Ok, Err, true, false, refl}
 use Rattle.bm_base.specs.Range.{RangeView}
 use Rattle.memblock_model.specs.declared.owner.Which.TheVariants as which
 use Rattle.memblock_model.specs.declared.owner.Owner.TheVariants as owner
-use Rattle.memblock_model.specs.declared.item.Item.{Item}
 use Rattle.memblock_model.specs.declared.item.Item.TheVariants as item
 use Rattle.growth_model.specs.Outcome.{Refused}
-use Rattle.growth_model.specs.Growth.{claimed, freed, added, noded, mirrored}
-use Rattle.growth_model.specs.Carried.{AreQuiet, carried_out, change, ended, is_of_memory, memory_items, unless_refused}
+use Rattle.growth_model.specs.Carried.{AreQuiet, carried_out, ended, is_of_memory, memory_items}
 
 abbrev page : RangeView
 page = record { base = 0x1000; size = 0x1000 }
@@ -15,31 +13,13 @@ page = record { base = 0x1000; size = 0x1000 }
 abbrev full : Refused
 full = record { which = which.Reserved; room = 128 }
 
--- a range is added after growth; a trim is written without growth
-changes : (items : List Item) → (change (item.Mem page) items ≡ added page items) × ((change item.Trim items).steps ≡ (item.Trim ∷ []) ∷ [])
-changes items = (refl, refl)
-
--- a node, a mirrored range, a claim and a free are written after growth
-grow_first : (items : List Item) → (change (item.Node page 3) items ≡ noded page 3 items)
-    × (change (item.Mirror page) items ≡ mirrored page items)
-    × (change (item.Claim page owner.Soft) items ≡ claimed page owner.Soft items)
-    × (change (item.Free page) items ≡ freed page items)
-grow_first items = (refl, refl, refl, refl)
-
 -- the end of a change with and without a refusal
 ended_examples : (ended (item.Trim ∷ []) (record { steps = (item.Free page ∷ []) ∷ []; refused = None })
     ≡ Ok (item.Trim ∷ item.Free page ∷ []))
     × (ended (item.Trim ∷ []) (record { steps = (item.Free page ∷ []) ∷ []; refused = Some full }) ≡ Err full)
 ended_examples = (refl, refl)
 
-unless_examples : (unless_refused None [] ≡ Ok []) × (unless_refused (Some full) [] ≡ Err full)
-unless_examples = (refl, refl)
-
--- an empty list, and items that need no growth
-carries_nothing : (items : List Item) → carried_out [] items ≡ Ok items
-unfolding carried_out
-carries_nothing items = refl
-
+-- items that need no growth
 carries_two : carried_out (item.Trim ∷ item.Limit 0x2000 ∷ []) (item.Free page ∷ [])
     ≡ Ok (item.Free page ∷ item.Trim ∷ item.Limit 0x2000 ∷ [])
 unfolding carried_out

@@ -1,6 +1,6 @@
 -- Examples of small changes, computed: the items of each step, the growth that is refused, the
 -- searches of an allocation, and the ends of calls.
-use Rattle.std.proofs.Common.{◌≡◌, ℕ, zero, suc, ◌+◌, ◌*◌, ◌%◌, ◌^◌, ◌<◌, ◌≤◌, Bool, true, false, nat_lt, Option, Some, None, List, [], ◌∷◌, ◌++◌, length, take, Ok, Err, refl, sym, ap, arith}
+use Rattle.std.proofs.Common.{◌≡◌, ℕ, zero, suc, ◌+◌, ◌*◌, ◌%◌, ◌^◌, ◌<◌, ◌≤◌, Bool, true, false, Option, Some, None, List, [], ◌∷◌, ◌++◌, length, take, Ok, Err, refl, sym, ap, arith}
 use Rattle.std.proofs.lemmas.Bool.{false_from_ne_true}
 use Rattle.std.proofs.lemmas.Bool.Decides.{nat_tests}
 use Rattle.bm_base.specs.Range.{RangeView, end_of, covers}
@@ -22,13 +22,12 @@ use Rattle.memblock_model.proofs.TableLaws.{records_for-is}
 use Rattle.memblock_ranges.proofs.CountLaws.{few-pieces}
 use Rattle.growth_model.specs.declared.refusal.Refusal.TheVariants as refusal
 use Rattle.memblock_model.specs.declared.query.Request.{Request}
-use Rattle.growth_model.specs.Outcome.{Outcome, Change, joined, after, nothing, step, write, refuse, followed_by, ◌>>◌, if_due, whatever_refused}
-use Rattle.growth_model.specs.Growth.{in_whole_frames, frames_at, count, table_query, place_beside, left, reserved_items, reserved_growth_at, reserved_growth, is_full, new_in, two, grown, claimed, freed, old_frames, leave, memory_growth_at, memory_growth, added, noded, mirrored}
-use Rattle.growth_model.specs.Request.{Attempt, attempt, anywhere, nodes, round, attempts, first_top, place_for}
+use Rattle.growth_model.specs.Outcome.{Outcome, Change, joined, step, write, refuse, ◌>>◌}
+use Rattle.growth_model.specs.Growth.{in_whole_frames, frames_at, count, table_query, place_beside, reserved_items, reserved_growth_at, reserved_growth, is_full, new_in, two, grown, claimed, freed, leave, memory_growth_at, memory_growth}
+use Rattle.growth_model.specs.Request.{Attempt, attempt, round, attempts, first_top, place_for}
 use Rattle.growth_model.specs.Ends.{IsCut, IsCutShort, EndsBy, Ends, Allocates}
-use Rattle.growth_model.proofs.EndLaws.{cut-short}
-use Rattle.growth_model.proofs.FirstLaws.{no_records, first-full_by_two, first-claimed}
-use Rattle.growth_model.proofs.IdleLaws.{claimed-idle, freed-idle, added-idle, noded-idle, mirrored-idle}
+use Rattle.growth_model.proofs.FirstLaws.{no_records}
+use Rattle.growth_model.proofs.IdleLaws.{claimed-idle, freed-idle}
 
 -- 256 KiB of memory; the kernel's image has four frames from 64 KiB on
 abbrev pub image : RangeView
@@ -47,40 +46,6 @@ two_steps = record { steps = (item.Trim ∷ (item.Limit 5 ∷ [])) ∷ ((item.Li
 abbrev stopped : Outcome
 stopped = record { steps = (item.Trim ∷ []) ∷ []; refused = Some (record { which = which.Memory; room = 128 }) }
 
--- the items of all steps
-joined_examples : (joined two_steps.steps ≡ item.Trim ∷ (item.Limit 5 ∷ (item.Limit 7 ∷ []))) × (joined [] ≡ [])
-joined_examples = (refl, refl)
-
--- the items after two steps, and after a refusal
-behind_examples : (after (item.Limit 3 ∷ []) two_steps ≡ item.Limit 3 ∷ (item.Trim ∷ (item.Limit 5 ∷ (item.Limit 7 ∷ []))))
-    × (after [] stopped ≡ item.Trim ∷ [])
-behind_examples = (refl, refl)
-
--- a change that writes nothing isn't refused
-nothing_examples : ((nothing small).steps ≡ []) × ((nothing []).refused ≡ None)
-nothing_examples = (refl, refl)
-
--- several items in one step
-step_examples : (step (item.Trim ∷ (item.Limit 5 ∷ [])) small ≡ record { steps = (item.Trim ∷ (item.Limit 5 ∷ [])) ∷ []; refused = None })
-    × (after (item.Trim ∷ []) (step (item.Trim ∷ (item.Trim ∷ [])) (item.Trim ∷ [])) ≡ item.Trim ∷ (item.Trim ∷ (item.Trim ∷ [])))
-step_examples = (refl, refl)
-
--- one item
-write_examples : (write item.Trim [] ≡ record { steps = (item.Trim ∷ []) ∷ []; refused = None })
-    × (after (item.Trim ∷ []) (write (item.Limit 5) (item.Trim ∷ [])) ≡ item.Trim ∷ (item.Limit 5 ∷ []))
-write_examples = (refl, refl)
-
--- no place for a table: the refusal has its room, and nothing is written
-refuse_examples : ((refuse which.Reserved 128 small).refused ≡ Some (record { which = which.Reserved; room = 128 }))
-    × ((refuse which.Memory 256 small).steps ≡ [])
-refuse_examples = (refl, refl)
-
--- the second change follows unless the first was refused
-followed_by_examples : (followed_by two_steps None stopped
-    ≡ record { steps = two_steps.steps ++ stopped.steps; refused = Some (record { which = which.Memory; room = 128 }) })
-    × (followed_by stopped (Some (record { which = which.Memory; room = 128 })) two_steps ≡ stopped)
-followed_by_examples = (refl, refl)
-
 -- two changes in turn: both; only the first if it is refused; both, with the refusal of the second
 then_examples : ((write item.Trim >> write (item.Limit 5)) []
     ≡ record { steps = (item.Trim ∷ []) ∷ ((item.Limit 5 ∷ []) ∷ []); refused = None })
@@ -88,29 +53,9 @@ then_examples : ((write item.Trim >> write (item.Limit 5)) []
     × ((write item.Trim >> refuse which.Memory 128) [] ≡ stopped)
 then_examples = (refl, refl, refl)
 
--- a change that is due, and one that isn't
-if_due_examples : (if_due (λ items. nat_lt 1 (length items)) (write item.Trim) small ≡ write item.Trim small)
-    × (if_due (λ items. nat_lt 5 (length items)) (write item.Trim) small ≡ nothing small)
-if_due_examples = (refl, refl)
-
--- a refusal is dropped; without one nothing changes
-whatever_refused_examples : (whatever_refused (write item.Trim >> refuse which.Memory 128) [] ≡ write item.Trim [])
-    × (whatever_refused (write item.Trim) small ≡ write item.Trim small)
-whatever_refused_examples = (refl, refl)
-
 -- whole frames: for one byte, for a frame and a half, for a frame
 whole_frames_examples : (in_whole_frames 1 ≡ 4096) × (in_whole_frames 6144 ≡ 8192) × (in_whole_frames 4096 ≡ 4096)
 whole_frames_examples = (refl, refl, refl)
-
--- the frames of a new table and of an old one
-frames_at_examples : (frames_at 65536 (48 * 128) ≡ record { base = 65536; size = 8192 })
-    × (frames_at 65536 (24 * 128) ≡ record { base = 65536; size = 4096 })
-frames_at_examples = (refl, refl)
-
--- the query of a table at first, and after it has grown
-table_query_examples : (table_query 128 0 262144 ≡ record { lo = 0; hi = 262144; size = 8192; align = 4096; node = None })
-    × (table_query 256 4096 8192 ≡ record { lo = 4096; hi = 8192; size = 12288; align = 4096; node = None })
-table_query_examples = (refl, refl)
 
 -- none of the small memory is mirrored
 small_is_plain : (x : ℕ) → suits true (table_of which.Memory small x) ≡ false
@@ -178,10 +123,7 @@ above_place = rw (window_place 135168 262144 253952 refl (omega arith) refl (ome
 below_place : place_beside (record { base = 196608; size = 65536 }) 128 small ≡ Some 188416
 below_place = rw (no_window 262144 262144 (omega arith)) (window_place 0 196608 188416 refl (omega arith) refl (omega arith) (omega arith))
 
--- a table that never moved frees nothing; one that did frees its frames
-left_items_examples : (left 128 None ≡ []) × (left 256 (Some 65536) ≡ item.Free (record { base = 65536; size = 8192 }) ∷ [])
-left_items_examples = (refl, refl)
-
+-- a table that has never moved frees no old place
 first_move : reserved_items 128 None 253952
     ≡ item.Grown which.Reserved 253952 256 ∷ (item.Claim (record { base = 253952; size = 8192 }) (owner.Table which.Reserved) ∷ [])
 unfolding reserved_items
@@ -206,12 +148,6 @@ moved_with_all_its_room : (table_bytes which.Reserved image (moving 0) ≡ recor
 unfolding reserved_items
 moved_with_all_its_room = (refl, refl)
 
--- without a place the growth is refused; with one it is one step
-growth_at_examples : (reserved_growth_at 128 None None small ≡ refuse which.Reserved 128 small)
-    × ((reserved_growth_at 128 None (Some 253952) small).steps ≡ reserved_items 128 None 253952 ∷ [])
-unfolding reserved_growth_at
-growth_at_examples = (refl, refl)
-
 growth_above : reserved_growth (frame 32) small ≡ step (reserved_items 128 None 253952) small
 unfolding reserved_growth reserved_growth_at
 growth_above = rw above_place refl
@@ -220,23 +156,12 @@ growth_below : reserved_growth (record { base = 196608; size = 65536 }) small �
 unfolding reserved_growth reserved_growth_at
 growth_below = rw below_place refl
 
--- the records of the small memory: one in each table
-abbrev memory_records : List (RunOf LabelView)
-memory_records = record { base = 0; size = 262144; value = plain_label } ∷ []
-
+-- the small memory has one record in the reserved table
 abbrev reserved_records : List (RunOf LabelView)
 reserved_records = record { base = 65536; size = 16384; value = plain_label } ∷ []
 
-memory_ends : NothingFrom (2 ^ 64) (table_of which.Memory small)
-memory_ends x le = grind (arith, nat_tests)
-
 reserved_ends : NothingFrom (2 ^ 64) (table_of which.Reserved small)
 reserved_ends x le = grind (arith, nat_tests)
-
-memory_count : count which.Memory small ≡ 1
-unfolding records_of
-memory_count = ap length (sym (records_for-is (table_of which.Memory small) memory_records memory_ends
-    (record { runs = (omega arith, tt, tt); each = λ x. grind (arith, nat_tests) })))
 
 reserved_count : count which.Reserved small ≡ 1
 unfolding records_of
@@ -247,7 +172,7 @@ none_at_first : count which.Memory [] ≡ 0
 unfolding records_of
 none_at_first = no_records (table_of which.Memory []) (λ x. refl)
 
--- an edit adds at most two pieces, so no table is full; 128 further records would be too many
+-- an edit adds at most two pieces, so no table is full
 new_has_room : (w : Which) (r : RangeView) → end_of r ≤ 2 ^ 64 → NothingFrom (2 ^ 64) (table_of w small) → count w small ≡ 1
     → is_full w (new_in w r) small ≡ false
 unfolding records_of
@@ -256,40 +181,15 @@ new_has_room w r small_enough ends one = let few = few-pieces r (table_of w smal
 claim_has_room : is_full which.Reserved (new_in which.Reserved (frame 32)) small ≡ false
 claim_has_room = new_has_room which.Reserved (frame 32) (omega arith) reserved_ends reserved_count
 
-add_has_room : is_full which.Memory (new_in which.Memory (frame 64)) small ≡ false
-add_has_room = new_has_room which.Memory (frame 64) (omega arith) memory_ends memory_count
-
 two_have_room : (w : Which) → count w small ≡ 1 → is_full w two small ≡ false
 two_have_room w one = grind (arith, nat_tests, one)
 
-too_many : is_full which.Memory (λ items. 128) small ≡ true
-too_many = grind (arith, nat_tests, memory_count)
-
--- always two more
-two_examples : (two [] ≡ 2) × (two small ≡ 2)
-two_examples = (refl, refl)
-
 -- if there is room, only the item is written
-first_claim : claimed image owner.Kernel [] ≡ write (item.Claim image owner.Kernel) []
-first_claim = first-claimed image owner.Kernel (omega arith)
-
 a_claim : claimed (frame 32) owner.Soft small ≡ write (item.Claim (frame 32) owner.Soft) small
 a_claim = claimed-idle small (frame 32) owner.Soft claim_has_room
 
 a_free : freed (frame 16) small ≡ write (item.Free (frame 16)) small
 a_free = freed-idle small (frame 16) (two_have_room which.Reserved reserved_count)
-
-free_of_nothing : freed (frame 1) [] ≡ write (item.Free (frame 1)) []
-free_of_nothing = freed-idle [] (frame 1) first-full_by_two
-
-an_added_frame : added (frame 64) small ≡ write (item.Mem (frame 64)) small
-an_added_frame = added-idle small (frame 64) add_has_room
-
-a_node : noded (frame 1) 3 small ≡ write (item.Node (frame 1) 3) small
-a_node = noded-idle small (frame 1) 3 (two_have_room which.Memory memory_count)
-
-a_mirror : mirrored (frame 1) small ≡ write (item.Mirror (frame 1)) small
-a_mirror = mirrored-idle small (frame 1) (two_have_room which.Memory memory_count)
 
 -- a full table grows at most twice, until it isn't full
 abbrev moves : Change
@@ -314,16 +214,7 @@ once = rw (first_full 200 (omega arith), then_room 200 (omega arith)) refl
 twice : grown which.Memory (λ items. 300) moves [] ≡ (moves >> moves) []
 twice = rw (first_full 300 (omega arith), then_full 300 (omega arith)) refl
 
--- the old place of the memory table: none, or two frames
-old_frames_examples : (old_frames 128 None ≡ None) × (old_frames 256 (Some 65536) ≡ Some (record { base = 65536; size = 8192 }))
-old_frames_examples = (refl, refl)
-
-nothing_to_leave : leave None small ≡ nothing small
-nothing_to_leave = refl
-
-a_frame_to_leave : leave (Some (frame 16)) small ≡ write (item.Free (frame 16)) small
-a_frame_to_leave = rw a_free refl
-
+-- the free of a table's old place is never refused
 leaving_is_never_refused : (frames : RangeView) (items : List Item) → (leave (Some frames) items).refused ≡ None
 leaving_is_never_refused frames items = refl
 
@@ -352,10 +243,6 @@ first_growth = record {
 place_taken : memory_growth_at 128 None (Some 253952) small ≡ first_growth
 unfolding memory_growth_at
 place_taken = rw place_claimed refl
-
-no_place_taken : memory_growth_at 128 None None small ≡ refuse which.Memory 128 small
-unfolding memory_growth_at
-no_place_taken = refl
 
 memory_grows : memory_growth small ≡ first_growth
 unfolding memory_growth
@@ -392,27 +279,11 @@ attempt_examples : ((attempt a_frame 262144 0 false None).query ≡ record { lo 
     × ((attempt a_frame 262144 0 true None).mirror ≡ true) × ((attempt a_frame 262144 0 false None).mirror ≡ false)
 attempt_examples = (refl, refl, refl, refl)
 
--- any node after the preferred one, unless only that one is allowed; nothing if no node is
--- preferred
-anywhere_examples : (anywhere from_the_middle 262144 0 true (Some 1) ≡ attempt from_the_middle 262144 0 true None ∷ [])
-    × (anywhere of_node_one 262144 0 false (Some 1) ≡ []) × (anywhere a_frame 262144 0 false None ≡ [])
-anywhere_examples = (refl, refl, refl)
-
--- both searches, or only the one on the node
-nodes_examples : (nodes from_the_middle 262144 131072 false
-    ≡ attempt from_the_middle 262144 131072 false (Some 1) ∷ (attempt from_the_middle 262144 131072 false None ∷ []))
-    × (nodes of_node_one 262144 131072 true ≡ attempt of_node_one 262144 131072 true (Some 1) ∷ [])
-nodes_examples = (refl, refl)
-
 -- mirrored memory of any node comes before other memory of the node
 a_round_of_four : round from_the_middle 262144 131072
     ≡ attempt from_the_middle 262144 131072 true (Some 1) ∷ (attempt from_the_middle 262144 131072 true None
     ∷ (attempt from_the_middle 262144 131072 false (Some 1) ∷ (attempt from_the_middle 262144 131072 false None ∷ [])))
 a_round_of_four = refl
-
-a_round_of_two : round of_node_one 262144 131072
-    ≡ attempt of_node_one 262144 131072 true (Some 1) ∷ (attempt of_node_one 262144 131072 false (Some 1) ∷ [])
-a_round_of_two = refl
 
 -- the searches from the minimum on come first, then those from 0 on; without a minimum there is
 -- one round
@@ -427,9 +298,6 @@ any_memory q = record { query = q; mirror = false }
 
 abbrev mirrored_memory : Query → Attempt
 mirrored_memory q = record { query = q; mirror = true }
-
-no_search : first_top small [] ≡ None
-no_search = refl
 
 -- nothing is mirrored, so the search of any memory finds the place
 second_search : first_top small (mirrored_memory (table_query 128 0 262144) ∷ (any_memory (table_query 128 0 262144) ∷ [])) ≡ Some 253952
@@ -460,9 +328,6 @@ all_of_two = record { count = 2; within = omega arith; stands = refl }
 
 one_of_two : IsCutShort [] (item.Trim ∷ (item.Limit 5 ∷ [])) two_steps.steps
 one_of_two = record { count = 1; short = omega arith; stands = refl }
-
-some_of_two : IsCut [] (item.Trim ∷ (item.Limit 5 ∷ [])) two_steps.steps
-some_of_two = cut-short [] (item.Trim ∷ (item.Limit 5 ∷ [])) two_steps.steps one_of_two
 
 -- fewer than both steps don't write all items
 fewer_of_two : (n : ℕ) → n < 2 → joined two_steps.steps ≡ joined (take n two_steps.steps) → ⊥

@@ -5,8 +5,8 @@ use Rattle.std.proofs.lemmas.Bool.Decides.{nat_tests}
 use Rattle.memblock_model.specs.declared.owner.Which.TheVariants as which
 use Rattle.memblock_model.specs.declared.item.Item.TheVariants as item
 use Rattle.memblock_model.specs.Tables.{records_of}
-use Rattle.growth_model.specs.Outcome.{Outcome, Change, after, nothing}
-use Rattle.growth_model.specs.Growth.{is_full, two, grown}
+use Rattle.growth_model.specs.Outcome.{Outcome, after, nothing}
+use Rattle.growth_model.specs.Growth.{is_full, grown}
 use Rattle.growth_model.specs.Room.{IsInSpace, HasDoubled, HasRoomBehind}
 use Rattle.growth_model.proofs.FirstLaws.{nothing_said}
 
@@ -36,7 +36,3 @@ no_room has =
     let clash : is_full which.Memory (λ items. 129) (after [] (nothing [])) ≡ false =
     rw no_growth at (has (ap (λ (o : Outcome). o.refused) no_growth)) in
     true≢false (sym past_room ∙ clash)
-
--- no growth is due if there is room
-has_room : (growth : Change) → is_full which.Memory two [] ≡ false → HasRoomBehind which.Memory two growth []
-has_room growth room unrefused = rw (room, room, room) refl

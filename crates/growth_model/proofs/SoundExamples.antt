@@ -1,6 +1,6 @@
 -- Examples of small places and owners, computed: where a table may lie, what overlaps it, and what
 -- may be claimed.
-use Rattle.std.proofs.Common.{◌≡◌, ℕ, ◌%◌, ◌≤◌, true, false, nat_lt, if◌then◌else◌, Some, None, List, [], ◌∷◌, ◌++◌, length, refl, sym, ap, inl, inr, arith}
+use Rattle.std.proofs.Common.{◌≡◌, ℕ, ◌%◌, ◌≤◌, true, false, nat_lt, if◌then◌else◌, Some, None, List, [], ◌∷◌, ◌++◌, refl, inl, inr, arith}
 use Rattle.std.proofs.lemmas.Bool.Decides.{nat_tests}
 use Rattle.memblock_model.specs.declared.owner.Which.TheVariants as which
 use Rattle.memblock_model.specs.declared.owner.Owner.TheVariants as owner
@@ -8,12 +8,8 @@ use Rattle.memblock_model.specs.declared.item.Item.{Item}
 use Rattle.memblock_model.specs.declared.item.Item.TheVariants as item
 use Rattle.bm_base.specs.Range.{covers}
 use Rattle.memblock_model.specs.Items.{Owners, owner_of}
-use Rattle.memblock_model.specs.Labels.{plain_label}
-use Rattle.memblock_model.specs.Tables.{table_of, records_of}
-use Rattle.memblock_model.proofs.TableLaws.{records_for-is}
-use Rattle.growth_model.specs.Growth.{count}
-use Rattle.growth_model.specs.Sound.{keeps, Seat, ShareNoFrame, Clear, Unclaimed, Seats, Seated, Fits, Sound, IsImage, HasBegun, IsAway, MayClaim}
-use Rattle.growth_model.proofs.FirstLaws.{no_table_full, first-placed}
+use Rattle.growth_model.specs.Sound.{keeps, Seat, ShareNoFrame, Clear, Seated, IsImage, IsAway, MayClaim}
+use Rattle.growth_model.proofs.FirstLaws.{first-placed}
 use Rattle.growth_model.proofs.GrowthExamples.{image, frame}
 
 -- a table may lie in bytes of the kernel and of a table, and not in unclaimed ones
@@ -58,22 +54,6 @@ one_frame_clear x at_a at_b = grind (arith, nat_tests, at_a, at_b)
 one_byte_in_both : Clear (record { base = 0; size = 33 }) (record { base = 32; size = 16 }) → ⊥
 one_byte_in_both clear = clear 32 refl refl
 
-nobodys : Unclaimed claims (record { base = 16384; size = 4096 })
-nobodys x at = grind (arith, nat_tests, at)
-
-one_byte_claimed : Unclaimed claims (record { base = 16383; size = 4096 }) → ⊥
-one_byte_claimed free = let first = free 16383 refl in cc
-
-both_spots : Seats claims (record { base = 0; size = 3072 }) (record { base = 4096; size = 3072 })
-both_spots = record {
-  first = a_spot 0 refl (omega arith);
-  second = a_spot 4096 refl (omega arith);
-  apart = two_frames_apart;
-}
-
-not_one_spot_twice : Seats claims (record { base = 0; size = 3072 }) (record { base = 0; size = 3072 }) → ⊥
-not_one_spot_twice seats = seats.apart 0 0 refl refl refl
-
 -- the kernel's image: its last two frames hold the tables at first
 is_image : IsImage image
 is_image = record { whole = refl; large = omega arith }
@@ -90,30 +70,6 @@ placed_at_first = first-placed image is_image
 
 nothing_placed : Seated image [] → ⊥
 nothing_placed placed = let first = placed.first in cc
-
-fits_at_first : Fits []
-fits_at_first w = no_table_full w
-
--- the image is one record
-image_record : records_of which.Reserved begun ≡ record { base = 65536; size = 16384; value = plain_label } ∷ []
-unfolding records_of
-image_record = sym (records_for-is (table_of which.Reserved begun) (record { base = 65536; size = 16384; value = plain_label } ∷ [])
-    (λ x le. grind (arith, nat_tests)) (record { runs = (omega arith, tt, tt); each = λ x. grind (arith, nat_tests) }))
-
-image_fits : Fits begun
-unfolding records_of
-image_fits which.Memory = no_table_full which.Memory
-image_fits which.Reserved = let one : count which.Reserved begun ≡ 1 = ap length image_record in omega arith
-
-sound_at_first : Sound image begun
-sound_at_first = record { placed = placed_at_first; fits = image_fits }
-
-nothing_is_sound : Sound image [] → ⊥
-nothing_is_sound sound = nothing_placed sound.placed
-
--- one claim is a beginning, and no item isn't
-begun_examples : (HasBegun begun) × (HasBegun [] → ⊥)
-begun_examples = (tt, λ h. h)
 
 -- after the script claimed a frame of the image no table may lie there; in the next frame one may
 abbrev scripted : Owners
