@@ -8,26 +8,14 @@ use Rattle.memblock_model.specs.declared.item.Item.TheVariants as item
 use Rattle.bm_base.specs.Each.{each_from, each_in}
 use Rattle.memblock_model.specs.Labels.{LabelView, plain_label, with_node, with_mirror}
 use Rattle.memblock_model.specs.Items.{trim_frames}
-use Rattle.boot_journal.specs.Contents.{Contents}
 use Rattle.boot_journal.specs.Mirrors.{mirrors_after, mirrors_in}
-use Rattle.boot_journal.specs.Bytes.{is_trim, label_after, label_from, label_kept, Agrees, Differs, EdgesAgree, AllAgree}
+use Rattle.boot_journal.specs.Bytes.{label_from, label_kept, Differs, EdgesAgree, AllAgree}
 
 abbrev bytes : ℕ → ℕ → RangeView
 bytes base size = record { base = base; size = size }
 
 abbrev of_node : ℕ → LabelView
 of_node node = with_node (Some node) plain_label
-
--- one item and one byte: memory keeps its node, and a byte that isn't memory gets none
-after_examples : (is_trim item.Trim ≡ true) × (is_trim (item.Free (bytes 4 2)) ≡ false)
-    × (label_after 5 None (item.Mem (bytes 4 2)) ≡ Some plain_label)
-    × (label_after 5 (Some (of_node 1)) (item.Mem (bytes 4 2)) ≡ Some (of_node 1)) × (label_after 6 None (item.Mem (bytes 4 2)) ≡ None)
-    × (label_after 5 (Some plain_label) (item.Node (bytes 4 2) 3) ≡ Some (of_node 3))
-    × (label_after 5 None (item.Node (bytes 4 2) 3) ≡ None) × (label_after 5 (Some plain_label) item.Trim ≡ Some plain_label)
-    × (label_after 5 (Some (of_node 1)) (item.Mirror (bytes 4 2)) ≡ Some (with_mirror (of_node 1)))
-    × (label_after 5 None (item.Mirror (bytes 4 2)) ≡ None)
-    × (label_after 5 (Some (with_mirror plain_label)) (item.Node (bytes 4 2) 3) ≡ Some (with_mirror (of_node 3)))
-after_examples = (refl, refl, refl, refl, refl, refl, refl, refl, refl, refl, refl)
 
 -- frame 1 becomes memory, and half of it gets node 3
 abbrev half : List Item
@@ -49,9 +37,6 @@ plain_is_another same = cc (ap (λ (l : Option LabelView). option_map_or (λ (m 
 middle_differs : Differs None half 4096 6144
 middle_differs = record { behind = omega arith; inside = omega arith; other = plain_is_another }
 
-agrees_examples : Agrees None half 4096 5000 × Agrees None half 4096 8192
-agrees_examples = ((λ behind inside. refl), λ behind inside. absurd (omega (arith, inside)))
-
 edges_examples : EdgesAgree None (item.Mem (bytes 4096 4096) ∷ []) 4096 (item.Mem (bytes 4096 4096))
     × AllAgree None (item.Mem (bytes 4096 4096) ∷ []) 4096 (item.Mem (bytes 4096 4096) ∷ [])
 edges_examples = ((grind arith, grind arith), ((grind arith, grind arith), tt))
@@ -71,7 +56,3 @@ mirror_is_an_edge agree = mirror_is_another (sym (agree.0 (omega arith) (omega a
 mirrors_examples : (mirrors_in half ≡ false) × (mirrors_in (item.Mirror (bytes 4096 4096) ∷ (item.Trim ∷ [])) ≡ true)
     × (mirrors_after false (item.Mirror (bytes 4096 4096)) ≡ true) × (mirrors_after true item.Trim ≡ true)
 mirrors_examples = (refl, refl, refl, refl)
-
--- contracts see the items of a journal and the number of spare ones
-contents : Contents
-contents = record { items = half; spare = 2 }

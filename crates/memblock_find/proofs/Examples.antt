@@ -1,20 +1,19 @@
 -- Examples with two small tables, computed or proved by the laws.
-use Rattle.std.proofs.Common.{◌≡◌, ℕ, zero, suc, ◌+◌, ◌-◌, ◌^◌, ◌<◌, ◌≤◌, true, false, is_some, Option, Some, None, unwrap_or, List, [], ◌∷◌, refl, sym, ◌∙◌, ap, arith}
+use Rattle.std.proofs.Common.{◌≡◌, ℕ, ◌+◌, ◌-◌, ◌^◌, ◌<◌, ◌≤◌, true, false, is_some, Option, Some, None, unwrap_or, List, [], ◌∷◌, refl, sym, ◌∙◌, ap, arith}
 use Rattle.std.proofs.lemmas.Bool.{true≢false}
 use Rattle.std.proofs.lemmas.Bool.Decides.{nat_tests}
 use Rattle.address_runs.specs.Runs.{RunOf, value_at, AreRuns}
-use Rattle.memblock_model.specs.Labels.{LabelView, Labels, plain_label, with_node, with_mirror}
+use Rattle.memblock_model.specs.Labels.{LabelView, Labels, plain_label, with_node}
 use Rattle.memblock_model.specs.declared.query.Query.{Query}
 use Rattle.memblock_model.specs.Search.{fits_in}
 use Rattle.memblock_model.proofs.SearchLaws.{fits_in-parts, fits_in-whole}
 use Rattle.memblock_ranges.specs.Tables.{Contents}
 use Rattle.memblock_find.specs.declared.cursor.Look.{Look}
 use Rattle.memblock_find.specs.declared.cursor.Cursor.{Cursor}
-use Rattle.memblock_find.specs.Free.{unclaimed, free_in, Pass, free_of, IsDownTo, IsUpTo, IsRunBelow, IsRunFrom}
-use Rattle.memblock_find.specs.Places.{IsBetween, serves, NoPlaceEnds, NoPlaceBegins, NoAddressServes, IsBestBy, IsBestFrom}
-use Rattle.memblock_find.specs.Walk.{run_at, BegunAmong, BegunBelow, EndedBy, IsLookDown, IsLookUp, label_at, IsDownAt, IsUpAt}
+use Rattle.memblock_find.specs.Free.{unclaimed, free_in, IsDownTo, IsUpTo, IsRunBelow, IsRunFrom}
+use Rattle.memblock_find.specs.Places.{IsBetween, NoPlaceEnds, IsBestBy, IsBestFrom}
+use Rattle.memblock_find.specs.Walk.{run_at, BegunBelow, EndedBy, IsLookDown, IsLookUp, IsDownAt, IsUpAt}
 use Rattle.memblock_find.proofs.DownLaws.{look_gap, look_in, among_all, all_begun, begun_so_far, not_begun_from}
-use Rattle.memblock_find.proofs.NodeLaws.{not_serving}
 use Rattle.memblock_find.proofs.PlaceLaws.{le_from_not_lt}
 use Rattle.memblock_find.proofs.UpLaws.{look_top, look_over, ended_so_far, not_ended_from}
 
@@ -46,16 +45,6 @@ number (Some label) = unwrap_or label.node 3
 unclaimed_examples : (unclaimed (value_at memory_runs) (value_at claims) 0x17FF ≡ Some (of_node 0))
     × (unclaimed (value_at memory_runs) (value_at claims) 0x1800 ≡ None)
 unclaimed_examples = (refl, refl)
-
-free_examples : (free_in tables 0x2000 ≡ Some (of_node 1)) × (free_in tables 0x3000 ≡ None)
-free_examples = (refl, refl)
-
--- a walk has the same unclaimed memory, whatever address it has reached
-abbrev pass : Pass
-pass = record { memory = memory_runs; reserved = claims; at = 0x2800 }
-
-pass_examples : (free_of pass 0x1000 ≡ Some (of_node 0)) × (free_of pass 0x1840 ≡ None)
-pass_examples = (refl, refl)
 
 -- 0x2000 to below 0x3000 have one label; the address below is of another node, and 0x3000 isn't
 -- memory
@@ -178,26 +167,6 @@ lowest_page = record { fits = page_fits; first = λ b fits above. above }
 not_the_lowest_page : IsBestFrom false (value_at memory_runs) (value_at claims) pages 0x1000 0x2001 → ⊥
 not_the_lowest_page known = let order = known.first 0x2000 page_fits (omega arith) in omega arith
 
-no_page_behind : NoPlaceBegins false (value_at memory_runs) (value_at claims) pages 0x2001 0x4000
-no_page_behind b fits above = absurd (no_page_past b fits (omega arith))
-
-a_page_begins : NoPlaceBegins false (value_at memory_runs) (value_at claims) pages 0x1000 0x2001 → ⊥
-a_page_begins none = let begins = none 0x2000 page_fits (omega arith) in omega arith
-
--- memory of the node if one is asked for, and mirrored if that is asked for; otherwise all memory,
--- but no other addresses
-serves_examples : (serves false (Some 1) (Some (of_node 1)) ≡ true) × (serves false (Some 0) (Some (of_node 1)) ≡ false)
-    × (serves true (Some 1) (Some (of_node 1)) ≡ false)
-    × (serves true None (Some (with_mirror (of_node 1))) ≡ true)
-    × (serves true None None ≡ false)
-    × (serves false None None ≡ true)
-serves_examples = (refl, refl, refl, refl, refl, refl)
-
--- the second record, and an index past the last one
-record_examples : (run_at memory_runs 1 ≡ record { base = 0x2000; size = 0x1000; value = of_node 1 })
-    × ((run_at memory_runs 2).size ≡ 0)
-record_examples = (refl, refl)
-
 memory_in_order : AreRuns memory_runs
 memory_in_order = (
   omega arith,
@@ -226,16 +195,6 @@ begun_one = record {
 not_both_begun : BegunBelow 0x2000 memory_runs 2 → ⊥
 not_both_begun known = let base = known.before 1 (omega arith) in omega arith
 
--- at most two, and at most one, records begin below 0x2000; more than one begin below 0x2800
-among_both : BegunAmong 0x2000 memory_runs 2
-among_both = among_all memory_runs 0x2000 2 memory_in_order refl
-
-among_one : BegunAmong 0x2000 memory_runs 1
-among_one = record { runs = memory_in_order; within = omega arith; behind = second_base }
-
-not_among_one : BegunAmong 0x2800 memory_runs 1 → ⊥
-not_among_one known = let base = known.behind 1 (omega arith) (omega arith) in omega arith
-
 -- one record of memory ends at or below 0x2800, and so does the claim
 ended_one : EndedBy 0x2800 memory_runs 1
 ended_one = record {
@@ -255,22 +214,6 @@ ended_claim = record {
 
 not_ended : EndedBy 0x2800 memory_runs 2 → ⊥
 not_ended known = let end = known.before 1 (omega arith) in omega arith
-
--- from 0x2000 on there is no memory of node 0, but there is memory of node 1
-second_alone : (i x : ℕ) → i < 2 → 0x2000 ≤ x → x < (run_at memory_runs i).base + (run_at memory_runs i).size
-    → serves false (Some 0) (Some (run_at memory_runs i).value) ≡ false
-second_alone zero x less above under = absurd (omega arith)
-second_alone (suc zero) x less above under = refl
-second_alone (suc (suc i)) x less above under = absurd (omega arith)
-
-none_of_node_0 : NoAddressServes false (value_at memory_runs) (Some 0) 0x2000 0x4000
-none_of_node_0 x above under = not_serving false (Some 0) x memory_runs refl (λ i less base ends. second_alone i x less above ends)
-
-some_of_node_1 : NoAddressServes false (value_at memory_runs) (Some 1) 0x2000 0x4000 → ⊥
-some_of_node_1 none = true≢false (none 0x2000 (omega arith) (omega arith))
-
-some_of_any : NoAddressServes false (value_at memory_runs) None 0x3000 0x4000 → ⊥
-some_of_any none = true≢false (none 0x3000 (omega arith) (omega arith))
 
 -- a walk down at 0x2800: memory of node 1 down to 0x2000, no claim down to 0x1900
 abbrev memory_below : Look
@@ -310,14 +253,6 @@ up_here = record { at = 0x2800; memory = memory_above; reserved = no_claim_above
 
 walks_up : IsUpAt memory_runs claims up_here
 walks_up = record { memory = look_up_in; reserved = look_up_top }
-
-abbrev in_claim : Look
-in_claim = record { label = Some plain_label; bound = 0x1800; slot = 0 }
-
--- if both looks describe unclaimed memory, the label is memory's; in a claim there is none
-label_examples : (label_at down_here ≡ Some (of_node 1))
-    × (label_at (record { at = 0x1880; memory = memory_below; reserved = in_claim }) ≡ None)
-label_examples = (refl, refl)
 
 not_the_same : ◌≡◌ {A = ℕ} 0 1 → ⊥
 not_the_same same = omega arith

@@ -1,8 +1,6 @@
 -- Small tables, computed or proved by the laws: examples of bytes, of one table and of both.
-use Rattle.std.proofs.Common.{◌≡◌, ℕ, ◌-◌, ◌^◌, ◌<◌, ◌≤◌, ◌&&◌, true, false, Some, None, List, [], ◌∷◌, ◌++◌, length, replicate, refl, sym, ◌∙◌, ap, arith, IsTrue}
-use Rattle.bm_base.specs.Range.{covers}
+use Rattle.std.proofs.Common.{◌≡◌, ℕ, ◌-◌, ◌^◌, ◌<◌, true, false, Some, None, List, [], ◌∷◌, ◌++◌, replicate, refl, ap, arith}
 use Rattle.address_runs.proofs.RunsLaws.{behind}
-use Rattle.std.proofs.lemmas.Bool.Decides.{nat_tests}
 use Rattle.phys_store.specs.Bytes.{Stored, byte_of, bytes_at}
 use Rattle.address_runs.specs.Runs.{RunOf, AreRuns}
 use Rattle.memblock_model.specs.Labels.{LabelView, plain_label, with_node, with_mirror}
@@ -10,13 +8,11 @@ use Rattle.memblock_model.specs.declared.owner.Which.TheVariants as which
 use Rattle.memblock_model.specs.declared.owner.Owner.TheVariants as owner
 use Rattle.memblock_model.specs.declared.item.Item.TheVariants as item
 use Rattle.memblock_ranges.specs.declared.region.Head.{Head}
-use Rattle.memblock_ranges.specs.Spelling.{base_in, size_in, flags_in, node_in, region_in, fields_of, node_of_field, label_of, flags_field, node_field, run_in, region_of, spelling_of, records_at, spelled_table, FitsRecord, IsRecord}
-use Rattle.memblock_ranges.specs.Tables.{outside, kept_of, list_in, HasTable, Edits, AreRecords, Table, Contents, table_in, other_in, records_in, place_in, room_in, bytes_of, bytes_in, Overlaps, head_of, StandsIn, IsNodeOf, HaveNoNode, table_by, bytes_by, AreTables, Moves}
-use Rattle.memblock_ranges.specs.Lent.{runs_in, AreLent}
+use Rattle.memblock_ranges.specs.Spelling.{base_in, size_in, flags_in, node_in, region_in, fields_of, node_of_field, label_of, node_field, run_in, region_of, spelling_of, records_at, spelled_table, FitsRecord, IsRecord}
+use Rattle.memblock_ranges.specs.Tables.{outside, HasTable, AreRecords, Table, Contents, bytes_of, bytes_in, Overlaps, IsNodeOf, HaveNoNode, bytes_by}
+use Rattle.memblock_ranges.specs.Lent.{AreLent}
 use Rattle.memblock_ranges.specs.Steps.{EndsInSpace}
-use Rattle.memblock_ranges.proofs.SpellLaws.{is_record}
 use Rattle.memblock_ranges.proofs.NewLaws.{first_head}
-use Rattle.memblock_ranges.proofs.TableSpelling.{stands}
 
 -- the first record of the memory table of a virtual machine of 128 MiB: 0x1000 to 0x9EFFF, node 0
 abbrev first_record : List ℕ
@@ -38,17 +34,6 @@ mirrored_run = record { base = 0x1000; size = 0x9E000; value = with_mirror in_no
 -- a record of the reserved table
 abbrev kernel_run : RunOf LabelView
 kernel_run = record { base = 0x1000000; size = 0x2000000; value = plain_label }
-
--- of memory, of mirrored memory, and of a claimed range
-number_examples : (base_in first_record ≡ 0x1000) × (size_in first_record ≡ 0x9E000) × (flags_in first_record ≡ 0)
-    × (node_in first_record ≡ 0)
-    × (flags_in mirrored_record ≡ 2)
-    × (base_in (spelling_of kernel_run) ≡ 0x1000000)
-    × (size_in (spelling_of kernel_run) ≡ 0x2000000)
-    × (flags_in (spelling_of kernel_run) ≡ 0)
-    × (node_in (spelling_of kernel_run) ≡ 1024)
-unfolding base_in size_in flags_in node_in fields_of
-number_examples = (refl, refl, refl, refl, refl, refl, refl, refl, refl)
 
 region_examples : (region_in first_record ≡ region_of first_run) × (region_in mirrored_record ≡ region_of mirrored_run)
     × (region_of kernel_run ≡ record { base = 0x1000000; size = 0x2000000; flags = 0; node = 1024 })
@@ -73,9 +58,6 @@ label_examples : (label_of 0 0 ≡ in_node_0) × (label_of 0 1024 ≡ plain_labe
     × (label_of 1 1024 ≡ plain_label)
 label_examples = (refl, refl, refl, refl)
 
-flags_examples : (flags_field plain_label ≡ 0) × (flags_field (with_mirror in_node_0) ≡ 2)
-flags_examples = (refl, refl)
-
 fits_examples : FitsRecord first_run × FitsRecord mirrored_run × FitsRecord kernel_run
 fits_examples = (
   record { small = omega arith; node = omega arith; back = refl },
@@ -90,13 +72,6 @@ no_fit : ¬ FitsRecord (record { base = 0; size = 1; value = with_node (Some 102
 no_fit = (
   (λ fits. let clash : None ≡ Some 1024 = ap (λ (l : LabelView). l.node) fits.back in cc clash),
   λ fits. absurd (omega (arith, fits.small)),
-)
-
-record_examples : IsRecord (spelling_of first_run) × IsRecord (spelling_of mirrored_run) × IsRecord (spelling_of kernel_run)
-record_examples = (
-  is_record first_run fits_examples.0,
-  is_record mirrored_run fits_examples.1,
-  is_record kernel_run fits_examples.2,
 )
 
 -- the empty list isn't a record, and neither are bytes with flags other than 0 and 2
@@ -123,20 +98,6 @@ ordered = (
   record { runs = (omega arith, tt, tt); within = λ x le. rw (behind first_run x (omega (arith, le))) refl },
 )
 
--- the runs of one record and of none
-lent_examples : (runs_in first_record 1 ≡ first_run ∷ []) × (runs_in [] 0 ≡ [])
-unfolding records_at bytes_at base_in size_in flags_in node_in
-lent_examples = (refl, refl)
-
-nothing_lent : AreLent [] 0
-nothing_lent = record {
-  long = refl;
-  small = omega arith;
-  counted = ap length lent_examples.1;
-  each = λ i less. absurd (omega arith);
-  records = rw lent_examples.1 ordered.0;
-}
-
 not_lent : ¬ AreLent first_record 2
 not_lent lent = let long : 24 ≡ 48 = lent.long in absurd (omega arith)
 
@@ -153,13 +114,6 @@ no_table place small = record {
   prepared = λ x low high. absurd (omega arith);
 }
 
-no_list : (place : ℕ) → list_in [] (nowhere place) ≡ []
-unfolding records_at
-no_list place = refl
-
-no_records : (place : ℕ) → AreRecords (list_in [] (nowhere place))
-no_records place = rw (no_list place) ordered.0
-
 empty_table : HasTable [] (nowhere 5) × ¬ HasTable [] (first_head 5)
 empty_table = (no_table 5 (omega arith), λ table. cc (table.prepared 5 (omega arith) (omega arith)))
 
@@ -167,18 +121,6 @@ empty_table = (no_table 5 (omega arith), λ table. cc (table.prepared 5 (omega a
 outside_examples : (outside (λ x. 7) 24 1 23 ≡ 7) × (outside (λ x. 7) 24 1 24 ≡ 0) × (outside (λ x. 7) 24 1 47 ≡ 0)
     × (outside (λ x. 7) 24 1 48 ≡ 7)
 outside_examples = (refl, refl, refl, refl)
-
-kept_examples : ((kept_of two (nowhere 5)).room ≡ 0) × ((kept_of two (nowhere 5)).others 1 ≡ 0x10)
-    × ((kept_of two (record { place = 0; room = 2; count = 2 })).others 1 ≡ 0)
-kept_examples = (refl, refl, refl)
-
-list_examples : (list_in two (record { place = 0; room = 2; count = 1 }) ≡ first_run ∷ []) × (list_in two (nowhere 5) ≡ [])
-unfolding records_at bytes_at base_in size_in flags_in node_in
-list_examples = (refl, refl)
-
--- an edit that changes nothing
-no_edit : Edits [] [] (nowhere 5) (nowhere 5) (list_in [] (nowhere 5))
-no_edit = record { list_is = refl; table = empty_table.0; place_is = refl; room_is = refl; others = refl; ready = refl }
 
 touching : ¬ AreRecords (first_run ∷ record { base = 0x9F000; size = 1; value = in_node_0 } ∷ [])
 touching known = known.runs.1.1 refl refl
@@ -201,14 +143,6 @@ reserved = record { records = kernel_run ∷ []; place = 0x2FFF000; room = 128 }
 abbrev both : Contents
 both = record { memory = memory; reserved = reserved; store = [] }
 
-which_examples : (table_in which.Memory both ≡ memory) × (table_in which.Reserved both ≡ reserved)
-    × (other_in which.Memory both ≡ reserved) × (other_in which.Reserved both ≡ memory)
-which_examples = (refl, refl, refl, refl)
-
-word_examples : (records_in which.Reserved both ≡ kernel_run ∷ []) × (place_in which.Memory both ≡ 0x2FFE000)
-    × (room_in which.Reserved both ≡ 128)
-word_examples = (refl, refl, refl)
-
 bytes_examples : (bytes_of memory ≡ record { base = 0x2FFE000; size = 3072 })
     × (bytes_in which.Reserved both ≡ record { base = 0x2FFF000; size = 3072 })
     × (bytes_by (nowhere 5) ≡ record { base = 5; size = 0 })
@@ -217,10 +151,6 @@ bytes_examples = (refl, refl, refl)
 -- the last byte of the memory table belongs to a table
 overlap : Overlaps both (record { base = 0x2FFEBFF; size = 1 })
 overlap = (which.Memory, (0x2FFEBFF, refl))
-
-head_examples : (head_of memory ≡ record { place = 0x2FFE000; room = 128; count = 1 }) × (head_of (table_by [] (nowhere 5)) ≡ nowhere 5)
-unfolding records_at
-head_examples = (refl, refl)
 
 node_examples : IsNodeOf which.Memory 1024 × IsNodeOf which.Memory 3 × IsNodeOf which.Reserved 1024 × ¬ IsNodeOf which.Reserved 3
 node_examples = (omega arith, omega arith, refl, λ no. absurd (omega (arith, no)))
@@ -231,35 +161,6 @@ no_nodes = (
   λ plain. let clash : Some 0 ≡ None = ap (λ (l : LabelView). l.node) (plain 0x1000 in_node_0 refl) in
       cc clash,
 )
-
--- an empty table in a store, as contracts see it
-standing : StandsIn (table_by [] (nowhere 5)) []
-standing = stands [] (nowhere 5) empty_table.0 (no_records 5)
-
-no_bytes : (x : ℕ) → IsTrue (covers (bytes_by (nowhere 5)) x && covers (bytes_by (nowhere 5)) x) → ⊥
-no_bytes x lies = let low : 5 ≤ x = grind (arith, nat_tests) in let high : x < 5 = grind (arith, nat_tests) in absurd (omega arith)
-
-two_empty : AreTables [] (nowhere 5) (nowhere 5)
-two_empty = record {
-  memory = empty_table.0;
-  reserved = empty_table.0;
-  apart = λ meet. no_bytes meet.0 meet.1;
-  memory_records = no_records 5;
-  reserved_records = no_records 5;
-  plain = rw (no_list 5) no_nodes.0;
-}
-
--- a table without room moves
-moving : Moves [] [] (nowhere 5) (nowhere 9) 9
-moving = record {
-  list_is = no_list 9 ∙ sym (no_list 5);
-  table = no_table 9 (omega arith);
-  place_is = refl;
-  room_is = refl;
-  left = λ x lies. refl;
-  elsewhere = λ x out_new out_old. refl;
-  ready = λ x. refl;
-}
 
 space_examples : EndsInSpace (item.Claim (record { base = 0x1000; size = 0x1000 }) owner.Kernel) × EndsInSpace item.Trim
     × ¬ EndsInSpace (item.Free (record { base = 1; size = 2 ^ 64 }))

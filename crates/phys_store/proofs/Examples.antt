@@ -2,9 +2,8 @@
 use Rattle.std.proofs.Common.{◌≡◌, ℕ, ◌<◌, ◌≤◌, zero, suc, ◌||◌, nat_lt, nat_le, get_or, true, false, List, [], ◌∷◌, refl, arith, IsTrue}
 use Rattle.std.proofs.lemmas.Bool.{false≢true}
 use Rattle.std.proofs.lemmas.Bool.Decides.{nat_tests}
-use Rattle.phys_store.specs.Bytes.{Stored, past, inside, byte_of, is_ready, AreReady, bytes_at, Wrote}
-use Rattle.phys_store.specs.Extents.{stored, Apart, nth, Joins}
-use Rattle.phys_store.specs.declared.extents.Held.{Held}
+use Rattle.phys_store.specs.Bytes.{Stored, past, byte_of, is_ready, AreReady, Wrote}
+use Rattle.phys_store.specs.Extents.{Apart, nth, Joins}
 use Rattle.phys_store.proofs.Writes.{wrote-set}
 
 -- bytes 1, 2, 3 from address 4 on, and byte 9 at address 8
@@ -16,12 +15,6 @@ high = record { base = 8; bytes = 9 ∷ [] }
 
 abbrev store : List Stored
 store = low ∷ high ∷ []
-
-past_examples : (past low ≡ 7) × (past high ≡ 9)
-past_examples = (refl, refl)
-
-inside_examples : (inside low 3 ≡ false) × (inside low 4 ≡ true) × (inside low 6 ≡ true) × (inside low 7 ≡ false)
-inside_examples = (refl, refl, refl, refl)
 
 -- an address that no extent has reads as 0, and isn't prepared
 byte_examples : (byte_of store 4 ≡ 1) × (byte_of store 6 ≡ 3) × (byte_of store 7 ≡ 0) × (byte_of store 8 ≡ 9) × (byte_of [] 8 ≡ 0)
@@ -38,10 +31,6 @@ range_examples = (
   λ ready. cc (ready 7 (omega arith) (omega arith)),
 )
 
-bytes_examples : (bytes_at (byte_of store) 6 3 ≡ 3 ∷ 0 ∷ 9 ∷ []) × (bytes_at (byte_of store) 6 0 ≡ [])
-unfolding bytes_at
-bytes_examples = (refl, refl)
-
 -- 7 is written at address 5; nothing else changes
 abbrev written : Stored
 written = record { base = 4; bytes = 1 ∷ 7 ∷ 3 ∷ [] }
@@ -57,10 +46,6 @@ one_written =
     (omega arith) (omega arith)
     (λ k below. let none : k ≡ 0 = omega arith in rw none refl) beside).1
 
--- a write of no bytes is allowed anywhere
-none_written : Wrote store store 7 0 (λ k. k)
-none_written = record { within = λ k below. absurd (omega arith); outside = λ x off. refl; ready = λ x. refl }
-
 -- two extents with a gap of one byte don't touch; extents without a gap do
 apart_examples : Apart 0 store × ¬ Apart 5 store × ¬ Apart 0 (low ∷ record { base = 7; bytes = 9 ∷ [] } ∷ [])
 apart_examples = (
@@ -69,11 +54,7 @@ apart_examples = (
   λ no. absurd (omega (arith, no.3.0)),
 )
 
-nth_examples : (nth store 1 ≡ high) × (nth store 2 ≡ record { base = 0; bytes = [] })
-nth_examples = (refl, refl)
-
--- the addresses from 4 to below 9 are those of both extents and of the gap; address 20 touches
--- neither
+-- the addresses from 4 to below 9 are those of both extents and of the gap
 within : (i : ℕ) → i < 2 → (4 ≤ (nth store i).base) × (past (nth store i) ≤ 9)
 within zero less = (omega arith, omega arith)
 within (suc zero) less = (omega arith, omega arith)
@@ -88,17 +69,3 @@ gap_joins = record {
   high = λ i from to. (within i to).1;
   above = λ i from to. absurd (omega arith);
 }
-
-far_joins : Joins store 2 2 20 21
-far_joins = record {
-  order = omega arith;
-  most = omega arith;
-  below = λ i less. omega (arith, (within i less).1);
-  low = λ i from to. absurd (omega arith);
-  high = λ i from to. absurd (omega arith);
-  above = λ i from to. absurd (omega arith);
-}
-
--- an extent, as contracts see it
-piece_example : (e : Held) → (stored e).base ≡ e.base
-piece_example e = refl
