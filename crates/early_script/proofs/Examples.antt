@@ -1,5 +1,5 @@
 -- Examples: two live IDs in a small machine, and what each act does with them.
-use Rattle.std.proofs.Common.{◌≡◌, ℕ, suc, zero, ◌+◌, ◌<◌, ◌++◌, true, false, Some, None, List, [], ◌∷◌, length, take, refl, sym, ap, subst, arith, lit<, inl, inr, length-take, length-append}
+use Rattle.std.proofs.Common.{◌≡◌, ℕ, suc, zero, ◌+◌, ◌++◌, true, false, Some, None, List, [], ◌∷◌, length, take, refl, sym, ap, subst, arith, inl, inr, length-take, length-append}
 use Rattle.std.proofs.lemmas.Bool.{true≢false}
 use Rattle.bm_base.specs.Range.{RangeView}
 use Rattle.bm_base.specs.Each.{each_from, each_in}
@@ -13,12 +13,11 @@ use Rattle.script_reader.specs.declared.act.Line.{Line}
 use Rattle.growth_model.specs.Outcome.{Refused}
 use Rattle.growth_model.specs.Bytes.{Filled, Holds}
 use Rattle.memblock_grow.specs.Contents.{Contents}
-use Rattle.phys_store.specs.Bytes.{bytes_at}
 use Rattle.early_script.specs.declared.outcome.Answer.{Answer}
 use Rattle.early_script.specs.declared.outcome.Outcome.TheVariants as outcomes
-use Rattle.early_script.specs.Ids.{Ids, range_of, is_live, with_range, without, HaveBytes}
+use Rattle.early_script.specs.Ids.{Ids, range_of, is_live, with_range, without}
 use Rattle.early_script.specs.Owned.{is_owned, meets, touches}
-use Rattle.early_script.specs.Acted.{State, IsAmid, answers, alloc_at, reserve_deed, free_whole, free_deed, trim_deed, fill_whole, fill_deed, peek_deed, deed, answer_to, ids_to, state_by, answer_of, state_after, put_by, with_fill}
+use Rattle.early_script.specs.Acted.{State, IsAmid, answers, alloc_at, reserve_deed, free_whole, free_deed, trim_deed, fill_whole, fill_deed, deed, answer_to, ids_to}
 use Rattle.early_script.specs.Found.{state_of, bytes_in}
 use Rattle.early_script.specs.Stage.{LineStage, EndsAmid, deed_at, after_lines}
 
@@ -40,9 +39,6 @@ ids_examples : (range_of ids 5 ≡ Some second) × (range_of ids 2 ≡ None) × 
     × (with_range ids 1 second ≡ (1, second) ∷ (5, second) ∷ [])
     × (without ids 1 ≡ (5, second) ∷ []) × (without ids 2 ≡ ids)
 ids_examples = (refl, refl, refl, refl, refl, refl, refl, refl)
-
-bytes_examples : HaveBytes ids × ¬ HaveBytes ((1, at_base 0x100 0) ∷ [])
-bytes_examples = ((lit< tt, (lit< tt, tt)), λ known. let clash : 0 < 0 = known.0 in absurd (omega (arith, clash)))
 
 -- both IDs own what they claimed, except one byte of the second that was freed
 abbrev kernel : RangeView
@@ -86,15 +82,6 @@ whole_examples : (free_deed found 2 ≡ answers found outcomes.Unknown) × (free
 unfolding is_owned each_in each_from
 whole_examples = (refl, refl, refl, refl, refl, refl, refl, refl, refl, refl)
 
-peek_example : (peek_deed found (λ x. x) 9 2).answer ≡ outcomes.Bytes (record { items = 9 ∷ 10 ∷ [] })
-unfolding bytes_at
-peek_example = refl
-
-deed_examples : (deed found (λ x. 0) (acts.Free 2) ≡ answers found outcomes.Unknown)
-    × (deed found (λ x. 0) (acts.Trim 1 4) ≡ answers found outcomes.TooLargeKeep)
-unfolding deed is_owned each_in each_from
-deed_examples = (refl, refl)
-
 -- if a growth was refused, that is the outcome, and the IDs stay
 abbrev no_place : Refused
 no_place = record { which = which.Reserved; room = 128 }
@@ -105,18 +92,8 @@ refused_examples : (answer_to (Some no_place) outcomes.Done ≡ outcomes.NoGapFo
     × (ids_to None ids [] ≡ [])
 refused_examples = (refl, refl, refl, refl)
 
-state_examples : (state_by found [] (record { steps = (item.Trim ∷ []) ∷ []; refused = None })
-    ≡ record { kernel = kernel; items = items ++ item.Trim ∷ []; ids = [] })
-    × (state_after found (answers found outcomes.Done) ≡ found)
-    × (answer_of found (answers found outcomes.Done) ≡ outcomes.Done)
-state_examples = (refl, refl, refl)
-
 abbrev sevens : Filled
 sevens = record { range = first; byte = 7; at = 4 }
-
-fills_examples : (put_by (Some sevens) 0x103 1 ≡ 7) × (put_by (Some sevens) 0x104 1 ≡ 1) × (put_by None 0x103 1 ≡ 1)
-    × (with_fill (sevens ∷ []) (Some sevens) ≡ sevens ∷ sevens ∷ []) × (with_fill [] None ≡ [])
-fills_examples = (refl, refl, refl, refl, refl)
 
 -- two lines: one that fills, and one for an ID that isn't live
 abbrev fills_first : Line

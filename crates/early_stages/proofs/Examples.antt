@@ -14,9 +14,9 @@ use Rattle.memblock_model.specs.declared.owner.Owner.{Owner}
 use Rattle.memblock_model.specs.declared.item.Item.{Item}
 use Rattle.memblock_model.specs.declared.owner.Owner.TheVariants as owner
 use Rattle.memblock_model.specs.declared.item.Item.TheVariants as item
-use Rattle.early_stages.specs.Early.{Early, FrameRange, bytes_of_frames}
-use Rattle.early_stages.specs.Memory.{behind_frame, end_behind, end_of_runs, is_mirrored, memory_end, mirrored_memory, usable_memory}
-use Rattle.early_stages.specs.Wanted.{closing_items, direction_items, early_claims, first_items, initrd_claims, items_of_map, items_of_run, mirror_items, part_below, up_to}
+use Rattle.early_stages.specs.Early.{Early, FrameRange}
+use Rattle.early_stages.specs.Memory.{is_mirrored, memory_end, usable_memory}
+use Rattle.early_stages.specs.Wanted.{closing_items, early_claims, first_items, items_of_run, part_below}
 use Rattle.early_stages.proofs.EndLaws.{IsEnd, memory_end-is, one_end}
 
 abbrev bytes : ℕ → ℕ → RangeView
@@ -45,9 +45,6 @@ owned_examples : (owned initrd_range 0x6FFFFFF ≡ None) × (owned initrd_range 
     × (owned (Some (bytes 0xF000 0x3000)) 0xEFFF ≡ Some owner.Low64K) × (owned (Some (bytes 0xF000 0x3000)) 0xF000 ≡ Some owner.Initrd)
 owned_examples = (refl, refl, refl, refl, refl, refl, refl, refl, refl, refl, refl, refl)
 
-none_without_an_initrd : (initrd_claims None ≡ []) × (up_to 0x10000 ≡ bytes 0 0x10000)
-none_without_an_initrd = (refl, refl)
-
 -- RAM is added, a reserved run isn't, and a driver's is claimed; a run that passes the limit is
 -- cut, and one that begins there is left out
 runs_of_types : (items_of_run limit (run 0x1000 0x9F000 1) ≡ item.Mem (bytes 0x1000 0x9F000) ∷ [])
@@ -57,10 +54,6 @@ runs_of_types : (items_of_run limit (run 0x1000 0x9F000 1) ≡ item.Mem (bytes 0
     × (items_of_run limit (run 0x3FFFFFFFF000 0x2000 1) ≡ item.Mem (bytes 0x3FFFFFFFF000 0x1000) ∷ [])
     × (items_of_run limit (run 0x400000000000 0x1000 1) ≡ []) × (part_below 0x2000 (run 0x1000 0x3000 1) ≡ bytes 0x1000 0x1000)
 runs_of_types = (refl, refl, refl, refl, refl, refl, refl)
-
-two_runs : items_of_map limit (run 0x1000 0x9F000 1 ∷ run 0xF0000 0x10000 2 ∷ run 0x100000 0x100000 0xEFFFFFFF ∷ [])
-    ≡ item.Mem (bytes 0x1000 0x9F000) ∷ item.Claim (bytes 0x100000 0x100000) owner.Soft ∷ []
-two_runs = refl
 
 -- two ranges of mirrored frames, 1 to 2 and 8
 abbrev some_frames : List FrameRange
@@ -81,10 +74,6 @@ closed : (limit_of (item.Limit 0x100000 ∷ closing_items some_frames 0x4000) �
     × (owner_of (closing_items some_frames 0x4000) 0xFFFFF ≡ Some owner.Low1M)
     × (owner_of (closing_items some_frames 0x4000) 0x100000 ≡ None)
 closed = (refl, refl, refl)
-
-mirrors_and_direction : (mirror_items [] ≡ []) × (bytes_of_frames (record { first = 8; count = 1 }) ≡ bytes 0x8000 0x1000)
-    × (direction_items true ≡ item.Upward true ∷ []) × (direction_items false ≡ [])
-mirrors_and_direction = (refl, refl, refl, refl)
 
 -- a boot with 127 MiB of RAM from 1 MiB on
 abbrev given : Option RangeView → Bool → Early
@@ -118,18 +107,6 @@ no_map_no_memory = (refl, refl)
 mirrored_bytes : (is_mirrored some_frames 0xFFF ≡ false) × (is_mirrored some_frames 0x1000 ≡ true) × (is_mirrored some_frames 0x2FFF ≡ true)
     × (is_mirrored some_frames 0x3000 ≡ false) × (is_mirrored some_frames 0x8000 ≡ true) × (is_mirrored [] 0x8000 ≡ false)
 mirrored_bytes = (refl, refl, refl, refl, refl, refl)
-
-memory_is_mirrored : (mirrored_memory some_frames (λ x. Some plain_label) 0x2FFF ≡ Some (with_mirror plain_label))
-    × (mirrored_memory some_frames (λ x. Some plain_label) 0x3000 ≡ Some plain_label)
-    × (mirrored_memory some_frames (λ x. None) 0x1000 ≡ None)
-memory_is_mirrored = (refl, refl, refl)
-
--- ends of frames
-frame_ends : (behind_frame None ≡ 0) × (behind_frame (Some 0) ≡ 0x1000) × (behind_frame (Some 3) ≡ 0x4000)
-frame_ends = (refl, refl, refl)
-
-run_ends : (end_of_runs (run 0x1000 0x1000 1 ∷ run 0x3000 0x800 1 ∷ []) ≡ 0x3800) × (end_behind {X = ℕ} 5 [] ≡ 5)
-run_ends = (refl, refl)
 
 -- RAM and the kernel's own memory meet inside a frame, and end inside one: frames 1, 2 and 3 are
 -- usable

@@ -13,23 +13,19 @@ use Rattle.memblock_model.specs.declared.query.Query.{Query}
 use Rattle.memblock_model.specs.declared.item.Item.{Item}
 use Rattle.memblock_model.specs.declared.item.Item.TheVariants as item
 use Rattle.memblock_model.specs.Labels.{Labels, plain_label, with_mirror}
-use Rattle.memblock_model.specs.Tables.{table_of}
 use Rattle.memblock_model.specs.Search.{suits, fits_in}
-use Rattle.memblock_model.proofs.SearchLaws.{IsLastBelow, fits_in-parts, fits_in-whole, top_place_in-last, top_place_in-mirrorless, best_place_in-last, best_place_in-fails, plain_or_none}
+use Rattle.memblock_model.proofs.SearchLaws.{IsLastBelow, fits_in-parts, fits_in-whole, best_place_in-last, best_place_in-fails, plain_or_none}
 use Rattle.memblock_ranges.specs.Tables.{Table, Contents}
-use Rattle.memblock_ranges.proofs.CountLaws.{one-piece}
 use Rattle.growth_model.specs.declared.refusal.Refusal.TheVariants as refusal
 use Rattle.growth_model.specs.Growth.{table_query}
-use Rattle.growth_model.specs.Request.{Attempt}
 use Rattle.growth_model.specs.Bytes.{table_for}
 use Rattle.growth_model.proofs.FirstLaws.{no_table_full, nothing_said}
 use Rattle.memblock_grow.specs.declared.aim.Aim.{Aim}
-use Rattle.memblock_grow.specs.Contents.{Contents as Whole}
 use Rattle.memblock_grow.specs.declared.more.More.TheVariants as more
-use Rattle.memblock_grow.specs.Kept.{AreKept, IsMemblock, IsKept, AllowsClaim, AllowsFree, Keeps, AreTold, StayReady, aimed}
+use Rattle.memblock_grow.specs.Kept.{AreKept, IsMemblock, AreTold, aimed}
 use Rattle.memblock_grow.specs.Prepared.{is_grown_over, Prepares, PreparesBy}
-use Rattle.memblock_grow.specs.Places.{KnowsMirrors, top_of, mirrored_of, best_of, frames_between, frames_beside, left_frames, first_of}
-use Rattle.memblock_grow.specs.More.{more_by, more_in, HasRoom, EndsInSpace}
+use Rattle.memblock_grow.specs.Places.{KnowsMirrors, best_of, frames_beside}
+use Rattle.memblock_grow.specs.More.{HasRoom, EndsInSpace}
 use Rattle.memblock_grow.proofs.PlaceLaws.{best_place_in-large}
 
 abbrev image : RangeView
@@ -58,37 +54,10 @@ kept_at_first = record {
 kept_examples : (AreKept image [] at_first (aimed 1 false) → ⊥) × (AreKept image [] at_first (aimed 0 true) → ⊥)
 kept_examples = (λ kept. let limit = kept.limit in cc, λ kept. let upward = kept.upward in cc)
 
-its_parts : ((aimed 5 true).limit ≡ 5) × ((aimed 5 true).upward ≡ true)
-its_parts = (refl, refl)
-
 -- an image of one frame is too small for two tables
 memblock_examples : ((t : Contents) (at : Aim) → IsMemblock (record { base = 65536; size = 4096 }) [] t at → ⊥)
     × (IsMemblock image [] at_first (aimed 1 false) → ⊥)
 memblock_examples = (λ t at whole. let large = whole.image.large in omega arith, λ whole. kept_examples.0 whole.kept)
-
-kept_by_it : (IsMemblock image [] at_first (aimed 0 false) → IsKept [] at_first (aimed 0 false)) × (IsKept [] at_first (aimed 1 false) → ⊥)
-kept_by_it = (λ whole. (image, whole), λ known. let limit = known.1.kept.limit in cc)
-
--- the first claim is that of the image, for the kernel
-first_claim : (IsMemblock image [] at_first (aimed 0 false) → AllowsClaim [] at_first (aimed 0 false) image owner.Kernel)
-    × (AllowsClaim [] at_first (aimed 0 false) image owner.Crash → ⊥)
-first_claim = (λ whole. (image, whole, (refl, refl)), λ allowed. let who = allowed.2.1 in cc)
-
--- an empty range overlaps no table, so it may be freed
-away_from_both : (range : RangeView) (whole : IsMemblock image [] at_first (aimed 0 false))
-    → range.size ≡ 0 → AllowsFree [] at_first (aimed 0 false) range
-away_from_both range whole none = (
-  image,
-  whole,
-  (λ x at other. grind (arith, nat_tests, none, at), λ x at other. grind (arith, nat_tests, none, at)),
-)
-
-keeps_examples : Keeps [] at_first [] at_first (aimed 0 false)
-    × (Keeps [] at_first [] (record at_first { memory = record { records = []; place = 73728; room = 256 } }) (aimed 0 false) → ⊥)
-keeps_examples = (
-  λ kernel kept. kept,
-  λ keeps. let rooms : ◌≡◌ {A = ℕ} 256 128 = ap (λ (t : Table). t.room) (keeps image kept_at_first).memory in omega (arith, rooms),
-)
 
 -- two tables without bytes: every byte is outside them
 abbrev no_table : Table
@@ -105,9 +74,6 @@ told_examples = (
   λ x. let out : covers (record { base = 0; size = 0 }) x ≡ false = grind (arith, nat_tests) in rw out refl,
   λ told. let lost = told 5 in cc,
 )
-
-ready_examples : StayReady [] a_byte × (StayReady a_byte [] → ⊥)
-ready_examples = (λ x ready. cc, λ stays. let ready = stays 5 refl in cc)
 
 -- a growth to room for 256 records prepares two whole frames and no other address; a claim without
 -- growth prepares nothing
@@ -182,9 +148,6 @@ last_at q a aligned low first high within some node last = record {
   last = λ b lt h. let known = fits_in-parts false memory reserved q b h in last b known.aligned known.high;
 }
 
-abbrev any_memory : Query → Attempt
-any_memory q = record { query = q; mirror = false }
-
 abbrev frame_below : ℕ → Query
 frame_below hi = record { lo = 0; hi = hi; size = 4096; align = 4096; node = None }
 
@@ -198,26 +161,10 @@ best_examples = (
   best_place_in-large false memory reserved (frame_below 4095) (omega arith),
 )
 
-no_mirrored_frame : mirrored_of plain false (frame_below 16384) ≡ None
-no_mirrored_frame = top_place_in-mirrorless false memory reserved (frame_below 16384) none_mirrored
-
-top_frame : top_of plain false (any_memory (frame_below 16384)) ≡ Some 12288
-top_frame = top_place_in-last false memory reserved (frame_below 16384) 12288 last_frame
-
--- the first search that has a place decides
-first_examples : (first_of plain false (record { query = frame_below 16384; mirror = true } ∷ (any_memory (frame_below 16384)
-    ∷ (any_memory (frame_below 65536) ∷ []))) ≡ Some 12288) × (first_of plain false [] ≡ None)
-first_examples = (rw (no_mirrored_frame, top_frame) refl, refl)
-
 -- two frames for 256 records
 best_frames : best_of plain false (table_query 128 0 61440) ≡ Some 53248
 best_frames = best_place_in-last memory reserved (table_query 128 0 61440) 53248 none_mirrored (last_at (table_query 128 0 61440) 53248 refl
     (omega arith) (omega arith) (omega arith) (omega arith) (omega arith) refl (λ b aligned high. omega arith))
-
-between_examples : (frames_between plain false 128 0 61440 ≡ Some (record { base = 53248; size = 8192 }))
-    × (frames_between plain false 128 0 8191 ≡ None)
-between_examples =
-    (rw best_frames refl, rw (best_place_in-large false memory reserved (table_query 128 0 8191) (omega arith)) refl)
 
 -- above the last frame of memory there is no place, so it is below
 none_above : best_of plain false (table_query 128 65536 65536) ≡ None
@@ -238,17 +185,6 @@ beside_examples = (
   ) refl,
 )
 
-left_examples : (left_frames 73728 128 ≡ None) × (left_frames 53248 256 ≡ Some (record { base = 53248; size = 8192 }))
-left_examples = (refl, refl)
-
--- the number of records that an edit may add
-more_by_examples : (more_by which.Memory more.Two [] ≡ 2) × (more_by which.Reserved (more.PiecesOf (record { base = 5; size = 1 })) [] ≡ 1)
-more_by_examples =
-    (refl, one-piece (record { base = 5; size = 1 }) (table_of which.Reserved []) (omega arith) (omega arith) (λ x low high. refl))
-
-more_in_examples : (more_in more.Two no_table ≡ 2) × (more_in (more.PiecesOf (record { base = 5; size = 1 })) no_table ≡ 1)
-more_in_examples = (refl, one-piece (record { base = 5; size = 1 }) (value_at []) (omega arith) (omega arith) (λ x low high. refl))
-
 room_for_two : HasRoom more.Two (record { records = []; place = 0; room = 2 })
     × (HasRoom more.Two (record { records = []; place = 0; room = 1 }) → ⊥)
 room_for_two = (omega arith, λ has. omega arith)
@@ -256,10 +192,3 @@ room_for_two = (omega arith, λ has. omega arith)
 ends_in_space : EndsInSpace (more.PiecesOf (record { base = 5; size = 1 }))
     × (EndsInSpace (more.PiecesOf (record { base = 5; size = 2 ^ 64 })) → ⊥)
 ends_in_space = (omega arith, λ ends. omega arith)
-
--- what contracts see of a memblock
-abbrev whole_at_first : Whole
-whole_at_first = record { kernel = image; journal = record { items = []; spare = 0 }; tables = at_first }
-
-its_room : (whole_at_first.tables.memory.room ≡ 128) × (whole_at_first.journal.items ≡ [])
-its_room = (refl, refl)

@@ -1,18 +1,16 @@
--- Worked examples: steps that return values, fail and follow each other; an allocation without a
--- place; calls that stopped early.
+-- Worked examples: steps that return values, fail and follow each other; calls that stopped early;
+-- memory that doesn't have its nodes.
 use Rattle.std.proofs.Common.{◌≡◌, ℕ, ◌+◌, nat_lt, if◌then◌else◌, None, Some, [], ◌∷◌, Ok, Err, refl, inl, inr, arith, length}
 use Rattle.std.proofs.lemmas.Option.{same_Some}
 use Rattle.memblock_model.specs.Labels.{LabelView, plain_label, with_node}
 use Rattle.memblock_model.specs.declared.owner.Which.TheVariants as which
-use Rattle.memblock_model.specs.declared.owner.Owner.TheVariants as owner
 use Rattle.memblock_model.specs.declared.item.Item.TheVariants as item
-use Rattle.growth_model.specs.Outcome.{write, refuse}
 use Rattle.memblock_grow.specs.declared.stop.What.TheVariants as what
 use Rattle.memblock_grow.specs.declared.stop.StageStop.TheVariants as stop
 use Rattle.stage_model.specs.Causes.{StageCause, NoPlace, NoTablePlace, stage_stop}
 use Rattle.stage_model.specs.Doing.{Doing, returns, stops, seen, listed, ◌>>=◌, in_turn, StageEnds}
 use Rattle.stage_model.specs.Noded.{AreOfFrames, IsNoded}
-use Rattle.stage_model.specs.Requests.{changes, placed_at, or_else}
+use Rattle.stage_model.specs.Requests.{or_else}
 
 -- a step that writes a limit and returns a sum
 abbrev limited : ℕ → ℕ → Doing StageCause ℕ
@@ -31,15 +29,6 @@ seen_then = (refl, refl, refl)
 turn_examples : ((in_turn limited 0 (1 ∷ (2 ∷ (3 ∷ []))) []).answer ≡ Ok 6) × (in_turn limited 4 [] [] ≡ returns 4 [])
     × ((in_turn limited 0 (1 ∷ (2 ∷ [])) []).steps ≡ (item.Limit 1 ∷ []) ∷ ((item.Limit 2 ∷ []) ∷ []))
 turn_examples = (refl, refl, refl)
-
--- a change that is written, and one that is refused
-change_examples : (changes (write item.Trim) [] ≡ record { steps = (item.Trim ∷ []) ∷ []; answer = Ok tt })
-    × (changes (refuse which.Memory 128) [] ≡ record { steps = []; answer = Err (record { which = which.Memory; room = 128 }) })
-change_examples = (refl, refl)
-
--- without a place nothing is claimed, and the boot stops
-no_place : placed_at (what.Map 3) None 4096 owner.Roots [] ≡ record { steps = []; answer = Err (NoPlace (what.Map 3)) }
-no_place = refl
 
 -- the other step follows only if the first found no place
 not_tried : ((or_else (stops (NoPlace what.Roots)) (limited 0 9) []).answer ≡ Ok 9)
@@ -65,12 +54,6 @@ other_error_cut : StageEnds {A = ℕ} (limited 0 5 >>= λ a. limited a 7) stage_
     → ⊥
 other_error_cut (inl told) = let wrong = told.1 in cc wrong
 other_error_cut (inr cut) = let wrong = cut.0 in cc wrong
-
--- no other error replaces the value after all groups are written
-other_error_told : StageEnds {A = ℕ} (limited 0 5 >>= λ a. limited a 7) stage_stop (Err (stop.NoPlace what.Roots)) []
-    (item.Limit 5 ∷ (item.Limit 7 ∷ [])) → ⊥
-other_error_told (inl told) = let wrong = told.1 in cc wrong
-other_error_told (inr cut) = let wrong = cut.0 in cc wrong
 
 -- no memory has node 1,024
 abbrev of_node_1024 : LabelView
