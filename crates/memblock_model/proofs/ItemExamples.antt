@@ -1,5 +1,5 @@
 -- Worked examples: small journals.
-use Rattle.std.proofs.Common.{◌≡◌, ◌==◌, true, false, nat_lt, if◌then◌else◌, Some, None, List, [], ◌∷◌, refl, sym, arith}
+use Rattle.std.proofs.Common.{◌≡◌, ℕ, true, false, Some, None, List, [], ◌∷◌, refl, sym, arith}
 use Rattle.std.proofs.lemmas.Bool.Decides.{nat_tests}
 use Rattle.address_runs.specs.Runs.{RunOf}
 use Rattle.address_runs.proofs.RunsLaws.{the_list}
@@ -9,12 +9,15 @@ use Rattle.memblock_model.specs.declared.owner.Which.TheVariants as which
 use Rattle.memblock_model.specs.declared.label.Tag.TheVariants as tag
 use Rattle.memblock_model.specs.declared.item.Item.{Item}
 use Rattle.memblock_model.specs.declared.item.Item.TheVariants as item
+use Rattle.bm_base.specs.Range.{RangeView}
 use Rattle.bm_base.specs.Each.{each_from, each_in}
-use Rattle.memblock_model.specs.Labels.{Labels, plain_label, with_node, with_mirror}
+use Rattle.memblock_model.specs.Labels.{plain_label, with_node, with_mirror}
 use Rattle.memblock_model.specs.Same.{same_owner}
 use Rattle.memblock_model.specs.Items.{IsItem, owner_of, trim_frames, memory_of, tag_of, limit_of, upward_of, owner_runs_of}
 use Rattle.memblock_model.proofs.SameLaws.{owner_tells}
-use Rattle.memblock_model.proofs.LabelExamples.{bytes}
+
+abbrev pub bytes : ℕ → ℕ → RangeView
+bytes base size = record { base = base; size = size }
 
 -- a range of one byte isn't empty; the range of no item may be: memory, a node, a claim, a free, a mirror
 item_examples : (IsItem (item.Mem (bytes 7 1))) × (IsItem (item.Mem (bytes 7 0)) → ⊥) × (IsItem (item.Node (bytes 7 0) 1) → ⊥)
@@ -78,17 +81,6 @@ trim_examples : (tag_of (item.Mem (bytes 0 4096) ∷ (item.Trim ∷ [])) 5 ≡ t
     × (tag_of (item.Mem (bytes 0 4096) ∷ (item.Node (bytes 0 100) 1 ∷ (item.Trim ∷ []))) 5 ≡ tag.Absent)
 unfolding trim_frames each_in each_from
 trim_examples = (refl, refl, refl, refl)
-
--- the first frame has one label; in the second only the last byte differs, in the third one byte isn't memory
-abbrev frames : Labels
-frames x = if nat_lt x 8191 then Some plain_label else (if x == 8191 then Some (with_node (Some 8) plain_label) else
-    (if nat_lt x 12287 then Some plain_label else None))
-
--- the last byte of the whole frame; the first and last byte of the frame with two labels; the frame that lacks a byte
-trimmed_examples : (trim_frames frames 4095 ≡ Some plain_label) × (trim_frames frames 4096 ≡ None) × (trim_frames frames 8191 ≡ None)
-    × (trim_frames frames 8192 ≡ None)
-unfolding trim_frames each_in each_from
-trimmed_examples = (refl, refl, refl, refl)
 
 -- the newest limit, whether it is lower or higher; 0 without one; it stays whatever else happens
 limit_of_examples : (limit_of (item.Limit 5 ∷ (item.Limit 3 ∷ (item.Trim ∷ []))) ≡ 3)

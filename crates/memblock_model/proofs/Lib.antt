@@ -3,7 +3,6 @@ pub mod LabelLaws
 pub mod ItemLaws
 pub mod SearchLaws
 pub mod TableLaws
-mod LabelExamples
 mod ItemExamples
 mod TableExamples
 mod SearchExamples

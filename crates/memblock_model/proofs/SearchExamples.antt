@@ -12,9 +12,9 @@ use Rattle.bm_base.specs.Each.{each_from, each_in}
 use Rattle.memblock_model.specs.Labels.{LabelView, Labels, plain_label, with_node, with_mirror}
 use Rattle.memblock_model.specs.Items.{no_memory}
 use Rattle.memblock_model.specs.Tables.{table_of}
-use Rattle.memblock_model.specs.Search.{suits, fits_in, top_place_in, fits, top_place, best_place}
+use Rattle.memblock_model.specs.Search.{suits, fits_in, top_place_in, fits, best_place}
 use Rattle.memblock_model.proofs.SearchLaws.{fits_in-parts, top_place_in-first, best_place_in-plain, best_place_in-last, best_place_in-fails, plain_or_none}
-use Rattle.memblock_model.proofs.LabelExamples.{bytes}
+use Rattle.memblock_model.proofs.ItemExamples.{bytes}
 
 abbrev of_node : ℕ → LabelView
 of_node node = with_node (Some node) plain_label
@@ -85,10 +85,6 @@ best_page = best_place_in-last (table_of which.Memory small) (table_of which.Res
 abbrev crowded : List Item
 crowded = item.Mem (bytes 0 0x10000) ∷ (item.Claim (bytes 0x1000 0xF000) owner.Kernel ∷ [])
 
-claimed_page_does_not_fit : fits crowded page false 0xF000 ≡ false
-unfolding fits fits_in each_in each_from
-claimed_page_does_not_fit = refl
-
 nothing_fits : (b : ℕ) → fits_in false (table_of which.Memory crowded) (table_of which.Reserved crowded) page b ≡ true → ⊥
 nothing_fits b h =
     let place = fits_in-parts false (table_of which.Memory crowded) (table_of which.Reserved crowded) page b h in
@@ -119,10 +115,6 @@ lowest_page = top_place_in-first false (table_of which.Memory turned) (table_of 
   passes = page_fits_low;
   first = λ b lt h. (fits_in-parts false (table_of which.Memory turned) (table_of which.Reserved turned) page b h).first;
 })
-
-top_page : top_place turned page false ≡ Some 0x1000
-unfolding top_place
-top_page = lowest_page
 
 turned_is_plain : (x : ℕ) → suits true (table_of which.Memory turned x) ≡ false
 turned_is_plain x = plain_or_none (covers (bytes 0 0x10000) x)
