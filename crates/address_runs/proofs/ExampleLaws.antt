@@ -1,8 +1,8 @@
 -- Worked examples: small lists of runs.
 use Rattle.std.proofs.Common.{◌≡◌, ℕ, ◌+◌, ◌^◌, ◌<◌, ◌≤◌, ◌==◌, nat_lt, true, false, if◌then◌else◌, Option, Some, None, [], ◌∷◌, refl, arith}
 use Rattle.std.proofs.lemmas.Bool.Decides.{nat_tests}
-use Rattle.address_runs.specs.Runs.{RunOf, DecidesEquality, run_end, lies_in, value_at, IsBefore, AreRuns, IsRunsOf, runs_from, runs_of}
-use Rattle.address_runs.specs.Sweep.{Stays, StartAtOrPast, EndBy, FirstEndsPast, FirstEndsAtOrPast, IsSweptTo, IsRestFrom, IsBuiltTo}
+use Rattle.address_runs.specs.Runs.{RunOf, DecidesEquality, run_end, lies_in, value_at, IsBefore, AreRuns, runs_from, runs_of}
+use Rattle.address_runs.specs.Sweep.{StartAtOrPast, EndBy, FirstEndsPast, FirstEndsAtOrPast, IsSweptTo}
 use Rattle.address_runs.specs.Overlay.{overlay_runs, HaveAddresses}
 use Rattle.address_runs.proofs.RunsLaws.{the_list}
 
@@ -59,11 +59,6 @@ not_canonical = (
   λ runs. let some : 0 < 0 = runs.0 in absurd (omega arith),
 )
 
--- a canonical list is the list of runs of what it gives, and of no other function
-is_of_itself : IsRunsOf (value_at (run 0 2 1 ∷ (run 2 2 3 ∷ []))) (run 0 2 1 ∷ (run 2 2 3 ∷ []))
-unfolding run
-is_of_itself = record { runs = (omega arith, (omega arith, λ touch same. absurd (omega arith)), (omega arith, tt, tt)); each = λ x. refl }
-
 -- the runs of all addresses below 2^64: one page of RAM, and nothing at all
 tells_numbers : DecidesEquality {X = ℕ} (λ a b. a == b)
 tells_numbers = record { true_is_equal = λ a b h. grind (arith, nat_tests); equal_is_true = λ a b h. grind (arith, nat_tests) }
@@ -90,13 +85,6 @@ all_overlaid_examples : (overlay_runs sum_of (run 0 4 1 ∷ (run 2 4 3 ∷ [])) 
     × (overlay_runs sum_of (run 0 4 1 ∷ (run 2 4 3 ∷ [])) 5 ≡ Some 3) × (overlay_runs sum_of (run 0 4 1 ∷ (run 2 4 3 ∷ [])) 6 ≡ None)
 unfolding run
 all_overlaid_examples = (refl, refl, refl)
-
--- a function that keeps its value from 0 to 2, but not from 0 to 3
-stays_examples : Stays gaps 0 2 (Some 1) × Stays gaps 2 4 None
-stays_examples = (λ x from until. grind (arith, nat_tests), λ x from until. grind (arith, nat_tests))
-
-changes_at_two : ¬ Stays gaps 0 3 (Some 1)
-changes_at_two stays = let at_two : None ≡ Some 1 = stays 2 (omega arith) (omega arith) in absurd (cc at_two)
 
 -- both sides of each fact on where a list begins and ends; a run that ends exactly at the address must have another value
 start_examples : StartAtOrPast 4 (run 4 2 1 ∷ []) × EndBy 6 (Some 2) (run 4 2 1 ∷ []) × FirstEndsPast 5 (run 4 2 1 ∷ [])
@@ -128,29 +116,6 @@ swept_to_three = record {
 not_swept_to_five : ¬ IsSweptTo gaps 5 (run 0 2 1 ∷ [])
 unfolding run
 not_swept_to_five swept = let none : None ≡ Some 1 = swept.each 4 (omega arith) in cc none
-
-nothing_is_left : IsRestFrom gaps 7 []
-nothing_is_left = record { runs = tt; ends = tt; each = λ x above. grind (arith, nat_tests) }
-
-rest_from_three : IsRestFrom gaps 3 (run 4 2 1 ∷ (run 6 1 2 ∷ []))
-unfolding run
-rest_from_three = record {
-  runs = (omega arith, (omega arith, λ touch same. absurd (omega arith)), (omega arith, tt, tt));
-  ends = omega arith;
-  each = λ x above. grind (arith, nat_tests);
-}
-
-built_to_six : IsBuiltTo gaps 6 (run 0 2 1 ∷ []) 4 (Some 1)
-unfolding run
-built_to_six = record {
-  begun = omega arith;
-  swept = record {
-    runs = (omega arith, tt, tt);
-    ends = (omega arith, λ touch. absurd (omega arith), tt);
-    each = λ x below. grind (arith, nat_tests);
-  };
-  stays = λ x from until. grind (arith, nat_tests);
-}
 
 have_addresses : HaveAddresses (run 4 2 1 ∷ (run 0 9 2 ∷ [])) × (¬ HaveAddresses (run 4 2 1 ∷ (run 0 0 2 ∷ [])))
 unfolding run

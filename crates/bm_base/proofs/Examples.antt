@@ -1,13 +1,12 @@
 -- Worked examples: small ranges, numbers and texts.
-use Rattle.std.proofs.Common.{◌≡◌, ℕ, ◌^◌, ◌*◌, ◌/◌, ◌+◌, ◌-◌, true, false, ◌&&◌, ◌==◌, not, [], codes, Some, None, Ok, Err, refl, arith, inl}
+use Rattle.std.proofs.Common.{◌≡◌, ℕ, ◌^◌, ◌*◌, ◌/◌, ◌+◌, true, false, ◌&&◌, [], codes, Some, None, Ok, Err, refl, arith, inl}
 use Rattle.std.proofs.lemmas.Bool.Decides.{nat_tests}
 use Rattle.std.specs.Fmt.{digits}
 use Rattle.bm_base.specs.Answers.{Answers}
-use Rattle.bm_base.specs.Each.{each_from, each_in}
-use Rattle.bm_base.specs.Range.{RangeView, end_of, covers, Meet}
-use Rattle.bm_base.specs.Frames.{bytes_of_frame, frame_around, range_between, frames_within}
+use Rattle.bm_base.specs.Range.{RangeView, covers, Meet}
+use Rattle.bm_base.specs.Frames.{range_between, frames_within}
 use Rattle.bm_base.specs.Text.{hex_digits, hex_text, padded_decimal}
-use Rattle.bm_base.specs.Size.{radix_of, number_of, size_of}
+use Rattle.bm_base.specs.Size.{number_of, size_of}
 use Rattle.bm_base.specs.declared.size.NumFault.TheVariants.{NoDigits, TooLarge}
 use Rattle.bm_base.specs.Spelling.{SpellsIn, hexadecimal as in_hexadecimal, octal, decimal, SpellsNumber, SpellsSize, number_alone, number_with_suffix}
 use Rattle.bm_base.proofs.SpellingLaws.{size-read}
@@ -25,10 +24,6 @@ second_page = record { base = 0x1000; size = 0x1000 }
 abbrev third_page : RangeView
 third_page = record { base = 0x2000; size = 0x1000 }
 
--- the end is the address right after the last byte
-end_examples : (end_of second_page ≡ 0x2000) × (end_of (record { base = 0x2000; size = 0 }) ≡ 0x2000)
-end_examples = (refl, refl)
-
 -- a range covers its first and last byte, but not the byte below or the byte after; an empty range covers nothing
 covers_examples : (covers second_page 0xFFF ≡ false) × (covers second_page 0x1000 ≡ true) × (covers second_page 0x1FFF ≡ true)
     × (covers second_page 0x2000 ≡ false)
@@ -41,22 +36,6 @@ one_byte_shared = (0x1000, refl)
 
 touching_pages : ¬ Meet second_page third_page
 touching_pages both = let shared : (covers second_page both.0 && covers third_page both.0) ≡ true = both.1 in grind (arith, nat_tests)
-
--- the bytes of frames 0 and 2; the frame around the last and around the first byte of a frame
-frame_examples : (bytes_of_frame 0 ≡ record { base = 0; size = 0x1000 }) × (bytes_of_frame 2 ≡ third_page)
-    × (frame_around 0x2FFF ≡ third_page) × (frame_around 0x1000 ≡ second_page)
-frame_examples = (refl, refl, refl, refl)
-
--- one byte in the middle of the range fails, or none does
-each_in_examples : (each_in (record { base = 3; size = 3 }) (λ x. not (x == 4)) ≡ false)
-    × (each_in (record { base = 5; size = 3 }) (λ x. not (x == 4)) ≡ true)
-unfolding each_in each_from
-each_in_examples = (refl, refl)
-
--- `0x` needs a hexadecimal digit after it; otherwise a leading `0` means octal
-radix_examples : (radix_of (codes "0x1f") ≡ 16) × (radix_of (codes "0XF") ≡ 16) × (radix_of (codes "0x") ≡ 8) × (radix_of (codes "010") ≡ 8)
-    × (radix_of (codes "10") ≡ 10)
-radix_examples = (refl, refl, refl, refl, refl)
 
 -- a number has no suffix; of `0x` only the `0` is read
 number_examples : (number_of (codes "0x1fz") ≡ Ok (31, 4)) × (number_of (codes "64M") ≡ Ok (64, 2)) × (number_of (codes "0x") ≡ Ok (0, 1))

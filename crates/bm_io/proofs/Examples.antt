@@ -4,11 +4,11 @@ use Rattle.bm_io.specs.declared.reading.Fetch.TheVariants as fetch
 use Rattle.bm_io.specs.declared.writing.Put.TheVariants as put
 use Rattle.bm_io.specs.declared.writing.Sink.{Ghosts as SinkOf}
 use Rattle.bm_io.specs.Counts.{count_after, Rose, RoseByMoreThan}
-use Rattle.bm_io.specs.Known.{IsKnownAs, IsKnownLonger, AppendsFront, TakesKnown, GivesKnown}
-use Rattle.bm_io.specs.MemFiles.{MemFileView, MemFilesView, file_bytes, HaveOwnNames, IsRefused, IsOverLimit, fetch_failures}
+use Rattle.bm_io.specs.Known.{IsKnownAs, AppendsFront, TakesKnown, GivesKnown}
+use Rattle.bm_io.specs.MemFiles.{MemFileView, MemFilesView, file_bytes, HaveOwnNames, IsRefused}
 use Rattle.bm_io.specs.Puts.{Puts}
 use Rattle.bm_io.specs.Calls.{HasTaken, nothing_taken, took, HasGiven, nothing_given, gave, IsPutBy, IsReadBy, IsFetchedBy}
-use Rattle.bm_io.specs.MemSink.{MemSinkView, put_failures}
+use Rattle.bm_io.specs.MemSink.{MemSinkView}
 use Rattle.bm_io.proofs.PutsLaws.{unwanted}
 
 -- a counter goes up and stops at 2^64 - 1
@@ -35,15 +35,9 @@ told_bytes = (refl, tt)
 not_so_told : IsKnownAs (Some (λ name. Some (codes "abc"))) (codes "zp") [] → ⊥
 not_so_told told = cc told
 
-told_longer : IsKnownLonger (Some (λ name. Some (codes "abc"))) (codes "zp") 2 × IsKnownLonger None (codes "zp") 9
-told_longer = ((codes "abc", refl, omega arith), tt)
-
 -- two of three bytes went out
 front_went_out : AppendsFront (Some (codes "a")) (Some (codes "abc")) (codes "bcd")
 front_went_out = (2, omega arith, refl)
-
-nothing_went_out : AppendsFront (Some (codes "a")) (Some (codes "a")) (codes "bcd")
-nothing_went_out = (0, omega arith, refl)
 
 -- two files; the second call fails
 abbrev two_files : MemFilesView
@@ -54,11 +48,6 @@ two_files = record {
   faults = 0;
   taken = 0;
 }
-
-bytes_by_name : (file_bytes two_files.files (codes "zp") ≡ Some (codes "abc"))
-    × (file_bytes two_files.files (codes "line") ≡ Some [])
-    × (file_bytes two_files.files (codes "z") ≡ None)
-bytes_by_name = (refl, refl, refl)
 
 own_names : HaveOwnNames two_files.files
 own_names = (refl, (refl, tt))
@@ -73,19 +62,6 @@ refused_by_number = inl (0, omega arith, refl)
 refused_by_name : IsRefused two_files 1 (codes "z")
 refused_by_name = inr refl
 
-longer_than_two : IsOverLimit two_files (codes "zp") 2
-longer_than_two = (codes "abc", refl, omega arith)
-
-not_longer_than_none : IsOverLimit two_files (codes "line") 0 → ⊥
-not_longer_than_none longer = let same : Some [] ≡ Some longer.0 = longer.1 in let more = longer.2 in grind (arith, same, more)
-
--- a failed fetch counts as a failure; one that ran out of memory doesn't
-failed_fetch_rose : Rose two_files.faults (count_after two_files.faults (fetch_failures (Err fetch.Failed)))
-failed_fetch_rose = omega arith
-
-wanting_isnt_failed : Rose two_files.faults (count_after two_files.faults (fetch_failures (Err fetch.Memory))) → ⊥
-wanting_isnt_failed rose = omega (arith, rose)
-
 -- an output before and after its second call, which failed: half of the chunk was appended
 abbrev before_failure : MemSinkView
 before_failure = record { written = codes "ab"; failing = 2 ∷ []; calls = 1; faults = 0; wants = 0 }
@@ -95,10 +71,6 @@ behind_failure = record { written = codes "abc"; failing = 2 ∷ []; calls = 2; 
 
 half_of_a_chunk : AppendsFront (Some before_failure.written) (Some behind_failure.written) (codes "cd")
 half_of_a_chunk = (1, omega arith, refl)
-
-counted_failure : (behind_failure.faults ≡ count_after before_failure.faults (put_failures (Err put.Failed)))
-    × Rose before_failure.faults behind_failure.faults
-counted_failure = (refl, omega arith)
 
 -- the bytes and counters of an output in memory are known
 abbrev held_sink : SinkOf MemSinkView
@@ -135,17 +107,11 @@ tried_again = record {
 want_unheard : Puts held_sink before_failure (record behind_failure { wants = 1 }) (Ok tt) (codes "c") → ⊥
 want_unheard puts = let still = unwanted puts in omega (arith, still)
 
--- a stream whose bytes are known took two of those offered; a write that failed took none
-two_taken : TakesKnown (Some (codes "x")) (Some (codes "xab")) (codes "abc") (Some 2)
-two_taken = refl
-
+-- a write that failed took none of the bytes
 none_taken : TakesKnown (Some (codes "x")) (Some (codes "xa")) (codes "abc") None → ⊥
 none_taken kept = cc kept
 
--- a file whose bytes are known gave the first two; a file with bytes left isn't finished
-two_given : GivesKnown (Some (codes "abc")) (Some (codes "c")) (Some (codes "ab"))
-two_given = (refl, λ none. cc)
-
+-- a file with bytes left isn't finished
 not_at_the_end : GivesKnown (Some (codes "c")) (Some (codes "c")) (Some []) → ⊥
 not_at_the_end gives = let end : codes "c" ≡ [] = gives.1 refl in cc end
 
@@ -156,9 +122,6 @@ known_writes before bytes taken after = TakesKnown (Some before) (Some after) by
 by_two_writes : HasTaken known_writes (codes "abc") [] 3 (codes "abc")
 by_two_writes = took {k = 2} {n = 1} {mid = codes "ab"}
     (took {k = 0} {n = 2} {mid = []} nothing_taken refl (omega arith)) refl (omega arith)
-
-put_by_two_writes : IsPutBy known_writes [] (codes "abc") (Ok tt) (codes "abc")
-put_by_two_writes = by_two_writes
 
 -- a put fails if its second write failed, whatever the number of bytes
 refused_by_a_write : IsPutBy known_writes [] (codes "abc") (Err put.Failed) (codes "ab")

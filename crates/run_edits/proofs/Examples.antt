@@ -2,7 +2,7 @@
 use Rattle.std.proofs.Common.{◌≡◌, ℕ, ◌==◌, nat_lt, if◌then◌else◌, Option, Some, None, [], ◌∷◌, refl, inl, inr, arith}
 use Rattle.address_runs.specs.Runs.{RunOf}
 use Rattle.run_edits.specs.Records.{stretch, EndBelow, IsUncut, EndsNoRun}
-use Rattle.run_edits.specs.Ends.{total, edge, edges, spike}
+use Rattle.run_edits.specs.Ends.{total, edges, spike}
 
 abbrev run : ℕ → ℕ → ℕ → RunOf ℕ
 run base size value = record { base = base; size = size; value = value }
@@ -44,11 +44,6 @@ covering (inr one) = let equal : 8 ≡ 7 = same_value 8 7 (one (Some 8)) in omeg
 -- 0 and 1 carry 1, 2 carries 2, other addresses nothing
 abbrev two_runs : ℕ → Option ℕ
 two_runs x = if nat_lt x 2 then Some 1 else (if x == 2 then Some 2 else None)
-
--- a run ends before another value, goes on if the next value is the same, and can't end where there was no value
-edge_examples : (edge (λ m n. m == n) (Some 1) (Some 2) ≡ 1) × (edge (λ m n. m == n) (Some 1) (Some 1) ≡ 0)
-    × (edge (λ m n. m == n) None (Some 1) ≡ 0)
-edge_examples = (refl, refl, refl)
 
 -- the first run ends at its last address only
 edges_examples : (edges (λ m n. m == n) two_runs 1 ≡ 1) × (edges (λ m n. m == n) two_runs 0 ≡ 0)

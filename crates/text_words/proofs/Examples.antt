@@ -2,9 +2,8 @@
 use Rattle.std.proofs.Common.{◌≡◌, true, false, Some, None, [], ◌∷◌, codes, refl, arith}
 use Rattle.text_words.specs.declared.separators.Separators.TheVariants.{CommandLine, Script, Byte}
 use Rattle.text_words.specs.Parts.{separates, quotes, parts_in, text_before, split_once}
-use Rattle.text_words.specs.Spelling.{HasWords, blank_first, word_alone, word_first, QuotesClose, Unquotes, no_mark, both_marks}
-use Rattle.text_words.proofs.SpellingLaws.{unquoted_exactly}
-use Rattle.text_words.specs.Words.{words_in, without_last, unquote, IsClosed, IsWord}
+use Rattle.text_words.specs.Spelling.{HasWords, blank_first, word_alone, word_first, QuotesClose}
+use Rattle.text_words.specs.Words.{words_in, unquote, IsClosed, IsWord}
 
 -- blanks separate, and of a command line the bytes 0x09 to 0x0D; 0x08, 0x0E and 0xA0 don't
 line_separators : (separates CommandLine 0x20 ≡ true) × (separates CommandLine 0x09 ≡ true) × (separates CommandLine 0x0D ≡ true)
@@ -15,10 +14,6 @@ line_separators = (refl, refl, refl, refl, refl, refl)
 script_separators : (separates Script 0x20 ≡ true) × (separates Script 0x09 ≡ true) × (separates Script 0x0D ≡ true)
     × (separates Script 0x0A ≡ false) × (separates Script 0x0C ≡ false)
 script_separators = (refl, refl, refl, refl, refl)
-
--- in a list with commas only the comma separates
-comma_separates : (separates (Byte 44) 44 ≡ true) × (separates (Byte 44) 0x20 ≡ false)
-comma_separates = (refl, refl)
 
 -- `"` quotes in a command line alone, `'` nowhere
 quoting : (quotes CommandLine 34 ≡ true) × (quotes CommandLine 39 ≡ false) × (quotes Script 34 ≡ false) × (quotes (Byte 34) 34 ≡ false)
@@ -38,9 +33,6 @@ quoted_blank = refl
 open_quotation : parts_in CommandLine (codes "a \"b c") ≡ codes "a" ∷ codes "\"b c" ∷ []
 open_quotation = refl
 
-script_has_no_quotations : parts_in Script (codes "\"b c\"") ≡ codes "\"b" ∷ codes "c\"" ∷ []
-script_has_no_quotations = refl
-
 -- a line ends at the first zero byte, if it has one
 before_zero : (text_before 0 (97 ∷ 98 ∷ 0 ∷ 99 ∷ 0 ∷ []) ≡ codes "ab") × (text_before 0 (codes "ab") ≡ codes "ab") × (text_before 0 (0 ∷ 97 ∷ []) ≡ [])
 before_zero = (refl, refl, refl)
@@ -48,9 +40,6 @@ before_zero = (refl, refl, refl)
 -- name and value, split at the first mark, which may be the first byte
 cut_at_the_first : split_once 61 (codes "mem=1=2") ≡ Some (codes "mem", codes "1=2")
 cut_at_the_first = refl
-
-cut_at_the_front : split_once 61 (codes "=1") ≡ Some ([], codes "1")
-cut_at_the_front = refl
 
 nothing_to_cut : split_once 61 (codes "quiet") ≡ None
 nothing_to_cut = refl
@@ -61,14 +50,6 @@ words_of_a_line = refl
 
 quotation_in_a_word : words_in CommandLine (codes "a=\"b  c\"d e") ≡ codes "a=\"b  c\"d" ∷ codes "e" ∷ []
 quotation_in_a_word = refl
-
-no_words : words_in Script (codes " \t\r") ≡ []
-no_words = refl
-
--- only one mark at the end is removed
-last_marks : (without_last 10 (codes "ab\n\n") ≡ codes "ab\n") × (without_last 10 (codes "\na") ≡ codes "\na")
-    × (without_last 34 (codes "\"") ≡ []) × (without_last 34 [] ≡ [])
-last_marks = (refl, refl, refl, refl)
 
 -- a mark only at the end stays; one only at the start is removed
 unquoted_texts : (unquote (codes "\"a b\"") ≡ codes "a b")
@@ -100,12 +81,4 @@ lying_words = (
       (word_first (codes "a") 32 (codes "\"b c\"") (codes "\"b c\"" ∷ []) (record { some = omega arith; closed = (refl, refl) }) refl
       (word_alone (codes "\"b c\"") (record { some = omega arith; closed = (refl, refl) }))),
   λ close. cc close,
-)
-
--- marks at both ends, at the start only, and at the end only, where nothing is removed
-lost_marks : Unquotes (codes "\"a b\"") (codes "a b") × Unquotes (codes "\"a") (codes "a") × Unquotes (codes "a\"") (codes "a\"")
-lost_marks = (
-  both_marks (codes "a b"),
-  (unquoted_exactly (codes "\"a") (codes "a")).0 refl,
-  no_mark (codes "a\"") (λ rest same. cc same),
 )
