@@ -2,7 +2,7 @@
 use Rattle.std.proofs.Common.{◌≡◌, ℕ, ◌+◌, ◌^◌, ◌<◌, ◌≤◌, ◌==◌, nat_lt, true, false, if◌then◌else◌, Option, Some, None, [], ◌∷◌, refl, arith}
 use Rattle.std.proofs.lemmas.Bool.Decides.{nat_tests}
 use Rattle.address_runs.specs.Runs.{RunOf, DecidesEquality, run_end, lies_in, value_at, IsBefore, AreRuns, runs_from, runs_of}
-use Rattle.address_runs.specs.Sweep.{StartAtOrPast, EndBy, FirstEndsPast, FirstEndsAtOrPast, IsSweptTo}
+use Rattle.address_runs.specs.Sweep.{StartAtOrPast, EndBy, FirstEndsPast, FirstEndsAtOrPast}
 use Rattle.address_runs.specs.Overlay.{overlay_runs, HaveAddresses}
 use Rattle.address_runs.proofs.RunsLaws.{the_list}
 
@@ -103,19 +103,6 @@ ends_right_there = ((λ behind. let more : 6 < 6 = behind in absurd (omega arith
 begins_lower : ¬ StartAtOrPast 5 (run 4 2 1 ∷ [])
 unfolding run
 begins_lower start = let higher : 5 ≤ 4 = start in absurd (omega arith)
-
--- below 3 the function has one run, above it two; at 6 one of them is finished and one is still open
-swept_to_three : IsSweptTo gaps 3 (run 0 2 1 ∷ [])
-unfolding run
-swept_to_three = record {
-  runs = (omega arith, tt, tt);
-  ends = (omega arith, λ touch. absurd (omega arith), tt);
-  each = λ x below. grind (arith, nat_tests);
-}
-
-not_swept_to_five : ¬ IsSweptTo gaps 5 (run 0 2 1 ∷ [])
-unfolding run
-not_swept_to_five swept = let none : None ≡ Some 1 = swept.each 4 (omega arith) in cc none
 
 have_addresses : HaveAddresses (run 4 2 1 ∷ (run 0 9 2 ∷ [])) × (¬ HaveAddresses (run 4 2 1 ∷ (run 0 0 2 ∷ [])))
 unfolding run

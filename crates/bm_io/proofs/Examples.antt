@@ -35,10 +35,6 @@ told_bytes = (refl, tt)
 not_so_told : IsKnownAs (Some (λ name. Some (codes "abc"))) (codes "zp") [] → ⊥
 not_so_told told = cc told
 
--- two of three bytes went out
-front_went_out : AppendsFront (Some (codes "a")) (Some (codes "abc")) (codes "bcd")
-front_went_out = (2, omega arith, refl)
-
 -- two files; the second call fails
 abbrev two_files : MemFilesView
 two_files = record {

@@ -9,7 +9,7 @@ use Rattle.bm_base.specs.Each.{each_from, each_in}
 use Rattle.memblock_model.specs.Labels.{LabelView, plain_label, with_node, with_mirror}
 use Rattle.memblock_model.specs.Items.{trim_frames}
 use Rattle.boot_journal.specs.Mirrors.{mirrors_after, mirrors_in}
-use Rattle.boot_journal.specs.Bytes.{label_from, label_kept, Differs, EdgesAgree, AllAgree}
+use Rattle.boot_journal.specs.Bytes.{label_from, label_kept, Differs, EdgesAgree}
 
 abbrev bytes : ℕ → ℕ → RangeView
 bytes base size = record { base = base; size = size }
@@ -36,10 +36,6 @@ plain_is_another same = cc (ap (λ (l : Option LabelView). option_map_or (λ (m 
 -- the byte in the middle of the frame is at an end of a range, and has other marks than the first
 middle_differs : Differs None half 4096 6144
 middle_differs = record { behind = omega arith; inside = omega arith; other = plain_is_another }
-
-edges_examples : EdgesAgree None (item.Mem (bytes 4096 4096) ∷ []) 4096 (item.Mem (bytes 4096 4096))
-    × AllAgree None (item.Mem (bytes 4096 4096) ∷ []) 4096 (item.Mem (bytes 4096 4096) ∷ [])
-edges_examples = ((grind arith, grind arith), ((grind arith, grind arith), tt))
 
 middle_is_an_edge : EdgesAgree None half 4096 (item.Node (bytes 4096 2048) 3) → ⊥
 middle_is_an_edge agree = plain_is_another (agree.1 (omega arith) (omega arith))

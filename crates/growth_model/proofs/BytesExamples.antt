@@ -1,6 +1,6 @@
 -- Examples: a kernel's image with both tables in its last two frames, a memory table that moves
 -- twice, and fills before, between and after the moves.
-use Rattle.std.proofs.Common.{◌≡◌, ℕ, true, false, List, [], ◌∷◌, ◌++◌, refl, sym, arith, lit≤}
+use Rattle.std.proofs.Common.{◌≡◌, ℕ, List, [], ◌∷◌, ◌++◌, refl, sym, arith, lit≤}
 use Rattle.bm_base.specs.Range.{RangeView}
 use Rattle.address_runs.specs.Runs.{RunOf}
 use Rattle.memblock_model.specs.Labels.{LabelView, plain_label}
@@ -10,7 +10,7 @@ use Rattle.memblock_model.specs.declared.item.Item.{Item}
 use Rattle.memblock_model.specs.declared.item.Item.TheVariants as item
 use Rattle.memblock_ranges.specs.Spelling.{spelled_table, fields_of}
 use Rattle.memblock_ranges.specs.Tables.{Table}
-use Rattle.growth_model.specs.Bytes.{shown_by, AreSpelled, is_left, byte_after, Filled, byte, AreMadeBy}
+use Rattle.growth_model.specs.Bytes.{shown_by, AreSpelled, byte_after, Filled, byte, AreMadeBy}
 use Rattle.growth_model.proofs.BytesLaws.{shown_by-again}
 
 abbrev at_base : ℕ → ℕ → RangeView
@@ -59,11 +59,6 @@ moved_once = begun ++ first_move ∷ []
 
 abbrev moved_twice : List Item
 moved_twice = moved_once ++ second_move ∷ []
-
-is_left_examples : (is_left kernel begun (first_move ∷ second_move ∷ []) 0x10FE000 ≡ true)
-    × (is_left kernel begun (first_move ∷ second_move ∷ []) 0x2000000 ≡ true)
-    × (is_left kernel begun (first_move ∷ second_move ∷ []) 0x3000000 ≡ false)
-is_left_examples = (refl, refl, refl)
 
 -- the old bytes of a table are 0, whatever they were
 after_examples : (byte_after kernel begun moved_twice 0x10FE000 7 ≡ 0) × (byte_after kernel begun moved_twice 0x2000000 7 ≡ 0)

@@ -1,20 +1,18 @@
 -- Examples with two small tables, computed or proved by the laws.
-use Rattle.std.proofs.Common.{◌≡◌, ℕ, ◌+◌, ◌-◌, ◌^◌, ◌<◌, ◌≤◌, true, false, is_some, Option, Some, None, unwrap_or, List, [], ◌∷◌, refl, sym, ◌∙◌, ap, arith}
-use Rattle.std.proofs.lemmas.Bool.{true≢false}
+use Rattle.std.proofs.Common.{◌≡◌, ℕ, ◌-◌, ◌^◌, ◌<◌, ◌≤◌, true, false, Option, Some, None, unwrap_or, List, [], ◌∷◌, refl, sym, ◌∙◌, ap, arith}
 use Rattle.std.proofs.lemmas.Bool.Decides.{nat_tests}
 use Rattle.address_runs.specs.Runs.{RunOf, value_at, AreRuns}
 use Rattle.memblock_model.specs.Labels.{LabelView, Labels, plain_label, with_node}
 use Rattle.memblock_model.specs.declared.query.Query.{Query}
 use Rattle.memblock_model.specs.Search.{fits_in}
-use Rattle.memblock_model.proofs.SearchLaws.{fits_in-parts, fits_in-whole}
+use Rattle.memblock_model.proofs.SearchLaws.{fits_in-whole}
 use Rattle.memblock_ranges.specs.Tables.{Contents}
 use Rattle.memblock_find.specs.declared.cursor.Look.{Look}
 use Rattle.memblock_find.specs.declared.cursor.Cursor.{Cursor}
 use Rattle.memblock_find.specs.Free.{unclaimed, free_in, IsDownTo, IsUpTo, IsRunBelow, IsRunFrom}
-use Rattle.memblock_find.specs.Places.{IsBetween, NoPlaceEnds, IsBestBy, IsBestFrom}
+use Rattle.memblock_find.specs.Places.{IsBetween, IsBestBy, IsBestFrom}
 use Rattle.memblock_find.specs.Walk.{run_at, BegunBelow, EndedBy, IsLookDown, IsLookUp, IsDownAt, IsUpAt}
 use Rattle.memblock_find.proofs.DownLaws.{look_gap, look_in, among_all, all_begun, begun_so_far, not_begun_from}
-use Rattle.memblock_find.proofs.PlaceLaws.{le_from_not_lt}
 use Rattle.memblock_find.proofs.UpLaws.{look_top, look_over, ended_so_far, not_ended_from}
 
 -- 0x1000 to 0x1FFF of node 0 and 0x2000 to 0x2FFF of node 1; 0x1800 to 0x18FF are claimed
@@ -145,22 +143,7 @@ best_page = record { fits = page_fits; last = λ b fits ends. omega arith }
 no_page_at_first : IsBestBy false (value_at memory_runs) (value_at claims) pages 0x3000 0x1000 → ⊥
 no_page_at_first known = let order = known.last 0x2000 page_fits (omega arith) in omega arith
 
--- a page that ends past all memory doesn't fit
-no_page_past : (b : ℕ) → fits_in false (value_at memory_runs) (value_at claims) pages b ≡ true → 0x3000 < b + 0x1000 → ⊥
-no_page_past b fits past =
-    let place = fits_in-parts false (value_at memory_runs) (value_at claims) pages b fits in
-    let last : ℕ = b + 0xFFF in
-    let bare : value_at memory_runs last ≡ None = grind (arith, nat_tests) in
-    let carries = place.label last (omega arith) (omega arith) in
-    true≢false (sym place.held ∙ ap is_some (sym carries ∙ bare))
-
-no_page_above : NoPlaceEnds false (value_at memory_runs) (value_at claims) pages 0x3000 0x3800
-no_page_above b fits ends = le_from_not_lt 0x3000 (b + 0x1000) (no_page_past b fits)
-
-a_page_ends : NoPlaceEnds false (value_at memory_runs) (value_at claims) pages 0x2FFF 0x3000 → ⊥
-a_page_ends none = let ends = none 0x2000 page_fits (omega arith) in omega arith
-
--- the search from below: 0x2000 is the lowest place from there on, and no place begins above it
+-- the search from below: 0x2000 is the lowest place from there on
 lowest_page : IsBestFrom false (value_at memory_runs) (value_at claims) pages 0x2000 0x2000
 lowest_page = record { fits = page_fits; first = λ b fits above. above }
 

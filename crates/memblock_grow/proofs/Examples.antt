@@ -15,14 +15,14 @@ use Rattle.memblock_model.specs.declared.item.Item.TheVariants as item
 use Rattle.memblock_model.specs.Labels.{Labels, plain_label, with_mirror}
 use Rattle.memblock_model.specs.Search.{suits, fits_in}
 use Rattle.memblock_model.proofs.SearchLaws.{IsLastBelow, fits_in-parts, fits_in-whole, best_place_in-last, best_place_in-fails, plain_or_none}
-use Rattle.memblock_ranges.specs.Tables.{Table, Contents}
+use Rattle.memblock_ranges.specs.Tables.{Contents}
 use Rattle.growth_model.specs.declared.refusal.Refusal.TheVariants as refusal
 use Rattle.growth_model.specs.Growth.{table_query}
 use Rattle.growth_model.specs.Bytes.{table_for}
 use Rattle.growth_model.proofs.FirstLaws.{no_table_full, nothing_said}
 use Rattle.memblock_grow.specs.declared.aim.Aim.{Aim}
 use Rattle.memblock_grow.specs.declared.more.More.TheVariants as more
-use Rattle.memblock_grow.specs.Kept.{AreKept, IsMemblock, AreTold, aimed}
+use Rattle.memblock_grow.specs.Kept.{AreKept, IsMemblock, aimed}
 use Rattle.memblock_grow.specs.Prepared.{is_grown_over, Prepares, PreparesBy}
 use Rattle.memblock_grow.specs.Places.{KnowsMirrors, best_of, frames_beside}
 use Rattle.memblock_grow.specs.More.{HasRoom, EndsInSpace}
@@ -58,22 +58,6 @@ kept_examples = (λ kept. let limit = kept.limit in cc, λ kept. let upward = ke
 memblock_examples : ((t : Contents) (at : Aim) → IsMemblock (record { base = 65536; size = 4096 }) [] t at → ⊥)
     × (IsMemblock image [] at_first (aimed 1 false) → ⊥)
 memblock_examples = (λ t at whole. let large = whole.image.large in omega arith, λ whole. kept_examples.0 whole.kept)
-
--- two tables without bytes: every byte is outside them
-abbrev no_table : Table
-no_table = record { records = []; place = 0; room = 0 }
-
-abbrev beside : List Stored → Contents
-beside store = record { memory = no_table; reserved = no_table; store = store }
-
-abbrev a_byte : List Stored
-a_byte = record { base = 5; bytes = 7 ∷ [] } ∷ []
-
-told_examples : AreTold (beside a_byte) (beside a_byte) × (AreTold (beside a_byte) (beside []) → ⊥)
-told_examples = (
-  λ x. let out : covers (record { base = 0; size = 0 }) x ≡ false = grind (arith, nat_tests) in rw out refl,
-  λ told. let lost = told 5 in cc,
-)
 
 -- a growth to room for 256 records prepares two whole frames and no other address; a claim without
 -- growth prepares nothing
@@ -127,8 +111,7 @@ mirror_examples : ((items : List Item) → KnowsMirrors items plain) × (KnowsMi
     × KnowsMirrors (item.Mirror (record { base = 0; size = 65536 }) ∷ []) mirrored
 mirror_examples = (λ items none. none_mirrored, λ knows. true≢false (knows refl 5), λ none. absurd (true≢false none))
 
--- the best place is the highest one that is aligned and in the window, and so is the top one in
--- any memory
+-- the highest place that is aligned and in the window is the last one that fits
 last_at : (q : Query) (a : ℕ) → a % q.align ≡ 0 → q.lo ≤ a → 4096 ≤ a → a + q.size ≤ q.hi → a + q.size ≤ 65536 → 0 < q.size
     → q.node ≡ None → ((b : ℕ) → b % q.align ≡ 0 → b + q.size ≤ q.hi → b ≤ a)
     → IsLastBelow (fits_in false memory reserved q) (2 ^ 64) a
@@ -147,19 +130,6 @@ last_at q a aligned low first high within some node last = record {
   });
   last = λ b lt h. let known = fits_in-parts false memory reserved q b h in last b known.aligned known.high;
 }
-
-abbrev frame_below : ℕ → Query
-frame_below hi = record { lo = 0; hi = hi; size = 4096; align = 4096; node = None }
-
-last_frame : IsLastBelow (fits_in false memory reserved (frame_below 16384)) (2 ^ 64) 12288
-last_frame = last_at (frame_below 16384) 12288 refl (omega arith) (omega arith) (omega arith) (omega arith) (omega arith) refl
-    (λ b aligned high. omega arith)
-
-best_examples : (best_of plain false (frame_below 16384) ≡ Some 12288) × (best_of plain false (frame_below 4095) ≡ None)
-best_examples = (
-  best_place_in-last memory reserved (frame_below 16384) 12288 none_mirrored last_frame,
-  best_place_in-large false memory reserved (frame_below 4095) (omega arith),
-)
 
 -- two frames for 256 records
 best_frames : best_of plain false (table_query 128 0 61440) ≡ Some 53248
