@@ -1,67 +1,23 @@
 -- Worked examples of the definitions.
-use Rattle.std.proofs.Common.{◌≡◌, ℕ, ◌≤◌, true, false, List, [], ◌∷◌, codes, Some, None, Ok, Err, Option, refl, arith}
+use Rattle.std.proofs.Common.{◌≡◌, ℕ, ◌≤◌, false, List, [], ◌∷◌, codes, Some, None, Ok, Err, Option, refl, arith}
 use Rattle.bm_base.specs.Range.{RangeView}
 use Rattle.bm_base.specs.declared.zone.Zone.TheVariants as zones
-use Rattle.audit_lines.specs.Blocks.{Block, bytes_of_block}
-use Rattle.audit_lines.specs.Fields.{behind, is_lower_hex, number_in, range_of}
-use Rattle.audit_lines.specs.Forms.{is_just, kind_name, zone_in}
+use Rattle.audit_lines.specs.Fields.{behind, number_in, range_of}
+use Rattle.audit_lines.specs.Forms.{is_just, zone_in}
 use Rattle.audit_lines.specs.Lines.{AscendApart}
 use Rattle.audit_lines.specs.Reports.{report_of, split_lines}
 use Rattle.audit_lines.specs.declared.report.LineFault.TheVariants as faults
 
--- a block of two frames at 8 KiB
-abbrev pair : Block
-pair = record { node = 0; zone = zones.Dma; order = 1; at = 8192 }
-
-pair_bytes : bytes_of_block pair ≡ record { base = 8192; size = 8192 }
-pair_bytes = refl
-
--- the rest after a front that is there; none after another one
-front_there : behind (codes "node ") (codes "node 7") ≡ Some (codes "7")
-unfolding behind
-front_there = refl
-
-front_other : behind (codes "node ") (codes "mode 7") ≡ None
-unfolding behind
-front_other = refl
-
--- `0` alone is 0; after the 0 of `07` the 7 is left
-zero_alone : number_in 10 (codes "0 A") ≡ Some (0, codes " A")
-unfolding number_in
-zero_alone = refl
-
+-- a number has no leading zeros: after the 0 of `07` the 7 is left
 leading_zero : number_in 10 (codes "07") ≡ Some (0, codes "7")
 unfolding number_in
 leading_zero = refl
 
--- a range of one byte, and one whose last byte is below its first
-one_byte : range_of 4096 4096 ≡ Some (record { base = 4096; size = 1 })
-one_byte = refl
-
+-- the last byte of a range isn't below its first
 backwards : range_of 4096 4095 ≡ None
 backwards = refl
 
--- digits are lower case
-lower : is_lower_hex 97 ≡ true
-lower = refl
-
-upper : is_lower_hex 65 ≡ false
-upper = refl
-
--- types have their own names
-name_of_ram : kind_name 1 ≡ codes "usable"
-unfolding kind_name
-name_of_ram = refl
-
-name_of_others : kind_name 6 ≡ codes "other"
-unfolding kind_name
-name_of_others = refl
-
 -- names of owners must match entirely
-whole_name : is_just (codes "crash") (codes "crash") ≡ true
-unfolding is_just behind
-whole_name = refl
-
 longer_name : is_just (codes "crash") (codes "crash-low") ≡ false
 unfolding is_just behind
 longer_name = refl
@@ -70,10 +26,6 @@ longer_name = refl
 zone_32 : zone_in (codes "DMA32 o") ≡ Some (zones.Dma32, codes " o")
 unfolding zone_in behind
 zone_32 = refl
-
-zone_16 : zone_in (codes "DMA o") ≡ Some (zones.Dma, codes " o")
-unfolding zone_in behind
-zone_16 = refl
 
 -- a text is split at its newlines, and the text after the last one is left
 two_lines : split_lines (codes "a\n\nb") ≡ (codes "a" ∷ [] ∷ [], codes "b")
