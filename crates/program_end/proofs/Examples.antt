@@ -9,9 +9,9 @@ use Rattle.program_end.specs.declared.failure.Failure.TheVariants as failures
 use Rattle.program_end.specs.declared.failure.NoResult.TheVariants as errors
 use Rattle.program_end.specs.declared.failure.Reason.{Reason}
 use Rattle.program_end.specs.declared.failure.Reason.TheVariants as reasons
-use Rattle.program_end.specs.Causes.{EndHasCause, FailureHasCause, IsOf, IsOfFile, ReasonHasCause, RoseAt, RoseFor}
-use Rattle.program_end.specs.Ends.{EndFits, IsFaulty, IsStopped, IsTold, MayEndWith, Writes, WritingHasCause}
-use Rattle.program_end.specs.Fetches.{Fetches, FitsError, FitsReason, ReachesFile}
+use Rattle.program_end.specs.Causes.{EndHasCause, FailureHasCause, ReasonHasCause}
+use Rattle.program_end.specs.Ends.{IsTold, MayEndWith, Writes, WritingHasCause}
+use Rattle.program_end.specs.Fetches.{Fetches, FitsError, ReachesFile}
 use Rattle.program_end.specs.Line.{failure_line}
 use Rattle.program_end.specs.Program.{Program}
 use Rattle.program_end.specs.Status.{status_of, status_of_end}
@@ -40,30 +40,14 @@ reaches_examples : ReachesFile (λ (n : ℕ). n) 1 text × ReachesFile {F = ℕ}
     × (ReachesFile {F = ℕ} {C = ℕ} {A = ℕ} (λ (n : ℕ). n) 1 (Err reasons.Usage) → ⊥)
 reaches_examples = (tt, omega arith, (λ comes. omega (arith, comes)), λ comes. comes)
 
-reason_fits : FitsReason (λ (n : ℕ). n) (reasons.Faulty 0 7) faulty × FitsReason (λ (n : ℕ). n) (reasons.Unread 1) text
-    × (FitsReason (λ (n : ℕ). n) reasons.Usage text → ⊥) × (FitsReason (λ (n : ℕ). n) (reasons.Unread 1) faulty → ⊥)
-reason_fits = (refl, tt, (λ same. cc same), λ comes. omega (arith, comes))
-
 -- out of memory fits every outcome
 fetches_examples : FitsError (λ (n : ℕ). n) errors.Memory text × Fetches (λ (n : ℕ). n) (λ (n : ℕ). codes "ab") (Ok 7) text
     × (Fetches (λ (n : ℕ). n) (λ (n : ℕ). codes "ab") (Err (errors.Reason reasons.Usage)) text → ⊥)
 fetches_examples = (tt, refl, λ same. cc same)
 
--- before the call no name has a fault, after it each has one
+-- no name has a fault
 abbrev before : List ℕ → ℕ
 before name = 0
-
-abbrev now : List ℕ → ℕ
-now name = 1
-
-rose_examples : RoseAt before now (Some (codes "zp")) × (RoseAt before now None → ⊥) × RoseFor program before now (Some 3) 0
-    × (RoseFor program before now (Some 3) 1 → ⊥) × (RoseFor program before now None 0 → ⊥)
-rose_examples = (omega arith, (λ rose. rose), omega arith, (λ rose. rose), λ rose. rose)
-
-own_examples : IsOf {I = ℕ} {F = ℕ} {C = ℕ} 1 (errors.Reason (reasons.Unread 1)) × (IsOf {I = ℕ} {F = ℕ} {C = ℕ} 1 (errors.Reason (reasons.Unread 0)) → ⊥)
-    × IsOfFile {I = ℕ} {F = ℕ} {C = ℕ} before now (named 3) (errors.Reason (reasons.Unread 0))
-    × (IsOfFile {I = ℕ} {F = ℕ} {C = ℕ} before before (named 3) (errors.Reason (reasons.Unread 0)) → ⊥)
-own_examples = (refl, (λ same. cc same), omega arith, λ rose. omega (arith, rose))
 
 -- if the command line isn't accepted, the failure is `Usage` or out of memory
 cause_examples : ReasonHasCause {F = ℕ} {C = ℕ} program before before None reasons.Usage
@@ -100,18 +84,10 @@ writes_examples : Writes program (Some []) (Some (codes "ab")) (Ok 0) text
     × (Writes program (Some []) (Some (codes "a")) (Ok 0) text → ⊥)
 writes_examples = ((refl, refl), (1, omega arith, refl), tt, λ is. cc is.1)
 
--- the output can only fail if there is a text to write
-end_fits_examples : EndFits program (failures.Output put.Failed) text × (EndFits program (failures.Output put.Failed) faulty → ⊥)
-end_fits_examples = (tt, λ is. is)
-
 -- with a result the error output is as it was, and without one the output is
 unchanged_examples : (sink : SinkOf ℕ) → IsTold sink line 3 3 (Ok 0) × (IsTold sink line 3 4 (Ok 0) → ⊥)
     × WritingHasCause sink 3 3 (Err (why reasons.Usage)) × (WritingHasCause sink 3 4 (Err (why reasons.Usage)) → ⊥)
 unchanged_examples sink = (refl, (λ same. omega (arith, same)), refl, λ same. omega (arith, same))
-
--- a fault is no stop and a result is no fault
-outcome_examples : IsFaulty faulty × (IsFaulty text → ⊥) × IsStopped {I = ℕ} {F = ℕ} {C = ℕ} {A = ℕ} (Err (reasons.Stopped 4)) × (IsStopped faulty → ⊥)
-outcome_examples = ((0, (7, refl)), (λ is. cc is.1.1), (4, refl), λ is. cc is.1)
 
 -- a result with status 0 ends with 0, 3, 4 or 7, a refused command line with 2 or 7
 may_end_examples : MayEndWith program text 0 × MayEndWith program text 3 × (MayEndWith program text 5 → ⊥)
