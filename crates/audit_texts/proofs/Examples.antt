@@ -2,14 +2,11 @@
 use Rattle.std.proofs.Common.{◌≡◌, ℕ, ◌-◌, ◌^◌, refl, arith}
 use Rattle.address_runs.specs.Runs.{RunOf}
 use Rattle.bm_base.specs.declared.zone.Zone.TheVariants as zones
-use Rattle.audit_texts.specs.Told.{IsToldBlock, IsToldRun, told_block, told_run}
+use Rattle.audit_texts.specs.Told.{IsToldBlock, IsToldRun, told_block}
 
 -- two frames of RAM at 4 KiB
 abbrev two_frames : RunOf ℕ
 two_frames = record { base = 4096; size = 8192; value = 1 }
-
-two_frames_told : told_run two_frames ≡ record { range = record { base = 4096; size = 8192 }; kind = 1 }
-two_frames_told = refl
 
 two_frames_fit : IsToldRun two_frames
 two_frames_fit = ((omega arith, omega arith), (omega arith, omega arith))
