@@ -1,5 +1,5 @@
 -- The line of each failure, computed.
-use Rattle.std.proofs.Common.{◌≡◌, codes, [], Some, None, refl}
+use Rattle.std.proofs.Common.{◌≡◌, codes, Some, None, refl}
 use Rattle.std.specs.Fmt.{digits}
 use Rattle.e820_table.specs.declared.extension.ExtFault.TheVariants as extension
 use Rattle.e820_table.specs.declared.zero_page.ZeroFault.TheVariants as zero
@@ -15,15 +15,16 @@ use Rattle.program_end.specs.declared.failure.Failure.TheVariants as failures
 use Rattle.program_end.specs.declared.failure.NoResult.TheVariants as errors
 use Rattle.program_end.specs.declared.failure.Reason.TheVariants as reasons
 use Rattle.program_words.specs.declared.error.WordError.TheVariants as words
-use Rattle.program_run.specs.Stops.{no_report, no_report_by, no_words}
-use Rattle.program_run.specs.Line.{diagnostic_line, fault_line, thing_line, place_line, table_line, table_name, cause_line, input_line, failure_line, name_text}
+use Rattle.program_run.specs.Stops.{no_report, no_words}
+use Rattle.program_run.specs.Line.{diagnostic_line, fault_line, thing_line, place_line, cause_line, input_line, failure_line}
 use Rattle.program_run.proofs.OutcomeExamples.{wanting}
 
 -- out of memory is no reason, whichever layer it comes from
-no_report_examples : (no_report_by None ≡ errors.Memory) × (no_report_by (Some causes.NoRam) ≡ errors.Reason (reasons.Stopped causes.NoRam))
-    × (no_report (stops.TooMuchRam 4294967297) ≡ errors.Reason (reasons.Stopped (causes.TooMuchRam 4294967297)))
-    × (no_report stops.Memory ≡ errors.Memory) × (no_words words.Usage ≡ errors.Reason reasons.Usage) × (no_words words.Memory ≡ errors.Memory)
-no_report_examples = (refl, refl, refl, refl, refl, refl)
+no_report_examples : (no_report (stops.TooMuchRam 4294967297) ≡ errors.Reason (reasons.Stopped (causes.TooMuchRam 4294967297)))
+    × (no_report stops.Memory ≡ errors.Memory)
+    × (no_words words.Usage ≡ errors.Reason reasons.Usage)
+    × (no_words words.Memory ≡ errors.Memory)
+no_report_examples = (refl, refl, refl, refl)
 
 -- the line of each form of diagnostic
 told_lines : (diagnostic_line (codes "zeropage") (Some (Diagnostic.Whole (codes "initrd too far")))
@@ -40,12 +41,11 @@ told_lines = (refl, refl, refl, refl, refl, refl)
 -- the line of each failure
 fault_lines : (fault_line (codes "zeropage") (faults.ZeroPage (zero.EntryTooFar 3))
     ≡ codes "bootmem: zeropage: entry 3 too far\n")
-    × (fault_line (codes "e820ext") (faults.Extension (extension.EntryTooFar 3071)) ≡ codes "bootmem: e820ext: entry 3071 too far\n")
     × (fault_line (codes "e820ext") (faults.Extension extension.ExtHeader) ≡ codes "bootmem: e820ext: header\n")
     × (input_line inputs.CommandLine faults.TooLong ≡ codes "bootmem: cmdline: too long\n")
     × (input_line inputs.ZeroPage (faults.ZeroPage zero.TooFew) ≡ codes "bootmem: zeropage: too few entries\n")
 unfolding digits
-fault_lines = (refl, refl, refl, refl, refl)
+fault_lines = (refl, refl, refl, refl)
 
 stop_lines : (cause_line (causes.MapFull 3201) ≡ codes "bootmem: stopped: 3201 map runs\n")
     × (cause_line causes.NoRam ≡ codes "bootmem: stopped: no usable frame\n")
@@ -53,10 +53,9 @@ stop_lines : (cause_line (causes.MapFull 3201) ≡ codes "bootmem: stopped: 3201
     × (cause_line (causes.NoPlace (what.NodeData 3)) ≡ codes "bootmem: stopped: no place for node-data 3\n")
     × (cause_line (causes.NoPlace what.Roots) ≡ codes "bootmem: stopped: no place for roots\n")
     × (place_line (what.Map 40) ≡ codes "bootmem: stopped: no place for map 40\n")
-    × (thing_line (codes "root") 0 ≡ codes "bootmem: stopped: no place for root 0\n") × (table_name which.Memory ≡ codes "memory")
-    × (table_line (codes "memory") 128 ≡ codes "bootmem: stopped: no place for table memory room 128\n")
+    × (thing_line (codes "root") 0 ≡ codes "bootmem: stopped: no place for root 0\n")
 unfolding digits
-stop_lines = (refl, refl, refl, refl, refl, refl, refl, refl, refl)
+stop_lines = (refl, refl, refl, refl, refl, refl, refl)
 
 other_lines : (failure_line (Some (wanting (codes "zp"))) (failures.NoResult (errors.Reason (reasons.Unread inputs.Extension)))
     ≡ codes "bootmem: cannot read ext\n")
@@ -64,7 +63,3 @@ other_lines : (failure_line (Some (wanting (codes "zp"))) (failures.NoResult (er
     × (failure_line None (failures.Output put.Failed) ≡ codes "bootmem: cannot write\n")
     × (failure_line None (failures.Output put.Memory) ≡ codes "bootmem: out of memory\n")
 other_lines = (refl, refl, refl, refl)
-
-name_examples : (name_text (Some (wanting (codes "zp"))) inputs.Extension ≡ codes "ext")
-    × (name_text (Some (wanting (codes "zp"))) inputs.CommandLine ≡ []) × (name_text None inputs.ZeroPage ≡ [])
-name_examples = (refl, refl, refl)

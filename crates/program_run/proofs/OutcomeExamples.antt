@@ -13,7 +13,7 @@ use Rattle.boot_model.specs.declared.stop.Cause.TheVariants as causes
 use Rattle.bm_base.specs.declared.width.Width.TheVariants.{Bits46}
 use Rattle.boot_model.specs.Boot.{Given, begun, boot}
 use Rattle.debugfs_reports.specs.declared.report.Report.TheVariants as reports
-use Rattle.program_run.specs.Outcome.{given_by, or_stopped, outcome, reported, with_made}
+use Rattle.program_run.specs.Outcome.{given_by, outcome, reported, with_made}
 use Rattle.program_words.specs.Words.{Wanted}
 
 abbrev pub naming : List ℕ → Input → Option (List ℕ)
@@ -64,10 +64,6 @@ made_examples : (h : Held)
     }) ≡ Ok (record of_files { entries = low_ram ∷ high_ram ∷ []; initrd = None; extension = [] }))
 unfolding entries_behind
 made_examples h = (refl, refl, refl)
-
--- the steps of `outcome`
-parts_examples : (or_stopped {A = ℕ} (Ok 7) ≡ Ok 7) × (or_stopped {A = ℕ} (Err causes.NoRam) ≡ Err (reasons.Stopped causes.NoRam))
-parts_examples = (refl, refl)
 
 stop_is_reported : (given : Given) → boot given ≡ Err causes.NoRam → reported (reports.Map ∷ []) given ≡ Err (reasons.Stopped causes.NoRam)
 stop_is_reported given stops = rw stops refl
