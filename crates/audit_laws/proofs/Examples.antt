@@ -1,9 +1,7 @@
--- Runs that the program's types can have and runs that they can't; a file that contains a text,
--- and one that isn't there.
-use Rattle.std.proofs.Common.{ℕ, ◌-◌, ◌^◌, Some, None, [], ◌∷◌, refl, arith}
+-- Runs that the program's types can have and runs that they can't.
+use Rattle.std.proofs.Common.{ℕ, ◌-◌, ◌^◌, arith}
 use Rattle.address_runs.specs.Runs.{RunOf}
 use Rattle.memblock_model.specs.declared.owner.Owner.TheVariants as owners
-use Rattle.audit_laws.specs.Saved.{IsSaved}
 use Rattle.audit_laws.specs.Told.{IsNear, IsNearOwner}
 
 -- a run that ends 4096 below 2^64, and one that ends at it
@@ -19,10 +17,3 @@ last near = absurd (omega (arith, near))
 -- a number of 33 bits
 wide_number : ¬ IsNearOwner (record { base = 0; size = 4096; value = owners.Script (2 ^ 32) })
 wide_number near = absurd (omega (arith, near.1))
-
--- the text `a`
-held_whole : IsSaved (Some (97 ∷ [])) (97 ∷ [])
-held_whole = record { holds = refl; short = omega arith }
-
-not_there : ¬ IsSaved None (97 ∷ [])
-not_there saved = cc (saved.holds)
