@@ -2,7 +2,6 @@ mod CommandLineLaws
 mod EfiWordLaws
 mod Examples
 mod FileLaws
-mod PagesLaws
 mod ReadingLaws
 mod ScriptLaws
 mod SratLaws

@@ -1,20 +1,15 @@
--- The script: a line's fault is one of its words. Out of memory is none.
-use Rattle.std.proofs.Common.{ℕ, ◌+◌, Bool, false, List, [], ◌∷◌, arith}
+-- Scripts: a fault is one of a line. Out of memory is none.
+use Rattle.std.proofs.Common.{ℕ, List, arith}
 use Rattle.std.specs.Prelude.{IsErrOf}
-use Rattle.bm_base.specs.ResultSteps.{with_error}
-use Rattle.text_words.specs.Parts.{parts_in}
-use Rattle.text_words.specs.declared.separators.Separators.TheVariants as separators
+use Rattle.page_alloc.specs.declared.fault.PageFault.TheVariants as pages
+use Rattle.page_alloc.specs.Reading.{fault_at as page_fault, page_lines, pages_of}
 use Rattle.script_reader.specs.declared.fault.ScriptFault.TheVariants as script
-use Rattle.script_reader.specs.Script.{asked, fault_at, lines_from, script_of, seen_behind}
-use Rattle.boot_inputs.proofs.WantLaws.{then_other, turned_other}
-
-lines_other : (seen : Bool) (number : ℕ) (texts : List (List ℕ)) → ¬ IsErrOf (lines_from seen number texts) script.Memory
-lines_other seen number [] = λ is. cc is
-lines_other seen number (text ∷ texts) =
-    then_other (with_error (fault_at number) (asked seen text))
-    (turned_other (fault_at number) script.Memory (asked seen text) (λ wrong is. grind arith))
-    (λ act. then_other (lines_from (seen_behind seen act) (number + 1) texts) (lines_other (seen_behind seen act) (number + 1) texts)
-    (λ lines is. cc is))
+use Rattle.script_reader.specs.Lines.{lines_of}
+use Rattle.script_reader.specs.Script.{fault_at, script_lines, script_of}
+use Rattle.boot_inputs.proofs.WantLaws.{turned_other}
 
 pub script_other : (bytes : List ℕ) → ¬ IsErrOf (script_of bytes) script.Memory
-script_other bytes = lines_other false 1 (parts_in (separators.Byte 10) bytes)
+script_other bytes = turned_other (λ at. fault_at at.0 at.1) script.Memory (lines_of script_lines bytes) (λ at is. grind arith)
+
+pub pages_other : (bytes : List ℕ) → ¬ IsErrOf (pages_of bytes) pages.Memory
+pages_other bytes = turned_other (λ at. page_fault at.0 at.1) pages.Memory (lines_of page_lines bytes) (λ at is. grind arith)

@@ -1,5 +1,5 @@
 -- A script that was read places the sections at most once.
-use Rattle.std.proofs.Common.{◌≡◌, ℕ, ◌+◌, Bool, true, false, if◌then◌else◌, Option, Some, None, List, [], ◌∷◌, Result, Ok, Err, subst, inl, inr}
+use Rattle.std.proofs.Common.{◌≡◌, ℕ, ◌+◌, Bool, true, false, if◌then◌else◌, Option, Some, None, List, [], ◌∷◌, Result, Ok, Err, inl, inr}
 use Rattle.std.specs.List.{All, cons_option}
 use Rattle.std.proofs.lemmas.Bool.{cases_Bool}
 use Rattle.std.proofs.lemmas.List.Elements.{All-cons, All-nil}
@@ -10,10 +10,10 @@ use Rattle.text_words.specs.declared.separators.Separators.TheVariants as separa
 use Rattle.script_reader.specs.declared.act.Act.{Act}
 use Rattle.script_reader.specs.declared.act.Line.{Line}
 use Rattle.script_reader.specs.declared.fault.Wrong.{Wrong}
-use Rattle.script_reader.specs.declared.fault.ScriptFault.{ScriptFault}
 use Rattle.script_reader.specs.Numbers.{Words, number}
 use Rattle.script_reader.specs.Forms.{by_name, is_comment, asked_by}
-use Rattle.script_reader.specs.Script.{fault_at, is_sections, seen_behind, asked, line_at, lines_from, script_of}
+use Rattle.script_reader.specs.Lines.{seen_behind, asked, line_at, lines_from, lines_of}
+use Rattle.script_reader.specs.Script.{fault_at, is_sections, script_lines, script_of}
 use Rattle.early_script.specs.Acted.{CanBeRun}
 use Rattle.early_script.specs.Stage.{PlaceOnce}
 use Rattle.early_script.proofs.StageLaws.{is_run}
@@ -62,47 +62,47 @@ asked-clean [] = tt
 asked-clean (name ∷ words) = comment-clean (is_comment name) _ (some-clean (by_name true name words) (by_name-clean name words).known)
 
 -- nor do the lines after the one that did
-abbrev AreClean : Result (List Line) ScriptFault → Type 0
+abbrev AreClean : Result (List Line) (ℕ × Wrong) → Type 0
 AreClean (Ok lines) = All (λ l. CanBeRun l.act) lines
 AreClean (Err fault) = Unit {0}
 
-abbrev then_line : ℕ → Result (Option Act) Wrong → (Option Act → Result (List Line) ScriptFault) → Result (List Line) ScriptFault
-then_line number r rest = with_error (fault_at number) r >>= λ act. rest act >>= λ lines. Ok (cons_option (line_at number act) lines)
+abbrev then_line : ℕ → Result (Option Act) Wrong → (Option Act → Result (List Line) (ℕ × Wrong)) → Result (List Line) (ℕ × Wrong)
+then_line number r rest = with_error (λ wrong. (number, wrong)) r >>= λ act. rest act >>= λ lines. Ok (cons_option (line_at script_lines number act) lines)
 
-line-clean : (number : ℕ) (r : Result (Option Act) Wrong) (rest : Result (List Line) ScriptFault) → IsCleanLine r → AreClean rest →
+line-clean : (number : ℕ) (r : Result (Option Act) Wrong) (rest : Result (List Line) (ℕ × Wrong)) → IsCleanLine r → AreClean rest →
     AreClean (then_line number r (λ act. rest))
 line-clean number (Ok None) (Ok lines) clean known = known
 line-clean number (Ok (Some a)) (Ok lines) clean known =
     All-cons (λ l. CanBeRun l.act) (record { number = number; act = a }) lines (is_run a clean) known
 line-clean number r rest clean known = tt
 
-lines-clean : (number : ℕ) (texts : List (List ℕ)) → AreClean (lines_from true number texts)
+lines-clean : (number : ℕ) (texts : List (List ℕ)) → AreClean (lines_from script_lines true number texts)
 lines-clean number [] = All-nil (λ l. CanBeRun l.act)
 lines-clean number (text ∷ texts) =
-    line-clean number (asked true text) (lines_from true (number + 1) texts) (asked-clean (words_in separators.Script text))
+    line-clean number (asked script_lines true text) (lines_from script_lines true (number + 1) texts) (asked-clean (words_in separators.Script text))
     (lines-clean (number + 1) texts)
 
-abbrev IsOnce : Result (List Line) ScriptFault → Type 0
+abbrev IsOnce : Result (List Line) (ℕ × Wrong) → Type 0
 IsOnce (Ok lines) = PlaceOnce lines
 IsOnce (Err fault) = Unit {0}
 
-here-once : (number : ℕ) (a : Act) (rest : Result (List Line) ScriptFault) → is_sections a ≡ true → AreClean rest →
-    IsOnce (rest >>= λ lines. Ok (cons_option (line_at number (Some a)) lines))
+here-once : (number : ℕ) (a : Act) (rest : Result (List Line) (ℕ × Wrong)) → is_sections a ≡ true → AreClean rest →
+    IsOnce (rest >>= λ lines. Ok (cons_option (line_at script_lines number (Some a)) lines))
 here-once number a (Ok lines) here clean = rw here clean
 here-once number a (Err fault) here clean = tt
 
-later-once : (number : ℕ) (a : Act) (rest : Result (List Line) ScriptFault) → is_sections a ≡ false → IsOnce rest →
-    IsOnce (rest >>= λ lines. Ok (cons_option (line_at number (Some a)) lines))
+later-once : (number : ℕ) (a : Act) (rest : Result (List Line) (ℕ × Wrong)) → is_sections a ≡ false → IsOnce rest →
+    IsOnce (rest >>= λ lines. Ok (cons_option (line_at script_lines number (Some a)) lines))
 later-once number a (Ok lines) later once = rw later once
 later-once number a (Err fault) later once = tt
 
-none-once : (number : ℕ) (rest : Result (List Line) ScriptFault) → IsOnce rest
-    → IsOnce (rest >>= λ lines. Ok (cons_option (line_at number None) lines))
+none-once : (number : ℕ) (rest : Result (List Line) (ℕ × Wrong)) → IsOnce rest
+    → IsOnce (rest >>= λ lines. Ok (cons_option (line_at script_lines number None) lines))
 none-once number (Ok lines) once = once
 none-once number (Err fault) once = tt
 
-line-once : (number : ℕ) (r : Result (Option Act) Wrong) (rest : Bool → Result (List Line) ScriptFault) → AreClean (rest true) →
-    IsOnce (rest false) → IsOnce (then_line number r (λ act. rest (seen_behind false act)))
+line-once : (number : ℕ) (r : Result (Option Act) Wrong) (rest : Bool → Result (List Line) (ℕ × Wrong)) → AreClean (rest true) →
+    IsOnce (rest false) → IsOnce (then_line number r (λ act. rest (seen_behind script_lines false act)))
 line-once number (Ok None) rest clean once = none-once number (rest false) once
 line-once number (Ok (Some a)) rest clean once = elim (cases_Bool (is_sections a)) [
   | inl here ↦ rw here (here-once number a (rest true) here clean)
@@ -110,12 +110,15 @@ line-once number (Ok (Some a)) rest clean once = elim (cases_Bool (is_sections a
 ]
 line-once number (Err w) rest clean once = tt
 
-lines-once : (number : ℕ) (texts : List (List ℕ)) → IsOnce (lines_from false number texts)
+lines-once : (number : ℕ) (texts : List (List ℕ)) → IsOnce (lines_from script_lines false number texts)
 lines-once number [] = All-nil (λ l. CanBeRun l.act)
 lines-once number (text ∷ texts) =
-    line-once number (asked false text) (λ seen. lines_from seen (number + 1) texts) (lines-clean (number + 1) texts)
+    line-once number (asked script_lines false text) (λ seen. lines_from script_lines seen (number + 1) texts) (lines-clean (number + 1) texts)
     (lines-once (number + 1) texts)
 
 pub script-once : (bytes : List ℕ) (lines : List Line) → script_of bytes ≡ Ok lines → PlaceOnce lines
-script-once bytes lines read =
-    subst (λ (r : Result (List Line) ScriptFault). IsOnce r) read (lines-once 1 (parts_in (separators.Byte 10) bytes))
+script-once bytes lines read = turned-once (lines_of script_lines bytes) (lines-once 1 (parts_in (separators.Byte 10) bytes)) read
+  where
+    turned-once : (r : Result (List Line) (ℕ × Wrong)) → IsOnce r → with_error (λ at. fault_at at.0 at.1) r ≡ Ok lines → PlaceOnce lines
+    turned-once (Ok found) once is = let same : found ≡ lines = cc (is) in rw same at once
+    turned-once (Err told) once is = cc (is)

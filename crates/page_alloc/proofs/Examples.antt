@@ -18,17 +18,19 @@ use Rattle.frame_blocks.proofs.BuddyLaws.{one_at, without_is, in_set_or_not}
 use Rattle.frame_blocks.proofs.PickLaws.{picked_is, picked_none}
 use Rattle.script_reader.specs.declared.fault.Wrong.TheVariants as wrong
 use Rattle.script_reader.specs.Numbers.{Words}
+use Rattle.script_reader.specs.Lines.{asked}
+use Rattle.script_reader.specs.Grammar.{HasForm, SpellsNumbers, HasFault}
 use Rattle.page_alloc.specs.declared.act.PageAct.TheVariants as acts
 use Rattle.page_alloc.specs.declared.act.PageLine.{PageLine}
 use Rattle.page_alloc.specs.declared.fault.PageFault.TheVariants as faults
 use Rattle.page_alloc.specs.declared.outcome.Held.{Held}
 use Rattle.page_alloc.specs.declared.outcome.PageOutcome.{PageOutcome}
 use Rattle.page_alloc.specs.declared.outcome.PageOutcome.TheVariants as outcomes
-use Rattle.page_alloc.specs.Forms.{zone_named, pages_line, give_line, asked}
-use Rattle.page_alloc.specs.Spelling.{pages as pages_form, give as give_form, zone_word, words_of, HasNumbers, HasForm, SpellsAct, HasFault}
+use Rattle.page_alloc.specs.Forms.{zone_named, pages_line, give_line}
+use Rattle.page_alloc.specs.Spelling.{pages as pages_form, give as give_form, zone_word, words_of, HasNumbers, page_grammar, Fails}
 use Rattle.page_alloc.specs.Kept.{HoldsFrame, IsInOne, IsInNone, AreHeldApart}
 use Rattle.page_alloc.specs.Pages.{State, begun, with_held, served, given_back, step, HasOrder, HaveOrders}
-use Rattle.page_alloc.specs.Reading.{pages_of}
+use Rattle.page_alloc.specs.Reading.{page_lines, pages_of}
 use Rattle.page_alloc.proofs.KeptLaws.{Goes, in_one, in_none, begun_goes, begun_kept, step_goes, step_kept}
 
 -- frame 5 alone is free, on node 7
@@ -174,8 +176,8 @@ give_examples : (give_line (in_words (codes "4294967295")) ≡ Ok (acts.Give 429
     × (give_line (in_words (codes "4294967296")) ≡ Err wrong.Number) × (give_line (in_words (codes "x 1")) ≡ Err wrong.Form)
 give_examples = (refl, refl, refl)
 
-line_examples : (asked (codes "# give") ≡ Ok None) × (asked (codes "\t\r") ≡ Ok None)
-    × (asked (codes " give\t1\r") ≡ Ok (Some (acts.Give 1)))
+line_examples : (asked page_lines false (codes "# give") ≡ Ok None) × (asked page_lines false (codes "\t\r") ≡ Ok None)
+    × (asked page_lines false (codes " give\t1\r") ≡ Ok (Some (acts.Give 1)))
 line_examples = (refl, refl, refl)
 
 -- whole scripts: the last line may lack its newline; the fault of the lowest line is reported,
@@ -194,7 +196,8 @@ lowest_fault : (pages_of (codes "give 1\ngive x\ngive\n") ≡ Err (faults.BadNum
 lowest_fault = (refl, refl)
 
 -- a form takes any word for a number, but a zone only by its name
-spelled_forms : HasForm (codes "give" ∷ codes "x" ∷ []) × HasForm (codes "pages" ∷ codes "1" ∷ codes "0" ∷ codes "7" ∷ codes "DMA" ∷ [])
+spelled_forms : HasForm page_grammar (codes "give" ∷ codes "x" ∷ [])
+    × HasForm page_grammar (codes "pages" ∷ codes "1" ∷ codes "0" ∷ codes "7" ∷ codes "DMA" ∷ [])
     × (zone_word zones.Normal ≡ codes "Normal") × (HasNumbers (give_form (codes "x")) → ⊥)
     × (words_of (give_form (codes "1")) ≡ codes "give" ∷ codes "1" ∷ [])
 spelled_forms = (
@@ -205,8 +208,8 @@ spelled_forms = (
   refl,
 )
 
-spelled_act : SpellsAct (codes "give" ∷ codes "1" ∷ []) (acts.Give 1)
+spelled_act : SpellsNumbers page_grammar (codes "give" ∷ codes "1" ∷ []) (acts.Give 1)
 spelled_act = record { form = give_form (codes "1"); spelled = refl; numbers = (1, refl, lit≤ tt); asks = refl }
 
-bad_number : HasFault (codes "give" ∷ codes "x" ∷ []) wrong.Number
+bad_number : HasFault page_grammar Fails (codes "give" ∷ codes "x" ∷ []) wrong.Number
 bad_number = (give_form (codes "x"), refl, λ is. cc (is.1))

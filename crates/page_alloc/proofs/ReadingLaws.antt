@@ -1,23 +1,13 @@
--- Lemmas: reading the lines one after another gives what the definition gives for all of them.
-use Rattle.std.proofs.Common.{◌≡◌, ℕ, ◌+◌, List, [], ◌∷◌, ◌++◌, Option, Some, None, option_to_list, Ok}
-use Rattle.std.specs.Prelude.{IfSome}
-use Rattle.script_reader.proofs.ScriptLaws.{behind, with_others}
-use Rattle.page_alloc.specs.declared.act.PageAct.{PageAct}
+-- Lemma: the orders of the lines that were read.
+use Rattle.std.proofs.Common.{List, [], ◌∷◌}
+use Rattle.std.specs.List.{All}
+use Rattle.std.proofs.lemmas.List.Elements.{All-head, All-tail}
 use Rattle.page_alloc.specs.declared.act.PageLine.{PageLine}
 use Rattle.page_alloc.specs.Pages.{HasOrder, HaveOrders}
-use Rattle.page_alloc.specs.Forms.{asked}
-use Rattle.page_alloc.specs.Reading.{line_at, lines_from}
 
--- the first line that is left becomes the last one that was read
-pub line_read : (number : ℕ) (front : List PageLine) (text : List ℕ) (texts : List (List ℕ)) (act : Option PageAct)
-    → asked text ≡ Ok act
-    → behind front (lines_from number (text ∷ texts)) ≡ behind (front ++ option_to_list (line_at number act))
-    (lines_from (number + 1) texts)
-line_read number front text texts act is = rw is (with_others front (line_at number act) (lines_from (number + 1) texts))
+abbrev IsSmall : PageLine → Type 0
+IsSmall line = HasOrder line.act
 
--- the orders of the lines so far, and of one more
-pub orders_on : (number : ℕ) (act : Option PageAct) → IfSome act HasOrder → (ls : List PageLine) → HaveOrders ls
-    → HaveOrders (ls ++ option_to_list (line_at number act))
-orders_on number None order [] orders = tt
-orders_on number (Some act) order [] orders = (order, tt)
-orders_on number act order (l ∷ ls) orders = (orders.0, orders_on number act order ls orders.1)
+pub have_orders : (lines : List PageLine) → All IsSmall lines → HaveOrders lines
+have_orders [] all = tt
+have_orders (line ∷ lines) all = (All-head IsSmall line lines all, have_orders lines (All-tail IsSmall line lines all))

@@ -1,16 +1,14 @@
 -- The forms of a line of a page script: the words after the first, and the act that they spell.
 -- The form is checked before all numbers.
-use Rattle.std.specs.Prelude.{ℕ, if◌then◌else◌, List, codes, Option, Result, Ok, Err}
+use Rattle.std.specs.Prelude.{ℕ, if◌then◌else◌, List, codes, Result, Ok, Err}
 use Rattle.std.specs.Str.{bytes_eq}
 use Rattle.bm_base.specs.declared.zone.Zone.{Zone}
 use Rattle.bm_base.specs.declared.zone.Zone.TheVariants as zones
 use Rattle.bm_base.specs.ResultSteps.{◌>>=◌}
-use Rattle.text_words.specs.Words.{words_in}
-use Rattle.text_words.specs.declared.separators.Separators.TheVariants as separators
 use Rattle.script_reader.specs.declared.fault.Wrong.{Wrong}
 use Rattle.script_reader.specs.declared.fault.Wrong.TheVariants as wrong
 use Rattle.script_reader.specs.Numbers.{Words, first_word, one_word, bounded}
-use Rattle.script_reader.specs.Forms.{greatest_id, greatest_node, asked_by}
+use Rattle.script_reader.specs.Forms.{greatest_id, greatest_node}
 use Rattle.page_alloc.specs.declared.act.PageAct.{PageAct}
 use Rattle.page_alloc.specs.declared.act.PageAct.TheVariants as acts
 
@@ -62,7 +60,3 @@ by_name name words =
     if bytes_eq name (codes "pages") then pages_line words else
     (if bytes_eq name (codes "near") then near_line words else
     (if bytes_eq name (codes "give") then give_line words else Err wrong.Form))
-
--- the act of the line with this text, if it has a command
-abbrev pub asked : List ℕ → Result (Option PageAct) Wrong
-asked text = asked_by by_name (words_in separators.Script text)

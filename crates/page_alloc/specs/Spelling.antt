@@ -1,13 +1,11 @@
--- The spelling of a line of a page script: the form of its words, and the limits of its numbers.
--- Its fault is a wrong form, or else a wrong number.
-use Rattle.std.specs.Prelude.{◌≡◌, ℕ, List, [], ◌∷◌, codes}
+-- How a user writes a line of a page script: the form of its words, and the limits of its numbers.
+use Rattle.std.specs.Prelude.{ℕ, List, [], ◌∷◌, codes}
 use Rattle.bm_base.specs.declared.zone.Zone.{Zone}
 use Rattle.bm_base.specs.declared.zone.Zone.TheVariants as zones
 use Rattle.script_reader.specs.declared.fault.Wrong.{Wrong}
-use Rattle.script_reader.specs.declared.fault.Wrong.TheVariants as wrong
 use Rattle.script_reader.specs.Numbers.{Words}
 use Rattle.script_reader.specs.Forms.{greatest_id, greatest_node}
-use Rattle.script_reader.specs.Spelling.{IsPassedOver, IsWithin, value}
+use Rattle.script_reader.specs.Grammar.{IsWithin, value, Grammar}
 use Rattle.page_alloc.specs.declared.act.PageAct.{PageAct}
 use Rattle.page_alloc.specs.declared.act.PageAct.TheVariants as acts
 use Rattle.page_alloc.specs.Forms.{greatest_order}
@@ -43,20 +41,10 @@ act_of (pages id order node zone) = acts.Pages (value id) (value order) (value n
 act_of (near id order node) = acts.Near (value id) (value order) (value node)
 act_of (give id) = acts.Give (value id)
 
--- the words have a form
-abbrev pub HasForm : Words → Type 0
-HasForm words = (form : Form) × (words ≡ words_of form)
+-- the lines of a page script, as a user writes them
+abbrev pub page_grammar : Grammar PageAct
+page_grammar = record { Form = Form; words_of = words_of; HasNumbers = HasNumbers; act_of = act_of }
 
--- the words spell the act: they have a form, its numbers are sizes within their limits, and the
--- act has these numbers
-pub record SpellsAct (words : Words) (act : PageAct) : Type 0 where
-  pub form : Form
-  pub spelled : words ≡ words_of form
-  pub numbers : HasNumbers form
-  pub asks : act ≡ act_of form
-
--- the first condition that these words don't meet
-abbrev pub HasFault : Words → Wrong → Type 0
-HasFault words wrong.Form = (¬ (IsPassedOver words)) × (¬ (HasForm words))
-HasFault words wrong.Number = (form : Form) × (words ≡ words_of form) × (¬ (HasNumbers form))
-HasFault words other = ⊥
+-- an act has no fault if its numbers are right
+abbrev pub Fails : PageAct → Wrong → Type 0
+Fails act wrong = ⊥

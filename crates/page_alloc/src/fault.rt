@@ -1,7 +1,5 @@
 //! The reason why a page script is refused.
 
-use bm_base::Memory;
-
 /// The reason why a page script is refused. `line` is the number of the lowest line that has a
 /// fault, from 1 on. If that line has both faults, the first of this list is reported.
 #[derive(Clone, Copy, Debug, PartialEq, Eq)]
@@ -13,15 +11,4 @@ pub enum PageFault {
     BadNumber { line: u32 },
     /// The program ran out of memory. This is returned only if no line has a fault.
     Memory,
-}
-
-impl From<Memory> for PageFault {
-    ghost use Rattle.std.specs.Prelude.{◌≡◌};
-    ghost use Rattle.page_alloc.specs.declared.fault.PageFault.TheVariants as faults;
-
-    ghost from_gives = { λ _ fault. fault ≡ faults.Memory };
-
-    fn from(_memory: Memory) -> PageFault {
-        PageFault::Memory
-    }
 }

@@ -1,49 +1,27 @@
-//! Reads one line. Its first word selects the form; the steps of each form are in the order of the
-//! faults.
+//! Reads the words of one line. The first selects the form; the steps of each form are in the order
+//! of the faults.
 
-ghost use Rattle.std.specs.Prelude.{◌≡◌, ◌<◌, length, IfOk, IfErr, IfSome};
+ghost use Rattle.std.specs.Prelude.{◌≡◌, IfOk, IfErr};
 ghost use Rattle.script_reader.specs.Numbers.{IsOfWords};
 ghost use Rattle.text_words.specs.Words.{words_in};
 ghost use Rattle.text_words.specs.declared.separators.Separators.TheVariants as separators;
-ghost use Rattle.page_alloc.specs.Forms.{zone_named as zone_of_name, pages_line as pages_of, near_line as near_of, give_line as give_of, by_name as named_line, asked};
+ghost use Rattle.page_alloc.specs.Forms.{zone_named as zone_of_name, pages_line as pages_of, near_line as near_of, give_line as give_of, by_name as named_line};
 ghost use Rattle.page_alloc.specs.Pages.{HasOrder};
 
 use crate::act::PageAct;
 use bm_base::Zone;
-use script_reader::{GREATEST_ID, GREATEST_NODE, Wrong, bounded, first_word, is_comment, one_word};
-use text_words::{Separators, next_word};
+use script_reader::{GREATEST_ID, GREATEST_NODE, Wrong, bounded, first_word, one_word};
 
 /// The largest order of a block.
 const GREATEST_ORDER: u64 = 10;
-
-/// Returns the command of a line, or `None` if it has no words or is a comment.
-///
-/// # Errors
-///
-/// - `Form`: the words have no form.
-/// - `Number`: the words have a form, but a number is malformed or above its limit.
-pub fn read_line(text: &[u8]) -> Result<Option<PageAct>, Wrong>
-    ensures value { result ≡ asked text.now }
-    ensures order { IfOk result (λ act. IfSome act HasOrder) }
-    ensures asks { IfOk result (λ act. IfSome act (λ _. 0 < length text.now)) }
-    ensures of_words { IfErr result IsOfWords }
-    ensures wrong { IfErr result (λ _. 0 < length text.now) }
-{
-    let Some((name, rest)) = next_word(text, Separators::Script) else {
-        return Ok(None);
-    };
-    if is_comment(name) {
-        return Ok(None);
-    }
-    Ok(Some(by_name(name, rest)?))
-}
 
 /// Reads the words after the first one, which is the name of the command.
 ///
 /// # Errors
 ///
-/// - Those of [`read_line`].
-fn by_name(name: &[u8], rest: &[u8]) -> Result<PageAct, Wrong>
+/// - `Form`: the words have no form.
+/// - `Number`: the words have a form, but a number is malformed or above its limit.
+pub fn by_name(name: &[u8], rest: &[u8]) -> Result<PageAct, Wrong>
     ensures value { result ≡ named_line name.now (words_in separators.Script rest.now) }
     ensures order { IfOk result HasOrder }
     ensures of_words { IfErr result IsOfWords }

@@ -1,20 +1,42 @@
-//! Reads a whole page script: its lines one after another, up to the first that has a fault.
-//!
-//! Only the list of lines allocates. If memory runs out, the rest of the script is still read, so
-//! that a fault in any line is found.
+//! Reads a whole page script.
 
-ghost use Rattle.std.specs.Prelude.{◌≡◌, ◌<◌, ◌^◌, length, Err, IfOk, IfSome, IsOkAnd};
+ghost use Rattle.std.specs.Prelude.{◌≡◌, ◌<◌, ◌^◌, length, Err, IfOk, IsOkAnd};
 ghost use Rattle.bm_base.specs.Answers.{Answers};
 ghost use Rattle.script_reader.specs.Numbers.{IsOfWords};
 ghost use Rattle.page_alloc.specs.Pages.{HaveOrders};
-ghost use Rattle.page_alloc.specs.Reading.{fault_at as line_fault, line_at as line_of, pages_of};
+ghost use Rattle.page_alloc.specs.Reading.{fault_at as line_fault, pages_of};
 
 use crate::act::{PageAct, PageLine};
 use crate::fault::PageFault;
-use crate::forms::read_line;
-use script_reader::{Wrong, keep};
+use crate::forms::by_name;
+use script_reader::{ScriptLine, Unread, Wrong, read_lines};
 use std::alloc::Global;
-use text_words::{Separators, next_part};
+
+impl ScriptLine for PageLine {
+    ghost use Rattle.script_reader.specs.Numbers.{IsOfWords};
+    ghost use Rattle.page_alloc.specs.Pages.{HasOrder};
+    ghost use Rattle.page_alloc.specs.Reading.{page_lines};
+
+    type Act = PageAct;
+
+    ghost kind = { page_lines };
+
+    ghost IsWithinLimits = { λ line. HasOrder line.act };
+
+    ghost MayBeWrong = { IsOfWords };
+
+    fn by_name(_seen: bool, name: &[u8], rest: &[u8]) -> Result<PageAct, Wrong> {
+        by_name(name, rest)
+    }
+
+    fn is_once(_act: &PageAct) -> bool {
+        false
+    }
+
+    fn new(number: u32, act: PageAct) -> PageLine {
+        PageLine { number, act }
+    }
+}
 
 /// Reads a page script, and returns the lines that have a command, in their order.
 ///
@@ -33,33 +55,10 @@ pub fn read_pages(alloc: Global, bytes: &[u8]) -> Result<Vec<PageLine>, PageFaul
     ensures memory { result ≡ Err PageFault.Memory → IsOkAnd (pages_of bytes.now) (λ lines. 0 < length lines) }
     ensures orders { IfOk result (λ lines. HaveOrders lines.items) }
 {
-    let mut lines = Ok(Vec::new(alloc));
-    let mut number: u64 = 1;
-    let mut rest = Some(bytes);
-    while let Some(text) = rest {
-        let (text, behind) = next_part(text, Separators::Byte(b'\n'));
-        let act = match read_line(text) {
-            Ok(act) => act,
-            Err(wrong) => return Err(fault_at(number as u32, wrong)),
-        };
-        lines = keep(lines, line_at(number, act));
-        number += 1;
-        rest = behind;
-    }
-    Ok(lines?)
-}
-
-/// Returns the line with this number, if it has a command.
-fn line_at(number: u64, act: Option<PageAct>) -> Option<PageLine>
-    requires { IfSome act (λ _. number < 2 ^ 32) }
-    ensures { result ≡ line_of number act }
-{
-    match act {
-        Some(act) => Some(PageLine {
-            number: number as u32,
-            act,
-        }),
-        None => None,
+    match read_lines::<PageLine>(alloc, bytes) {
+        Ok(lines) => Ok(lines),
+        Err(Unread::Faulty(line, wrong)) => Err(fault_at(line, wrong)),
+        Err(Unread::Memory) => Err(PageFault::Memory),
     }
 }
 

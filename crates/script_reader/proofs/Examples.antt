@@ -1,5 +1,6 @@
 -- Worked examples of words, lines and scripts.
 use Rattle.std.proofs.Common.{◌≡◌, ℕ, ◌-◌, ◌^◌, true, false, List, Some, None, [], ◌∷◌, Ok, Err, codes, refl, ap, inl, inr, lit<, lit≤, arith}
+use Rattle.text_words.specs.Spelling.{HasWords, no_byte, blank_first, word_alone, word_first}
 use Rattle.text_words.specs.Words.{words_in, IsWord}
 use Rattle.text_words.specs.declared.separators.Separators.TheVariants as separators
 use Rattle.script_reader.specs.declared.act.Act.TheVariants as acts
@@ -7,10 +8,12 @@ use Rattle.script_reader.specs.declared.fault.Wrong.TheVariants as wrong
 use Rattle.script_reader.specs.declared.fault.ScriptFault.TheVariants as faults
 use Rattle.script_reader.specs.Numbers.{Words, IsOfWords, no_words, first_word, one_word, two_words, three_words, optional, whole, number, within, bounded, optional_number, power, some, range_at}
 use Rattle.script_reader.specs.Forms.{greatest, greatest_id, greatest_node, greatest_byte, greatest_len, optional_exact, alloc_words, alloc_line, reserve_line, free_line, trim_line, fill_line, peek_line, sections_line, by_name, is_comment, asked_by, HasBounds}
-use Rattle.script_reader.specs.Spelling.{HasWords, no_byte, blank_first, word_alone, word_first, IsPassedOver, no_words as no_word, comment, no_node, near_node, exact_node, alloc, trim, peek, sections, keyed, node_words, IsWithin, node_number, is_exact, HasNumbers, front_value, value, act_of, IsAligned, HasSize, IsInSpace, HasForm, SpellsNumbers, SpellsAct, HasFault}
+use Rattle.script_reader.specs.Grammar.{IsPassedOver, no_words as no_word, comment, IsWithin, front_value, value, HasForm, SpellsNumbers, HasFault}
+use Rattle.script_reader.specs.Spelling.{no_node, near_node, exact_node, alloc, trim, peek, sections, keyed, node_words, node_number, is_exact, HasNumbers, act_of, IsAligned, HasSize, IsInSpace, script_grammar, SpellsAct, Fails}
 use Rattle.script_reader.specs.ScriptSpelling.{HasSectionsLine, LineAsksFor, LineHasFault, LinesAskFor, IsFirstFault}
 use Rattle.script_reader.proofs.StepLaws.{words_spelled}
-use Rattle.script_reader.specs.Script.{fault_at, is_sections, seen_behind, asked, line_at, lines_from, script_of}
+use Rattle.script_reader.specs.Lines.{seen_behind, asked, line_at, lines_from}
+use Rattle.script_reader.specs.Script.{fault_at, is_sections, script_lines, script_of}
 
 -- the words of a line, or of the rest of one
 abbrev in_words : List ℕ → Words
@@ -93,8 +96,8 @@ comments : (is_comment (codes "#free") ≡ true) × (is_comment (codes "free#") 
 comments = (refl, refl)
 
 asked_examples : (asked_by (by_name false) [] ≡ Ok None) × (asked_by (by_name false) (in_words (codes "# free")) ≡ Ok None)
-    × (asked false (codes "\t\r") ≡ Ok None) × (asked_by (by_name false) (in_words (codes "free 1")) ≡ Ok (Some (acts.Free 1)))
-    × (asked false (codes " free\t1\r") ≡ Ok (Some (acts.Free 1)))
+    × (asked script_lines false (codes "\t\r") ≡ Ok None) × (asked_by (by_name false) (in_words (codes "free 1")) ≡ Ok (Some (acts.Free 1)))
+    × (asked script_lines false (codes " free\t1\r") ≡ Ok (Some (acts.Free 1)))
 asked_examples = (refl, refl, refl, refl, refl)
 
 -- the limits of an act
@@ -106,10 +109,10 @@ has_none bounds = let few = bounds.1 in omega (arith, few)
 
 -- a fault with its line; `sections` counts from its line on
 lines_one_by_one : (fault_at 3 wrong.Form ≡ faults.BadLine 3) × (fault_at 7 wrong.TooFar ≡ faults.TooFar 7)
-    × (is_sections acts.Sections ≡ true) × (is_sections (acts.Free 1) ≡ false) × (seen_behind false (Some acts.Sections) ≡ true)
-    × (seen_behind true None ≡ true) × (seen_behind false None ≡ false) × (line_at 4 None ≡ None)
-    × (line_at 4 (Some (acts.Free 1)) ≡ Some (record { number = 4; act = acts.Free 1 }))
-    × (lines_from false 5 (codes "" ∷ codes "free 1" ∷ []) ≡ Ok (record { number = 6; act = acts.Free 1 } ∷ []))
+    × (is_sections acts.Sections ≡ true) × (is_sections (acts.Free 1) ≡ false) × (seen_behind script_lines false (Some acts.Sections) ≡ true)
+    × (seen_behind script_lines true None ≡ true) × (seen_behind script_lines false None ≡ false) × (line_at script_lines 4 None ≡ None)
+    × (line_at script_lines 4 (Some (acts.Free 1)) ≡ Some (record { number = 4; act = acts.Free 1 }))
+    × (lines_from script_lines false 5 (codes "" ∷ codes "free 1" ∷ []) ≡ Ok (record { number = 6; act = acts.Free 1 } ∷ []))
 lines_one_by_one = (refl, refl, refl, refl, refl, refl, refl, refl, refl, refl)
 
 -- whole scripts: the last line may lack its newline; the fault of the lowest line is reported,
@@ -121,7 +124,7 @@ whole_scripts : (script_of (codes "free 1\n\nfree 2")
 whole_scripts = (refl, refl, refl, refl, refl)
 
 -- a line with blanks around its words, and one that begins with a word
-spelled_words : HasWords (codes " free\t7 ") (codes "free" ∷ codes "7" ∷ []) × HasWords (codes "free 7") (codes "free" ∷ codes "7" ∷ [])
+spelled_words : HasWords separators.Script (codes " free\t7 ") (codes "free" ∷ codes "7" ∷ []) × HasWords separators.Script (codes "free 7") (codes "free" ∷ codes "7" ∷ [])
 spelled_words =
     let name : IsWord separators.Script (codes "free") = record { some = lit< tt; closed = (refl, (refl, (refl, (refl, refl)))) } in
     let id : IsWord separators.Script (codes "7") = record { some = lit< tt; closed = (refl, refl) } in (
@@ -143,8 +146,8 @@ spelled_options : (keyed (codes "min") None ≡ []) × (keyed (codes "min") (Som
 spelled_options = (refl, refl, refl, refl, refl, refl, refl, refl, refl)
 
 -- any word may stand for a number: here `max` is a lower limit, and then the key after it
-any_word_for_a_number : HasForm (codes "alloc" ∷ codes "1" ∷ codes "1" ∷ codes "1" ∷ codes "min" ∷ codes "max" ∷ codes "max" ∷ codes "1" ∷ [])
-    × HasForm (codes "alloc" ∷ codes "1" ∷ codes "1" ∷ codes "1" ∷ codes "node" ∷ codes "exact" ∷ [])
+any_word_for_a_number : HasForm script_grammar (codes "alloc" ∷ codes "1" ∷ codes "1" ∷ codes "1" ∷ codes "min" ∷ codes "max" ∷ codes "max" ∷ codes "1" ∷ [])
+    × HasForm script_grammar (codes "alloc" ∷ codes "1" ∷ codes "1" ∷ codes "1" ∷ codes "node" ∷ codes "exact" ∷ [])
 any_word_for_a_number = (
   (alloc (codes "1") (codes "1") (codes "1") (Some (codes "max")) (Some (codes "1")) no_node, refl),
   (alloc (codes "1") (codes "1") (codes "1") None None (near_node (codes "exact")), refl),
@@ -174,7 +177,7 @@ conditions : HasSize (acts.Trim 1 1) × (HasSize (acts.Trim 1 0) → ⊥) × IsI
     × (IsInSpace (acts.Peek (2 ^ 64 - 64) 64) → ⊥) × IsAligned (acts.Free 1)
 conditions = (lit< tt, λ is. omega (arith, is), lit< tt, λ is. omega (arith, is), tt)
 
-peek_numbers : SpellsNumbers (codes "peek" ∷ codes "0x10" ∷ codes "64" ∷ []) (acts.Peek 16 64)
+peek_numbers : SpellsNumbers script_grammar (codes "peek" ∷ codes "0x10" ∷ codes "64" ∷ []) (acts.Peek 16 64)
 peek_numbers = record { form = peek (codes "0x10") (codes "64"); spelled = refl; numbers = has_numbers.0; asks = refl }
 
 spelled_peek : SpellsAct (codes "peek" ∷ codes "0x10" ∷ codes "64" ∷ []) (acts.Peek 16 64)
@@ -189,16 +192,15 @@ spells_sections = record {
   in_space = tt;
 }
 
-faults_of_words : HasFault false (codes "trim" ∷ codes "1" ∷ codes "0" ∷ []) wrong.ZeroSize
-    × HasFault true (codes "sections" ∷ []) wrong.SecondSections
+faults_of_words : HasFault script_grammar (Fails false) (codes "trim" ∷ codes "1" ∷ codes "0" ∷ []) wrong.ZeroSize
+    × HasFault script_grammar (Fails true) (codes "sections" ∷ []) wrong.SecondSections
 faults_of_words = (
   (
     acts.Trim 1 0,
     record { form = trim (codes "1") (codes "0"); spelled = refl; numbers = ((1, refl, lit≤ tt), (0, refl, lit≤ tt)); asks = refl },
-    tt,
-    λ is. omega (arith, is),
+    (tt, λ is. omega (arith, is)),
   ),
-  (spells_sections, refl),
+  (acts.Sections, spells_sections.numbers, (refl, refl)),
 )
 
 -- whole scripts: a comment has no command; the fault of the first line
@@ -208,7 +210,7 @@ none_earlier has = omega (arith, has.1.1)
 lines_asked : LineAsksFor [] (codes "#") None × LinesAskFor [] (codes "sections" ∷ codes "#" ∷ []) (record { number = 1; act = acts.Sections } ∷ [])
 lines_asked =
     let hash : IsWord separators.Script (codes "#") = record { some = lit< tt; closed = (refl, refl) } in
-    let words : HasWords (codes "#") (codes "#" ∷ []) = word_alone (codes "#") hash in (
+    let words : HasWords separators.Script (codes "#") (codes "#" ∷ []) = word_alone (codes "#") hash in (
       (codes "#" ∷ [], words, comment [] []),
       (
         Some acts.Sections,

@@ -1,8 +1,7 @@
 -- Lemmas: a line is read as what it spells, and has the fault of the first condition that it
 -- doesn't meet.
-use Rattle.std.proofs.Common.{◌≡◌, ℕ, ◌==◌, Bool, true, false, if◌then◌else◌, List, [], ◌∷◌, ◌++◌, codes, Option, Some, None, Result, Ok, Err, refl, ◌∙◌, ap, arith, ◌⊎◌, ◌↔◌, inl, inr}
+use Rattle.std.proofs.Common.{◌≡◌, ℕ, Bool, true, false, if◌then◌else◌, List, [], ◌∷◌, ◌++◌, codes, Option, Some, None, Result, Ok, Err, refl, ◌∙◌, ap, ◌⊎◌, ◌↔◌, inl, inr}
 use Rattle.std.specs.Str.{bytes_eq}
-use Rattle.std.proofs.lemmas.Bool.Decides.{nat_tests}
 use Rattle.std.proofs.lemmas.List.{append-nil}
 use Rattle.std.proofs.lemmas.Slice.Eq.{bytes_eq-Decides}
 use Rattle.bm_base.specs.ResultSteps.{◌>>=◌}
@@ -10,9 +9,11 @@ use Rattle.script_reader.specs.declared.act.Act.{Act}
 use Rattle.script_reader.specs.declared.act.Act.TheVariants as acts
 use Rattle.script_reader.specs.declared.fault.Wrong.{Wrong}
 use Rattle.script_reader.specs.declared.fault.Wrong.TheVariants as wrong
-use Rattle.script_reader.specs.Forms.{greatest, greatest_id, greatest_node, greatest_byte, greatest_len, optional_exact, alloc_words, alloc_line, reserve_line, free_line, trim_line, fill_line, peek_line, sections_line, by_name, asked_by, is_comment}
+use Rattle.script_reader.specs.Forms.{greatest, greatest_id, greatest_node, greatest_byte, greatest_len, optional_exact, alloc_words, alloc_line, reserve_line, free_line, trim_line, fill_line, peek_line, sections_line, by_name, asked_by}
 use Rattle.script_reader.specs.Numbers.{Words, optional, some, range_at, power}
-use Rattle.script_reader.specs.Spelling.{IsPassedOver, no_words as no_word, comment, NodeWords, no_node, near_node, exact_node, Form, alloc, reserve, free, trim, fill, peek, sections, keyed, node_words, words_of, node_number, is_exact, HasNumbers, act_of, IsAligned, HasSize, IsInSpace, HasForm, SpellsNumbers, SpellsAct, HasFault}
+use Rattle.script_reader.specs.Grammar.{HasForm}
+use Rattle.script_reader.specs.Spelling.{NodeWords, no_node, near_node, exact_node, Form, alloc, reserve, free, trim, fill, peek, sections, keyed, node_words, words_of, node_number, is_exact, HasNumbers, act_of, IsAligned, HasSize, IsInSpace, script_grammar, SpellsAct, Fails}
+use Rattle.script_reader.proofs.GrammarLaws.{Reads, act_read as act_read_by}
 use Rattle.script_reader.proofs.StepLaws.{passed, failed, within_or, number_or, optional_or, power_or, some_or, range_or, is_key, at_end, one_or, two_or, three_or, optional_spelled}
 
 abbrev node_of : Option (List ℕ) → Bool → NodeWords
@@ -33,7 +34,7 @@ node_spelled (Some node) (w ∷ ws) = by_test (bytes_eq w (codes "exact")) refl
     by_test true is = rw is (ap (λ (k : List ℕ). codes "node" ∷ node ∷ k ∷ ws) ((bytes_eq-Decides w (codes "exact")).0 is))
     by_test false isnt = rw isnt refl
 
-alloc_form : (words : Words) → HasForm (codes "alloc" ∷ words) ⊎ (alloc_line words ≡ Err wrong.Form)
+alloc_form : (words : Words) → HasForm script_grammar (codes "alloc" ∷ words) ⊎ (alloc_line words ≡ Err wrong.Form)
 alloc_form [] = inr refl
 alloc_form (i ∷ []) = inr refl
 alloc_form (i ∷ s ∷ []) = inr refl
@@ -56,11 +57,11 @@ alloc_form (i ∷ s ∷ a ∷ words) =
       | inr more ↦ inr (rw more refl)
     ]
 
-sections_form : (seen : Bool) (words : Words) → HasForm (codes "sections" ∷ words) ⊎ (sections_line seen words ≡ Err wrong.Form)
+sections_form : (seen : Bool) (words : Words) → HasForm script_grammar (codes "sections" ∷ words) ⊎ (sections_line seen words ≡ Err wrong.Form)
 sections_form seen [] = inl (sections, refl)
 sections_form seen (w ∷ ws) = inr refl
 
-named : (seen : Bool) (name : List ℕ) (words : Words) → HasForm (name ∷ words) ⊎ (by_name seen name words ≡ Err wrong.Form)
+pub named : (seen : Bool) (name : List ℕ) (words : Words) → HasForm script_grammar (name ∷ words) ⊎ (by_name seen name words ≡ Err wrong.Form)
 named seen name words =
     elim (is_key name (codes "alloc")) [
       | inl is ↦ rw is (alloc_form words)
@@ -149,7 +150,7 @@ abbrev Numbered : Bool → Form → Type 0
 Numbered seen form = (HasNumbers form × (form_line seen form ≡ checked seen (act_of form)))
     ⊎ ((¬ (HasNumbers form)) × (form_line seen form ≡ Err wrong.Number))
 
-numbers_or : (seen : Bool) (form : Form) → Numbered seen form
+pub numbers_or : (seen : Bool) (form : Form) → Numbered seen form
 numbers_or seen (alloc i s a min max node) =
     elim (within_or greatest_id i) [
       | inl id ↦ elim (number_or s) [
@@ -213,21 +214,13 @@ numbers_or seen (peek a l) =
 numbers_or seen sections = inl (tt, refl)
 
 -- an act passes all checks, or has the fault of the first that fails
-record Passes (seen : Bool) (act : Act) : Type 0 where
-  aligned : IsAligned act
-  size : HasSize act
-  in_space : IsInSpace act
-  once : act ≡ acts.Sections → seen ≡ false
+pub record Passes (seen : Bool) (act : Act) : Type 0 where
+  pub aligned : IsAligned act
+  pub size : HasSize act
+  pub in_space : IsInSpace act
+  pub once : act ≡ acts.Sections → seen ≡ false
 
-abbrev Fails : Bool → Act → Wrong → Type 0
-Fails seen act wrong.Form = ⊥
-Fails seen act wrong.Number = ⊥
-Fails seen act wrong.Align = ¬ (IsAligned act)
-Fails seen act wrong.ZeroSize = IsAligned act × (¬ (HasSize act))
-Fails seen act wrong.SecondSections = (act ≡ acts.Sections) × (seen ≡ true)
-Fails seen act wrong.TooFar = IsAligned act × HasSize act × (¬ (IsInSpace act))
-
-act_or : (seen : Bool) (act : Act)
+pub act_or : (seen : Bool) (act : Act)
     → (Passes seen act × (checked seen act ≡ Ok act)) ⊎ ((fault : Wrong) × Fails seen act fault × (checked seen act ≡ Err fault))
 act_or seen (acts.Alloc id request) =
     elim (power_or request.align) [
@@ -272,12 +265,12 @@ passes_not seen act wrong.ZeroSize passes fails = fails.1 passes.size
 passes_not seen act wrong.SecondSections passes fails = let once : seen ≡ false = passes.once fails.0 in cc (once, fails.1)
 passes_not seen act wrong.TooFar passes fails = fails.2 passes.in_space
 
-checked_passes : (seen : Bool) (act : Act) → Passes seen act → checked seen act ≡ Ok act
+pub checked_passes : (seen : Bool) (act : Act) → Passes seen act → checked seen act ≡ Ok act
 checked_passes seen act passes =
     elim (act_or seen act) [ inl is ↦ is.1 | inr bad ↦ absurd (passes_not seen act bad.0 passes bad.1) ]
 
 -- an act that fails a check has its fault
-checked_fails : (seen : Bool) (act : Act) (fault : Wrong) → Fails seen act fault → checked seen act ≡ Err fault
+pub checked_fails : (seen : Bool) (act : Act) (fault : Wrong) → Fails seen act fault → checked seen act ≡ Err fault
 checked_fails seen act wrong.Form fails = absurd fails
 checked_fails seen act wrong.Number fails = absurd fails
 checked_fails seen (acts.Alloc id request) wrong.Align fails = rw (failed (power_or request.align) fails) refl
@@ -296,7 +289,7 @@ checked_fails seen (acts.Peek at len) wrong.TooFar fails =
 checked_fails seen act wrong.TooFar fails = absurd (fails.2 tt)
 
 -- the words of a form are read by the code for that form
-form_asked : (seen : Bool) (form : Form) → asked_by (by_name seen) (words_of form) ≡ (form_line seen form >>= λ act. Ok (Some act))
+pub form_asked : (seen : Bool) (form : Form) → asked_by (by_name seen) (words_of form) ≡ (form_line seen form >>= λ act. Ok (Some act))
 form_asked seen (alloc i s a min max node) = refl
 form_asked seen (reserve i b s) = refl
 form_asked seen (free i) = refl
@@ -305,155 +298,37 @@ form_asked seen (fill i b) = refl
 form_asked seen (peek a l) = refl
 form_asked seen sections = refl
 
-spelled_asked : (seen : Bool) (words : Words) (act : Act) → SpellsNumbers words act
-    → asked_by (by_name seen) words ≡ (checked seen act >>= λ act. Ok (Some act))
-spelled_asked seen words act spells =
-    elim (numbers_or seen spells.form) [
-      | inl good ↦ rw (spells.spelled, form_asked seen spells.form, good.1, spells.asks) refl
-      | inr bad ↦ absurd (bad.0 spells.numbers)
-    ]
+-- what the laws of lines need of the forms of an early script
+abbrev pub script_reads : Bool → Reads Act
+script_reads seen = record {
+  forms = by_name seen;
+  grammar = script_grammar;
+  Passes = Passes seen;
+  Fails = Fails seen;
+  named = named seen;
+  checked = checked seen;
+  numbers = λ form. elim (numbers_or seen form) [
+    | inl good ↦ inl (good.0, rw (form_asked seen form, good.1) refl)
+    | inr bad ↦ inr (bad.0, rw (form_asked seen form, bad.1) refl)
+  ];
+  judged = act_or seen;
+  passed = checked_passes seen;
+  failed = checked_fails seen;
+  not_form = λ act fails. fails;
+  not_number = λ act fails. fails;
+}
 
--- the words of a form never have the fault `Form`
-not_form : (seen : Bool) (form : Form) → form_line seen form ≡ Err wrong.Form → ⊥
-not_form seen form is =
-    elim (numbers_or seen form) [
-      | inl good ↦ elim (act_or seen (act_of form)) [
-        | inl ok ↦ cc (is, good.1, ok.1)
-        | inr bad ↦ let same : bad.0 ≡ wrong.Form = cc (is, good.1, bad.2) in (rw same at bad.1)
-      ]
-      | inr bad ↦ cc (is, bad.1)
-    ]
-
--- every list of words has one of three meanings: no command, an act, or a fault
-pub data Verdict (seen : Bool) (words : Words) : Type 0 where
-  passed_over : IsPassedOver words → asked_by (by_name seen) words ≡ Ok None → Verdict seen words
-  asks : (act : Act) → SpellsAct words act → (act ≡ acts.Sections → seen ≡ false) → asked_by (by_name seen) words ≡ Ok (Some act)
-      → Verdict seen words
-  at_fault : (fault : Wrong) → HasFault seen words fault → asked_by (by_name seen) words ≡ Err fault → Verdict seen words
-
-act_fault : (seen : Bool) (words : Words) (act : Act) (fault : Wrong) → SpellsNumbers words act → Fails seen act fault
-    → HasFault seen words fault
-act_fault seen words act wrong.Form spells fails = absurd fails
-act_fault seen words act wrong.Number spells fails = absurd fails
-act_fault seen words act wrong.Align spells fails = (act, spells, fails)
-act_fault seen words act wrong.ZeroSize spells fails = (act, spells, fails.0, fails.1)
-act_fault seen words act wrong.SecondSections spells fails =
-    (record { numbers = rw fails.0 at spells; aligned = tt; size = tt; in_space = tt }, fails.1)
-act_fault seen words act wrong.TooFar spells fails = (act, spells, fails.0, fails.1, fails.2)
-
-form_judged : (seen : Bool) (form : Form) → Verdict seen (words_of form)
-form_judged seen form =
-    elim (numbers_or seen form) [
-      | inl good ↦ let spells : SpellsNumbers (words_of form) (act_of form) =
-          record { form = form; spelled = refl; numbers = good.0; asks = refl } in
-          elim (act_or seen (act_of form)) [
-            | inl ok ↦ asks (act_of form)
-                (record { numbers = spells; aligned = ok.0.aligned; size = ok.0.size; in_space = ok.0.in_space })
-                ok.0.once (rw (spelled_asked seen (words_of form) (act_of form) spells, ok.1) refl)
-            | inr bad ↦ at_fault bad.0 (act_fault seen (words_of form) (act_of form) bad.0 spells bad.1)
-                (rw (spelled_asked seen (words_of form) (act_of form) spells, bad.2) refl)
-          ]
-      | inr bad ↦ at_fault wrong.Number (form, refl, bad.0) (rw (form_asked seen form, bad.1) refl)
-    ]
-
--- a first word begins a comment, or doesn't
-pub comment_or : (name : List ℕ) → ((word : List ℕ) × (name ≡ codes "#" ++ word)) ⊎ (is_comment name ≡ false)
-comment_or [] = inr refl
-comment_or (b ∷ bs) = by_test (b == 35) refl
-  where
-    by_test : (t : Bool) → (b == 35) ≡ t → ((word : List ℕ) × (b ∷ bs ≡ codes "#" ++ word)) ⊎ ((b == 35) ≡ false)
-    by_test true is = let same : b ≡ 35 = grind (arith, nat_tests, is) in inl (bs, ap (λ (a : ℕ). a ∷ bs) same)
-    by_test false isnt = inr isnt
-
-pub not_comment : (name : List ℕ) (words : Words) → is_comment name ≡ false → ¬ (IsPassedOver (name ∷ words))
-not_comment name words isnt (comment word others) = cc
-
--- words that aren't a comment have a form, or have the fault `Form`
-named_or : (seen : Bool) (name : List ℕ) (words : Words) → is_comment name ≡ false
-    → HasForm (name ∷ words) ⊎ ((¬ (HasForm (name ∷ words))) × (asked_by (by_name seen) (name ∷ words) ≡ Err wrong.Form))
-named_or seen name words isnt =
-    elim (named seen name words) [
-      | inl form ↦ inl form
-      | inr bad ↦ let asked_bad : asked_by (by_name seen) (name ∷ words) ≡ Err wrong.Form = rw (isnt, bad) refl in
-          inr (λ form. not_form seen form.0 (only (form_line seen form.0) (cc (form.1, form_asked seen form.0, asked_bad))), asked_bad)
-    ]
-  where
-    only : (r : Result Act Wrong) → (r >>= λ act. Ok (Some act)) ≡ Err wrong.Form → r ≡ Err wrong.Form
-    only (Ok act) is = cc
-    only (Err fault) is = cc
-
-line_judged : (seen : Bool) (words : Words) → Verdict seen words
-line_judged seen [] = passed_over no_word refl
-line_judged seen (name ∷ words) =
-    elim (comment_or name) [
-      | inl is ↦ rw is.1 (passed_over (comment is.0 words) refl)
-      | inr isnt ↦ elim (named_or seen name words isnt) [
-        | inl form ↦ rw form.1 (form_judged seen form.0)
-        | inr bad ↦ at_fault wrong.Form (not_comment name words isnt, bad.0) bad.1
-      ]
-    ]
-
--- a line is read as an act exactly if its words spell it
+-- a line is read as an act exactly if its words spell it, and it isn't a second `sections`
 pub act_read : (seen : Bool) (words : Words) (act : Act)
     → (asked_by (by_name seen) words ≡ Ok (Some act)) ↔ (SpellsAct words act × (act ≡ acts.Sections → seen ≡ false))
-act_read seen words act = (
-  λ is. elim (line_judged seen words) [
-    | passed_over passed was ↦ cc (is, was)
-    | asks other spells once was ↦ let same : other ≡ act = cc (is, was) in (rw same at spells, rw same at once)
-    | at_fault fault has was ↦ cc (is, was)
-  ],
-  λ spelled. let spells = spelled.0 in
-      let passes : Passes seen act =
-      record { aligned = spells.aligned; size = spells.size; in_space = spells.in_space; once = spelled.1 } in
-      rw (spelled_asked seen words act spells.numbers, checked_passes seen act passes) refl,
-)
-
--- a line without words, and a comment, have no command
-pub passed_read : {A : Type 0} (forms : List ℕ → Words → Result A Wrong) (words : Words) → IsPassedOver words
-    → asked_by forms words ≡ Ok None
-passed_read forms words no_word = refl
-passed_read forms words (comment word others) = refl
-
-pub nothing_read : (seen : Bool) (words : Words) → (asked_by (by_name seen) words ≡ Ok None) ↔ IsPassedOver words
-nothing_read seen words = (
-  λ is. elim (line_judged seen words) [
-    | passed_over passed was ↦ passed
-    | asks other spells once was ↦ cc (is, was)
-    | at_fault fault has was ↦ cc (is, was)
-  ],
-  passed_read (by_name seen) words,
-)
-
--- a line has the fault of the first condition that it doesn't meet
-act_failed : (seen : Bool) (words : Words) (act : Act) (fault : Wrong) → SpellsNumbers words act → Fails seen act fault
-    → asked_by (by_name seen) words ≡ Err fault
-act_failed seen words act fault spells fails =
-    rw (spelled_asked seen words act spells, checked_fails seen act fault fails) refl
-
-has_failed : (seen : Bool) (words : Words) (fault : Wrong) → HasFault seen words fault → asked_by (by_name seen) words ≡ Err fault
-has_failed seen [] wrong.Form has = absurd (has.0 no_word)
-has_failed seen (name ∷ words) wrong.Form has =
-    elim (comment_or name) [
-      | inl is ↦ absurd (has.0 (rw is.1 (comment is.0 words)))
-      | inr isnt ↦ elim (named_or seen name words isnt) [ inl form ↦ absurd (has.1 form) | inr bad ↦ bad.1 ]
-    ]
-has_failed seen words wrong.Number has =
-    elim (numbers_or seen has.0) [
-      | inl good ↦ absurd (has.2 good.0)
-      | inr bad ↦ rw (has.1, form_asked seen has.0, bad.1) refl
-    ]
-has_failed seen words wrong.Align has = act_failed seen words has.0 wrong.Align has.1 has.2
-has_failed seen words wrong.ZeroSize has = act_failed seen words has.0 wrong.ZeroSize has.1 (has.2, has.3)
-has_failed seen words wrong.SecondSections has = act_failed seen words acts.Sections wrong.SecondSections has.0.numbers (refl, has.1)
-has_failed seen words wrong.TooFar has = act_failed seen words has.0 wrong.TooFar has.1 (has.2, has.3, has.4)
-
-pub fault_read : (seen : Bool) (words : Words) (fault : Wrong)
-    → (asked_by (by_name seen) words ≡ Err fault) ↔ HasFault seen words fault
-fault_read seen words fault = (
-  λ is. elim (line_judged seen words) [
-    | passed_over passed was ↦ cc (is, was)
-    | asks other spells once was ↦ cc (is, was)
-    | at_fault other has was ↦ let same : other ≡ fault = cc (is, was) in rw same at has
-  ],
-  has_failed seen words fault,
-)
+act_read seen words act =
+    let read = act_read_by (script_reads seen) words act in (
+      λ is. let found = read.0 is in (
+        record { numbers = found.0; aligned = found.1.aligned; size = found.1.size; in_space = found.1.in_space },
+        found.1.once,
+      ),
+      λ spelled. let spells = spelled.0 in read.1 (
+        spells.numbers,
+        record { aligned = spells.aligned; size = spells.size; in_space = spells.in_space; once = spelled.1 },
+      ),
+    )

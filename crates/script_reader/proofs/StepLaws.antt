@@ -1,64 +1,33 @@
 -- Lemmas on single steps: words, a number, an alignment, a size, a range. A step accepts exactly
 -- what is spelled right.
-use Rattle.std.proofs.Common.{◌≡◌, ℕ, ◌+◌, ◌^◌, ◌<◌, ◌≤◌, ◌==◌, Bool, true, false, IsTrue, nat_le, nat_lt, List, [], ◌∷◌, ◌++◌, length, Option, Some, None, Result, Ok, Err, refl, ◌∙◌, ap, arith, append_assoc, ◌⊎◌, inl, inr}
-use Rattle.std.specs.Prelude.{IfSome, filter}
+use Rattle.std.proofs.Common.{◌≡◌, ℕ, ◌+◌, ◌^◌, ◌<◌, ◌≤◌, ◌==◌, Bool, true, false, IsTrue, nat_le, nat_lt, List, [], ◌∷◌, ◌++◌, length, Option, Some, None, Result, Ok, Err, refl, ap, arith, ◌⊎◌, inl, inr}
+use Rattle.std.specs.Prelude.{IfSome}
 use Rattle.std.specs.Option.{option_map}
 use Rattle.std.specs.Str.{bytes_eq}
 use Rattle.std.proofs.lemmas.Bool.Decides.{nat_tests}
-use Rattle.std.proofs.lemmas.List.{append-nil}
 use Rattle.std.proofs.lemmas.Slice.Eq.{bytes_eq-Decides}
 use Rattle.std.specs.Int.{is_power_of_two}
 use Rattle.bm_base.specs.ResultSteps.{◌>>=◌}
 use Rattle.bm_base.specs.Size.{size_of, IsSize}
 use Rattle.bm_base.specs.declared.size.NumFault.{NumFault}
-use Rattle.text_words.specs.Parts.{separates, parts_from}
-use Rattle.text_words.specs.Words.{words_in, is_word, IsClosed}
+use Rattle.text_words.specs.Spelling.{HasWords, QuotesClose}
+use Rattle.text_words.specs.Words.{words_in}
 use Rattle.text_words.specs.declared.separators.Separators.TheVariants as separators
-use Rattle.text_words.proofs.PartsLaws.{glued, glued-nil, parts-end, parts-more}
-use Rattle.text_words.proofs.WordsLaws.{words-spelled, words-one}
+use Rattle.text_words.proofs.SpellingLaws.{words_exactly}
 use Rattle.script_reader.specs.declared.fault.Wrong.{Wrong}
 use Rattle.script_reader.specs.declared.fault.Wrong.TheVariants as wrong
 use Rattle.script_reader.specs.Forms.{greatest}
 use Rattle.script_reader.specs.Numbers.{Words, no_words, one_word, two_words, three_words, optional, whole, within, number, bounded, optional_number, power, some, range_at}
-use Rattle.script_reader.specs.Spelling.{HasWords, no_byte, blank_first, word_alone, word_first, keyed, IsWithin, front_value, value}
+use Rattle.script_reader.specs.Grammar.{IsWithin, front_value, value}
+use Rattle.script_reader.specs.Spelling.{keyed}
 
--- the words of a text are those with which it is spelled
-pub has_words : (text : List ℕ) (words : Words) → HasWords text words → words_in separators.Script text ≡ words
-has_words text words no_byte = refl
-has_words text words (blank_first b behind ws is rest) = rw is (has_words behind ws rest)
-has_words text words (word_alone word is) = words-one separators.Script word is
-has_words text words (word_first word b behind ws is blank rest) =
-    words-spelled separators.Script word b behind is blank ∙ ap (λ (ws : Words). word ∷ ws) (has_words behind ws rest)
+-- a script has no quotations, so each text is spelled with its words
+no_quotes : (text : List ℕ) → QuotesClose separators.Script false text
+no_quotes [] = refl
+no_quotes (b ∷ text) = no_quotes text
 
--- the start of a word is extended by a byte that doesn't separate words
-closed_more : (front : List ℕ) (b : ℕ) → IsClosed separators.Script false front → separates separators.Script b ≡ false
-    → IsClosed separators.Script false (front ++ (b ∷ []))
-closed_more [] b closed is = (is, refl)
-closed_more (a ∷ front) b closed is = (closed.0, closed_more front b closed.1 is)
-
--- each text is spelled with its words: the start of a word, and the text after it
-words_from : (front text : List ℕ) → IsClosed separators.Script false front
-    → HasWords (front ++ text) (filter is_word (glued front (parts_from separators.Script false text)))
-words_from [] [] closed = no_byte
-words_from (a ∷ front) [] closed = rw (append-nil front) (word_alone (a ∷ front) (record { some = omega arith; closed = closed }))
-words_from front (b ∷ text) closed =
-    by_test (λ (start : List ℕ). words_from start text) (separates separators.Script b) refl front closed
-  where
-    by_test : ((start : List ℕ) → IsClosed separators.Script false start
-        → HasWords (start ++ text) (filter is_word (glued start (parts_from separators.Script false text))))
-        → (t : Bool) → separates separators.Script b ≡ t → (start : List ℕ) → IsClosed separators.Script false start
-        → HasWords (start ++ (b ∷ text)) (filter is_word (glued start (parts_from separators.Script false (b ∷ text))))
-    by_test others true is [] closed =
-        rw (parts-end separators.Script false [] b text is refl) (blank_first b text _ is (rw (glued-nil _) at (others [] refl)))
-    by_test others true is (a ∷ start) closed =
-        rw (parts-end separators.Script false (a ∷ start) b text is refl)
-        (word_first (a ∷ start) b text _ (record { some = omega arith; closed = closed }) is (rw (glued-nil _) at (others [] refl)))
-    by_test others false is start closed =
-        rw (parts-more separators.Script false start b text (rw is refl))
-        (rw (append_assoc start (b ∷ []) text) at (others (start ++ (b ∷ [])) (closed_more start b closed is)))
-
-pub words_spelled : (text : List ℕ) → HasWords text (words_in separators.Script text)
-words_spelled text = rw (glued-nil (parts_from separators.Script false text)) at (words_from [] text refl)
+pub words_spelled : (text : List ℕ) → HasWords separators.Script text (words_in separators.Script text)
+words_spelled text = (words_exactly separators.Script text (words_in separators.Script text) (no_quotes text)).0 refl
 
 -- a step succeeds if its condition holds, and returns its fault if not
 abbrev pub Judges : {A : Type 0} → Type 0 → A → Wrong → Result A Wrong → Type 0

@@ -2,39 +2,43 @@
 -- line that has one.
 use Rattle.std.specs.Prelude.{◌≡◌, ℕ, ◌+◌, Bool, true, List, [], ◌∷◌, ◌++◌, codes, length, Contains, Option, Some, None, ◌↔◌}
 use Rattle.std.specs.List.{cons_option}
+use Rattle.text_words.specs.Spelling.{HasWords}
+use Rattle.text_words.specs.declared.separators.Separators.TheVariants as separators
 use Rattle.script_reader.specs.declared.act.Act.{Act}
 use Rattle.script_reader.specs.declared.act.Act.TheVariants as acts
 use Rattle.script_reader.specs.declared.act.Line.{Line}
 use Rattle.script_reader.specs.declared.fault.Wrong.{Wrong}
 use Rattle.script_reader.specs.declared.fault.ScriptFault.{ScriptFault}
 use Rattle.script_reader.specs.Numbers.{Words}
-use Rattle.script_reader.specs.Script.{fault_at, line_at}
-use Rattle.script_reader.specs.Spelling.{HasWords, IsPassedOver, SpellsAct, HasFault}
+use Rattle.script_reader.specs.Lines.{line_at}
+use Rattle.script_reader.specs.Script.{fault_at, script_lines}
+use Rattle.script_reader.specs.Grammar.{IsPassedOver, HasFault}
+use Rattle.script_reader.specs.Spelling.{script_grammar, SpellsAct, Fails}
 
 -- one of the lines is `sections`
 abbrev pub HasSectionsLine : List (List ℕ) → Type 0
-HasSectionsLine texts = (text : List ℕ) × Contains texts text × HasWords text (codes "sections" ∷ [])
+HasSectionsLine texts = (text : List ℕ) × Contains texts text × HasWords separators.Script text (codes "sections" ∷ [])
 
 -- after the earlier lines, this line has this act, or no command
 abbrev pub LineAsksFor : List (List ℕ) → List ℕ → Option Act → Type 0
-LineAsksFor earlier text None = (words : Words) × HasWords text words × IsPassedOver words
+LineAsksFor earlier text None = (words : Words) × HasWords separators.Script text words × IsPassedOver words
 LineAsksFor earlier text (Some act) =
-    (words : Words) × HasWords text words × SpellsAct words act × (act ≡ acts.Sections → ¬ (HasSectionsLine earlier))
+    (words : Words) × HasWords separators.Script text words × SpellsAct words act × (act ≡ acts.Sections → ¬ (HasSectionsLine earlier))
 
 -- after the earlier lines, this line has this fault
 pub record LineHasFault (earlier : List (List ℕ)) (text : List ℕ) (wrong : Wrong) : Type 0 where
   pub words : Words
-  pub spelled : HasWords text words
+  pub spelled : HasWords separators.Script text words
   pub seen : Bool
   pub sections : (seen ≡ true) ↔ HasSectionsLine earlier
-  pub fault : HasFault seen words wrong
+  pub fault : HasFault script_grammar (Fails seen) words wrong
 
 -- after the earlier lines, none of these has a fault, and the list has their acts with the numbers
 -- of their lines, from 1 on
 abbrev pub LinesAskFor : List (List ℕ) → List (List ℕ) → List Line → Type 0
 LinesAskFor earlier [] lines = lines ≡ []
 LinesAskFor earlier (text ∷ texts) lines = (act : Option Act) × (others : List Line) × LineAsksFor earlier text act
-    × (lines ≡ cons_option (line_at (length earlier + 1) act) others) × LinesAskFor (earlier ++ (text ∷ [])) texts others
+    × (lines ≡ cons_option (line_at script_lines (length earlier + 1) act) others) × LinesAskFor (earlier ++ (text ∷ [])) texts others
 
 -- after the earlier lines, this is the fault of the first line that has one: no line before it has
 -- a fault

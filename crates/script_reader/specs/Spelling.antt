@@ -1,35 +1,15 @@
--- The spelling of a line: its words with blanks around them, the form of these words, and the
--- conditions on its numbers. A line spells an act if it has a form and meets all conditions. Its
--- fault is the first condition that it doesn't meet.
-use Rattle.std.specs.Prelude.{◌≡◌, ℕ, ◌+◌, ◌^◌, ◌<◌, ◌≤◌, Bool, true, false, IsTrue, List, [], ◌∷◌, ◌++◌, codes, Option, Some, None, IfSome, unwrap_or, Result, Ok, Err}
+-- How a user writes a line of an early script: the form of its words, and the conditions on its
+-- numbers.
+use Rattle.std.specs.Prelude.{◌≡◌, ℕ, ◌+◌, ◌^◌, ◌<◌, Bool, true, false, IsTrue, List, [], ◌∷◌, ◌++◌, codes, Option, Some, None, IfSome, unwrap_or}
 use Rattle.std.specs.Int.{is_power_of_two}
 use Rattle.std.specs.Option.{option_map}
-use Rattle.bm_base.specs.Size.{size_of, IsSize}
-use Rattle.bm_base.specs.declared.size.NumFault.{NumFault}
-use Rattle.text_words.specs.Parts.{separates}
-use Rattle.text_words.specs.Words.{IsWord}
-use Rattle.text_words.specs.declared.separators.Separators.TheVariants as separators
 use Rattle.script_reader.specs.declared.act.Act.{Act}
 use Rattle.script_reader.specs.declared.act.Act.TheVariants as acts
 use Rattle.script_reader.specs.declared.fault.Wrong.{Wrong}
 use Rattle.script_reader.specs.declared.fault.Wrong.TheVariants as wrong
 use Rattle.script_reader.specs.Numbers.{Words}
 use Rattle.script_reader.specs.Forms.{greatest, greatest_id, greatest_node, greatest_byte, greatest_len}
-
--- the text has these words, with at least one blank between two words, and any number of blanks
--- before the first and after the last
-pub data HasWords : List ℕ → Words → Type 0 where
-  no_byte : HasWords [] []
-  blank_first : (b : ℕ) (text : List ℕ) (words : Words) → separates separators.Script b ≡ true → HasWords text words
-      → HasWords (b ∷ text) words
-  word_alone : (word : List ℕ) → IsWord separators.Script word → HasWords word (word ∷ [])
-  word_first : (word : List ℕ) (b : ℕ) (text : List ℕ) (words : Words) → IsWord separators.Script word
-      → separates separators.Script b ≡ true → HasWords text words → HasWords (word ++ (b ∷ text)) (word ∷ words)
-
--- a line without a command: it has no words, or is a comment
-pub data IsPassedOver : Words → Type 0 where
-  no_words : IsPassedOver []
-  comment : (word : List ℕ) (words : Words) → IsPassedOver ((codes "#" ++ word) ∷ words)
+use Rattle.script_reader.specs.Grammar.{IsWithin, value, Grammar, SpellsNumbers}
 
 -- the words for a node, if any: `node N` or `node N exact`
 pub data NodeWords : Type 0 where
@@ -68,10 +48,6 @@ words_of (fill id byte) = codes "fill" ∷ id ∷ byte ∷ []
 words_of (peek address len) = codes "peek" ∷ address ∷ len ∷ []
 words_of sections = codes "sections" ∷ []
 
--- the whole word is a size, at most the limit
-abbrev pub IsWithin : ℕ → List ℕ → Type 0
-IsWithin most word = (n : ℕ) × IsSize word n × (n ≤ most)
-
 -- the word for the node's number, and whether `exact` follows it
 abbrev pub node_number : NodeWords → Option (List ℕ)
 node_number no_node = None
@@ -93,14 +69,6 @@ HasNumbers (trim id keep) = IsWithin greatest_id id × IsWithin greatest keep
 HasNumbers (fill id byte) = IsWithin greatest_id id × IsWithin greatest_byte byte
 HasNumbers (peek address len) = IsWithin greatest address × IsWithin greatest_len len
 HasNumbers sections = Unit {0}
-
--- the size at the start of a word; it is the value of the word if it takes the whole word
-abbrev pub front_value : Result (ℕ × ℕ) NumFault → ℕ
-front_value (Ok found) = found.0
-front_value (Err fault) = 0
-
-abbrev pub value : List ℕ → ℕ
-value word = front_value (size_of word)
 
 -- the act of a form whose numbers are sizes. Without `min` the lower limit is 0; without `max`
 -- there is no upper limit, and without `node` no node is preferred.
@@ -139,29 +107,22 @@ IsInSpace (acts.Reserve id range) = range.base + range.size < 2 ^ 64
 IsInSpace (acts.Peek at len) = at + len < 2 ^ 64
 IsInSpace act = Unit {0}
 
--- the words have a form
-abbrev pub HasForm : Words → Type 0
-HasForm words = (form : Form) × (words ≡ words_of form)
-
--- the words have a form, its numbers are sizes within their limits, and the act has these numbers
-pub record SpellsNumbers (words : Words) (act : Act) : Type 0 where
-  pub form : Form
-  pub spelled : words ≡ words_of form
-  pub numbers : HasNumbers form
-  pub asks : act ≡ act_of form
+-- the lines of an early script, as a user writes them
+abbrev pub script_grammar : Grammar Act
+script_grammar = record { Form = Form; words_of = words_of; HasNumbers = HasNumbers; act_of = act_of }
 
 -- the words spell the act: they also meet the conditions on its alignment, size and range
 pub record SpellsAct (words : Words) (act : Act) : Type 0 where
-  pub numbers : SpellsNumbers words act
+  pub numbers : SpellsNumbers script_grammar words act
   pub aligned : IsAligned act
   pub size : HasSize act
   pub in_space : IsInSpace act
 
--- the first condition that these words don't meet; `seen` is true if an earlier line is `sections`
-abbrev pub HasFault : Bool → Words → Wrong → Type 0
-HasFault seen words wrong.Form = (¬ (IsPassedOver words)) × (¬ (HasForm words))
-HasFault seen words wrong.Number = (form : Form) × (words ≡ words_of form) × (¬ (HasNumbers form))
-HasFault seen words wrong.Align = (act : Act) × SpellsNumbers words act × (¬ (IsAligned act))
-HasFault seen words wrong.ZeroSize = (act : Act) × SpellsNumbers words act × IsAligned act × (¬ (HasSize act))
-HasFault seen words wrong.SecondSections = SpellsAct words acts.Sections × (seen ≡ true)
-HasFault seen words wrong.TooFar = (act : Act) × SpellsNumbers words act × IsAligned act × HasSize act × (¬ (IsInSpace act))
+-- the first condition that this act doesn't meet; `seen` is true if an earlier line is `sections`
+abbrev pub Fails : Bool → Act → Wrong → Type 0
+Fails seen act wrong.Form = ⊥
+Fails seen act wrong.Number = ⊥
+Fails seen act wrong.Align = ¬ (IsAligned act)
+Fails seen act wrong.ZeroSize = IsAligned act × (¬ (HasSize act))
+Fails seen act wrong.SecondSections = (act ≡ acts.Sections) × (seen ≡ true)
+Fails seen act wrong.TooFar = IsAligned act × HasSize act × (¬ (IsInSpace act))

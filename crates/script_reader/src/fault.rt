@@ -2,8 +2,6 @@
 //! the line. There are two types because the functions that read a line don't know its number;
 //! only the loop over the lines does.
 
-use bm_base::Memory;
-
 /// What is wrong with a line. If several apply, the first of this list is reported.
 #[derive(Clone, Copy, Debug, PartialEq, Eq)]
 pub enum Wrong {
@@ -42,15 +40,4 @@ pub enum ScriptFault {
     TooFar { line: u32 },
     /// The program ran out of memory. This is returned only if no line has a fault.
     Memory,
-}
-
-impl From<Memory> for ScriptFault {
-    ghost use Rattle.std.specs.Prelude.{◌≡◌};
-    ghost use Rattle.script_reader.specs.declared.fault.ScriptFault.TheVariants as faults;
-
-    ghost from_gives = { λ _ fault. fault ≡ faults.Memory };
-
-    fn from(_memory: Memory) -> ScriptFault {
-        ScriptFault::Memory
-    }
 }

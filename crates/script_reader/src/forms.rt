@@ -1,51 +1,30 @@
-//! Reads one line. Its first word selects the form; the steps of each form are in the order of the
-//! faults.
+//! Reads the words of one line. The first selects the form; the steps of each form are in the order
+//! of the faults.
 
 ghost use Rattle.std.specs.Prelude.{◌≡◌, ℕ, ◌<◌, ◌≤◌, ◌^◌, List, length, Option, Some, Ok, Err, MatchResult, IfOk, IfErr, IfSome};
 ghost use Rattle.std.specs.Option.{option_map};
 ghost use Rattle.text_words.specs.Words.{words_in};
 ghost use Rattle.text_words.specs.declared.separators.Separators.TheVariants as separators;
 ghost use Rattle.script_reader.specs.Forms.{AllocWords as SaidWords, alloc_words as words_of_alloc, optional_exact as exact_word, alloc_line as alloc_of, reserve_line as reserve_of, free_line as free_of, trim_line as trim_of, fill_line as fill_of, peek_line as peek_of, sections_line as sections_of, by_name as named_line, HasBounds};
-ghost use Rattle.script_reader.specs.Script.{asked};
 
 use crate::act::Act;
 use crate::fault::Wrong;
 use crate::words::{
-    bounded, first_word, is_comment, no_words, number, one_word, optional, optional_number, power,
-    range_at, some, three_words, two_words,
+    bounded, first_word, no_words, number, one_word, optional, optional_number, power, range_at,
+    some, three_words, two_words,
 };
 use memblock_model::Request;
 use std::marker::Model;
 use text_words::{Separators, next_word};
 
-/// Returns the command of a line, or `None` if it has no words or is a comment. `seen` is true if
-/// an earlier line is `sections`.
-///
-/// # Errors
-///
-/// - The first fault of the line, in the order of [`Wrong`].
-pub fn read_line(seen: bool, text: &[u8]) -> Result<Option<Act>, Wrong>
-    ensures value { result ≡ asked seen text.now }
-    ensures bounds { IfOk result (λ act. IfSome act HasBounds) }
-    ensures asks { IfOk result (λ act. IfSome act (λ _. 0 < length text.now)) }
-    ensures wrong { IfErr result (λ _. 0 < length text.now) }
-{
-    let Some((name, rest)) = next_word(text, Separators::Script) else {
-        return Ok(None);
-    };
-    if is_comment(name) {
-        return Ok(None);
-    }
-    Ok(Some(by_name(seen, name, rest)?))
-}
-
-/// Reads the words after the first one, which is the name of the command.
+/// Reads the words after the first one, which is the name of the command. `seen` is true if an
+/// earlier line is `sections`.
 ///
 /// # Errors
 ///
 /// - `Form`: there is no command of this name, or the words don't have its form.
 /// - Any other fault of the words.
-fn by_name(seen: bool, name: &[u8], rest: &[u8]) -> Result<Act, Wrong>
+pub fn by_name(seen: bool, name: &[u8], rest: &[u8]) -> Result<Act, Wrong>
     ensures value { result ≡ named_line seen name.now (words_in separators.Script rest.now) }
     ensures bounds { IfOk result HasBounds }
 {

@@ -3,6 +3,7 @@
 
 ghost use Rattle.std.specs.Prelude.{◌≡◌, ◌↔◌, ℕ, Bool, false, List, [], Some, None, Ok, Err};
 ghost use Rattle.text_words.specs.Parts.{parts_in};
+ghost use Rattle.text_words.specs.Spelling.{HasWords};
 ghost use Rattle.text_words.specs.declared.separators.Separators.TheVariants as separators;
 ghost use Rattle.script_reader.specs.declared.act.Act.{Act as AnyAct};
 ghost use Rattle.script_reader.specs.declared.act.Act.TheVariants as acts;
@@ -10,28 +11,30 @@ ghost use Rattle.script_reader.specs.declared.act.Line.{Line as AnyLine};
 ghost use Rattle.script_reader.specs.declared.fault.Wrong.{Wrong as AnyWrong};
 ghost use Rattle.script_reader.specs.declared.fault.ScriptFault.{ScriptFault as AnyFault};
 ghost use Rattle.script_reader.specs.Numbers.{Words};
-ghost use Rattle.script_reader.specs.Script.{asked, script_of};
-ghost use Rattle.script_reader.specs.Spelling.{HasWords, IsPassedOver, SpellsAct, HasFault};
+ghost use Rattle.script_reader.specs.Lines.{asked};
+ghost use Rattle.script_reader.specs.Script.{script_lines, script_of};
+ghost use Rattle.script_reader.specs.Grammar.{IsPassedOver, HasFault};
+ghost use Rattle.script_reader.specs.Spelling.{script_grammar, SpellsAct, Fails};
 ghost use Rattle.script_reader.specs.ScriptSpelling.{LinesAskFor, IsFirstFault};
 
 /// Law: each text has exactly one list of words.
 pub fn each_line_has_its_words()
-    ensures some { (text : List ℕ) → (words : Words) × HasWords text words }
+    ensures some { (text : List ℕ) → (words : Words) × HasWords separators.Script text words }
     ensures one { (text : List ℕ) (words others : Words) →
-        HasWords text words → HasWords text others → words ≡ others }
+        HasWords separators.Script text words → HasWords separators.Script text others → words ≡ others }
 {}
 
 /// Law: a line is read as an act exactly if its words spell that act, and it isn't a second
 /// `sections`. It has no command exactly if it has no words or is a comment. It has a fault
 /// exactly if that is the first condition that its words don't meet.
 pub fn lines_of_spelling()
-    ensures act { (seen : Bool) (text : List ℕ) (words : Words) (act : AnyAct) → HasWords text words →
-        ((asked seen text ≡ Ok (Some act))
+    ensures act { (seen : Bool) (text : List ℕ) (words : Words) (act : AnyAct) → HasWords separators.Script text words →
+        ((asked script_lines seen text ≡ Ok (Some act))
         ↔ (SpellsAct words act × (act ≡ acts.Sections → seen ≡ false))) }
-    ensures nothing { (seen : Bool) (text : List ℕ) (words : Words) → HasWords text words →
-        ((asked seen text ≡ Ok None) ↔ IsPassedOver words) }
-    ensures fault { (seen : Bool) (text : List ℕ) (words : Words) (wrong : AnyWrong) → HasWords text words →
-        ((asked seen text ≡ Err wrong) ↔ HasFault seen words wrong) }
+    ensures nothing { (seen : Bool) (text : List ℕ) (words : Words) → HasWords separators.Script text words →
+        ((asked script_lines seen text ≡ Ok None) ↔ IsPassedOver words) }
+    ensures fault { (seen : Bool) (text : List ℕ) (words : Words) (wrong : AnyWrong) → HasWords separators.Script text words →
+        ((asked script_lines seen text ≡ Err wrong) ↔ HasFault script_grammar (Fails seen) words wrong) }
 {}
 
 /// Law: a script is read as a list of lines exactly if these are the commands of its lines, with

@@ -36,6 +36,7 @@ mod act;
 mod fault;
 mod forms;
 mod laws;
+mod lines;
 mod script;
 mod words;
 
@@ -43,6 +44,7 @@ pub use act::{Act, Line};
 pub use fault::{ScriptFault, Wrong};
 pub use forms::{GREATEST_ID, GREATEST_NODE};
 pub use laws::{each_line_has_its_words, lines_of_spelling, scripts_of_spelling};
+pub use lines::{ScriptLine, Unread, read_lines};
 pub use memblock_model::Request;
-pub use script::{keep, read_script};
-pub use words::{bounded, first_word, is_comment, one_word};
+pub use script::read_script;
+pub use words::{bounded, first_word, one_word};

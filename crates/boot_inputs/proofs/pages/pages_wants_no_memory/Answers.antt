@@ -1,4 +1,4 @@
-use Rattle.boot_inputs.proofs.PagesLaws.{pages_other}
+use Rattle.boot_inputs.proofs.ScriptLaws.{pages_other}
 use Rattle.boot_inputs.proofs.pages.pages_wants_no_memory.Goals as goal
 
 pub returns : goal.returns

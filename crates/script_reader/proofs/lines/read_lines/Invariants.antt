@@ -4,21 +4,19 @@ use Rattle.std.specs.Option.{option_map}
 use Rattle.text_words.specs.Parts.{parts_of_rest}
 use Rattle.text_words.specs.declared.separators.Separators.TheVariants as separators
 use Rattle.text_words.proofs.WordsLaws.{left}
-use Rattle.script_reader.specs.declared.act.Line.{Line}
-use Rattle.script_reader.specs.Forms.{HasBounds}
-use Rattle.script_reader.specs.Script.{lines_from, script_of}
+use Rattle.script_reader.specs.Lines.{lines_from, lines_of}
 use Rattle.script_reader.proofs.ScriptLaws.{behind}
-use Rattle.script_reader.proofs.script.read_script.Given as goal
+use Rattle.script_reader.proofs.lines.read_lines.Given as goal
 
 abbrev pub invariant-loop-rest : goal.invariant-loop-rest
-invariant-loop-rest l = record {
+invariant-loop-rest g l = let kind = g.L.ScriptLine.kind in record {
   few : l.number + left l.rest ≤ length l.fn.bytes + 2;
-  bounds : IfOk l.lines (λ kept. All (λ (line : Line). HasBounds line.act) kept.items);
-  lines : (front : List Line)
-      × (behind front (lines_from l.seen l.number (parts_of_rest (separators.Byte 10) (option_map (λ text. text.now) l.rest)))
-      ≡ script_of l.fn.bytes)
+  limits : IfOk l.lines (λ kept. All g.L.ScriptLine.IsWithinLimits kept.items);
+  lines : (front : List g.row.L.Denot)
+      × (behind front (lines_from kind l.seen l.number (parts_of_rest (separators.Byte 10) (option_map (λ text. text.now) l.rest)))
+      ≡ lines_of kind l.fn.bytes)
       × IfOk l.lines (λ kept. kept.items ≡ front) × IfErr l.lines (λ _. 0 < length front);
 }
 
 abbrev pub decreases-loop-rest : goal.decreases-loop-rest
-decreases-loop-rest l = left l.rest
+decreases-loop-rest g l = left l.rest

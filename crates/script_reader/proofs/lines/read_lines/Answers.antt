@@ -1,17 +1,16 @@
 -- one more line
-use Rattle.std.proofs.Common.{List, ◌++◌, option_to_list, sym, ◌∙◌, arith}
+use Rattle.std.proofs.Common.{◌++◌, option_to_list, sym, ◌∙◌, arith}
 use Rattle.std.specs.List.{All}
 use Rattle.std.specs.Option.{option_map}
 use Rattle.text_words.specs.Parts.{parts_of_rest}
 use Rattle.text_words.specs.declared.separators.Separators.TheVariants as separators
-use Rattle.script_reader.specs.declared.act.Line.{Line}
-use Rattle.script_reader.specs.Forms.{HasBounds}
-use Rattle.script_reader.specs.Script.{line_at}
-use Rattle.script_reader.proofs.ScriptLaws.{line_read, left_behind, kept_are, kept_hold, bounds_on, wanting_for_some}
-use Rattle.script_reader.proofs.script.read_script.Goals as goal
+use Rattle.script_reader.specs.Lines.{line_at}
+use Rattle.script_reader.proofs.ScriptLaws.{line_read, left_behind, kept_are, kept_hold, limits_on, wanting_for_some}
+use Rattle.script_reader.proofs.lines.read_lines.Goals as goal
 
 pub loop-rest-preserved : goal.loop-rest-preserved
-loop-rest-preserved c =
+loop-rest-preserved g c =
+    let kind = g.L.ScriptLine.kind in
     let l = c.loop-rest in
     let front = l.invariant.lines.0 in
     let act = c.in-Ok.act in
@@ -23,12 +22,12 @@ loop-rest-preserved c =
     let parts = rw c.next_part.ensures.parts at rw c.in-Some.is at l.invariant.lines.1 in
     record {
       few = omega (arith, few, shorter);
-      bounds = kept_hold (λ (ls : List Line). All (λ (line : Line). HasBounds line.act) ls) c.keep-lines.result l.lines _ kept
-          l.invariant.bounds (bounds_on l.number act c.in-Ok.ensures.bounds);
+      limits = kept_hold (All g.L.ScriptLine.IsWithinLimits) c.keep-lines.result l.lines _ kept
+          l.invariant.limits (limits_on kind g.L.ScriptLine.IsWithinLimits l.number act c.in-Ok.ensures.limits);
       lines = (
-        front ++ option_to_list (line_at l.number act),
+        front ++ option_to_list (line_at kind l.number act),
         rw c.seen_behind-seen.ensures
-            (sym (line_read l.seen l.number front c.next_part.result.0.now others act (sym c.in-Ok.ensures.value)) ∙ parts),
+            (sym (line_read kind l.seen l.number front c.next_part.result.0.now others act (sym c.in-Ok.ensures.value)) ∙ parts),
         kept_are c.keep-lines.result l.lines front _ kept l.invariant.lines.2,
         wanting_for_some c.keep-lines.result l.lines front _ wanting l.invariant.lines.3,
       );

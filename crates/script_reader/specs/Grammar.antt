@@ -1,0 +1,52 @@
+-- How a user writes a line of any kind of script: its forms, and the conditions on their numbers. A
+-- line spells an act if it has a form and meets all conditions. Its fault is the first condition
+-- that it doesn't meet.
+use Rattle.std.specs.Prelude.{◌≡◌, ℕ, ◌≤◌, List, [], ◌∷◌, ◌++◌, codes, Result, Ok, Err}
+use Rattle.bm_base.specs.Size.{size_of, IsSize}
+use Rattle.bm_base.specs.declared.size.NumFault.{NumFault}
+use Rattle.script_reader.specs.declared.fault.Wrong.{Wrong}
+use Rattle.script_reader.specs.declared.fault.Wrong.TheVariants as wrong
+use Rattle.script_reader.specs.Numbers.{Words}
+
+-- a line without a command: it has no words, or is a comment
+pub data IsPassedOver : Words → Type 0 where
+  no_words : IsPassedOver []
+  comment : (word : List ℕ) (words : Words) → IsPassedOver ((codes "#" ++ word) ∷ words)
+
+-- the whole word is a size, at most the limit
+abbrev pub IsWithin : ℕ → List ℕ → Type 0
+IsWithin most word = (n : ℕ) × IsSize word n × (n ≤ most)
+
+-- the size at the start of a word; it is the value of the word if it takes the whole word
+abbrev pub front_value : Result (ℕ × ℕ) NumFault → ℕ
+front_value (Ok found) = found.0
+front_value (Err fault) = 0
+
+abbrev pub value : List ℕ → ℕ
+value word = front_value (size_of word)
+
+-- the forms of a kind of script, with any word in the place of each number: the words of a form, the
+-- condition that each number is a size within its limit, and the act of a form whose numbers are
+pub record Grammar (A : Type 0) : Type 1 where
+  pub Form : Type 0
+  pub words_of : Form → Words
+  pub HasNumbers : Form → Type 0
+  pub act_of : Form → A
+
+-- the words have a form
+abbrev pub HasForm : {A : Type 0} → Grammar A → Words → Type 0
+HasForm grammar words = (form : grammar.Form) × (words ≡ grammar.words_of form)
+
+-- the words have a form, its numbers are sizes within their limits, and the act has these numbers
+pub record SpellsNumbers {A : Type 0} (grammar : Grammar A) (words : Words) (act : A) : Type 0 where
+  pub form : grammar.Form
+  pub spelled : words ≡ grammar.words_of form
+  pub numbers : grammar.HasNumbers form
+  pub asks : act ≡ grammar.act_of form
+
+-- the first condition that these words don't meet, where `Fails` says it of an act
+abbrev pub HasFault : {A : Type 0} → Grammar A → (A → Wrong → Type 0) → Words → Wrong → Type 0
+HasFault grammar Fails words wrong.Form = (¬ (IsPassedOver words)) × (¬ (HasForm grammar words))
+HasFault grammar Fails words wrong.Number =
+    (form : grammar.Form) × (words ≡ grammar.words_of form) × (¬ (grammar.HasNumbers form))
+HasFault {A = A} grammar Fails words other = (act : A) × SpellsNumbers grammar words act × Fails act other

@@ -1,0 +1,54 @@
+-- A whole script of any kind: its lines, or the lowest line that has a fault.
+use Rattle.std.specs.Prelude.{ℕ, ◌+◌, Bool, true, false, List, [], ◌∷◌, Option, Some, None, Result, Ok}
+use Rattle.std.specs.Option.{option_map}
+use Rattle.std.specs.List.{cons_option}
+use Rattle.bm_base.specs.ResultSteps.{◌>>=◌, with_error}
+use Rattle.text_words.specs.Parts.{parts_in}
+use Rattle.text_words.specs.Words.{words_in}
+use Rattle.text_words.specs.declared.separators.Separators.TheVariants as separators
+use Rattle.script_reader.specs.declared.fault.Wrong.{Wrong}
+use Rattle.script_reader.specs.declared.lines.Unread.{Unread}
+use Rattle.script_reader.specs.declared.lines.Unread.TheVariants as unread
+use Rattle.script_reader.specs.Numbers.{Words}
+use Rattle.script_reader.specs.Forms.{asked_by}
+
+-- a kind of script: the act that the name of a command and the words after it spell, which acts may
+-- occur only once, and the line with this number and act. The flag of `forms` is true if an earlier
+-- line has the act that may occur only once.
+pub record Kind (A L : Type 0) : Type 0 where
+  pub forms : Bool → List ℕ → Words → Result A Wrong
+  pub is_once : A → Bool
+  pub line : ℕ → A → L
+
+-- this line or an earlier one has the act that may occur only once
+abbrev pub seen_behind : {A L : Type 0} → Kind A L → Bool → Option A → Bool
+seen_behind kind true act = true
+seen_behind kind false None = false
+seen_behind kind false (Some act) = kind.is_once act
+
+-- the act of the line with this text, if it has a command
+abbrev pub asked : {A L : Type 0} → Kind A L → Bool → List ℕ → Result (Option A) Wrong
+asked kind seen text = asked_by (kind.forms seen) (words_in separators.Script text)
+
+-- the line with this number, if it has a command
+abbrev pub line_at : {A L : Type 0} → Kind A L → ℕ → Option A → Option L
+line_at kind number act = option_map (kind.line number) act
+
+-- the lines with these texts; the first of them has this number. The fault is the number of the
+-- lowest line that has one, and what is wrong with it.
+abbrev pub lines_from : {A L : Type 0} → Kind A L → Bool → ℕ → List (List ℕ) → Result (List L) (ℕ × Wrong)
+lines_from kind seen number [] = Ok []
+lines_from kind seen number (text ∷ texts) = do
+  act ← with_error (λ wrong. (number, wrong)) (asked kind seen text)
+  lines ← lines_from kind (seen_behind kind seen act) (number + 1) texts
+  Ok (cons_option (line_at kind number act) lines)
+
+-- the lines of a script end with newlines; if the script ends with one, the empty text after it is
+-- a line without words
+abbrev pub lines_of : {A L : Type 0} → Kind A L → List ℕ → Result (List L) (ℕ × Wrong)
+lines_of kind bytes = lines_from kind false 1 (parts_in (separators.Byte 10) bytes)
+
+-- this can be wrong with a line that isn't read
+abbrev pub CanBe : (Wrong → Type 0) → Unread → Type 0
+CanBe MayBeWrong (unread.Faulty line wrong) = MayBeWrong wrong
+CanBe MayBeWrong unread.Memory = Unit {0}

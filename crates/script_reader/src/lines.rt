@@ -1,0 +1,167 @@
+//! Reads a whole script of any kind: its lines one after another, up to the first that has a
+//! fault.
+//!
+//! Only the list of lines allocates. If memory runs out, the rest of the script is still read, so
+//! that a fault in any line is found.
+
+ghost use Rattle.std.specs.Prelude.{◌≡◌, ℕ, ◌<◌, ◌^◌, List, ◌++◌, length, All, option_to_list, Err, IfOk, IfErr, IsErr, IsSome, IfSome, IsOkAnd, ◌⊎◌};
+ghost use Rattle.bm_base.specs.Answers.{Answers};
+ghost use Rattle.bm_base.specs.ResultSteps.{with_error};
+ghost use Rattle.text_words.specs.Words.{words_in};
+ghost use Rattle.text_words.specs.declared.separators.Separators.TheVariants as separators;
+ghost use Rattle.script_reader.specs.Lines.{Kind, CanBe, asked, seen_behind as once_seen, line_at as line_of, lines_of};
+
+use crate::fault::Wrong;
+use crate::words::is_comment;
+use bm_base::Memory;
+use std::alloc::Global;
+use text_words::{Separators, next_part, next_word};
+
+/// A line with a command. Each kind of script has its own type of lines.
+pub trait ScriptLine: Copy {
+    ghost use Rattle.script_reader.specs.declared.fault.Wrong.{Wrong};
+
+    type Act: Copy;
+
+    // `kind` has the forms of the lines. `IsWithinLimits` is true of each line that is read, and
+    // `MayBeWrong` of all that can be wrong with a line.
+    ghost kind: { Kind Self.Act Self };
+
+    ghost IsWithinLimits: { Self → Type 0 };
+
+    ghost MayBeWrong: { Wrong → Type 0 };
+
+    /// Reads the words after the first one, which is the name of the command. `seen` is true if
+    /// an earlier line has the command that may occur only once.
+    ///
+    /// # Errors
+    ///
+    /// - `Form`: there is no command of this name, or the words don't have its form.
+    /// - Any other fault of the words.
+    fn by_name(seen: bool, name: &[u8], rest: &[u8]) -> Result<Self::Act, Wrong>
+        ensures value { result ≡ kind.forms seen name.now (words_in separators.Script rest.now) }
+        ensures limits { IfOk result (λ act. (number : ℕ) → IsWithinLimits (kind.line number act)) }
+        ensures wrong { IfErr result MayBeWrong };
+
+    /// Tests whether the command may occur only once in a script.
+    fn is_once(act: &Self::Act) -> bool
+        ensures { result ≡ kind.is_once act.now };
+
+    /// Returns the line with this number and this command.
+    fn new(number: u32, act: Self::Act) -> Self
+        ensures { result ≡ kind.line number act };
+}
+
+/// The reason why a script can't be read.
+#[derive(Clone, Copy, Debug, PartialEq, Eq)]
+pub enum Unread {
+    /// The number of the lowest line that has a fault, from 1 on, and what is wrong with it.
+    Faulty(u32, Wrong),
+    /// The program ran out of memory. This is returned only if no line has a fault.
+    Memory,
+}
+
+impl From<Memory> for Unread {
+    ghost use Rattle.std.specs.Prelude.{◌≡◌};
+    ghost use Rattle.script_reader.specs.declared.lines.Unread.TheVariants as unread;
+
+    ghost from_gives = { λ _ fault. fault ≡ unread.Memory };
+
+    fn from(_memory: Memory) -> Unread {
+        Unread::Memory
+    }
+}
+
+/// Reads a script, and returns the lines that have a command, in their order.
+///
+/// Lines end with a newline, which the last one may lack. The bytes 0x20, 0x09 and 0x0D separate
+/// words. A line has no command if it has no words, or its first word begins with `#`. There must
+/// be fewer than 2^32 bytes.
+///
+/// # Errors
+///
+/// - `Faulty`: the lowest line that has a fault, with the first fault of that line.
+/// - `Memory`: no line has a fault and some line has a command, but the program ran out of memory.
+pub fn read_lines<L: ScriptLine>(alloc: Global, bytes: &[u8]) -> Result<Vec<L>, Unread>
+    requires { length bytes.now < 2 ^ 32 }
+    ensures answers { Answers Unread.Memory (λ lines. lines.items) result
+        (with_error (λ at. Unread.Faulty at.0 at.1) (lines_of L.kind bytes.now)) }
+    ensures memory { result ≡ Err Unread.Memory → IsOkAnd (lines_of L.kind bytes.now) (λ lines. 0 < length lines) }
+    ensures limits { IfOk result (λ lines. All L.IsWithinLimits lines.items) }
+    ensures wrong { IfErr result (CanBe L.MayBeWrong) }
+{
+    let mut lines = Ok(Vec::new(alloc));
+    let mut seen = false;
+    let mut number: u64 = 1;
+    let mut rest = Some(bytes);
+    while let Some(text) = rest {
+        let (text, behind) = next_part(text, Separators::Byte(b'\n'));
+        let act = match read_line::<L>(seen, text) {
+            Ok(act) => act,
+            Err(wrong) => return Err(Unread::Faulty(number as u32, wrong)),
+        };
+        seen = seen_behind::<L>(seen, &act);
+        lines = keep(lines, line_at::<L>(number, act));
+        number += 1;
+        rest = behind;
+    }
+    Ok(lines?)
+}
+
+/// Returns the command of a line, or `None` if it has no words or is a comment.
+///
+/// # Errors
+///
+/// - The first fault of the line, in the order of [`Wrong`].
+fn read_line<L: ScriptLine>(seen: bool, text: &[u8]) -> Result<Option<L::Act>, Wrong>
+    ensures value { result ≡ asked L.kind seen text.now }
+    ensures limits { IfOk result (λ act. IfSome act (λ act. (number : ℕ) → L.IsWithinLimits (L.kind.line number act))) }
+    ensures wrong { IfErr result L.MayBeWrong }
+    ensures some { IfOk result (λ act. IfSome act (λ _. 0 < length text.now)) }
+    ensures words { IfErr result (λ _. 0 < length text.now) }
+{
+    let Some((name, rest)) = next_word(text, Separators::Script) else {
+        return Ok(None);
+    };
+    if is_comment(name) {
+        return Ok(None);
+    }
+    Ok(Some(L::by_name(seen, name, rest)?))
+}
+
+/// Tests whether this line or an earlier one has the command that may occur only once.
+fn seen_behind<L: ScriptLine>(seen: bool, act: &Option<L::Act>) -> bool
+    ensures { result ≡ once_seen L.kind seen act.now }
+{
+    match act {
+        Some(act) => seen || L::is_once(act),
+        None => seen,
+    }
+}
+
+/// Returns the line with this number, if it has a command.
+fn line_at<L: ScriptLine>(number: u64, act: Option<L::Act>) -> Option<L>
+    requires { IfSome act (λ _. number < 2 ^ 32) }
+    ensures { result ≡ line_of L.kind number act }
+{
+    match act {
+        Some(act) => Some(L::new(number as u32, act)),
+        None => None,
+    }
+}
+
+/// Appends a line, if there is one, to the lines read so far.
+///
+/// # Errors
+///
+/// - `Memory`: the program ran out of memory, either for this line or for an earlier one.
+fn keep<L: Copy>(lines: Result<Vec<L>, Memory>, line: Option<L>) -> Result<Vec<L>, Memory>
+    ensures line { IfOk result (λ kept. IsOkAnd lines (λ before. kept.items ≡ before.items ++ option_to_list line)) }
+    ensures memory { IsErr result → IsErr lines ⊎ IsSome line }
+{
+    let mut lines = lines?;
+    if let Some(line) = line {
+        lines.push(line)?;
+    }
+    Ok(lines)
+}
