@@ -1,5 +1,5 @@
 -- A script that was read places the sections at most once.
-use Rattle.std.proofs.Common.{◌≡◌, ℕ, ◌+◌, Bool, true, false, if◌then◌else◌, Option, Some, None, List, [], ◌∷◌, Result, Ok, Err, inl, inr}
+use Rattle.std.proofs.Common.{◌≡◌, ℕ, ◌+◌, Bool, true, false, if◌then◌else◌, Option, Some, None, List, [], ◌∷◌, Result, Ok, Err, inl, inr, subst}
 use Rattle.std.specs.List.{All, cons_option}
 use Rattle.std.proofs.lemmas.Bool.{cases_Bool}
 use Rattle.std.proofs.lemmas.List.Elements.{All-cons, All-nil}
@@ -11,9 +11,10 @@ use Rattle.script_reader.specs.declared.act.Act.{Act}
 use Rattle.script_reader.specs.declared.act.Line.{Line}
 use Rattle.script_reader.specs.declared.fault.Wrong.{Wrong}
 use Rattle.script_reader.specs.Numbers.{Words, number}
-use Rattle.script_reader.specs.Forms.{by_name, is_comment, asked_by}
-use Rattle.script_reader.specs.Lines.{seen_behind, asked, line_at, lines_from, lines_of}
-use Rattle.script_reader.specs.Script.{fault_at, is_sections, script_lines, script_of}
+use Rattle.script_reader.specs.Forms.{by_name}
+use Rattle.script_reader.specs.Lines.{is_comment, asked_by, seen_behind, asked, line_at, lines_from}
+use Rattle.script_reader.specs.Script.{is_sections, script_lines, script_of}
+use Rattle.script_reader.proofs.ScriptSpellingLaws.{script_read}
 use Rattle.early_script.specs.Acted.{CanBeRun}
 use Rattle.early_script.specs.Stage.{PlaceOnce}
 use Rattle.early_script.proofs.StageLaws.{is_run}
@@ -117,8 +118,5 @@ lines-once number (text ∷ texts) =
     (lines-once (number + 1) texts)
 
 pub script-once : (bytes : List ℕ) (lines : List Line) → script_of bytes ≡ Ok lines → PlaceOnce lines
-script-once bytes lines read = turned-once (lines_of script_lines bytes) (lines-once 1 (parts_in (separators.Byte 10) bytes)) read
-  where
-    turned-once : (r : Result (List Line) (ℕ × Wrong)) → IsOnce r → with_error (λ at. fault_at at.0 at.1) r ≡ Ok lines → PlaceOnce lines
-    turned-once (Ok found) once is = let same : found ≡ lines = cc (is) in rw same at once
-    turned-once (Err told) once is = cc (is)
+script-once bytes lines read =
+    subst (λ (r : Result (List Line) (ℕ × Wrong)). IsOnce r) (script_read bytes lines read) (lines-once 1 (parts_in (separators.Byte 10) bytes))

@@ -5,7 +5,8 @@ use Rattle.bm_base.specs.declared.zone.Zone.{Zone}
 use Rattle.bm_base.specs.declared.zone.Zone.TheVariants as zones
 use Rattle.script_reader.specs.declared.fault.Wrong.TheVariants as wrong
 use Rattle.script_reader.specs.Numbers.{Words}
-use Rattle.script_reader.specs.Forms.{greatest_id, greatest_node, asked_by}
+use Rattle.script_reader.specs.Forms.{greatest_id, greatest_node}
+use Rattle.script_reader.specs.Lines.{asked_by}
 use Rattle.script_reader.specs.Grammar.{HasForm}
 use Rattle.script_reader.proofs.GrammarLaws.{Reads}
 use Rattle.script_reader.proofs.StepLaws.{within_or, is_key, one_or}

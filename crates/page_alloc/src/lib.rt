@@ -15,7 +15,7 @@
 //!
 //! - `Forms.antt`: the forms of a line, in the words and numbers of the early script
 //!   (`script_reader`)
-//! - `Reading.antt`: the lines of a script
+//! - `Reading.antt`: the lines of a page script
 //! - `Spelling.antt`: the same forms as a user writes them
 //! - `Pages.antt`: what each line does to the free frames and to what the IDs hold
 //! - `Kept.antt`: what stays true of that state

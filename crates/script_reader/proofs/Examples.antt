@@ -7,12 +7,12 @@ use Rattle.script_reader.specs.declared.act.Act.TheVariants as acts
 use Rattle.script_reader.specs.declared.fault.Wrong.TheVariants as wrong
 use Rattle.script_reader.specs.declared.fault.ScriptFault.TheVariants as faults
 use Rattle.script_reader.specs.Numbers.{Words, IsOfWords, no_words, first_word, one_word, two_words, three_words, optional, whole, number, within, bounded, optional_number, power, some, range_at}
-use Rattle.script_reader.specs.Forms.{greatest, greatest_id, greatest_node, greatest_byte, greatest_len, optional_exact, alloc_words, alloc_line, reserve_line, free_line, trim_line, fill_line, peek_line, sections_line, by_name, is_comment, asked_by, HasBounds}
+use Rattle.script_reader.specs.Forms.{greatest, greatest_id, greatest_node, greatest_byte, greatest_len, optional_exact, alloc_words, alloc_line, reserve_line, free_line, trim_line, fill_line, peek_line, sections_line, by_name, HasBounds}
 use Rattle.script_reader.specs.Grammar.{IsPassedOver, no_words as no_word, comment, IsWithin, front_value, value, HasForm, SpellsNumbers, HasFault}
 use Rattle.script_reader.specs.Spelling.{no_node, near_node, exact_node, alloc, trim, peek, sections, keyed, node_words, node_number, is_exact, HasNumbers, act_of, IsAligned, HasSize, IsInSpace, script_grammar, SpellsAct, Fails}
 use Rattle.script_reader.specs.ScriptSpelling.{HasSectionsLine, LineAsksFor, LineHasFault, LinesAskFor, IsFirstFault}
 use Rattle.script_reader.proofs.StepLaws.{words_spelled}
-use Rattle.script_reader.specs.Lines.{seen_behind, asked, line_at, lines_from}
+use Rattle.script_reader.specs.Lines.{is_comment, asked_by, seen_behind, asked, line_at, lines_from}
 use Rattle.script_reader.specs.Script.{fault_at, is_sections, script_lines, script_of}
 
 -- the words of a line, or of the rest of one

@@ -5,7 +5,7 @@ use Rattle.std.proofs.lemmas.Bool.Decides.{nat_tests}
 use Rattle.bm_base.specs.ResultSteps.{◌>>=◌}
 use Rattle.script_reader.specs.declared.fault.Wrong.{Wrong}
 use Rattle.script_reader.specs.declared.fault.Wrong.TheVariants as wrong
-use Rattle.script_reader.specs.Forms.{asked_by, is_comment}
+use Rattle.script_reader.specs.Lines.{is_comment, asked_by}
 use Rattle.script_reader.specs.Grammar.{IsPassedOver, no_words, comment, Grammar, HasForm, SpellsNumbers, HasFault}
 use Rattle.script_reader.specs.Numbers.{Words}
 

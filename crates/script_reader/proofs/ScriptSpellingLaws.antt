@@ -228,15 +228,18 @@ none_seen = (λ is. cc (is), λ has. absurd (none has.1.0 has.1.1))
     none k below = omega (arith, below)
 
 -- a whole script
-pub script_asks : (bytes : List ℕ) (lines : List Line)
-    → (script_of bytes ≡ Ok lines) ↔ LinesAskFor [] (parts_in (separators.Byte 10) bytes) lines
-script_asks bytes lines =
-    let asks = lines_ask [] false (parts_in (separators.Byte 10) bytes) lines none_seen in
-    (λ is. asks.0 (unturned (lines_of script_lines bytes) is), λ ask. rw (asks.1 ask) refl)
+pub script_read : (bytes : List ℕ) (lines : List Line) → script_of bytes ≡ Ok lines → lines_of script_lines bytes ≡ Ok lines
+script_read bytes lines = unturned (lines_of script_lines bytes)
   where
     unturned : (r : Result (List Line) (ℕ × Wrong)) → with_error (λ at. fault_at at.0 at.1) r ≡ Ok lines → r ≡ Ok lines
     unturned (Ok read) is = cc (is)
     unturned (Err told) is = cc (is)
+
+pub script_asks : (bytes : List ℕ) (lines : List Line)
+    → (script_of bytes ≡ Ok lines) ↔ LinesAskFor [] (parts_in (separators.Byte 10) bytes) lines
+script_asks bytes lines =
+    let asks = lines_ask [] false (parts_in (separators.Byte 10) bytes) lines none_seen in
+    (λ is. asks.0 (script_read bytes lines is), λ ask. rw (asks.1 ask) refl)
 
 pub script_fault : (bytes : List ℕ) (fault : ScriptFault)
     → (script_of bytes ≡ Err fault) ↔ IsFirstFault [] (parts_in (separators.Byte 10) bytes) fault

@@ -9,7 +9,8 @@ use Rattle.script_reader.specs.declared.act.Act.{Act}
 use Rattle.script_reader.specs.declared.act.Act.TheVariants as acts
 use Rattle.script_reader.specs.declared.fault.Wrong.{Wrong}
 use Rattle.script_reader.specs.declared.fault.Wrong.TheVariants as wrong
-use Rattle.script_reader.specs.Forms.{greatest, greatest_id, greatest_node, greatest_byte, greatest_len, optional_exact, alloc_words, alloc_line, reserve_line, free_line, trim_line, fill_line, peek_line, sections_line, by_name, asked_by}
+use Rattle.script_reader.specs.Forms.{greatest, greatest_id, greatest_node, greatest_byte, greatest_len, optional_exact, alloc_words, alloc_line, sections_line, by_name}
+use Rattle.script_reader.specs.Lines.{asked_by}
 use Rattle.script_reader.specs.Numbers.{Words, optional, some, range_at, power}
 use Rattle.script_reader.specs.Grammar.{HasForm}
 use Rattle.script_reader.specs.Spelling.{NodeWords, no_node, near_node, exact_node, Form, alloc, reserve, free, trim, fill, peek, sections, keyed, node_words, words_of, node_number, is_exact, HasNumbers, act_of, IsAligned, HasSize, IsInSpace, script_grammar, SpellsAct, Fails}
@@ -122,17 +123,6 @@ checked seen (acts.Peek at len) = do
   Ok (acts.Peek range.base range.size)
 checked seen acts.Sections = if seen then Err wrong.SecondSections else Ok acts.Sections
 
--- reading a line that has the words of this form
-abbrev form_line : Bool → Form → Result Act Wrong
-form_line seen (alloc id size align min max node) =
-    alloc_line (id ∷ size ∷ align ∷ (keyed (codes "min") min ++ (keyed (codes "max") max ++ node_words node)))
-form_line seen (reserve id base size) = reserve_line (id ∷ base ∷ size ∷ [])
-form_line seen (free id) = free_line (id ∷ [])
-form_line seen (trim id keep) = trim_line (id ∷ keep ∷ [])
-form_line seen (fill id byte) = fill_line (id ∷ byte ∷ [])
-form_line seen (peek address len) = peek_line (address ∷ len ∷ [])
-form_line seen sections = sections_line seen []
-
 alloc_said : (i s a : List ℕ) (min max : Option (List ℕ)) (node : NodeWords)
     → alloc_words (i ∷ s ∷ a ∷ (keyed (codes "min") min ++ (keyed (codes "max") max ++ node_words node)))
     ≡ Ok (record { id = i; size = s; align = a; min = min; max = max; node = node_number node; exact = is_exact node })
@@ -146,11 +136,9 @@ alloc_said i s a min max no_node = refl
 alloc_said i s a min max node = refl
 
 -- the numbers of a form are right, or one isn't and the line has that fault
-abbrev Numbered : Bool → Form → Type 0
-Numbered seen form = (HasNumbers form × (form_line seen form ≡ checked seen (act_of form)))
-    ⊎ ((¬ (HasNumbers form)) × (form_line seen form ≡ Err wrong.Number))
-
-pub numbers_or : (seen : Bool) (form : Form) → Numbered seen form
+pub numbers_or : (seen : Bool) (form : Form)
+    → (HasNumbers form × (asked_by (by_name seen) (words_of form) ≡ (checked seen (act_of form) >>= λ act. Ok (Some act))))
+    ⊎ ((¬ (HasNumbers form)) × (asked_by (by_name seen) (words_of form) ≡ Err wrong.Number))
 numbers_or seen (alloc i s a min max node) =
     elim (within_or greatest_id i) [
       | inl id ↦ elim (number_or s) [
@@ -288,16 +276,6 @@ checked_fails seen (acts.Peek at len) wrong.TooFar fails =
     rw (passed (some_or len) fails.1, failed (range_or at len) fails.2) refl
 checked_fails seen act wrong.TooFar fails = absurd (fails.2 tt)
 
--- the words of a form are read by the code for that form
-pub form_asked : (seen : Bool) (form : Form) → asked_by (by_name seen) (words_of form) ≡ (form_line seen form >>= λ act. Ok (Some act))
-form_asked seen (alloc i s a min max node) = refl
-form_asked seen (reserve i b s) = refl
-form_asked seen (free i) = refl
-form_asked seen (trim i k) = refl
-form_asked seen (fill i b) = refl
-form_asked seen (peek a l) = refl
-form_asked seen sections = refl
-
 -- what the laws of lines need of the forms of an early script
 abbrev pub script_reads : Bool → Reads Act
 script_reads seen = record {
@@ -307,10 +285,7 @@ script_reads seen = record {
   Fails = Fails seen;
   named = named seen;
   checked = checked seen;
-  numbers = λ form. elim (numbers_or seen form) [
-    | inl good ↦ inl (good.0, rw (form_asked seen form, good.1) refl)
-    | inr bad ↦ inr (bad.0, rw (form_asked seen form, bad.1) refl)
-  ];
+  numbers = numbers_or seen;
   judged = act_or seen;
   passed = checked_passes seen;
   failed = checked_fails seen;

@@ -1,7 +1,7 @@
 -- The forms of a line: the words after the first, and the act that they spell. The steps of each
 -- definition are in the order of the faults: the form, all numbers, the alignment, sizes of 0, a
 -- second `sections`, and a range that goes too far.
-use Rattle.std.specs.Prelude.{ℕ, ◌+◌, ◌-◌, ◌^◌, ◌<◌, ◌≤◌, ◌==◌, Bool, true, false, IsTrue, if◌then◌else◌, List, [], ◌∷◌, codes, Option, Some, None, unwrap_or, Result, Ok, Err}
+use Rattle.std.specs.Prelude.{ℕ, ◌+◌, ◌-◌, ◌^◌, ◌<◌, ◌≤◌, Bool, true, false, IsTrue, if◌then◌else◌, List, [], ◌∷◌, codes, Option, Some, None, unwrap_or, Result, Ok, Err}
 use Rattle.std.specs.Int.{is_power_of_two}
 use Rattle.std.specs.Str.{bytes_eq}
 use Rattle.bm_base.specs.ResultSteps.{◌>>=◌}
@@ -131,19 +131,6 @@ by_name seen name words =
     (if bytes_eq name (codes "fill") then fill_line words else
     (if bytes_eq name (codes "peek") then peek_line words else
     (if bytes_eq name (codes "sections") then sections_line seen words else Err wrong.Form))))))
-
--- a line is a comment if its first word begins with `#`
-abbrev pub is_comment : List ℕ → Bool
-is_comment [] = false
-is_comment (b ∷ bs) = b == 35
-
--- the act that the words of a line spell, by the forms of its first word; None without words, and
--- for a comment
-abbrev pub asked_by : {A : Type 0} → (List ℕ → Words → Result A Wrong) → Words → Result (Option A) Wrong
-asked_by forms [] = Ok None
-asked_by forms (name ∷ words) = if is_comment name then Ok None else (do
-  act ← forms name words
-  Ok (Some act))
 
 -- the limits that running an act requires
 abbrev pub HasBounds : Act → Type 0

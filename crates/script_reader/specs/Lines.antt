@@ -1,5 +1,5 @@
 -- A whole script of any kind: its lines, or the lowest line that has a fault.
-use Rattle.std.specs.Prelude.{ℕ, ◌+◌, Bool, true, false, List, [], ◌∷◌, Option, Some, None, Result, Ok}
+use Rattle.std.specs.Prelude.{ℕ, ◌+◌, ◌==◌, Bool, true, false, if◌then◌else◌, List, [], ◌∷◌, Option, Some, None, Result, Ok}
 use Rattle.std.specs.Option.{option_map}
 use Rattle.std.specs.List.{cons_option}
 use Rattle.bm_base.specs.ResultSteps.{◌>>=◌, with_error}
@@ -10,7 +10,19 @@ use Rattle.script_reader.specs.declared.fault.Wrong.{Wrong}
 use Rattle.script_reader.specs.declared.lines.Unread.{Unread}
 use Rattle.script_reader.specs.declared.lines.Unread.TheVariants as unread
 use Rattle.script_reader.specs.Numbers.{Words}
-use Rattle.script_reader.specs.Forms.{asked_by}
+
+-- a line is a comment if its first word begins with `#`
+abbrev pub is_comment : List ℕ → Bool
+is_comment [] = false
+is_comment (b ∷ bs) = b == 35
+
+-- the act that the words of a line spell, by the forms of its first word; None without words, and
+-- for a comment
+abbrev pub asked_by : {A : Type 0} → (List ℕ → Words → Result A Wrong) → Words → Result (Option A) Wrong
+asked_by forms [] = Ok None
+asked_by forms (name ∷ words) = if is_comment name then Ok None else (do
+  act ← forms name words
+  Ok (Some act))
 
 -- a kind of script: the act that the name of a command and the words after it spell, which acts may
 -- occur only once, and the line with this number and act. The flag of `forms` is true if an earlier

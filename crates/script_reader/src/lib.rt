@@ -13,9 +13,11 @@
 //!
 //! In contracts, a name means the definition in `specs/`:
 //!
-//! - `Forms.antt`: the form of each command; its steps are in the order of the faults
-//! - `Script.antt`: the lines of a script
+//! - `Lines.antt`: the lines of a script of any kind
+//! - `Grammar.antt`: how a user writes a line of any kind of script
 //! - `Numbers.antt`: the words of a line, and the numbers among them
+//! - `Forms.antt`: the form of each command; its steps are in the order of the faults
+//! - `Script.antt`: the lines of an early script
 //! - `Spelling.antt`, `ScriptSpelling.antt`: the same forms as a user writes them
 //!
 //! A law is an empty function whose contract is a proven fact. By [`lines_of_spelling`] a line is
@@ -23,9 +25,9 @@
 //! first condition that its words don't meet. [`scripts_of_spelling`] states this for whole
 //! scripts.
 //!
-//! A page script (`page_alloc`) has other commands in the same words. So the functions that read
-//! words and numbers ([`one_word`], [`bounded`]), the test for comments and the list of lines
-//! serve both.
+//! A page script (`page_alloc`) has other commands in the same words. So one reader serves both:
+//! [`read_lines`] reads a script of any kind, and [`ScriptLine`] says what makes a kind. Both kinds
+//! read words and numbers by the same functions ([`one_word`], [`bounded`]).
 //!
 //! The layer above, which runs the lines, may rest on three facts. Each act has the limits that
 //! running it requires (`HasBounds`). `sections` occurs at most once. The reader runs out of

@@ -10,7 +10,7 @@ ghost use Rattle.std.specs.Option.{option_map};
 ghost use Rattle.text_words.specs.Words.{words_in};
 ghost use Rattle.text_words.specs.declared.separators.Separators.TheVariants as separators;
 ghost use Rattle.script_reader.specs.Numbers.{IsOfWords, no_words as has_no_words, first_word as front_word, one_word as single_word, two_words as pair_of_words, three_words as triple_of_words, optional as optional_word, number as number_of, bounded as bounded_number, optional_number as optional_number_of, power as power_of, some as some_of, range_at as range_of};
-ghost use Rattle.script_reader.specs.Forms.{is_comment as begins_comment};
+ghost use Rattle.script_reader.specs.Lines.{is_comment as begins_comment};
 
 use crate::fault::Wrong;
 use bm_base::{Range, read_size};
