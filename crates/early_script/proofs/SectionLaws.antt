@@ -68,7 +68,8 @@ AreClean (Ok lines) = All (λ l. CanBeRun l.act) lines
 AreClean (Err fault) = Unit {0}
 
 abbrev then_line : ℕ → Result (Option Act) Wrong → (Option Act → Result (List Line) (ℕ × Wrong)) → Result (List Line) (ℕ × Wrong)
-then_line number r rest = with_error (λ wrong. (number, wrong)) r >>= λ act. rest act >>= λ lines. Ok (cons_option (line_at script_lines number act) lines)
+then_line number r rest =
+    with_error (λ wrong. (number, wrong)) r >>= λ act. rest act >>= λ lines. Ok (cons_option (line_at script_lines number act) lines)
 
 line-clean : (number : ℕ) (r : Result (Option Act) Wrong) (rest : Result (List Line) (ℕ × Wrong)) → IsCleanLine r → AreClean rest →
     AreClean (then_line number r (λ act. rest))
@@ -80,7 +81,8 @@ line-clean number r rest clean known = tt
 lines-clean : (number : ℕ) (texts : List (List ℕ)) → AreClean (lines_from script_lines true number texts)
 lines-clean number [] = All-nil (λ l. CanBeRun l.act)
 lines-clean number (text ∷ texts) =
-    line-clean number (asked script_lines true text) (lines_from script_lines true (number + 1) texts) (asked-clean (words_in separators.Script text))
+    line-clean number (asked script_lines true text) (lines_from script_lines true (number + 1) texts)
+    (asked-clean (words_in separators.Script text))
     (lines-clean (number + 1) texts)
 
 abbrev IsOnce : Result (List Line) (ℕ × Wrong) → Type 0
@@ -119,4 +121,5 @@ lines-once number (text ∷ texts) =
 
 pub script-once : (bytes : List ℕ) (lines : List Line) → script_of bytes ≡ Ok lines → PlaceOnce lines
 script-once bytes lines read =
-    subst (λ (r : Result (List Line) (ℕ × Wrong)). IsOnce r) (script_read bytes lines read) (lines-once 1 (parts_in (separators.Byte 10) bytes))
+    subst (λ (r : Result (List Line) (ℕ × Wrong)). IsOnce r) (script_read bytes lines read)
+    (lines-once 1 (parts_in (separators.Byte 10) bytes))

@@ -19,7 +19,7 @@ use Rattle.frame_blocks.proofs.PickLaws.{picked_is, picked_none}
 use Rattle.script_reader.specs.declared.fault.Wrong.TheVariants as wrong
 use Rattle.script_reader.specs.Numbers.{Words}
 use Rattle.script_reader.specs.Lines.{asked}
-use Rattle.script_reader.specs.Grammar.{HasForm, SpellsNumbers, HasFault}
+use Rattle.script_reader.specs.Grammar.{HasForm, SpellsNumbers, NeverFails, HasFault}
 use Rattle.page_alloc.specs.declared.act.PageAct.TheVariants as acts
 use Rattle.page_alloc.specs.declared.act.PageLine.{PageLine}
 use Rattle.page_alloc.specs.declared.fault.PageFault.TheVariants as faults
@@ -27,7 +27,7 @@ use Rattle.page_alloc.specs.declared.outcome.Held.{Held}
 use Rattle.page_alloc.specs.declared.outcome.PageOutcome.{PageOutcome}
 use Rattle.page_alloc.specs.declared.outcome.PageOutcome.TheVariants as outcomes
 use Rattle.page_alloc.specs.Forms.{zone_named, pages_line, give_line}
-use Rattle.page_alloc.specs.Spelling.{pages as pages_form, give as give_form, zone_word, words_of, HasNumbers, page_grammar, Fails}
+use Rattle.page_alloc.specs.Spelling.{pages as pages_form, give as give_form, zone_word, words_of, HasNumbers, page_grammar}
 use Rattle.page_alloc.specs.Kept.{HoldsFrame, IsInOne, IsInNone, AreHeldApart}
 use Rattle.page_alloc.specs.Pages.{State, begun, with_held, served, given_back, step, HasOrder, HaveOrders}
 use Rattle.page_alloc.specs.Reading.{page_lines, pages_of}
@@ -211,5 +211,5 @@ spelled_forms = (
 spelled_act : SpellsNumbers page_grammar (codes "give" ∷ codes "1" ∷ []) (acts.Give 1)
 spelled_act = record { form = give_form (codes "1"); spelled = refl; numbers = (1, refl, lit≤ tt); asks = refl }
 
-bad_number : HasFault page_grammar Fails (codes "give" ∷ codes "x" ∷ []) wrong.Number
+bad_number : HasFault page_grammar NeverFails (codes "give" ∷ codes "x" ∷ []) wrong.Number
 bad_number = (give_form (codes "x"), refl, λ is. cc (is.1))

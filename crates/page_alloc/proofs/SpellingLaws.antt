@@ -7,12 +7,12 @@ use Rattle.script_reader.specs.declared.fault.Wrong.TheVariants as wrong
 use Rattle.script_reader.specs.Numbers.{Words}
 use Rattle.script_reader.specs.Forms.{greatest_id, greatest_node}
 use Rattle.script_reader.specs.Lines.{asked_by}
-use Rattle.script_reader.specs.Grammar.{HasForm}
+use Rattle.script_reader.specs.Grammar.{HasForm, NeverFails}
 use Rattle.script_reader.proofs.GrammarLaws.{Reads}
 use Rattle.script_reader.proofs.StepLaws.{within_or, is_key, one_or}
 use Rattle.page_alloc.specs.declared.act.PageAct.{PageAct}
 use Rattle.page_alloc.specs.Forms.{greatest_order, zone_named, pages_line, near_line, give_line, by_name}
-use Rattle.page_alloc.specs.Spelling.{Form, pages, near, give, zone_word, words_of, HasNumbers, act_of, page_grammar, Fails}
+use Rattle.page_alloc.specs.Spelling.{Form, pages, near, give, zone_word, words_of, HasNumbers, act_of, page_grammar}
 
 -- a zone, by its word
 zone_or : (word : List ℕ) → ((zone : Zone) × (word ≡ zone_word zone)) ⊎ (zone_named word ≡ Err wrong.Form)
@@ -107,7 +107,7 @@ page_reads = record {
   forms = by_name;
   grammar = page_grammar;
   Passes = λ act. Unit {0};
-  Fails = Fails;
+  Fails = NeverFails;
   named = named;
   checked = λ act. Ok act;
   numbers = form_or;

@@ -2,7 +2,6 @@
 use Rattle.std.specs.Prelude.{ℕ, List, [], ◌∷◌, codes}
 use Rattle.bm_base.specs.declared.zone.Zone.{Zone}
 use Rattle.bm_base.specs.declared.zone.Zone.TheVariants as zones
-use Rattle.script_reader.specs.declared.fault.Wrong.{Wrong}
 use Rattle.script_reader.specs.Numbers.{Words}
 use Rattle.script_reader.specs.Forms.{greatest_id, greatest_node}
 use Rattle.script_reader.specs.Grammar.{IsWithin, value, Grammar}
@@ -44,7 +43,3 @@ act_of (give id) = acts.Give (value id)
 -- the lines of a page script, as a user writes them
 abbrev pub page_grammar : Grammar PageAct
 page_grammar = record { Form = Form; words_of = words_of; HasNumbers = HasNumbers; act_of = act_of }
-
--- an act has no fault if its numbers are right
-abbrev pub Fails : PageAct → Wrong → Type 0
-Fails act wrong = ⊥

@@ -2,23 +2,27 @@
 
 ghost use Rattle.std.specs.Prelude.{◌≡◌, ◌↔◌, ℕ, Bool, List, Some, None, Ok, Err};
 ghost use Rattle.text_words.specs.Spelling.{HasWords};
-ghost use Rattle.text_words.specs.declared.separators.Separators.TheVariants as separators;
+ghost use Rattle.text_words.specs.declared.separators.Separators.TheVariants.{Script};
 ghost use Rattle.script_reader.specs.declared.fault.Wrong.{Wrong as AnyWrong};
 ghost use Rattle.script_reader.specs.Numbers.{Words};
 ghost use Rattle.script_reader.specs.Lines.{asked};
-ghost use Rattle.script_reader.specs.Grammar.{IsPassedOver, SpellsNumbers, HasFault};
+ghost use Rattle.script_reader.specs.Grammar.{IsPassedOver, SpellsNumbers, NeverFails, HasFault};
 ghost use Rattle.page_alloc.specs.declared.act.PageAct.{PageAct as AnyAct};
 ghost use Rattle.page_alloc.specs.Reading.{page_lines};
-ghost use Rattle.page_alloc.specs.Spelling.{page_grammar, Fails};
+ghost use Rattle.page_alloc.specs.Spelling.{page_grammar};
 
 /// Law: a line of a page script is read as an act exactly if its words spell that act. It has no
 /// command exactly if it has no words or is a comment. It has a fault exactly if that is the first
 /// condition that its words don't meet.
 pub fn page_lines_of_spelling()
-    ensures act { (seen : Bool) (text : List ℕ) (words : Words) (act : AnyAct) → HasWords separators.Script text words →
+    ensures act { (seen : Bool) (text : List ℕ) (words : Words) (act : AnyAct) →
+        HasWords Script text words →
         ((asked page_lines seen text ≡ Ok (Some act)) ↔ SpellsNumbers page_grammar words act) }
-    ensures nothing { (seen : Bool) (text : List ℕ) (words : Words) → HasWords separators.Script text words →
+    ensures nothing { (seen : Bool) (text : List ℕ) (words : Words) →
+        HasWords Script text words →
         ((asked page_lines seen text ≡ Ok None) ↔ IsPassedOver words) }
-    ensures fault { (seen : Bool) (text : List ℕ) (words : Words) (wrong : AnyWrong) → HasWords separators.Script text words →
-        ((asked page_lines seen text ≡ Err wrong) ↔ HasFault page_grammar Fails words wrong) }
+    ensures fault { (seen : Bool) (text : List ℕ) (words : Words) (wrong : AnyWrong) →
+        HasWords Script text words →
+        ((asked page_lines seen text ≡ Err wrong)
+        ↔ HasFault page_grammar NeverFails words wrong) }
 {}

@@ -52,7 +52,8 @@ impl ScriptLine for PageLine {
 pub fn read_pages(alloc: Global, bytes: &[u8]) -> Result<Vec<PageLine>, PageFault>
     requires { length bytes.now < 2 ^ 32 }
     ensures answers { Answers PageFault.Memory (λ lines. lines.items) result (pages_of bytes.now) }
-    ensures memory { result ≡ Err PageFault.Memory → IsOkAnd (pages_of bytes.now) (λ lines. 0 < length lines) }
+    ensures memory { result ≡ Err PageFault.Memory →
+        IsOkAnd (pages_of bytes.now) (λ lines. 0 < length lines) }
     ensures orders { IfOk result (λ lines. HaveOrders lines.items) }
 {
     match read_lines::<PageLine>(alloc, bytes) {

@@ -124,7 +124,8 @@ whole_scripts : (script_of (codes "free 1\n\nfree 2")
 whole_scripts = (refl, refl, refl, refl, refl)
 
 -- a line with blanks around its words, and one that begins with a word
-spelled_words : HasWords separators.Script (codes " free\t7 ") (codes "free" ∷ codes "7" ∷ []) × HasWords separators.Script (codes "free 7") (codes "free" ∷ codes "7" ∷ [])
+spelled_words : HasWords separators.Script (codes " free\t7 ") (codes "free" ∷ codes "7" ∷ [])
+    × HasWords separators.Script (codes "free 7") (codes "free" ∷ codes "7" ∷ [])
 spelled_words =
     let name : IsWord separators.Script (codes "free") = record { some = lit< tt; closed = (refl, (refl, (refl, (refl, refl)))) } in
     let id : IsWord separators.Script (codes "7") = record { some = lit< tt; closed = (refl, refl) } in (
@@ -146,7 +147,8 @@ spelled_options : (keyed (codes "min") None ≡ []) × (keyed (codes "min") (Som
 spelled_options = (refl, refl, refl, refl, refl, refl, refl, refl, refl)
 
 -- any word may stand for a number: here `max` is a lower limit, and then the key after it
-any_word_for_a_number : HasForm script_grammar (codes "alloc" ∷ codes "1" ∷ codes "1" ∷ codes "1" ∷ codes "min" ∷ codes "max" ∷ codes "max" ∷ codes "1" ∷ [])
+any_word_for_a_number :
+    HasForm script_grammar (codes "alloc" ∷ codes "1" ∷ codes "1" ∷ codes "1" ∷ codes "min" ∷ codes "max" ∷ codes "max" ∷ codes "1" ∷ [])
     × HasForm script_grammar (codes "alloc" ∷ codes "1" ∷ codes "1" ∷ codes "1" ∷ codes "node" ∷ codes "exact" ∷ [])
 any_word_for_a_number = (
   (alloc (codes "1") (codes "1") (codes "1") (Some (codes "max")) (Some (codes "1")) no_node, refl),

@@ -9,9 +9,9 @@ use Rattle.script_reader.specs.Lines.{is_comment, asked_by}
 use Rattle.script_reader.specs.Grammar.{IsPassedOver, no_words, comment, Grammar, HasForm, SpellsNumbers, HasFault}
 use Rattle.script_reader.specs.Numbers.{Words}
 
--- a kind of script, with what the lemmas need of it. Words have a form, or have the fault `Form`. If
--- the numbers of a form are right, its act is checked, else it has the fault `Number`. An act passes
--- the checks, or has the fault of the first that it fails.
+-- a kind of script, with what the lemmas need of it. Words have a form, or have the fault `Form`.
+-- If the numbers of a form are right, its act is checked. Else it has the fault `Number`. An act
+-- passes the checks, or has the fault of the first that it fails.
 pub record Reads (A : Type 0) : Type 1 where
   pub forms : List ℕ → Words → Result A Wrong
   pub grammar : Grammar A
@@ -48,8 +48,8 @@ data Verdict {A : Type 0} (reads : Reads A) (words : Words) : Type 0 where
   at_fault : (fault : Wrong) → HasFault reads.grammar reads.Fails words fault → asked_by reads.forms words ≡ Err fault
       → Verdict reads words
 
-act_fault : {A : Type 0} (reads : Reads A) (words : Words) (act : A) (fault : Wrong) → SpellsNumbers reads.grammar words act → reads.Fails act fault
-    → HasFault reads.grammar reads.Fails words fault
+act_fault : {A : Type 0} (reads : Reads A) (words : Words) (act : A) (fault : Wrong) → SpellsNumbers reads.grammar words act
+    → reads.Fails act fault → HasFault reads.grammar reads.Fails words fault
 act_fault reads words act wrong.Form spells fails = absurd (reads.not_form act fails)
 act_fault reads words act wrong.Number spells fails = absurd (reads.not_number act fails)
 act_fault reads words act other spells fails = (act, spells, fails)
@@ -68,7 +68,8 @@ form_judged reads form =
 
 -- words that aren't a comment have a form, or have the fault `Form`
 named_or : {A : Type 0} (reads : Reads A) (name : List ℕ) (words : Words) → is_comment name ≡ false
-    → HasForm reads.grammar (name ∷ words) ⊎ ((¬ (HasForm reads.grammar (name ∷ words))) × (asked_by reads.forms (name ∷ words) ≡ Err wrong.Form))
+    → HasForm reads.grammar (name ∷ words)
+    ⊎ ((¬ (HasForm reads.grammar (name ∷ words))) × (asked_by reads.forms (name ∷ words) ≡ Err wrong.Form))
 named_or reads name words isnt =
     elim (reads.named name words) [
       | inl form ↦ inl form
@@ -77,7 +78,8 @@ named_or reads name words isnt =
             λ form. elim (form_judged reads form.0) [
               | passed_over passed was ↦ cc (form.1, was, asked_bad)
               | asks act spells passes was ↦ cc (form.1, was, asked_bad)
-              | at_fault fault has was ↦ let same : fault ≡ wrong.Form = cc (form.1, was, asked_bad) in absurd ((rw same at has).1 (form.0, refl))
+              | at_fault fault has was ↦ let same : fault ≡ wrong.Form = cc (form.1, was, asked_bad) in
+                  absurd ((rw same at has).1 (form.0, refl))
             ],
             asked_bad,
           )

@@ -9,7 +9,7 @@ use Rattle.bm_base.specs.ResultSteps.{◌>>=◌, with_error}
 use Rattle.text_words.specs.Parts.{parts_in}
 use Rattle.text_words.specs.Spelling.{HasWords}
 use Rattle.text_words.specs.Words.{words_in}
-use Rattle.text_words.specs.declared.separators.Separators.TheVariants as separators
+use Rattle.text_words.specs.declared.separators.Separators.TheVariants.{Script, Byte}
 use Rattle.text_words.proofs.SpellingLaws.{has_words}
 use Rattle.script_reader.specs.declared.act.Act.{Act}
 use Rattle.script_reader.specs.declared.act.Act.TheVariants as acts
@@ -42,13 +42,13 @@ not_seen earlier false of = (λ is has. let other : false ≡ true = of.1 has in
 line_asks : (earlier : List (List ℕ)) (seen : Bool) (text : List ℕ) (act : Option Act) → SeenIn earlier seen
     → (asked script_lines seen text ≡ Ok act) ↔ LineAsksFor earlier text act
 line_asks earlier seen text None of = (
-  λ is. (words_in separators.Script text, words_spelled text, (nothing_read (script_reads seen) (words_in separators.Script text)).0 is),
-  λ asks. rw (has_words separators.Script text asks.0 asks.1) ((nothing_read (script_reads seen) asks.0).1 asks.2),
+  λ is. (words_in Script text, words_spelled text, (nothing_read (script_reads seen) (words_in Script text)).0 is),
+  λ asks. rw (has_words Script text asks.0 asks.1) ((nothing_read (script_reads seen) asks.0).1 asks.2),
 )
 line_asks earlier seen text (Some act) of = (
-  λ is. let spelled = (act_read seen (words_in separators.Script text) act).0 is in
-      (words_in separators.Script text, words_spelled text, spelled.0, λ same. (not_seen earlier seen of).0 (spelled.1 same)),
-  λ asks. rw (has_words separators.Script text asks.0 asks.1)
+  λ is. let spelled = (act_read seen (words_in Script text) act).0 is in
+      (words_in Script text, words_spelled text, spelled.0, λ same. (not_seen earlier seen of).0 (spelled.1 same)),
+  λ asks. rw (has_words Script text asks.0 asks.1)
       ((act_read seen asks.0 act).1 (asks.2, λ same. (not_seen earlier seen of).1 (asks.3 same))),
 )
 
@@ -56,13 +56,14 @@ line_at_fault : (earlier : List (List ℕ)) (seen : Bool) (text : List ℕ) (fau
     → (asked script_lines seen text ≡ Err fault) ↔ LineHasFault earlier text fault
 line_at_fault earlier seen text fault of = (
   λ is. record {
-    words = words_in separators.Script text;
+    words = words_in Script text;
     spelled = words_spelled text;
     seen = seen;
     sections = of;
-    fault = (fault_read (script_reads seen) (words_in separators.Script text) fault).0 is;
+    fault = (fault_read (script_reads seen) (words_in Script text) fault).0 is;
   },
-  λ at. rw (has_words separators.Script text at.words at.spelled, same_seen seen at.seen of at.sections) ((fault_read (script_reads at.seen) at.words fault).1 at.fault),
+  λ at. rw (has_words Script text at.words at.spelled, same_seen seen at.seen of at.sections)
+      ((fault_read (script_reads at.seen) at.words fault).1 at.fault),
 )
 
 -- a line is `sections` if its words are
@@ -70,17 +71,18 @@ sections_words : (form : Form) → act_of form ≡ acts.Sections → words_of fo
 sections_words sections is = refl
 sections_words form is = cc
 
-sections_spelled : (seen : Bool) (text : List ℕ) → asked script_lines seen text ≡ Ok (Some acts.Sections) → HasWords separators.Script text (codes "sections" ∷ [])
+sections_spelled : (seen : Bool) (text : List ℕ) → asked script_lines seen text ≡ Ok (Some acts.Sections)
+    → HasWords Script text (codes "sections" ∷ [])
 sections_spelled seen text is =
-    let spelled = (act_read seen (words_in separators.Script text) acts.Sections).0 is in
-    let words : words_in separators.Script text ≡ codes "sections" ∷ [] =
+    let spelled = (act_read seen (words_in Script text) acts.Sections).0 is in
+    let words : words_in Script text ≡ codes "sections" ∷ [] =
     spelled.0.numbers.spelled ∙ sections_words spelled.0.numbers.form (sym spelled.0.numbers.asks) in
     (rw words at (words_spelled text))
 
 others_spelled : (text : List ℕ) (act : Option Act) → asked script_lines false text ≡ Ok act → seen_behind script_lines false act ≡ false
-    → ¬ (HasWords separators.Script text (codes "sections" ∷ []))
+    → ¬ (HasWords Script text (codes "sections" ∷ []))
 others_spelled text act is isnt has =
-    let was : asked script_lines false text ≡ Ok (Some acts.Sections) = rw (has_words separators.Script text (codes "sections" ∷ []) has) refl in
+    let was : asked script_lines false text ≡ Ok (Some acts.Sections) = rw (has_words Script text (codes "sections" ∷ []) has) refl in
     let same : act ≡ Some acts.Sections = cc (is, was) in let other : true ≡ false = (rw same at isnt) in cc
 
 is_sections_or : (act : Option Act) → (act ≡ Some acts.Sections) ⊎ (seen_behind script_lines false act ≡ false)
@@ -96,8 +98,8 @@ only_one x y has = at has.0 has.1 has.2
     at zero below is = sym is
     at (suc k) below is = absurd (omega (arith, below))
 
-seen_on : (earlier : List (List ℕ)) (seen : Bool) (text : List ℕ) (act : Option Act) → SeenIn earlier seen → asked script_lines seen text ≡ Ok act
-    → SeenIn (earlier ++ (text ∷ [])) (seen_behind script_lines seen act)
+seen_on : (earlier : List (List ℕ)) (seen : Bool) (text : List ℕ) (act : Option Act) → SeenIn earlier seen
+    → asked script_lines seen text ≡ Ok act → SeenIn (earlier ++ (text ∷ [])) (seen_behind script_lines seen act)
 seen_on earlier true text act of is = (
   λ seen. let has = of.0 refl in (has.0, Contains-append_left earlier (text ∷ []) has.0 has.1, has.2),
   λ has. refl,
@@ -133,7 +135,8 @@ read_on number first others = do
 
 abbrev FirstOk : ℕ → Result (Option Act) Wrong → (Option Act → Result (List Line) (ℕ × Wrong)) → List Line → Type 0
 FirstOk number first others lines =
-    (act : Option Act) × (left : List Line) × (first ≡ Ok act) × (others act ≡ Ok left) × (lines ≡ cons_option (line_at script_lines number act) left)
+    (act : Option Act) × (left : List Line) × (first ≡ Ok act) × (others act ≡ Ok left)
+    × (lines ≡ cons_option (line_at script_lines number act) left)
 
 first_ok : (number : ℕ) (first : Result (Option Act) Wrong) (others : Option Act → Result (List Line) (ℕ × Wrong)) (lines : List Line)
     → read_on number first others ≡ Ok lines → FirstOk number first others lines
@@ -163,10 +166,12 @@ lines_ask earlier seen [] lines of = (λ is. cc (is), λ is. rw is refl)
 lines_ask earlier seen (text ∷ texts) lines of = (
   λ is. let first = first_ok (length earlier + 1) (asked script_lines seen text)
       (λ act. lines_from script_lines (seen_behind script_lines seen act) (length earlier + 1 + 1) texts) lines is in
-      let others = lines_ask (earlier ++ (text ∷ [])) (seen_behind script_lines seen first.0) texts first.1 (seen_on earlier seen text first.0 of first.2) in
+      let others = lines_ask (earlier ++ (text ∷ [])) (seen_behind script_lines seen first.0) texts first.1
+      (seen_on earlier seen text first.0 of first.2) in
       (first.0, first.1, (line_asks earlier seen text first.0 of).0 first.2, first.4, others.0 (rw (length_on earlier text) first.3)),
   λ asks. let was = (line_asks earlier seen text asks.0 of).1 asks.2 in
-      let others = lines_ask (earlier ++ (text ∷ [])) (seen_behind script_lines seen asks.0) texts asks.1 (seen_on earlier seen text asks.0 of was) in
+      let others = lines_ask (earlier ++ (text ∷ [])) (seen_behind script_lines seen asks.0) texts asks.1
+      (seen_on earlier seen text asks.0 of was) in
       let read = (rw (length_on earlier text) at (others.1 asks.4)) in
       rw (was, read) (ap (λ (ls : List Line). Ok ls) (sym asks.3)),
 )
@@ -236,22 +241,23 @@ script_read bytes lines = unturned (lines_of script_lines bytes)
     unturned (Err told) is = cc (is)
 
 pub script_asks : (bytes : List ℕ) (lines : List Line)
-    → (script_of bytes ≡ Ok lines) ↔ LinesAskFor [] (parts_in (separators.Byte 10) bytes) lines
+    → (script_of bytes ≡ Ok lines) ↔ LinesAskFor [] (parts_in (Byte 10) bytes) lines
 script_asks bytes lines =
-    let asks = lines_ask [] false (parts_in (separators.Byte 10) bytes) lines none_seen in
+    let asks = lines_ask [] false (parts_in (Byte 10) bytes) lines none_seen in
     (λ is. asks.0 (script_read bytes lines is), λ ask. rw (asks.1 ask) refl)
 
 pub script_fault : (bytes : List ℕ) (fault : ScriptFault)
-    → (script_of bytes ≡ Err fault) ↔ IsFirstFault [] (parts_in (separators.Byte 10) bytes) fault
+    → (script_of bytes ≡ Err fault) ↔ IsFirstFault [] (parts_in (Byte 10) bytes) fault
 script_fault bytes fault = (
   by_lines (lines_of script_lines bytes) refl,
-  λ found. let read = fault_of_one [] false found.before found.text found.after found.acts found.wrong none_seen found.faultless found.at_fault in
+  λ found. let read = fault_of_one [] false found.before found.text found.after found.acts found.wrong none_seen
+      found.faultless found.at_fault in
       rw (found.lines, read, found.named) refl,
 )
   where
     by_lines : (r : Result (List Line) (ℕ × Wrong)) → lines_of script_lines bytes ≡ r → with_error (λ at. fault_at at.0 at.1) r ≡ Err fault
-        → IsFirstFault [] (parts_in (separators.Byte 10) bytes) fault
+        → IsFirstFault [] (parts_in (Byte 10) bytes) fault
     by_lines (Ok lines) was is = cc (is)
     by_lines (Err told) was is =
         let same : fault_at told.0 told.1 ≡ fault = cc (is) in
-        rw same at (one_at_fault [] false (parts_in (separators.Byte 10) bytes) told none_seen was)
+        rw same at (one_at_fault [] false (parts_in (Byte 10) bytes) told none_seen was)

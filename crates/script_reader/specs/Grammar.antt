@@ -25,8 +25,8 @@ front_value (Err fault) = 0
 abbrev pub value : List ℕ → ℕ
 value word = front_value (size_of word)
 
--- the forms of a kind of script, with any word in the place of each number: the words of a form, the
--- condition that each number is a size within its limit, and the act of a form whose numbers are
+-- the forms of a kind of script, with any word in the place of each number: the words of a form,
+-- the condition that each number is a size within its limit, and the act of such a form
 pub record Grammar (A : Type 0) : Type 1 where
   pub Form : Type 0
   pub words_of : Form → Words
@@ -44,7 +44,11 @@ pub record SpellsNumbers {A : Type 0} (grammar : Grammar A) (words : Words) (act
   pub numbers : grammar.HasNumbers form
   pub asks : act ≡ grammar.act_of form
 
--- the first condition that these words don't meet, where `Fails` says it of an act
+-- an act whose numbers are right meets all conditions
+abbrev pub NeverFails : {A : Type 0} → A → Wrong → Type 0
+NeverFails act wrong = ⊥
+
+-- the first condition that these words don't meet; `Fails` says it of an act with right numbers
 abbrev pub HasFault : {A : Type 0} → Grammar A → (A → Wrong → Type 0) → Words → Wrong → Type 0
 HasFault grammar Fails words wrong.Form = (¬ (IsPassedOver words)) × (¬ (HasForm grammar words))
 HasFault grammar Fails words wrong.Number =

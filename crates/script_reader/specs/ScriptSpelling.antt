@@ -3,7 +3,7 @@
 use Rattle.std.specs.Prelude.{◌≡◌, ℕ, ◌+◌, Bool, true, List, [], ◌∷◌, ◌++◌, codes, length, Contains, Option, Some, None, ◌↔◌}
 use Rattle.std.specs.List.{cons_option}
 use Rattle.text_words.specs.Spelling.{HasWords}
-use Rattle.text_words.specs.declared.separators.Separators.TheVariants as separators
+use Rattle.text_words.specs.declared.separators.Separators.TheVariants.{Script}
 use Rattle.script_reader.specs.declared.act.Act.{Act}
 use Rattle.script_reader.specs.declared.act.Act.TheVariants as acts
 use Rattle.script_reader.specs.declared.act.Line.{Line}
@@ -17,18 +17,18 @@ use Rattle.script_reader.specs.Spelling.{script_grammar, SpellsAct, Fails}
 
 -- one of the lines is `sections`
 abbrev pub HasSectionsLine : List (List ℕ) → Type 0
-HasSectionsLine texts = (text : List ℕ) × Contains texts text × HasWords separators.Script text (codes "sections" ∷ [])
+HasSectionsLine texts = (text : List ℕ) × Contains texts text × HasWords Script text (codes "sections" ∷ [])
 
 -- after the earlier lines, this line has this act, or no command
 abbrev pub LineAsksFor : List (List ℕ) → List ℕ → Option Act → Type 0
-LineAsksFor earlier text None = (words : Words) × HasWords separators.Script text words × IsPassedOver words
+LineAsksFor earlier text None = (words : Words) × HasWords Script text words × IsPassedOver words
 LineAsksFor earlier text (Some act) =
-    (words : Words) × HasWords separators.Script text words × SpellsAct words act × (act ≡ acts.Sections → ¬ (HasSectionsLine earlier))
+    (words : Words) × HasWords Script text words × SpellsAct words act × (act ≡ acts.Sections → ¬ (HasSectionsLine earlier))
 
 -- after the earlier lines, this line has this fault
 pub record LineHasFault (earlier : List (List ℕ)) (text : List ℕ) (wrong : Wrong) : Type 0 where
   pub words : Words
-  pub spelled : HasWords separators.Script text words
+  pub spelled : HasWords Script text words
   pub seen : Bool
   pub sections : (seen ≡ true) ↔ HasSectionsLine earlier
   pub fault : HasFault script_grammar (Fails seen) words wrong

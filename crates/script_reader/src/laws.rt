@@ -4,7 +4,7 @@
 ghost use Rattle.std.specs.Prelude.{◌≡◌, ◌↔◌, ℕ, Bool, false, List, [], Some, None, Ok, Err};
 ghost use Rattle.text_words.specs.Parts.{parts_in};
 ghost use Rattle.text_words.specs.Spelling.{HasWords};
-ghost use Rattle.text_words.specs.declared.separators.Separators.TheVariants as separators;
+ghost use Rattle.text_words.specs.declared.separators.Separators.TheVariants.{Script, Byte};
 ghost use Rattle.script_reader.specs.declared.act.Act.{Act as AnyAct};
 ghost use Rattle.script_reader.specs.declared.act.Act.TheVariants as acts;
 ghost use Rattle.script_reader.specs.declared.act.Line.{Line as AnyLine};
@@ -19,22 +19,26 @@ ghost use Rattle.script_reader.specs.ScriptSpelling.{LinesAskFor, IsFirstFault};
 
 /// Law: each text has exactly one list of words.
 pub fn each_line_has_its_words()
-    ensures some { (text : List ℕ) → (words : Words) × HasWords separators.Script text words }
+    ensures some { (text : List ℕ) → (words : Words) × HasWords Script text words }
     ensures one { (text : List ℕ) (words others : Words) →
-        HasWords separators.Script text words → HasWords separators.Script text others → words ≡ others }
+        HasWords Script text words → HasWords Script text others → words ≡ others }
 {}
 
 /// Law: a line is read as an act exactly if its words spell that act, and it isn't a second
 /// `sections`. It has no command exactly if it has no words or is a comment. It has a fault
 /// exactly if that is the first condition that its words don't meet.
 pub fn lines_of_spelling()
-    ensures act { (seen : Bool) (text : List ℕ) (words : Words) (act : AnyAct) → HasWords separators.Script text words →
+    ensures act { (seen : Bool) (text : List ℕ) (words : Words) (act : AnyAct) →
+        HasWords Script text words →
         ((asked script_lines seen text ≡ Ok (Some act))
         ↔ (SpellsAct words act × (act ≡ acts.Sections → seen ≡ false))) }
-    ensures nothing { (seen : Bool) (text : List ℕ) (words : Words) → HasWords separators.Script text words →
+    ensures nothing { (seen : Bool) (text : List ℕ) (words : Words) →
+        HasWords Script text words →
         ((asked script_lines seen text ≡ Ok None) ↔ IsPassedOver words) }
-    ensures fault { (seen : Bool) (text : List ℕ) (words : Words) (wrong : AnyWrong) → HasWords separators.Script text words →
-        ((asked script_lines seen text ≡ Err wrong) ↔ HasFault script_grammar (Fails seen) words wrong) }
+    ensures fault { (seen : Bool) (text : List ℕ) (words : Words) (wrong : AnyWrong) →
+        HasWords Script text words →
+        ((asked script_lines seen text ≡ Err wrong)
+        ↔ HasFault script_grammar (Fails seen) words wrong) }
 {}
 
 /// Law: a script is read as a list of lines exactly if these are the commands of its lines, with
@@ -42,7 +46,7 @@ pub fn lines_of_spelling()
 /// of the lowest line that has one.
 pub fn scripts_of_spelling()
     ensures lines { (bytes : List ℕ) (lines : List AnyLine) →
-        ((script_of bytes ≡ Ok lines) ↔ LinesAskFor [] (parts_in (separators.Byte 10) bytes) lines) }
+        ((script_of bytes ≡ Ok lines) ↔ LinesAskFor [] (parts_in (Byte 10) bytes) lines) }
     ensures fault { (bytes : List ℕ) (fault : AnyFault) →
-        ((script_of bytes ≡ Err fault) ↔ IsFirstFault [] (parts_in (separators.Byte 10) bytes) fault) }
+        ((script_of bytes ≡ Err fault) ↔ IsFirstFault [] (parts_in (Byte 10) bytes) fault) }
 {}

@@ -86,7 +86,8 @@ pub fn read_lines<L: ScriptLine>(alloc: Global, bytes: &[u8]) -> Result<Vec<L>, 
     requires { length bytes.now < 2 ^ 32 }
     ensures answers { Answers Unread.Memory (λ lines. lines.items) result
         (with_error (λ at. Unread.Faulty at.0 at.1) (lines_of L.kind bytes.now)) }
-    ensures memory { result ≡ Err Unread.Memory → IsOkAnd (lines_of L.kind bytes.now) (λ lines. 0 < length lines) }
+    ensures memory { result ≡ Err Unread.Memory →
+        IsOkAnd (lines_of L.kind bytes.now) (λ lines. 0 < length lines) }
     ensures limits { IfOk result (λ lines. All L.IsWithinLimits lines.items) }
     ensures wrong { IfErr result (CanBe L.MayBeWrong) }
 {
@@ -115,7 +116,8 @@ pub fn read_lines<L: ScriptLine>(alloc: Global, bytes: &[u8]) -> Result<Vec<L>, 
 /// - The first fault of the line, in the order of [`Wrong`].
 fn read_line<L: ScriptLine>(seen: bool, text: &[u8]) -> Result<Option<L::Act>, Wrong>
     ensures value { result ≡ asked L.kind seen text.now }
-    ensures limits { IfOk result (λ act. IfSome act (λ act. (number : ℕ) → L.IsWithinLimits (L.kind.line number act))) }
+    ensures limits { IfOk result (λ act. IfSome act
+        (λ act. (number : ℕ) → L.IsWithinLimits (L.kind.line number act))) }
     ensures wrong { IfErr result L.MayBeWrong }
     ensures some { IfOk result (λ act. IfSome act (λ _. 0 < length text.now)) }
     ensures words { IfErr result (λ _. 0 < length text.now) }
@@ -156,7 +158,8 @@ fn line_at<L: ScriptLine>(number: u64, act: Option<L::Act>) -> Option<L>
 ///
 /// - `Memory`: the program ran out of memory, either for this line or for an earlier one.
 fn keep<L: Copy>(lines: Result<Vec<L>, Memory>, line: Option<L>) -> Result<Vec<L>, Memory>
-    ensures line { IfOk result (λ kept. IsOkAnd lines (λ before. kept.items ≡ before.items ++ option_to_list line)) }
+    ensures line { IfOk result (λ kept. IsOkAnd lines
+        (λ before. kept.items ≡ before.items ++ option_to_list line)) }
     ensures memory { IsErr result → IsErr lines ⊎ IsSome line }
 {
     let mut lines = lines?;

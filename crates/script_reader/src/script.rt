@@ -49,7 +49,8 @@ impl ScriptLine for Line {
 /// - `Memory`: no line has a fault and some line has a command, but the program ran out of memory.
 pub fn read_script(alloc: Global, bytes: &[u8]) -> Result<Vec<Line>, ScriptFault>
     requires { length bytes.now < 2 ^ 32 }
-    ensures answers { Answers ScriptFault.Memory (λ lines. lines.items) result (script_of bytes.now) }
+    ensures answers { Answers ScriptFault.Memory (λ lines. lines.items) result
+        (script_of bytes.now) }
     ensures memory { result ≡ Err ScriptFault.Memory →
         IsOkAnd (script_of bytes.now) (λ lines. 0 < length lines) }
     ensures bounds { IfOk result (λ lines. All (λ line. HasBounds line.act) lines.items) }
