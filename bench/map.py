@@ -24,7 +24,7 @@ import time
 
 from memblock import write_crates
 
-CRATES = ("bm_base", "address_runs", "e820_model", "e820_sanitise", "e820_table", "e820_usable", "text_words", "boot_options", "efi_map")
+CRATES = ("bm_base", "address_runs", "e820_model", "e820_sanitise", "e820_table", "text_words", "boot_options", "efi_map")
 SMALL, LARGE = 800, 3200
 FEW, MANY = 6553, ((1 << 20) - 8) // 40
 ROUNDS = 21
@@ -113,7 +113,7 @@ EFI_SHAPES = (
 
 def build(folder):
     """Proves and builds the program in the folder, and gives its path."""
-    write_crates(folder, CRATES, [("map", "efi_map e820_usable e820_sanitise e820_table e820_model boot_options address_runs bm_base",
+    write_crates(folder, CRATES, [("map", "efi_map e820_sanitise e820_table e820_model boot_options address_runs bm_base",
                                    [("proofs/edit_settled/Invariants.antt", "map.invariants.txt")])])
     here = os.path.join(folder, "crates", "bench_map")
     words = write_inputs(os.path.join(folder, "first"), disjoint(SMALL, None), b"", [])

@@ -4,6 +4,7 @@ use Rattle.std.proofs.lemmas.Bool.Decides.{nat_tests}
 use Rattle.std.proofs.lemmas.Bool.{cases_lt, true≢false}
 use Rattle.address_runs.specs.Runs.{RunOf, DecidesEquality, run_end, lies_in, value_at, IsBefore, AreRuns, IsRunsOf, one_address, prepend_address, runs_from, runs_of}
 use Rattle.address_runs.specs.Sweep.{StartAtOrPast}
+use Rattle.address_runs.specs.Ascend.{Ascend}
 
 -- an address at or above the base and below the end lies in the run
 pub inside : {X : Type 0} (r : RunOf X) (x : ℕ) → r.base ≤ x → x < r.base + r.size → lies_in r x ≡ true
@@ -33,6 +34,11 @@ start_zero (r ∷ rs) = omega arith
 pub rest_from : {X : Type 0} (r : RunOf X) (rs : List (RunOf X)) → AreRuns (r ∷ rs) → StartAtOrPast (run_end r) rs
 rest_from r [] runs = tt
 rest_from r (s ∷ ss) runs = runs.1.0
+
+-- a canonical list of runs ascends
+pub runs_ascend : {X : Type 0} (rs : List (RunOf X)) → AreRuns rs → Ascend rs
+runs_ascend [] runs = tt
+runs_ascend (r ∷ rs) runs = (runs.0, rest_from r rs runs, runs_ascend rs runs.2)
 
 -- right at the end of a run there is another value, or none
 pub other_behind : {X : Type 0} (r : RunOf X) (rs : List (RunOf X)) → AreRuns (r ∷ rs) → value_at rs (run_end r) ≢ Some r.value

@@ -15,9 +15,9 @@ use Rattle.bm_base.specs.Frames.{bytes_of_frame}
 use Rattle.bm_base.proofs.EachLaws.{each_in-same}
 use Rattle.e820_model.proofs.ClaimLaws.{tells_kinds}
 use Rattle.early_stages.specs.Wanted.{first_items}
-use Rattle.e820_usable.specs.declared.stop.MapStop.{MapStop}
-use Rattle.e820_usable.specs.declared.stop.MapStop.TheVariants as reasons
-use Rattle.e820_usable.specs.Judged.{judged}
+use Rattle.e820_sanitise.specs.declared.stop.MapStop.{MapStop}
+use Rattle.e820_sanitise.specs.declared.stop.MapStop.TheVariants as reasons
+use Rattle.e820_sanitise.specs.Stop.{judge_frames}
 use Rattle.boot_model.specs.declared.stop.Cause.{Cause}
 use Rattle.script_reader.specs.declared.act.Line.{Line}
 use Rattle.early_script.specs.Stage.{after_lines, before_sections, behind_sections}
@@ -35,7 +35,7 @@ use Rattle.boot_model.specs.Stages.{in_order}
 pub record GoesOn (given : Given) (made : BootSoFar) : Type 0 where
   pub map : made.map ≡ map_of (claims given)
   pub fits : nat_lt E820_MAX_ENTRIES (length (map_of (claims given))) ≡ false
-  pub judged : judged (types_in_reach given) ≡ None
+  pub judged : judge_frames (types_in_reach given) ≡ None
 
 -- a stage that stops if the map is full leaves what was made as it is, unless it stops
 pub room_passed : (full : Bool) (cause : Cause) (before after : BootSoFar) → (if full then Err cause else Ok before) ≡ Ok after
@@ -51,7 +51,7 @@ frames_passed (Some reason) before after ends = absurd (cc)
 
 -- after them, what was made is what the boot began with
 pub judged_first : (given : Given) (made : BootSoFar) → map_judged given ≡ Ok made
-    → (made ≡ begin given) × (judged (types_in_reach given) ≡ None)
+    → (made ≡ begin given) × (judge_frames (types_in_reach given) ≡ None)
     × (nat_lt E820_MAX_ENTRIES (length (map_of (claims given))) ≡ false)
 judged_first given made ends =
     let behind_room = passes has_room (drop 1 (map_stages given)) (begin given) made ends in

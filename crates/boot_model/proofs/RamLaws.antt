@@ -5,7 +5,7 @@ use Rattle.std.specs.Prelude.{IfErr}
 use Rattle.bm_base.specs.ResultSteps.{◌>>=◌}
 use Rattle.e820_model.specs.Usable.{usable_frames}
 use Rattle.e820_model.specs.declared.entry.TheConstants.{E820_MAX_ENTRIES}
-use Rattle.e820_usable.specs.declared.stop.MapStop.TheVariants as reasons
+use Rattle.e820_sanitise.specs.declared.stop.MapStop.TheVariants as reasons
 use Rattle.growth_model.specs.Outcome.{Refused}
 use Rattle.early_stages.specs.Wanted.{first_items}
 use Rattle.stage_model.specs.Causes.{StageCause, NoPlace, NoTablePlace}

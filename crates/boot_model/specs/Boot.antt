@@ -10,8 +10,8 @@ use Rattle.e820_model.specs.declared.entry.Entry.{Entry}
 use Rattle.e820_model.specs.Claims.{Claims, final_claims}
 use Rattle.e820_model.specs.Map.{TypeAt, kinds, map_of}
 use Rattle.e820_model.specs.Usable.{types_below}
-use Rattle.e820_usable.specs.declared.stop.MapStop.{MapStop}
-use Rattle.e820_usable.specs.Judged.{judged}
+use Rattle.e820_sanitise.specs.declared.stop.MapStop.{MapStop}
+use Rattle.e820_sanitise.specs.Stop.{judge_frames}
 use Rattle.boot_options.specs.Crash.{no_crash}
 use Rattle.boot_options.specs.Options.{Chosen}
 use Rattle.memblock_model.specs.declared.item.Item.{Item}
@@ -259,7 +259,7 @@ unless_stopped (Some reason) made = Err (cause_of_map reason)
 -- the map has usable frames below the limit of physical addresses, and not too many
 -- (`e820__memblock_setup`)
 abbrev pub has_frames : Given → Stage
-has_frames given made = unless_stopped (judged (types_in_reach given)) made
+has_frames given made = unless_stopped (judge_frames (types_in_reach given)) made
 
 -- the stages that judge the map
 abbrev pub map_stages : Given → List Stage

@@ -5,7 +5,7 @@ ghost use Rattle.std.specs.Prelude.{◌≡◌};
 ghost use Rattle.boot_model.specs.Stop.{cause_of};
 
 use bm_base::Memory;
-use e820_usable::MapStop;
+use e820_sanitise::MapStop;
 use memblock_grow::{Refusal, StageStop, What};
 use memblock_model::Which;
 

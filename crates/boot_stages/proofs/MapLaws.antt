@@ -12,8 +12,8 @@ use Rattle.e820_model.specs.Map.{TypeAt, kinds, map_of}
 use Rattle.e820_model.specs.Usable.{types_below}
 use Rattle.e820_sanitise.specs.declared.fault.MapFault.TheVariants as faults
 use Rattle.e820_sanitise.specs.Room.{in_room}
-use Rattle.e820_usable.specs.declared.stop.MapStop.{MapStop}
-use Rattle.e820_usable.specs.Judged.{judged}
+use Rattle.e820_sanitise.specs.declared.stop.MapStop.{MapStop}
+use Rattle.e820_sanitise.specs.Stop.{judge_frames}
 use Rattle.boot_model.specs.declared.stop.Cause.{Cause}
 use Rattle.boot_model.specs.declared.stop.Stop.{Stop}
 use Rattle.boot_model.specs.declared.stop.Stop.TheVariants as stops
@@ -76,8 +76,8 @@ pub map_answers : (given : Given) (answer : MapAnswer) → Answers faults.Memory
 map_answers given (Ok runs) maps are result answers =
     let kinds_are : value_at runs.items ≡ kinds (claims given) = λ i x. are.each x i in
     let P : TypeAt → Type 0 = λ f. Answers stops.Memory (λ (map : Vec (RunOf ℕ) Global). map.items) result
-    (goes_on_with (judged (types_below (reach given) f)) runs.items) in
-    rw (decided given (Ok runs) maps) (judged_same given (judged (types_in_reach given)) runs result (subst P kinds_are answers))
+    (goes_on_with (judge_frames (types_below (reach given) f)) runs.items) in
+    rw (decided given (Ok runs) maps) (judged_same given (judge_frames (types_in_reach given)) runs result (subst P kinds_are answers))
 map_answers given (Err (faults.MapFull runs)) maps are (Ok map) answers = absurd (cc)
 map_answers given (Err (faults.MapFull runs)) maps are (Err stop) answers =
     λ other. rw (decided given (Err (faults.MapFull runs)) maps) (cc (answers other))

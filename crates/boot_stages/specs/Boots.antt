@@ -4,8 +4,8 @@ use Rattle.std.specs.declared.alloc.Global.{Global}
 use Rattle.address_runs.specs.Runs.{RunOf, value_at}
 use Rattle.e820_sanitise.specs.declared.fault.MapFault.{MapFault}
 use Rattle.e820_sanitise.specs.declared.fault.MapFault.TheVariants as faults
-use Rattle.e820_usable.specs.declared.stop.MapStop.{MapStop}
-use Rattle.e820_usable.specs.Judged.{judged}
+use Rattle.e820_sanitise.specs.declared.stop.MapStop.{MapStop}
+use Rattle.e820_sanitise.specs.Stop.{judge_frames}
 use Rattle.e820_model.specs.Usable.{types_below}
 use Rattle.bm_base.specs.ResultSteps.{with_error}
 use Rattle.phys_store.specs.Bytes.{Stored, byte_of}
@@ -49,7 +49,7 @@ goes_on_with (Some reason) map = Err (stop_of (cause_of_map reason))
 -- what the boot makes of the table's answer: it judges the map's frames below `reach`, the limit
 -- of physical addresses
 abbrev pub judged_answer : ℕ → MapAnswer → Result (List (RunOf ℕ)) Stop
-judged_answer reach (Ok runs) = goes_on_with (judged (types_below reach (value_at runs.items))) runs.items
+judged_answer reach (Ok runs) = goes_on_with (judge_frames (types_below reach (value_at runs.items))) runs.items
 judged_answer reach (Err fault) = Err (stop_of_map fault)
 
 -- The table's answer decides how the map's stage ends. It says nothing if the program was out of

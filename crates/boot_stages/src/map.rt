@@ -7,7 +7,7 @@ ghost use Rattle.e820_model.specs.Claims.{EntriesFit, HaveTypes, final_claims, w
 ghost use Rattle.e820_model.specs.Map.{claims_of};
 ghost use Rattle.bm_base.specs.Answers.{Answers};
 ghost use Rattle.e820_model.specs.Usable.{types_below};
-ghost use Rattle.e820_usable.specs.Judged.{judged};
+ghost use Rattle.e820_sanitise.specs.Stop.{judge_frames};
 ghost use Rattle.boot_model.specs.Boot.{added};
 ghost use Rattle.boot_model.specs.View.{inputs_view};
 ghost use Rattle.boot_stages.specs.Boots.{judged_answer, goes_on_with};
@@ -15,9 +15,8 @@ ghost use Rattle.boot_stages.specs.Boots.{judged_answer, goes_on_with};
 use bm_base::Memory;
 use boot_model::{Cause, Inputs, Stop};
 use boot_options::Edit;
-use e820_sanitise::{MapFault, Run, Table};
+use e820_sanitise::{MapFault, Run, Table, judge_frames};
 use e820_table::Entry;
-use e820_usable::judge;
 use std::alloc::Global;
 
 /// Returns the table of the finished map: the zero page's entries, the extension's entries, the
@@ -114,11 +113,11 @@ pub fn judged_map(answer: Result<Vec<Run>, MapFault>, reach: u64) -> Result<Vec<
 fn go_on(map: Vec<Run>, reach: u64) -> Result<Vec<Run>, Stop>
     requires { AreRuns map.items }
     ensures answers { Answers Stop.Memory (λ runs. runs.items) result
-        (goes_on_with (judged (types_below reach (value_at map.items))) map.items) }
+        (goes_on_with (judge_frames (types_below reach (value_at map.items))) map.items) }
     ensures always { ¬ IsErrOf result Stop.Memory }
     ensures runs { IfOk result (λ runs. AreRuns runs.items) }
 {
-    match judge(&map, reach) {
+    match judge_frames(&map, reach) {
         Some(reason) => Err(Stop::from(Cause::from(reason))),
         None => Ok(map),
     }

@@ -6,7 +6,7 @@ ghost use Rattle.bm_base.specs.PutsText.{PutsText};
 ghost use Rattle.boot_model.specs.View.{booted_view};
 ghost use Rattle.debugfs_reports.specs.ReportList.{are_reports, reports_in, shown_list, shown_part, title};
 ghost use Rattle.debugfs_reports.specs.Stand.{TablesStand, records_at_heads};
-ghost use Rattle.e820_usable.specs.Ascend.{Ascend};
+ghost use Rattle.address_runs.specs.Ascend.{Ascend};
 
 use crate::report::{Report, put_report, report_named};
 use bm_base::{Memory, put_text};

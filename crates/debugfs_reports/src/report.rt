@@ -6,7 +6,7 @@ ghost use Rattle.std.specs.Str.{bytes_eq};
 ghost use Rattle.boot_model.specs.View.{booted_view};
 ghost use Rattle.debugfs_reports.specs.Report.{name_of, report_named, report_text, shown_text};
 ghost use Rattle.debugfs_reports.specs.Stand.{TablesStand, records_at_heads};
-ghost use Rattle.e820_usable.specs.Ascend.{Ascend};
+ghost use Rattle.address_runs.specs.Ascend.{Ascend};
 
 use crate::summary::summary_of;
 use bm_base::Memory;

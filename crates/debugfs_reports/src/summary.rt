@@ -6,12 +6,12 @@
 ghost use Rattle.std.specs.Prelude.{◌≡◌, ◌*◌, ◌^◌, ◌<◌, IfOk};
 ghost use Rattle.boot_model.specs.View.{booted_view};
 ghost use Rattle.debugfs_reports.specs.Summary.{fullness_of, summary_of};
-ghost use Rattle.e820_usable.specs.Ascend.{Ascend};
+ghost use Rattle.address_runs.specs.Ascend.{Ascend};
 
 use bm_base::Memory;
 use boot_model::Booted;
 use buddy_handover::BlockRow;
-use e820_usable::usable_frames;
+use e820_sanitise::usable_frames;
 use memblock_ranges::Head;
 use stage_texts::{Fullness, Summary};
 

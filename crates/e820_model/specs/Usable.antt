@@ -1,5 +1,6 @@
 -- The usable frames of a map, and their number.
-use Rattle.std.specs.Prelude.{ℕ, zero, suc, ◌+◌, ◌^◌, ◌==◌, Bool, false, ◌||◌, nat_lt, if◌then◌else◌, Option, Some, None}
+use Rattle.std.specs.Prelude.{ℕ, zero, suc, ◌+◌, ◌*◌, ◌^◌, ◌==◌, Bool, false, ◌&&◌, ◌||◌, nat_le, nat_lt, if◌then◌else◌, Option, Some, None}
+use Rattle.bm_base.specs.declared.range.TheConstants.{FRAME_SIZE}
 use Rattle.bm_base.specs.Each.{each_in}
 use Rattle.bm_base.specs.Frames.{bytes_of_frame}
 use Rattle.e820_model.specs.declared.entry.TheConstants.{E820_TYPE_RAM, E820_TYPE_RESERVED_KERN}
@@ -26,3 +27,8 @@ is_usable_frame f frame = each_in (bytes_of_frame frame) (λ x. is_memory (f x))
 -- the number of usable frames, among the 2^52 frames of 64-bit addresses
 unfoldable pub usable_frames : TypeAt → ℕ
 usable_frames f = count_below (is_usable_frame f) (2 ^ 52)
+
+-- the number of frames that begin at or above `from` and end at or below `until`
+abbrev pub count_whole_frames : ℕ → ℕ → ℕ
+count_whole_frames from until =
+    count_below (λ frame. nat_le from (FRAME_SIZE * frame) && nat_le (FRAME_SIZE * frame + FRAME_SIZE) until) (2 ^ 52)

@@ -1,3 +1,5 @@
 pub mod CutLaws
+pub mod FramesLaws
 pub mod SettleLaws
 mod Examples
+mod FramesExamples

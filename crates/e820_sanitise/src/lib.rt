@@ -1,4 +1,5 @@
-//! Turns the firmware's memory map, entries that may overlap, into runs of addresses that don't.
+//! Turns the firmware's memory map, entries that may overlap, into runs of addresses that don't,
+//! and decides whether the boot continues with the map's usable frames.
 //!
 //! The firmware's entries (`struct boot_e820_entry`) may overlap, touch or be empty, and come in
 //! any order. The extension adds more entries, and options edit the map. A [`Table`] holds what
@@ -19,14 +20,34 @@
 //! sorts the claims and overlays them (`overlay_all` of `address_runs`): it looks at each claim
 //! once if they don't overlap, and takes n log n steps for n claims that overlap little.
 //!
+//! A frame is 4,096 bytes. It is usable if each of its bytes is RAM or the kernel's own memory
+//! (`E820_TYPE_RAM`, `E820_TYPE_RESERVED_KERN`), and lies below a limit that the caller passes.
+//! The limit is the end of the memory that the kernel can address (`MAX_PHYSMEM_BITS`). These are
+//! the frames that `e820__memblock_setup` and `memblock_trim_memory` keep.
+//!
+//! - [`usable_frames`] counts them in one pass over the runs of the map. Runs of memory that touch
+//!   count as one stretch. So a frame that lies partly in a run of RAM and partly in one of the
+//!   kernel's own also counts. The definition (`usable_frames` of `e820_model`) looks at each
+//!   frame by itself, byte by byte.
+//! - [`judge_frames`] returns why the boot stops at its map, if it does: there is no usable frame
+//!   ([`MapStop::NoRam`]), or there are more than 2^32 of them ([`MapStop::TooMuchRam`]).
+//!
+//! The layer above may rest on both results for every limit. The count holds for runs in ascending
+//! order (`Ascend` of `address_runs`), the decision for a canonical list of runs. Neither call
+//! allocates memory. A map with too many runs is refused earlier, by [`Table::runs`].
+//!
 //! In contracts, a name means the definition in `specs/`, here or in a crate below.
 #![tactic(auto)]
 
 mod cuts;
 mod fault;
+mod frames;
 mod settle;
+mod stop;
 mod table;
 
 pub use e820_model::{E820_MAX_ENTRIES, Run};
 pub use fault::MapFault;
+pub use frames::{is_memory, usable_frames};
+pub use stop::{MapStop, judge_frames};
 pub use table::Table;

@@ -30,8 +30,6 @@ mod of_e820_sanitise;
 #[cfg(test)]
 mod of_e820_table;
 #[cfg(test)]
-mod of_e820_usable;
-#[cfg(test)]
 mod of_efi_map;
 #[cfg(test)]
 mod of_program_run;
@@ -45,3 +43,5 @@ mod of_script_reader;
 mod of_srat_reader;
 #[cfg(test)]
 mod of_text_words;
+#[cfg(test)]
+mod of_usable_frames;

@@ -1,7 +1,7 @@
 //! The reports of a boot whose map has two adjacent runs of one type. A caller may have such a
 //! map; that of a boot never has.
 
-ghost use Rattle.e820_usable.specs.Ascend.{Ascend};
+ghost use Rattle.address_runs.specs.Ascend.{Ascend};
 
 use crate::common::{FIRST_PAGE, booted, machine, run};
 use debugfs_reports::{Report, render};

@@ -1,6 +1,6 @@
 -- A stop is the boot's; the texts are those of the boot.
 use Rattle.std.proofs.Common.{◌∙◌, refl}
-use Rattle.e820_usable.proofs.FramesLaws.{runs_ascend}
+use Rattle.address_runs.proofs.RunsLaws.{runs_ascend}
 use Rattle.program_run.proofs.BootedLaws.{items_shown, items_stand, told_is}
 use Rattle.program_run.proofs.program.boot_texts.Goals as goal
 

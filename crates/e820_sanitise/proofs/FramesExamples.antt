@@ -1,18 +1,17 @@
 -- Worked examples of small and large maps.
 use Rattle.std.proofs.Common.{◌≡◌, ℕ, ◌+◌, ◌^◌, ◌<◌, ◌∙◌, Some, None, List, [], ◌∷◌, min, refl, sym, arith}
+use Rattle.address_runs.specs.Ascend.{Ascend}
 use Rattle.address_runs.specs.Runs.{RunOf, value_at}
-use Rattle.e820_model.specs.Usable.{types_below, usable_frames}
-use Rattle.e820_usable.specs.declared.stop.MapStop.TheVariants as stops
-use Rattle.e820_usable.specs.Ascend.{Ascend}
-use Rattle.e820_usable.specs.Frames.{whole_frames}
-use Rattle.e820_usable.specs.Judged.{judged}
-use Rattle.e820_usable.proofs.FramesLaws.{whole_by_division, frames_usable}
+use Rattle.e820_model.specs.Usable.{types_below, usable_frames, count_whole_frames}
+use Rattle.e820_sanitise.specs.declared.stop.MapStop.TheVariants as stops
+use Rattle.e820_sanitise.specs.Stop.{judge_frames}
+use Rattle.e820_sanitise.proofs.FramesLaws.{whole_by_division, frames_usable}
 
 -- frame 0 isn't whole from 2 KiB on, and frame 3 isn't whole below 14 KiB
-frames_1_and_2 : whole_frames 0x800 0x3800 ≡ 2
+frames_1_and_2 : count_whole_frames 0x800 0x3800 ≡ 2
 frames_1_and_2 = whole_by_division 0x800 0x3800 (omega arith)
 
-one_byte_short : whole_frames 0 0xFFF ≡ 0
+one_byte_short : count_whole_frames 0 0xFFF ≡ 0
 one_byte_short = whole_by_division 0 0xFFF (omega arith)
 
 -- the first address that page tables of five levels can't reach
@@ -27,40 +26,40 @@ one_run : (size : ℕ) → 0 < size → Ascend (ram size)
 one_run size some = (some, tt, tt)
 
 -- the usable frames of that RAM are the whole frames below its end
-frames_of_ram : (size : ℕ) → 0 < size → usable_frames (types_below limit (value_at (ram size))) ≡ whole_frames 0 (min (0 + size) limit)
+frames_of_ram : (size : ℕ) → 0 < size → usable_frames (types_below limit (value_at (ram size))) ≡ count_whole_frames 0 (min (0 + size) limit)
 frames_of_ram size some = sym (frames_usable limit (omega arith) (ram size) (one_run size some))
 
 -- two pages of RAM are two usable frames
 two_pages : usable_frames (types_below limit (value_at (ram 0x2000))) ≡ 2
 two_pages = frames_of_ram 0x2000 (omega arith) ∙ whole_by_division 0 0x2000 (omega arith)
 
-two_pages_go_on : judged (types_below limit (value_at (ram 0x2000))) ≡ None
+two_pages_go_on : judge_frames (types_below limit (value_at (ram 0x2000))) ≡ None
 two_pages_go_on = rw two_pages refl
 
 -- less than a page of RAM is no usable frame, and the boot stops
 part_of_a_page : usable_frames (types_below limit (value_at (ram 0x800))) ≡ 0
 part_of_a_page = frames_of_ram 0x800 (omega arith) ∙ whole_by_division 0 0x800 (omega arith)
 
-part_of_a_page_stops : judged (types_below limit (value_at (ram 0x800))) ≡ Some stops.NoRam
+part_of_a_page_stops : judge_frames (types_below limit (value_at (ram 0x800))) ≡ Some stops.NoRam
 part_of_a_page_stops = rw part_of_a_page refl
 
 -- the boot continues with 2^32 frames, and stops with one more
 most_frames : usable_frames (types_below limit (value_at (ram (2 ^ 44)))) ≡ 2 ^ 32
 most_frames = frames_of_ram (2 ^ 44) (omega arith) ∙ whole_by_division 0 (2 ^ 44) (omega arith)
 
-most_frames_go_on : judged (types_below limit (value_at (ram (2 ^ 44)))) ≡ None
+most_frames_go_on : judge_frames (types_below limit (value_at (ram (2 ^ 44)))) ≡ None
 most_frames_go_on = rw most_frames refl
 
 one_frame_more : usable_frames (types_below limit (value_at (ram (2 ^ 44 + 4096)))) ≡ 2 ^ 32 + 1
 one_frame_more = frames_of_ram (2 ^ 44 + 4096) (omega arith) ∙ whole_by_division 0 (2 ^ 44 + 4096) (omega arith)
 
-one_frame_more_stops : judged (types_below limit (value_at (ram (2 ^ 44 + 4096)))) ≡ Some (stops.TooMuchRam (2 ^ 32 + 1))
+one_frame_more_stops : judge_frames (types_below limit (value_at (ram (2 ^ 44 + 4096)))) ≡ Some (stops.TooMuchRam (2 ^ 32 + 1))
 one_frame_more_stops = rw one_frame_more refl
 
 -- a map without runs has no usable frame
-empty_map_stops : judged (types_below limit (value_at [])) ≡ Some stops.NoRam
+empty_map_stops : judge_frames (types_below limit (value_at [])) ≡ Some stops.NoRam
 empty_map_stops =
-    let counted : usable_frames (types_below limit (value_at [])) ≡ whole_frames 0 (min 0 limit) =
+    let counted : usable_frames (types_below limit (value_at [])) ≡ count_whole_frames 0 (min 0 limit) =
     sym (frames_usable limit (omega arith) [] tt) in
     let none : usable_frames (types_below limit (value_at [])) ≡ 0 = counted ∙ whole_by_division 0 0 (omega arith) in
     rw none refl

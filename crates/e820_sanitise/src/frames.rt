@@ -3,10 +3,9 @@
 //! have.
 
 ghost use Rattle.std.specs.Prelude.{◌≡◌, ℕ, ◌+◌, ◌-◌, ◌*◌, ◌^◌, ◌<◌, ◌≤◌};
+ghost use Rattle.address_runs.specs.Ascend.{Ascend};
 ghost use Rattle.address_runs.specs.Runs.{value_at};
-ghost use Rattle.e820_model.specs.Usable.{is_memory, types_below, usable_frames};
-ghost use Rattle.e820_usable.specs.Ascend.{Ascend};
-ghost use Rattle.e820_usable.specs.Frames.{whole_frames};
+ghost use Rattle.e820_model.specs.Usable.{count_whole_frames, is_memory, types_below, usable_frames};
 
 use bm_base::FRAME_SIZE;
 use e820_model::{E820_TYPE_RAM, E820_TYPE_RESERVED_KERN, Run};
@@ -19,8 +18,8 @@ pub fn is_memory(kind: u32) -> bool
 }
 
 // Returns the number of frames that begin at or above `from` and end at or below `until`.
-fn whole_frames(from: u64, until: u64) -> u64
-    ensures value { result ≡ whole_frames from until }
+fn count_whole_frames(from: u64, until: u64) -> u64
+    ensures value { result ≡ count_whole_frames from until }
     ensures few { FRAME_SIZE * result ≤ until - from }
 {
     let first = from.div_ceil(FRAME_SIZE);
@@ -44,11 +43,11 @@ pub fn usable_frames(runs: &[Run], limit: u64) -> u64
     for run in runs {
         if is_memory(run.kind) {
             if run.range.base != until {
-                frames += whole_frames(from, until.min(limit));
+                frames += count_whole_frames(from, until.min(limit));
                 from = run.range.base;
             }
             until = run.range.end();
         }
     }
-    frames + whole_frames(from, until.min(limit))
+    frames + count_whole_frames(from, until.min(limit))
 }

@@ -5,7 +5,7 @@ ghost use Rattle.address_runs.specs.Runs.{AreRuns};
 
 use crate::common::run;
 use e820_model::Run;
-use e820_usable::{MapStop, judge, usable_frames};
+use e820_sanitise::{MapStop, judge_frames, usable_frames};
 use std::process::Abort;
 
 /// The limit of addresses with page tables of five levels.
@@ -15,7 +15,7 @@ fn expect(rt: &impl Abort, runs: &[Run], frames: u64, stop: Option<MapStop>)
     requires { AreRuns runs.now }
 {
     assert!(rt; usable_frames(runs, LIMIT) == frames);
-    assert!(rt; judge(runs, LIMIT) == stop);
+    assert!(rt; judge_frames(runs, LIMIT) == stop);
 }
 
 #[test]
@@ -60,7 +60,7 @@ fn frames_at_the_ends_of_runs(rt: HostRuntime) {
 fn limits_of_addresses(rt: HostRuntime) {
     let low = [run(0, 0x4000, 1)];
     assert!(rt; usable_frames(&low, 0) == 0);
-    assert!(rt; judge(&low, 0) == Some(MapStop::NoRam));
+    assert!(rt; judge_frames(&low, 0) == Some(MapStop::NoRam));
     assert!(rt; usable_frames(&low, u64::MAX) == 4);
     // a range ends at most at 2^64 - 1, so the last frame of 64-bit addresses is never whole
     let high = [run(0xFFFF_FFFF_FFFF_D000, 0x2FFF, 1)];

@@ -1,7 +1,7 @@
 use Rattle.std.proofs.Common.{◌≡◌, ◌-◌, ◌/◌, ◌+◌, ◌∙◌, sym, arith}
 use Rattle.std.proofs.lemmas.Grind.{common_steps}
-use Rattle.e820_usable.proofs.FramesLaws.{whole_by_division}
-use Rattle.e820_usable.proofs.frames.whole_frames.Goals as goal
+use Rattle.e820_sanitise.proofs.FramesLaws.{whole_by_division}
+use Rattle.e820_sanitise.proofs.frames.count_whole_frames.Goals as goal
 
 pub returns-clause-value : goal.returns-clause-value
 returns-clause-value c =

@@ -2,37 +2,36 @@
 use Rattle.std.proofs.Common.{◌≡◌, ℕ, ◌+◌, ◌-◌, ◌*◌, ◌/◌, ◌^◌, ◌<◌, ◌≤◌, ◌∙◌, sym, ap, refl, Bool, true, false, ◌&&◌, ◌||◌, ◌==◌, nat_le, nat_lt, min, if◌then◌else◌, arith, inl, inr, Some, None, List, [], ◌∷◌}
 use Rattle.std.proofs.lemmas.Bool.{cases_Bool, cases_eq}
 use Rattle.std.proofs.lemmas.Bool.Decides.{nat_tests}
-use Rattle.address_runs.specs.Runs.{RunOf, run_end, lies_in, value_at, AreRuns}
+use Rattle.address_runs.specs.Ascend.{Ascend}
+use Rattle.address_runs.specs.Runs.{RunOf, run_end, lies_in, value_at}
 use Rattle.address_runs.specs.Sweep.{StartAtOrPast}
-use Rattle.address_runs.proofs.RunsLaws.{below, rest_from, start_zero}
-use Rattle.e820_model.specs.Usable.{is_memory, count_below, types_below, usable_frames}
+use Rattle.address_runs.proofs.RunsLaws.{below, start_zero}
+use Rattle.e820_model.specs.Usable.{is_memory, count_below, types_below, usable_frames, count_whole_frames}
 use Rattle.e820_model.proofs.UsableLaws.{all_bytes, count_same, count_interval, count_frames_between, IsGap, count_split, usable_count, memory_reached}
-use Rattle.e820_usable.specs.Ascend.{Ascend}
-use Rattle.e820_usable.specs.Frames.{whole_frames}
 
 -- the number of whole frames between two addresses, by division
-pub whole_by_division : (from until : ℕ) → until < 2 ^ 64 → whole_frames from until ≡ until / 4096 - (from + 4095) / 4096
+pub whole_by_division : (from until : ℕ) → until < 2 ^ 64 → count_whole_frames from until ≡ until / 4096 - (from + 4095) / 4096
 whole_by_division from until space =
     let same : (frame : ℕ) → frame < 2 ^ 52 → (nat_le from (4096 * frame) && nat_le (4096 * frame + 4096) until)
     ≡ (nat_le ((from + 4095) / 4096) frame && nat_lt frame (until / 4096)) =
     λ frame lt. grind (arith, nat_tests) in
-    let counted : whole_frames from until ≡ min (until / 4096) (2 ^ 52) - (from + 4095) / 4096 =
+    let counted : count_whole_frames from until ≡ min (until / 4096) (2 ^ 52) - (from + 4095) / 4096 =
     count_same _ _ (2 ^ 52) same ∙ count_interval ((from + 4095) / 4096) (until / 4096) (2 ^ 52) in
     counted ∙ omega arith
 
 -- the whole frames between two addresses are those whose bytes all lie between them
 whole_bytes : (from until : ℕ) → until < 2 ^ 64
-    → whole_frames from until ≡ count_below (all_bytes (λ x. nat_le from x && nat_lt x until)) (2 ^ 52)
+    → count_whole_frames from until ≡ count_below (all_bytes (λ x. nat_le from x && nat_lt x until)) (2 ^ 52)
 whole_bytes from until space = whole_by_division from until space ∙ omega (arith, count_frames_between from until (2 ^ 52), space)
 
 -- the usable frames below the limit: those of the current stretch from `from` to below `until`,
 -- and those of the runs that follow
 abbrev pub frames_from : ℕ → ℕ → ℕ → List (RunOf ℕ) → ℕ
-frames_from limit from until [] = whole_frames from (min until limit)
+frames_from limit from until [] = count_whole_frames from (min until limit)
 frames_from limit from until (r ∷ rs) =
     if is_memory (Some r.value)
     then (if r.base == until then frames_from limit from (run_end r) rs
-    else whole_frames from (min until limit) + frames_from limit r.base (run_end r) rs)
+    else count_whole_frames from (min until limit) + frames_from limit r.base (run_end r) rs)
     else frames_from limit from until rs
 
 -- an address is memory: it lies in the current stretch, or in one of the runs that follow
@@ -43,11 +42,6 @@ memory_after from until rs x = (nat_le from x && nat_lt x until) || is_memory (v
 pub start_earlier : (x y : ℕ) (rs : List (RunOf ℕ)) → x ≤ y → StartAtOrPast y rs → StartAtOrPast x rs
 start_earlier x y [] le start = tt
 start_earlier x y (r ∷ rs) le start = omega arith
-
--- a canonical list of runs ascends
-pub runs_ascend : {X : Type 0} (rs : List (RunOf X)) → AreRuns rs → Ascend rs
-runs_ascend [] runs = tt
-runs_ascend (r ∷ rs) runs = (runs.0, rest_from r rs runs, runs_ascend rs runs.2)
 
 -- runs that begin at or above an address give no value below it
 none_before : (at x : ℕ) (rs : List (RunOf ℕ)) → Ascend rs → StartAtOrPast at rs → x < at → value_at rs x ≡ None
@@ -114,7 +108,7 @@ frames_same limit p q same = ap (frames_of limit) (λ i x. same x i)
 
 -- the frames of a stretch
 stretch_frames : (limit from until : ℕ) → limit < 2 ^ 64
-    → whole_frames from (min until limit) ≡ frames_of limit (λ x. nat_le from x && nat_lt x until)
+    → count_whole_frames from (min until limit) ≡ frames_of limit (λ x. nat_le from x && nat_lt x until)
 stretch_frames limit from until space =
     let cut : (x : ℕ) → (nat_le from x && nat_lt x (min until limit)) ≡ ((nat_le from x && nat_lt x until) && nat_lt x limit) =
     λ x. grind (arith, nat_tests) in
@@ -167,7 +161,7 @@ frames_counted limit space (r ∷ rs) from until order start runs =
             let split : frames_of limit (λ x. (nat_le from x && nat_lt x until) || memory_after r.base (run_end r) rs x)
             ≡ frames_of limit (λ x. nat_le from x && nat_lt x until) + frames_of limit (memory_after r.base (run_end r) rs) =
             both_frames limit _ _ until (stretch_gap from until r rs runs (omega arith)) in
-            let stretch : whole_frames from (min until limit) ≡ frames_of limit (λ x. nat_le from x && nat_lt x until) =
+            let stretch : count_whole_frames from (min until limit) ≡ frames_of limit (λ x. nat_le from x && nat_lt x until) =
             stretch_frames limit from until space in
             rw (memory, test, same, split, stretch, rest) refl)
       ])

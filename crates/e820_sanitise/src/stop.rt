@@ -1,10 +1,9 @@
-//! Decides whether the boot stops at its map. Only the number of usable frames matters, so the
-//! decision is in this crate, next to the count.
+//! Decides whether the boot stops at its map. Only the number of usable frames matters.
 
 ghost use Rattle.std.specs.Prelude.{◌≡◌};
 ghost use Rattle.address_runs.specs.Runs.{AreRuns, value_at};
 ghost use Rattle.e820_model.specs.Usable.{types_below};
-ghost use Rattle.e820_usable.specs.Judged.{judged};
+ghost use Rattle.e820_sanitise.specs.Stop.{judge_frames};
 
 use crate::frames::usable_frames;
 use e820_model::Run;
@@ -24,9 +23,9 @@ pub enum MapStop {
 /// Returns why a boot stops at the map with these runs, or `None` if it continues. It stops if no
 /// frame below `limit` is usable, or more than 2^32 are. `limit` is the first address that the
 /// kernel can't use, in bytes; it may lie inside a frame.
-pub fn judge(runs: &[Run], limit: u64) -> Option<MapStop>
+pub fn judge_frames(runs: &[Run], limit: u64) -> Option<MapStop>
     requires { AreRuns runs.now }
-    ensures { result ≡ judged (types_below limit (value_at runs.now)) }
+    ensures { result ≡ judge_frames (types_below limit (value_at runs.now)) }
 {
     let frames = usable_frames(runs, limit);
     if frames == 0 {

@@ -1,8 +1,8 @@
 use Rattle.std.proofs.Common.{◌≡◌, ◌+◌, ◌*◌, ◌^◌, ◌<◌, ◌≤◌, drop}
+use Rattle.address_runs.specs.Ascend.{Ascend}
 use Rattle.address_runs.specs.Sweep.{StartAtOrPast}
-use Rattle.e820_usable.specs.Ascend.{Ascend}
-use Rattle.e820_usable.proofs.FramesLaws.{frames_from}
-use Rattle.e820_usable.proofs.frames.usable_frames.Given as goal
+use Rattle.e820_sanitise.proofs.FramesLaws.{frames_from}
+use Rattle.e820_sanitise.proofs.frames.usable_frames.Given as goal
 
 abbrev pub invariant-loop-run : goal.invariant-loop-run
 invariant-loop-run l = record {

@@ -1,2 +1,0 @@
-pub mod FramesLaws
-mod Examples

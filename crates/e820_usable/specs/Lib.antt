@@ -1,3 +1,0 @@
-pub mod Ascend
-pub mod Frames
-pub mod Judged
