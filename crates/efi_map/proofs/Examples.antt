@@ -1,19 +1,12 @@
 -- Worked examples of small EFI maps: each type of memory with each attribute that counts, and each
 -- fault.
 use Rattle.std.proofs.Common.{◌≡◌, ℕ, ◌^◌, true, false, Some, None, Ok, Err, List, [], ◌∷◌, ◌++◌, replicate, refl}
-use Rattle.efi_map.specs.Descriptors.{Descriptor, descriptor_at, bytes_of_descriptor, is_far, has_attribute, is_free_kind, type_of_free, type_of_kind, e820_type, entry_of, mirror_of}
-use Rattle.efi_map.specs.Map.{stride_of, has_header, has_length, count_of, nth_descriptor, descriptors_from, descriptors_of, far_among, mirror_in_front, mirrors_of, unless_far, efi_of}
+use Rattle.efi_map.specs.Descriptors.{Descriptor, descriptor_at, is_far, type_of_free, type_of_kind, e820_type, mirror_of}
+use Rattle.efi_map.specs.Map.{stride_of, has_header, has_length, count_of, nth_descriptor, descriptors_from, descriptors_of, far_among, mirrors_of, efi_of}
 use Rattle.efi_map.specs.declared.efi.EfiFault.TheVariants as faults
 
 abbrev page : ℕ → ℕ → Descriptor
 page kind attributes = record { kind = kind; base = 0x300000; pages = 1; attributes = attributes }
-
--- the types from EfiLoaderCode to EfiBootServicesData, and EfiConventionalMemory, are free: soft
--- reserved with EFI_MEMORY_SP, else RAM with EFI_MEMORY_WB, and reserved without both
-free_kinds : (is_free_kind 0 ≡ false) × (is_free_kind 1 ≡ true) × (is_free_kind 2 ≡ true) × (is_free_kind 3 ≡ true)
-    × (is_free_kind 4 ≡ true)
-    × (is_free_kind 5 ≡ false) × (is_free_kind 6 ≡ false) × (is_free_kind 7 ≡ true) × (is_free_kind 8 ≡ false)
-free_kinds = (refl, refl, refl, refl, refl, refl, refl, refl, refl)
 
 free_types : (type_of_free (page 7 0) ≡ 2) × (type_of_free (page 7 0x8) ≡ 1) × (type_of_free (page 7 0x40000) ≡ 0xEFFFFFFF)
     × (type_of_free (page 7 0x40008) ≡ 0xEFFFFFFF)
@@ -35,16 +28,6 @@ later_types = (refl, refl, refl, refl, refl, refl, refl, refl)
 purpose_of_acpi : (e820_type (page 9 0x40008) ≡ 3) × (e820_type (page 14 0) ≡ 7)
 purpose_of_acpi = (refl, refl)
 
-attributes : (has_attribute 0x8 (page 7 0xF) ≡ true) × (has_attribute 0x8 (page 7 0x7) ≡ false)
-    × (has_attribute 0x10000 (page 7 0x10000) ≡ true)
-attributes = (refl, refl, refl)
-
-an_entry : entry_of (page 9 8) ≡ record { addr = 0x300000; size = 0x1000; kind = 3 }
-an_entry = refl
-
-some_bytes : bytes_of_descriptor (record { kind = 7; base = 0x1000; pages = 3; attributes = 0 }) ≡ record { base = 0x1000; size = 0x3000 }
-some_bytes = refl
-
 -- mirrored memory: its whole frames; none if it has no whole frame; memory without the attribute
 -- isn't mirrored
 a_mirror : mirror_of (page 7 0x10008) ≡ Some (record { base = 0x300000; size = 0x1000 })
@@ -65,9 +48,6 @@ mirrors : mirrors_of (page 7 0x8 ∷ (page 7 0x10008 ∷ (page 4 0x10000 ∷ [])
 unfolding mirrors_of
 mirrors = refl
 
-in_front : mirror_in_front None [] ≡ []
-in_front = refl
-
 -- memory that ends at 2^64 - 4,096 isn't too far; with one page more it ends at 2^64 and is
 ends : (is_far (record { kind = 7; base = 0xFFFFFFFFFFFFE000; pages = 1; attributes = 0 }) ≡ false)
     × (is_far (record { kind = 7; base = 0xFFFFFFFFFFFFE000; pages = 2; attributes = 0 }) ≡ true)
@@ -80,10 +60,6 @@ far = record { kind = 7; base = 0; pages = 2 ^ 52; attributes = 0 }
 least_far : (far_among 0 (page 7 0 ∷ (far ∷ (far ∷ []))) ≡ Some 1) × (far_among 0 (page 7 0 ∷ []) ≡ None)
 unfolding far_among far
 least_far = (refl, refl)
-
-far_is_told : (unless_far (far ∷ []) (Some 0) ≡ Err (faults.TooFar 0)) × (unless_far [] None ≡ Ok (record { entries = []; mirrors = [] }))
-unfolding mirrors_of
-far_is_told = (refl, refl)
 
 -- a header: the size of a descriptor, and the version
 abbrev header : ℕ → ℕ → List ℕ

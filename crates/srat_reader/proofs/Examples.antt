@@ -3,8 +3,8 @@ use Rattle.std.proofs.Common.{Ok, Err, ◌≡◌, ℕ, true, false, List, [], �
 use Rattle.std.specs.Prelude.{replicate, codes}
 use Rattle.srat_reader.specs.declared.entries.Said.TheVariants as said
 use Rattle.srat_reader.specs.declared.table.SratFault.TheVariants as faults
-use Rattle.srat_reader.specs.Entries.{number_at, revision_of, type_at, length_at, fits_type, is_whole, is_enabled, apic_domain, block_domain, x2apic_domain, where_enabled, memory_at, said_at, is_far}
-use Rattle.srat_reader.specs.Table.{header_fault, offsets_from, offsets_of, fault_at, first_fault, srat_fault, processor_of, srat_block_of, processor_at, block_at, processors_of, srat_blocks_of, unless_fault, srat_of}
+use Rattle.srat_reader.specs.Entries.{fits_type, is_whole, is_enabled, apic_domain, block_domain, x2apic_domain, memory_at, said_at, is_far}
+use Rattle.srat_reader.specs.Table.{header_fault, offsets_from, offsets_of, fault_at, first_fault, srat_fault, processors_of, srat_blocks_of, srat_of}
 
 -- the header of a table with this length (below 256), revision and checksum byte
 abbrev header : ℕ → ℕ → ℕ → List ℕ
@@ -32,20 +32,6 @@ last_memory low high =
     1 ∷ 40 ∷ 0 ∷ 0 ∷ 0 ∷ 0 ∷ 0 ∷ 0 ∷
     0 ∷ 0xF0 ∷ 0xFF ∷ 0xFF ∷ 0xFF ∷ 0xFF ∷ 0xFF ∷ 0xFF ∷ low ∷ high ∷ 0 ∷ 0 ∷ 0 ∷ 0 ∷ 0 ∷ 0 ∷
     0 ∷ 0 ∷ 0 ∷ 0 ∷ 1 ∷ 0 ∷ 0 ∷ 0 ∷ replicate 8 0
-
--- numbers of four bytes and of two, the lowest byte first; the revision; the type and the length
--- of an entry
-low_byte_first : (number_at 4 1 (9 ∷ 0x78 ∷ 0x56 ∷ 0x34 ∷ 0x12 ∷ []) ≡ 0x12345678) × (number_at 2 0 (0x34 ∷ 0x12 ∷ []) ≡ 0x1234)
-low_byte_first = (refl, refl)
-
-third_revision : (revision_of (header 48 3 0) ≡ 3) × (revision_of (header 48 1 0) ≡ 1)
-third_revision = (refl, refl)
-
-begins_with : (type_at 1 (7 ∷ memory 1) ≡ 1)
-    × (length_at 1 (7 ∷ memory 1) ≡ 40)
-    × (type_at 0 (x2apic 0) ≡ 2)
-    × (length_at 0 (x2apic 0) ≡ 24)
-begins_with = (refl, refl, refl, refl)
 
 -- the lengths of the three types, and any length of another type
 own_lengths : (fits_type 0 16 ≡ true) × (fits_type 1 16 ≡ false) × (fits_type 2 24 ≡ true) × (fits_type 3 5 ≡ true)
@@ -76,10 +62,6 @@ domains_of_revision_2 = (refl, refl)
 x2apic_of_any_revision : (x2apic_domain 48 (header 72 1 0 ++ x2apic 1) ≡ 0x0C0D) × (x2apic_domain 0 (x2apic 0) ≡ 0x0C0D)
 x2apic_of_any_revision = (refl, refl)
 
--- a disabled entry and an entry of another type have no content
-enabled_alone : (where_enabled true (said.Processor 3) ≡ said.Processor 3) × (where_enabled false (said.Processor 3) ≡ said.Nothing)
-enabled_alone = (refl, refl)
-
 says_memory : (memory_at 48 (header 88 3 0 ++ memory 0) ≡ said.Block 0x105 0x2000 0x1000)
     × (said_at 48 (header 88 3 0 ++ memory 1) ≡ said.Block 0x105 0x2000 0x1000)
 unfolding said_at block_domain
@@ -88,11 +70,6 @@ says_memory = (refl, refl)
 says_nothing : (said_at 48 (header 88 3 0 ++ memory 2) ≡ said.Nothing) × (said_at 48 (header 50 3 0 ++ 9 ∷ 2 ∷ []) ≡ said.Nothing)
 unfolding said_at
 says_nothing = (refl, refl)
-
-says_processors : (said_at 48 (header 64 3 0 ++ apic 1) ≡ said.Processor 0x04030201)
-    × (said_at 48 (header 72 3 0 ++ x2apic 1) ≡ said.Processor 0x0C0D)
-unfolding said_at apic_domain
-says_processors = (refl, refl)
 
 -- the sum 2^64 - 1 isn't too far, and 2^64 is
 far_memory : (is_far (said.Block 0 0xFFFFFFFFFFFFF000 0xFFF) ≡ false)
@@ -114,10 +91,6 @@ two_offsets : (offsets_of (header 128 1 0 ++ x2apic 1 ++ (9 ∷ 16 ∷ replicate
     × (offsets_of (header 92 1 0 ++ x2apic 1 ++ (9 ∷ 1 ∷ []) ++ apic 1) ≡ 48 ∷ 72 ∷ [])
 unfolding offsets_from is_whole
 two_offsets = (refl, refl)
-
-no_offset : (offsets_of (header 48 1 0) ≡ []) × (offsets_from 1 0 (x2apic 1 ++ x2apic 1) ≡ 0 ∷ [])
-unfolding offsets_from is_whole
-no_offset = (refl, refl)
 
 -- the fault of one entry: whether it is whole is tested first; a range of memory may end at 2^64 -
 -- 1, and not at 2^64
@@ -141,38 +114,11 @@ srat_faults : (srat_fault (header 50 1 0 ++ 1 ∷ 0 ∷ []) ≡ Some faults.Chec
 unfolding offsets_from is_whole
 srat_faults = (refl, refl)
 
--- the two lists, in the order of the table
-processor_told : (processor_of (said.Processor 7) ≡ Some 7) × (processor_of (said.Block 7 0 1) ≡ None) × (processor_of said.Nothing ≡ None)
-processor_told = (refl, refl, refl)
-
-block_told : (srat_block_of (said.Block 7 2 1) ≡ Some (record { domain = 7; range = record { base = 2; size = 1 } }))
-    × (srat_block_of (said.Processor 7) ≡ None)
-    × (srat_block_of said.Nothing ≡ None)
-block_told = (refl, refl, refl)
-
-told_by_the_entry : (processor_at (header 72 1 0 ++ x2apic 1) 48 ≡ Some 0x0C0D) × (block_at (header 72 1 0 ++ x2apic 1) 48 ≡ None)
-unfolding said_at
-told_by_the_entry = (refl, refl)
-
-told_of_memory : (processor_at (header 88 1 0 ++ memory 1) 48 ≡ None)
-    × (block_at (header 88 1 0 ++ memory 1) 48 ≡ Some (record { domain = 5; range = record { base = 0x2000; size = 0x1000 } }))
-unfolding said_at block_domain
-told_of_memory = (refl, refl)
-
 both_lists : (processors_of (header 144 2 0 ++ x2apic 1 ++ memory 1 ++ apic 1 ++ apic 0) ≡ 0x0C0D ∷ 0x04030201 ∷ [])
     × (srat_blocks_of (header 144 2 0 ++ x2apic 1 ++ memory 1 ++ apic 1 ++ apic 0)
     ≡ record { domain = 0x105; range = record { base = 0x2000; size = 0x1000 } } ∷ [])
 unfolding offsets_from is_whole said_at apic_domain block_domain
 both_lists = (refl, refl)
-
-disabled_alone : (processors_of (header 104 2 0 ++ memory 0 ++ apic 2) ≡ []) × (srat_blocks_of (header 104 2 0 ++ memory 0 ++ apic 2) ≡ [])
-unfolding offsets_from is_whole said_at apic_domain block_domain
-disabled_alone = (refl, refl)
-
--- the lists, or the fault in their place
-lists_or_fault : (unless_fault None (record { processors = 7 ∷ []; blocks = [] }) ≡ Ok (record { processors = 7 ∷ []; blocks = [] }))
-    × (unless_fault (Some faults.Checksum) (record { processors = 7 ∷ []; blocks = [] }) ≡ Err faults.Checksum)
-lists_or_fault = (refl, refl)
 
 -- the smallest table, one with a processor, and one whose entry isn't whole
 srat_examples : (srat_of (header 48 1 0x95) ≡ Ok (record { processors = []; blocks = [] }))
