@@ -1,6 +1,6 @@
 -- Small files: what the definitions make of them, and how results compare with that.
-use Rattle.std.proofs.Common.{◌≡◌, ℕ, ◌+◌, ◌*◌, ◌-◌, true, false, if◌then◌else◌, List, [], ◌∷◌, ◌++◌, codes, Option, Some, None, Ok, Err, refl, inl, inr, arith}
-use Rattle.std.specs.Prelude.{Result, replicate}
+use Rattle.std.proofs.Common.{◌≡◌, ℕ, ◌+◌, ◌*◌, ◌-◌, true, false, if◌then◌else◌, List, [], ◌∷◌, ◌++◌, codes, Option, Some, None, Ok, Err, refl}
+use Rattle.std.specs.Prelude.{replicate}
 use Rattle.std.specs.Str.{bytes_eq}
 use Rattle.e820_model.specs.declared.entry.Entry.{Entry}
 use Rattle.e820_table.specs.declared.zero_page.ZeroFault.TheVariants as zero
@@ -20,28 +20,25 @@ use Rattle.script_reader.specs.declared.fault.ScriptFault.TheVariants as script
 use Rattle.page_alloc.specs.declared.fault.PageFault.TheVariants as pages
 use Rattle.slit_zonelists.specs.declared.table.SlitFault.TheVariants as slit
 use Rattle.efi_map.specs.declared.efi.EfiFault.TheVariants as efi
-use Rattle.efi_map.specs.Map.{descriptors_from, far_among, mirrors_of}
+use Rattle.efi_map.specs.Map.{descriptors_from}
 use Rattle.boot_inputs.specs.declared.fault.Fault.TheVariants as faults
 use Rattle.boot_inputs.specs.declared.input.Input.TheVariants as inputs
-use Rattle.boot_inputs.specs.Reason.{Reason}
 use Rattle.program_end.specs.declared.failure.Reason.TheVariants as reasons
-use Rattle.program_end.specs.declared.failure.NoResult.TheVariants as errors
-use Rattle.boot_inputs.specs.CommandLine.{command_line, command_line_diagnostic, options_said, options_take, put_options}
+use Rattle.boot_inputs.specs.CommandLine.{command_line, command_line_diagnostic}
 use Rattle.boot_inputs.specs.Diagnostic.{Diagnostic}
-use Rattle.boot_inputs.specs.Extension.{entries_said, extension_diagnostic, extension_file, put_extension}
+use Rattle.boot_inputs.specs.Extension.{extension_diagnostic, extension_file}
 use Rattle.boot_inputs.specs.Efi.{efi_diagnostic, efi_file, efi_given, efi_said, efi_takes, put_efi}
 use Rattle.boot_inputs.specs.Faults.{IsOfBytes, diagnostic_of}
-use Rattle.boot_inputs.specs.File.{unless_fault, with_value}
-use Rattle.boot_inputs.specs.Input.{place, word_for}
-use Rattle.boot_inputs.specs.Inputs.{Named, file_step, given_in, input_files, inputs_of, named_step, or_faulty, or_unread, step_if, within}
+use Rattle.boot_inputs.specs.Input.{word_for}
+use Rattle.boot_inputs.specs.Inputs.{Named, input_files, inputs_of, named_step}
 use Rattle.program_end.specs.Program.{Held}
-use Rattle.boot_inputs.specs.Pages.{pages_diagnostic, pages_file, pages_said, pages_take, put_pages}
+use Rattle.boot_inputs.specs.Pages.{pages_diagnostic, pages_file, pages_said}
 use Rattle.boot_inputs.specs.Reading.{are_behind, ascend}
-use Rattle.boot_inputs.specs.Script.{lines_said, lines_take, put_lines, script_diagnostic, script_file}
-use Rattle.boot_inputs.specs.Slit.{distances_said, distances_take, put_distances, slit_diagnostic, slit_file}
-use Rattle.boot_inputs.specs.Srat.{put_domains, srat_diagnostic, srat_file, table_said, table_takes}
-use Rattle.boot_inputs.specs.WithoutEfi.{IsBeforeFiles, LacksDescriptors, LacksEfiWord, asks_for_efi, without_efi, without_map}
-use Rattle.boot_inputs.specs.ZeroPage.{page_said, put_page, zero_page, zero_page_diagnostic}
+use Rattle.boot_inputs.specs.Script.{lines_said, script_diagnostic, script_file}
+use Rattle.boot_inputs.specs.Slit.{distances_said, slit_diagnostic, slit_file}
+use Rattle.boot_inputs.specs.Srat.{srat_diagnostic, srat_file, table_said}
+use Rattle.boot_inputs.specs.WithoutEfi.{IsBeforeFiles, LacksDescriptors, LacksEfiWord, asks_for_efi}
+use Rattle.boot_inputs.specs.ZeroPage.{zero_page, zero_page_diagnostic}
 
 -- a zero page of `count` entries; the 40 bytes `entries` are the first two
 abbrev page : ℕ → List ℕ → List ℕ
@@ -105,24 +102,7 @@ naming page ext line inputs.Extension = ext
 naming page ext line inputs.CommandLine = line
 naming page ext line other = None
 
--- this and the next six: what bytes mean
-pages_are_said : (page_said (page 2 ram_and_reserved) ≡ Ok (record { entries = ram ∷ reserved ∷ []; initrd = None }))
-    × (page_said (replicate 4095 0) ≡ Err (faults.ZeroPage zero.WrongLength))
-unfolding entry_at initrd_of is_initrd_far
-pages_are_said = (refl, refl)
-
-extensions_are_said : (entries_said one_entry ≡ Ok (acpi ∷ []))
-    × (entries_said (replicate 15 0) ≡ Err (faults.Extension extension.ExtHeader))
-unfolding entry_at
-extensions_are_said = (refl, refl)
-
-line_said : (options_said (codes "quiet numa=off\n") ≡ Ok (record { edits = []; crash = no_crash; numa_off = true; add_efi = false }))
-    × (options_said (codes "numa=on") ≡ Err (faults.CommandLine (options.BadNuma 1)))
-line_said = (refl, refl)
-
-unless_examples : (unless_fault {A = ℕ} None 7 ≡ Ok 7) × (unless_fault {A = ℕ} (Some faults.TooLong) 7 ≡ Err faults.TooLong)
-unless_examples = (refl, refl)
-
+-- what bytes mean, or their fault
 lines_are_said : (lines_said [] ≡ Ok []) × (lines_said (codes "free") ≡ Err (faults.Script (script.BadLine 1)))
     × (pages_said [] ≡ Ok []) × (pages_said (codes "give x") ≡ Err (faults.Pages (pages.BadNumber 1)))
 lines_are_said = (refl, refl, refl, refl)
@@ -171,22 +151,9 @@ faults_told : (diagnostic_of faults.TooLong ≡ Some (Diagnostic.Whole (codes "t
     × (diagnostic_of (faults.Efi efi.Memory) ≡ None)
 faults_told = (refl, refl, refl)
 
--- this and the next three: the limits of files, a fault as one of its input, and a name that isn't
--- held
-limit_examples : (within 3 (1 ∷ 2 ∷ 3 ∷ []) ≡ Ok (1 ∷ 2 ∷ 3 ∷ [])) × (within 2 (1 ∷ 2 ∷ 3 ∷ []) ≡ Err faults.TooLong)
-limit_examples = (refl, refl)
-
 limits : (zero_page.limit ≡ 4096) × (extension_file.limit ≡ 16 + 20 * 3072) × (command_line.limit ≡ 4096) × (srat_file.limit ≡ 0x100000)
     × (script_file.limit ≡ 0x100000) × (pages_file.limit ≡ 0x100000) × (slit_file.limit ≡ 0x100000) × (efi_file.limit ≡ 0x100000)
 limits = (refl, refl, refl, refl, refl, refl, refl, refl)
-
-faulty_examples : (or_faulty {A = ℕ} inputs.Extension (Ok 7) ≡ Ok 7)
-    × (or_faulty {A = ℕ} inputs.Extension (Err faults.TooLong) ≡ Err (reasons.Faulty inputs.Extension faults.TooLong))
-faulty_examples = (refl, refl)
-
-unread_examples : (or_unread {A = List ℕ} inputs.ZeroPage None (λ bytes. Ok bytes) ≡ Err (reasons.Unread inputs.ZeroPage))
-    × (or_unread inputs.ZeroPage (Some (codes "a")) (λ bytes. Ok bytes) ≡ Ok (codes "a"))
-unread_examples = (refl, refl)
 
 -- the place of the kernel
 abbrev image : RangeView
@@ -196,37 +163,12 @@ image = record { base = 0x1000000; size = 0x2000000 }
 abbrev start : Given
 start = begun Bits46 image
 
--- a value is put into its place and nothing else changes; a fault is returned as it is
-put_examples : (with_value put_lines start (Ok []) ≡ Ok start) × (with_value put_extension start (Err faults.TooLong) ≡ Err faults.TooLong)
-    × ((put_extension (acpi ∷ []) start).extension ≡ acpi ∷ [])
-    × ((put_page (record { entries = ram ∷ []; initrd = None }) start).extension ≡ []) × ((put_options no_options start).entries ≡ [])
-    × ((put_domains processor_alone start).domains ≡ Some processor_alone) × ((put_pages [] start).page_lines ≡ [])
-    × ((put_distances (record { count = 0; cells = [] }) start).slit ≡ Some (record { count = 0; cells = [] }))
-    × ((put_efi (record { entries = []; mirrors = [] }) start).efi ≡ Some (record { entries = []; mirrors = [] }))
-put_examples = (refl, refl, refl, refl, refl, refl, refl, refl, refl)
-
--- this and the next two: the step for one file: read, unread, too long, malformed, and without a
--- name
+-- the step for one file: read, unread and too long
 step_examples : (named_step held command_line start (codes "cmd")
     ≡ Ok (record start { options = record no_options { numa_off = true; add_efi = false } }))
     × (named_step held command_line start (codes "no") ≡ Err (reasons.Unread inputs.CommandLine))
     × (named_step held zero_page start (codes "long") ≡ Err (reasons.Faulty inputs.ZeroPage faults.TooLong))
 step_examples = (refl, refl, refl)
-
-if_examples : (step_if held extension_file start None ≡ Ok start)
-    × (step_if held extension_file start (Some (codes "bad"))
-    ≡ Err (reasons.Faulty inputs.Extension (faults.Extension extension.ExtHeader)))
-if_examples = (refl, refl)
-
-named_examples : (file_step held (naming (codes "zp") None None) extension_file start ≡ Ok start)
-    × (file_step held (naming (codes "zp") (Some (codes "no")) None) extension_file start ≡ Err (reasons.Unread inputs.Extension))
-named_examples = (refl, refl)
-
--- files one after another: none, and two of which the first is refused
-list_examples : (given_in held (naming (codes "zp") None None) [] start ≡ Ok start)
-    × (given_in held (naming (codes "zp") (Some (codes "no")) (Some (codes "on"))) (extension_file ∷ command_line ∷ []) start
-    ≡ Err (reasons.Unread inputs.Extension))
-list_examples = (refl, refl)
 
 -- a zero page and a script
 abbrev with_script : List ℕ → Named
@@ -234,22 +176,13 @@ with_script script inputs.ZeroPage = Some (codes "zp")
 with_script script inputs.Script = Some script
 with_script script other = None
 
--- This and the next: which bytes need memory. A zero page never does. An entry, an edit or a
--- range, a processor, and a line with a request do.
+-- Which bytes need memory: a zero page never does; an entry and a line with a request do.
 takes_examples : (zero_page.takes [] ≡ false) × (extension_file.takes one_entry ≡ true) × (command_line.takes (codes "quiet") ≡ false)
     × (script_file.takes (codes "# no act") ≡ false) × (script_file.takes (codes "free 7") ≡ true)
 unfolding entry_at
 takes_examples = (refl, refl, refl, refl, refl)
 
-parts_take_examples : (options_take (Ok no_options) ≡ false) × (options_take (Err options.OpenQuote) ≡ false)
-    × (table_takes (Ok processor_alone) ≡ true) × (table_takes (Ok (record { processors = []; blocks = [] })) ≡ false)
-    × (pages_take (Ok []) ≡ false) × (pages_take (Err pages.Memory) ≡ false) × (pages_file.takes (codes "give 7") ≡ true)
-    × (distances_take (Ok (record { count = 1; cells = 10 ∷ [] })) ≡ true)
-    × (distances_take (Ok (record { count = 0; cells = [] })) ≡ false) × (distances_take (Err slit.Short) ≡ false)
-    × (lines_take (Ok []) ≡ false) × (lines_take (Err script.Memory) ≡ false)
-parts_take_examples = (refl, refl, refl, refl, refl, refl, refl, refl, refl, refl, refl, refl)
-
--- a header without descriptors, for the next example
+-- a header without descriptors
 abbrev header : List ℕ
 header = 40 ∷ 0 ∷ 0 ∷ 0 ∷ 1 ∷ 0 ∷ 0 ∷ 0 ∷ []
 
@@ -323,19 +256,11 @@ efi_words = (refl, refl, refl, refl)
 abbrev efi_header : List ℕ
 efi_header = 48 ∷ 0 ∷ 0 ∷ 0 ∷ 1 ∷ 0 ∷ 0 ∷ 0 ∷ []
 
-efi_said_of_none : efi_said efi_header ≡ Ok (record { entries = []; mirrors = [] })
-unfolding descriptors_from far_among mirrors_of
-efi_said_of_none = refl
-
 -- the names of an EFI memory map and a command line
 abbrev with_efi : Named
 with_efi inputs.Efi = Some (codes "efi")
 with_efi inputs.CommandLine = Some (codes "cmd")
 with_efi other = None
-
--- only the name of the EFI file is removed
-names_without_efi : (without_efi with_efi inputs.Efi ≡ None) × (without_efi with_efi inputs.CommandLine ≡ Some (codes "cmd"))
-names_without_efi = (refl, refl)
 
 lack_examples : LacksEfiWord held with_efi × LacksDescriptors (λ name. Some efi_header) with_efi
     × (LacksEfiWord (λ name. Some (codes "add_efi_memmap")) with_efi → ⊥)
@@ -345,14 +270,7 @@ lack_examples = (refl, refl, λ lacks. cc lacks)
 before_files : IsBeforeFiles start × (IsBeforeFiles (put_efi (record { entries = []; mirrors = [] }) start) → ⊥)
 before_files = (record { options = refl; efi = refl }, λ is. cc (is.efi))
 
-map_taken_out : without_map (put_efi (record { entries = ram ∷ []; mirrors = [] }) start) ≡ start
-map_taken_out = refl
-
--- this and the next: the inputs' places and words
-place_examples : (place inputs.ZeroPage ≡ 0) × (place inputs.CommandLine ≡ 2) × (place inputs.Srat ≡ 3) × (place inputs.Script ≡ 4)
-    × (place inputs.Pages ≡ 5) × (place inputs.Slit ≡ 6) × (place inputs.Efi ≡ 7)
-place_examples = (refl, refl, refl, refl, refl, refl, refl)
-
+-- the inputs' words
 word_examples : (word_for inputs.ZeroPage ≡ codes "zeropage") × (word_for inputs.CommandLine ≡ codes "cmdline")
     × (word_for inputs.Pages ≡ codes "pages") × (word_for inputs.Slit ≡ codes "slit") × (word_for inputs.Efi ≡ codes "efi")
 word_examples = (refl, refl, refl, refl, refl)

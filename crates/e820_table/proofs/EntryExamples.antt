@@ -4,10 +4,10 @@ use Rattle.std.specs.Prelude.{replicate}
 use Rattle.e820_model.specs.declared.entry.Entry.{Entry}
 use Rattle.e820_table.specs.declared.zero_page.ZeroFault.TheVariants as zero_faults
 use Rattle.e820_table.specs.declared.extension.ExtFault.TheVariants as ext_faults
-use Rattle.e820_table.specs.Entries.{number_at, entry_at, nth_entry, first_entries, is_too_far, far_from, first_far}
-use Rattle.e820_table.specs.Extension.{data_length, has_header, has_length, ext_count, ext_entries_of, ext_entry_fault, ext_fault}
+use Rattle.e820_table.specs.Entries.{entry_at, nth_entry, first_entries, is_too_far, first_far}
+use Rattle.e820_table.specs.Extension.{has_header, has_length, ext_entries_of, ext_fault}
 use Rattle.e820_table.specs.Initrd.{is_initrd_far}
-use Rattle.e820_table.specs.ZeroPage.{entry_count, table_offset, entries_of, entry_fault, zero_fault}
+use Rattle.e820_table.specs.ZeroPage.{entry_count, table_offset, entries_of, zero_fault}
 
 -- the 20 bytes of an entry: 1 MiB of RAM at 1 MiB
 abbrev ram_bytes : List ℕ
@@ -36,19 +36,10 @@ far_bytes =
     0 ∷ 0xF0 ∷ 0xFF ∷ 0xFF ∷ 0xFF ∷ 0xFF ∷ 0xFF ∷ 0xFF ∷
     2 ∷ 0 ∷ 0 ∷ 0 ∷ []
 
--- numbers of four bytes and of two; the first byte is the lowest
-number_examples : (number_at 4 1 (9 ∷ 0x78 ∷ 0x56 ∷ 0x34 ∷ 0x12 ∷ []) ≡ 0x12345678) × (number_at 2 0 (0x34 ∷ 0x12 ∷ []) ≡ 0x1234)
-number_examples = (refl, refl)
-
 -- an entry at offset 0, and one after two other bytes
 entry_at_examples : (entry_at 0 ram_bytes ≡ ram) × (entry_at 2 (7 ∷ 7 ∷ last_bytes) ≡ last)
 unfolding entry_at
 entry_at_examples = (refl, refl)
-
--- the second of three entries, and the first of two
-nth_examples : (nth_entry 0 1 (far_bytes ++ ram_bytes ++ last_bytes) ≡ ram) × (nth_entry 0 0 (last_bytes ++ ram_bytes) ≡ last)
-unfolding entry_at
-nth_examples = (refl, refl)
 
 -- entries come in the order of their bytes; no more of them than requested, here two and none
 first_entries_examples : (first_entries 0 2 (ram_bytes ++ last_bytes ++ far_bytes) ≡ ram ∷ last ∷ [])
@@ -67,11 +58,6 @@ first_far_examples : (first_far 0 3 (last_bytes ++ far_bytes ++ far_bytes) ≡ S
 unfolding entry_at
 first_far_examples = (refl, refl)
 
--- a search from the second entry on, and one from the first
-far_from_examples : (far_from 0 1 2 (far_bytes ++ last_bytes ++ far_bytes) ≡ Some 2) × (far_from 0 0 2 (far_bytes ++ last_bytes) ≡ Some 0)
-unfolding entry_at
-far_from_examples = (refl, refl)
-
 -- the bytes of an extension's header: the next node's address, the type, and the length of the
 -- data; then its entries
 abbrev header : ℕ → ℕ → List ℕ
@@ -84,10 +70,6 @@ one_entry = refl
 its_entry : ext_entries_of (header 1 20 ++ ram_bytes) ≡ ram ∷ []
 unfolding entry_at
 its_entry = refl
-
-counted_by_the_bytes : (data_length (header 1 40 ++ ram_bytes ++ last_bytes) ≡ 40)
-    × (ext_count (header 1 40 ++ ram_bytes ++ last_bytes) ≡ 2)
-counted_by_the_bytes = (refl, refl)
 
 no_entries : (ext_fault (header 1 0) ≡ None) × (ext_entries_of (header 1 0) ≡ [])
 no_entries = (refl, refl)
@@ -106,9 +88,6 @@ other_length = (refl, refl, refl)
 far_entry : ext_fault (header 1 60 ++ last_bytes ++ far_bytes ++ far_bytes) ≡ Some (ext_faults.EntryTooFar 1)
 unfolding entry_at
 far_entry = refl
-
-fault_of_the_index : (ext_entry_fault (Some 7) ≡ Some (ext_faults.EntryTooFar 7)) × (ext_entry_fault None ≡ None)
-fault_of_the_index = (refl, refl)
 
 -- a zero page that states `count` entries, with these as the first
 abbrev page : ℕ → List ℕ → List ℕ
@@ -134,13 +113,3 @@ entries_of_examples = (refl, refl)
 
 stated_number : (entry_count (page 200 (ram_bytes ++ last_bytes)) ≡ 200) × (table_offset ≡ 720)
 stated_number = (refl, refl)
-
-fault_of_an_index : (entry_fault (Some 7) (Some zero_faults.InitrdTooFar) ≡ Some (zero_faults.EntryTooFar 7))
-    × (entry_fault None (Some zero_faults.InitrdTooFar) ≡ Some zero_faults.InitrdTooFar) × (entry_fault None None ≡ None)
-fault_of_an_index = (refl, refl, refl)
-
-no_data : (data_length (header 1 0) ≡ 0) × (ext_count (header 1 0) ≡ 0) × (has_length (header 1 0) ≡ true)
-no_data = (refl, refl, refl)
-
-no_entries_stated : (entry_count (page 0 ram_bytes) ≡ 0) × (entries_of (page 0 ram_bytes) ≡ [])
-no_entries_stated = (refl, refl)

@@ -3,10 +3,9 @@ use Rattle.std.proofs.Common.{◌≡◌, ℕ, ◌-◌, ◌^◌, true, false, Lis
 use Rattle.std.specs.Prelude.{replicate}
 use Rattle.bm_base.specs.Range.{RangeView}
 use Rattle.e820_table.specs.declared.zero_page.ZeroFault.TheVariants as faults
-use Rattle.e820_table.specs.declared.zero_page.ZeroPage.{ZeroPage}
 use Rattle.e820_table.specs.Entries.{entry_at}
-use Rattle.e820_table.specs.Initrd.{IsInitrd, halves_at, has_initrd, image_of, initrd_of, is_far, is_initrd_far, loader_of, placed, to_frame_end}
-use Rattle.e820_table.specs.ZeroPage.{entries_of, initrd_fault, page_of, page_view, zero_fault}
+use Rattle.e820_table.specs.Initrd.{IsInitrd, has_initrd, image_of, initrd_of, is_far, is_initrd_far, to_frame_end}
+use Rattle.e820_table.specs.ZeroPage.{entries_of, initrd_fault, page_of, zero_fault}
 
 abbrev range : ℕ → ℕ → RangeView
 range base size = record { base = base; size = size }
@@ -32,14 +31,6 @@ top_halves = 0xFF ∷ 0xFF ∷ 0xFF ∷ 0xFF ∷ 0 ∷ 0 ∷ 0 ∷ 0 ∷ []
 abbrev top_image : ℕ → List ℕ
 top_image low = 0 ∷ 0xE0 ∷ 0xFF ∷ 0xFF ∷ low ∷ 0x10 ∷ 0 ∷ 0 ∷ []
 
-its_loader : (loader_of (page 0xB0 (replicate 8 0) low_image) ≡ 0xB0) × (loader_of (page 0 high_halves low_image) ≡ 0)
-its_loader = (refl, refl)
-
--- the upper half counts as a multiple of 2^32
-two_halves : (halves_at 0 4 (0x78 ∷ 0x56 ∷ 0x34 ∷ 0x12 ∷ 1 ∷ 0 ∷ 0 ∷ 0 ∷ []) ≡ 0x112345678)
-    × (halves_at 4 0 (0x78 ∷ 0x56 ∷ 0x34 ∷ 0x12 ∷ 1 ∷ 0 ∷ 0 ∷ 0 ∷ []) ≡ 0x1234567800000001)
-two_halves = (refl, refl)
-
 its_image : (image_of (page 0xB0 (replicate 8 0) low_image) ≡ range 0x7D00000 0x123457)
     × (image_of (page 0xB0 high_halves low_image) ≡ range 0x107D00000 0x200123457)
 its_image = (refl, refl)
@@ -54,9 +45,6 @@ to_the_end : (to_frame_end (range 0x7D00000 0x123457) ≡ range 0x7D00000 0x1240
     × (to_frame_end (range 0x1FFF 1) ≡ range 0x1FFF 1) × (to_frame_end (range 0x1FFF 2) ≡ range 0x1FFF 0x1001)
     × (to_frame_end (range 0x1000 0x1000) ≡ range 0x1000 0x1000)
 to_the_end = (refl, refl, refl, refl)
-
-places : (placed 0xB0 (range 0x1001 0x1000) ≡ Some (range 0x1001 0x1FFF)) × (placed 0 (range 0x1001 0x1000) ≡ None)
-places = (refl, refl)
 
 -- the sum 2^64 - 4,096 isn't too far, and a byte more is
 last_byte : (is_far 0xB0 (range (2 ^ 64 - 8192) 4096) ≡ false) × (is_far 0xB0 (range (2 ^ 64 - 8192) 4097) ≡ true)
@@ -94,13 +82,3 @@ whole_page : page_of (page 1 high_halves low_image)
     ≡ record { entries = entries_of (page 1 high_halves low_image); initrd = Some (range 0x107D00000 0x200124000) }
 unfolding initrd_of
 whole_page = refl
-
-page_without_one : (page_of (page 0 high_halves low_image)).initrd ≡ None
-unfolding initrd_of
-page_without_one = refl
-
-seen_page : (zero : ZeroPage) → zero.entries.items ≡ [] → zero.initrd ≡ None → page_view zero ≡ record { entries = []; initrd = None }
-seen_page zero none without = rw (none, without) refl
-
-seen_initrd : (zero : ZeroPage) → (page_view zero).initrd ≡ zero.initrd
-seen_initrd zero = refl
