@@ -4,7 +4,6 @@ use Rattle.std.specs.declared.alloc.Global.{Global}
 use Rattle.bm_base.specs.declared.memory.Memory.{Memory}
 use Rattle.e820_model.specs.declared.entry.Edit.{Edit}
 use Rattle.bm_base.specs.Range.{RangeView}
-use Rattle.bm_base.specs.Size.{size_of}
 use Rattle.e820_model.specs.declared.entry.Edit.TheVariants.{Add, Remove, RemoveAll, Change, Clear}
 use Rattle.boot_options.specs.declared.fault.OptionFault.TheVariants as faults
 use Rattle.boot_options.specs.declared.options.Options.{Options}
@@ -12,26 +11,14 @@ use Rattle.boot_options.specs.declared.map_option.MapOption.{MapOption}
 use Rattle.boot_options.specs.declared.map_option.MapOption.TheVariants.{ExactMap, Adding, Other}
 use Rattle.boot_options.specs.declared.reading.Reading.{Reading}
 use Rattle.boot_options.specs.declared.reading.UserMap.{UserMap}
-use Rattle.boot_options.specs.MapOptions.{number_and_rest, front_size, front_number, at_end, whole_size, range_at, unless_empty, range_above, ram_above, adding_option, small_kind, kind_behind, retyped_to, retyped_from, retyped, changed, by_mark, sized_map_option, map_option_of, ram_up_to, mem_of}
+use Rattle.boot_options.specs.MapOptions.{whole_size, range_at, range_above, ram_above, map_option_of, mem_of}
 use Rattle.boot_options.specs.Crash.{crash_view, no_crash}
 use Rattle.boot_options.specs.Kept.{KeepsItems}
-use Rattle.boot_options.specs.Options.{raw_line, is_closed, checked_line, line_of, Said, OfMap, NumaOff, AddEfi, map_options_of, memmap_of, of_one, numa_of, or_fault, said_by, at_cut, name_value_of, until_end, option_words, said_from, numbered, all_map_options, edit_of, edits_of, is_efi_added, is_numa_off, count_adding, or_here, last_exact, Chosen, chosen, chosen_by, unless_incomplete, with_user_map, options_of, HasRange, HaveRanges, IsNumbered}
-use Rattle.boot_options.specs.Reading.{start, one_fewer, user_map_behind, after_map_option, after_map_options, after, after_all, read_on, read_all, read_map_options, when_complete, at_line_end, IsReadTo, IsAtSome, ReadsAs}
+use Rattle.boot_options.specs.Options.{raw_line, checked_line, line_of, Said, OfMap, NumaOff, AddEfi, memmap_of, of_one, said_by, name_value_of, option_words, said_from, all_map_options, edit_of, edits_of, count_adding, last_exact, Chosen, chosen, unless_incomplete, with_user_map, options_of, HaveRanges, IsNumbered}
+use Rattle.boot_options.specs.Reading.{start, user_map_behind, after_map_option, after, after_all, read_on, at_line_end, IsReadTo, IsAtSome, ReadsAs}
 
 abbrev range : ℕ → ℕ → RangeView
 range base size = record { base = base; size = size }
-
--- a size and a number at the start of a text, and the rest after them
-fronts : (front_size (codes "1M@2M") ≡ Some (2 ^ 20, codes "@2M")) × (front_size (codes "@2M") ≡ None)
-    × (front_number (codes "5+7") ≡ Some (5, codes "+7")) × (front_number (codes "5K") ≡ Some (5, codes "K"))
-fronts = (refl, refl, refl, refl)
-
-fronts_of_answers : (number_and_rest (codes "5K") (Ok (5, 1)) ≡ Some (5, codes "K"))
-    × (number_and_rest (codes "16E") (size_of (codes "16E")) ≡ None)
-fronts_of_answers = (refl, refl)
-
-ends : (at_end {A = ℕ} [] (Some 5) ≡ Some 5) × (at_end {A = ℕ} (codes "K") (Some 5) ≡ None)
-ends = (refl, refl)
 
 whole_sizes : (whole_size (codes "640K") ≡ Some 655360) × (whole_size (codes "0x1E") ≡ Some 30)
     × (whole_size (codes "1E") ≡ Some (2 ^ 60)) × (whole_size (codes "08") ≡ None) × (whole_size (codes "16E") ≡ None)
@@ -41,9 +28,6 @@ whole_sizes = (refl, refl, refl, refl, refl, refl)
 -- base and size together are at most 2^64 - 1
 ranges : (range_at (2 ^ 64 - 2) 1 ≡ Some (range (2 ^ 64 - 2) 1)) × (range_at (2 ^ 64 - 1) 1 ≡ None)
 ranges = (refl, refl)
-
-empty_or_not : (unless_empty (range 0 1) Clear ≡ Some Clear) × (unless_empty (range 5 0) Clear ≡ None)
-empty_or_not = (refl, refl)
 
 -- the range from an address up to 2^64 - 2, and the edit that removes RAM there; there is none if
 -- no address is left
@@ -105,54 +89,15 @@ no_types : (map_option_of (codes "1%2-") ≡ None) × (map_option_of (codes "1%2
     × (map_option_of (codes "1%2+4294967296") ≡ None) × (map_option_of (codes "1%2-18446744073709551616") ≡ None)
 no_types = (refl, refl, refl, refl, refl, refl, refl, refl)
 
--- the parts of a map option
-steps_of_adding : (adding_option 3 0x1000 (codes "2M") ≡ Some (Adding (Some (Add (range 0x200000 0x1000) 3))))
-    × (adding_option 3 0x1000 (codes "2M ") ≡ None)
-steps_of_adding = (refl, refl)
-
-steps_of_marks : (by_mark 0x1000 [] ≡ Some (Other (ram_above 0x1000)))
-    × (by_mark 0x1000 (codes "!0") ≡ Some (Adding (Some (Add (range 0 0x1000) 12)))) × (by_mark 0x1000 (codes "x0") ≡ None)
-steps_of_marks = (refl, refl, refl)
-
-steps_of_sized : (sized_map_option (codes "4K$8K") ≡ Some (Adding (Some (Add (range 8192 4096) 2))))
-    × (sized_map_option (codes "exactmap") ≡ None)
-steps_of_sized = (refl, refl)
-
--- a type is at most 2^32 - 1
-small_kinds : (small_kind (2 ^ 32 - 1, []) ≡ Some (2 ^ 32 - 1, [])) × (small_kind (2 ^ 32, []) ≡ None)
-small_kinds = (refl, refl)
-
-kinds_behind : (kind_behind 45 (codes "-3+4") ≡ Some (3, codes "+4")) × (kind_behind 45 (codes "+4") ≡ Some (0, codes "+4"))
-    × (kind_behind 43 [] ≡ Some (0, [])) × (kind_behind 43 (codes "+") ≡ None)
-kinds_behind = (refl, refl, refl, refl)
-
-steps_of_retyped : (retyped_to (range 0 8) 0 ≡ Some (Other (Some (RemoveAll (range 0 8)))))
-    × (retyped_to (range 0 8) 7 ≡ Some (Adding (Some (Add (range 0 8) 7))))
-    × (retyped_from (range 0 8) 1 0 ≡ Some (Other (Some (Remove (range 0 8) 1)))) × (retyped_from (range 0 8) 1 1 ≡ None)
-steps_of_retyped = (refl, refl, refl, refl)
-
-retyped_ranges : (retyped (range 0 8) 1 7 ≡ Some (Other (Some (Change (range 0 8) 1 7))))
-    × (retyped (range 0 8) 0 7 ≡ Some (Adding (Some (Add (range 0 8) 7))))
-retyped_ranges = (refl, refl)
-
-changed_ranges : (changed 8 (codes "0-1+7") ≡ Some (Other (Some (Change (range 0 8) 1 7)))) × (changed 8 (codes "0+7-1") ≡ None)
-changed_ranges = (refl, refl)
-
 -- `mem=` ends RAM at an address above 0
 mem_values : (mem_of (codes "4G") ≡ Some (Other (Some (Remove (range 0x100000000 (2 ^ 64 - 1 - 0x100000000)) 1))))
     × (mem_of (codes "nopentium") ≡ Some (Other None)) × (mem_of (codes "0") ≡ None) × (mem_of (codes "4G@0") ≡ None)
     × (mem_of (codes "0xFFFFFFFFFFFFFFFF") ≡ Some (Other None)) × (mem_of (codes "16E") ≡ None) × (mem_of [] ≡ None)
 mem_values = (refl, refl, refl, refl, refl, refl, refl)
 
-ends_of_ram : (ram_up_to 1 ≡ Some (Other (Some (Remove (range 1 (2 ^ 64 - 2)) 1)))) × (ram_up_to 0 ≡ None)
-ends_of_ram = (refl, refl)
-
 -- the line ends before the first zero byte, and one newline at its end is dropped
 raw_lines : (raw_line (codes "quiet\n") ≡ codes "quiet") × (raw_line (113 ∷ 10 ∷ 10 ∷ 0 ∷ 120 ∷ []) ≡ 113 ∷ 10 ∷ []) × (raw_line [] ≡ [])
 raw_lines = (refl, refl, refl)
-
-closed_lines : (is_closed (codes "a=\"b c\"") ≡ true) × (is_closed (codes "a=\"b") ≡ false)
-closed_lines = (refl, refl)
 
 lines : (line_of (codes "mem=\"4G\"\n") ≡ Ok (codes "mem=\"4G\"")) × (line_of (codes "mem=\"4G\n") ≡ Err faults.OpenQuote)
 lines = (refl, refl)
@@ -166,25 +111,10 @@ options_in_order : (memmap_of (codes "exactmap,8@0") ≡ Some (OfMap (ExactMap �
     × (memmap_of (codes "exactmap,") ≡ None) × (memmap_of [] ≡ None)
 options_in_order = (refl, refl, refl)
 
-lists_of_map_options : (map_options_of [] ≡ Some [])
-    × (map_options_of (codes "exactmap" ∷ codes "1@0" ∷ []) ≡ Some (ExactMap ∷ Adding (Some (Add (range 0 1) 1)) ∷ []))
-    × (map_options_of (codes "exactmap" ∷ codes "x" ∷ []) ≡ None)
-lists_of_map_options = (refl, refl, refl)
-
-numa_values : (numa_of (codes "off") ≡ Some NumaOff) × (numa_of (codes "OFF") ≡ None)
-numa_values = (refl, refl)
-
-said_or_fault : (or_fault (faults.BadNuma 3) None ≡ Err (faults.BadNuma 3)) × (or_fault (faults.BadNuma 3) (Some NumaOff) ≡ Ok NumaOff)
-said_or_fault = (refl, refl)
-
 -- the name and the value of a word; the value loses its quotation marks
 names : (name_value_of (codes "mem=\"4G\"") ≡ (codes "mem", Some (codes "4G")))
     × (name_value_of (codes "quiet") ≡ (codes "quiet", None)) × (name_value_of (codes "mem=") ≡ (codes "mem", Some []))
 names = (refl, refl, refl)
-
-cuts : (at_cut (codes "quiet") None ≡ (codes "quiet", None))
-    × (at_cut (codes "a=\"b") (Some (codes "a", codes "\"b")) ≡ (codes "a", Some (codes "b")))
-cuts = (refl, refl)
 
 -- the meaning of a word depends on its whole name; a fault has the number of the word
 said_words : (said_by 2 (codes "mem", Some (codes "nopentium")) ≡ Ok (of_one (Other None)))
@@ -198,11 +128,6 @@ said_words = (refl, refl, refl, refl, refl, refl)
 efi_words : (said_by 2 (codes "add_efi_memmap", None) ≡ Ok AddEfi) × (said_by 2 (codes "add_efi_memmap", Some (codes "0")) ≡ Ok AddEfi)
     × (said_by 2 (codes "add_efi_memmaps", None) ≡ Ok (OfMap [])) × (said_by 2 (codes "add_efi", None) ≡ Ok (OfMap []))
 efi_words = (refl, refl, refl, refl)
-
--- the words before `--`, each without its quotation marks
-words_up_to_the_end : (until_end (codes "a" ∷ codes "--" ∷ codes "b" ∷ []) ≡ codes "a" ∷ [])
-    × (until_end (codes "a" ∷ codes "--x" ∷ []) ≡ codes "a" ∷ codes "--x" ∷ [])
-words_up_to_the_end = (refl, refl)
 
 -- if `--` is the first word, no word comes before it
 words_of_options : (option_words (codes "a \"b\" -- c") ≡ codes "a" ∷ codes "b" ∷ []) × (option_words (codes "-- a") ≡ [])
@@ -220,25 +145,10 @@ a_page = Adding (Some (Add (range 0 8) 1))
 abbrev three_words : List (ℕ × Said)
 three_words = (1, OfMap (ExactMap ∷ Adding None ∷ [])) ∷ (2, NumaOff) ∷ (3, OfMap (a_page ∷ [])) ∷ []
 
-options_with_words : (all_map_options three_words ≡ (1, ExactMap) ∷ (1, Adding None) ∷ (3, a_page) ∷ [])
-    × (all_map_options ((2, NumaOff) ∷ []) ≡ [])
-options_with_words = (refl, refl)
-
-numbered_options : (numbered 4 (ExactMap ∷ a_page ∷ []) [] ≡ (4, ExactMap) ∷ (4, a_page) ∷ [])
-    × (numbered 4 [] ((5, a_page) ∷ []) ≡ (5, a_page) ∷ [])
-numbered_options = (refl, refl)
-
 -- a map option that adds an empty range makes no edit
 edits_of_options : (edits_of (all_map_options three_words) ≡ Clear ∷ Add (range 0 8) 1 ∷ []) × (edit_of (Adding None) ≡ None)
     × (edit_of ExactMap ≡ Some Clear) × (edits_of [] ≡ [])
 edits_of_options = (refl, refl, refl, refl)
-
-numa_is_off : (is_numa_off three_words ≡ true) × (is_numa_off ((1, OfMap (ExactMap ∷ [])) ∷ []) ≡ false)
-numa_is_off = (refl, refl)
-
-efi_is_added : (is_efi_added three_words ≡ false) × (is_efi_added ((1, NumaOff) ∷ (2, AddEfi) ∷ (3, OfMap []) ∷ []) ≡ true)
-    × (is_numa_off ((1, AddEfi) ∷ []) ≡ false)
-efi_is_added = (refl, refl, refl)
 
 -- the last `exactmap`, and the number of map options that add a range after it
 two_behind_it : (last_exact (all_map_options three_words) ≡ Some (1, 2)) × (count_adding (all_map_options three_words) ≡ 2)
@@ -250,10 +160,6 @@ two_behind_it = (refl, refl, refl)
 last_exactmap : (last_exact ((1, ExactMap) ∷ (1, a_page) ∷ (2, ExactMap) ∷ (3, a_page) ∷ (4, Other None) ∷ []) ≡ Some (2, 1))
     × (last_exact ((1, a_page) ∷ (2, Other None) ∷ []) ≡ None)
 last_exactmap = (refl, refl)
-
-here_or_behind : (or_here None 3 ExactMap 2 ≡ Some (3, 2)) × (or_here (Some (5, 1)) 3 ExactMap 2 ≡ Some (5, 1))
-    × (or_here None 3 a_page 2 ≡ None)
-here_or_behind = (refl, refl, refl)
 
 -- a user map needs two map options that add a range
 abbrev nothing_chosen : Chosen
@@ -274,14 +180,6 @@ chosen_options : (options : Options) → options.edits.items ≡ Clear ∷ [] �
     → chosen options ≡ record { edits = Clear ∷ []; crash = crash_view options.crash; numa_off = true; add_efi = true }
 chosen_options options edits off efi = rw (edits, off, efi) refl
 
-chosen_nothing : (options : Options) → options.edits.items ≡ [] → crash_view options.crash ≡ no_crash → options.numa_off ≡ false
-    → options.add_efi ≡ false → chosen options ≡ nothing_chosen
-chosen_nothing options edits none on without = rw (edits, none, on, without) refl
-
-chosen_words : (chosen_by [] ≡ nothing_chosen)
-    × (chosen_by ((2, NumaOff) ∷ []) ≡ record { edits = []; crash = no_crash; numa_off = true; add_efi = false })
-chosen_words = (refl, refl)
-
 -- whole lines: two edits, in their order; words after `--` are ignored; `add_efi_memmap`; a
 -- malformed third word; a user map with one map option
 whole_lines : (options_of (codes "quiet mem=4G memmap=1G!2G\n")
@@ -299,9 +197,6 @@ whole_lines = (refl, refl, refl, refl, refl, refl, refl)
 -- edits with and without an empty range, and numbers of words in faults
 ranges_of_edits : HaveRanges (Add (range 0 8) 1 ∷ Clear ∷ []) × (HaveRanges (Clear ∷ RemoveAll (range 5 0) ∷ []) → ⊥)
 ranges_of_edits = ((omega arith, (tt, tt)), λ have. let has = have.1.0 in omega arith)
-
-has_range : HasRange (Change (range 5 1) 1 2) × (HasRange (RemoveAll (range 5 0)) → ⊥)
-has_range = (omega arith, λ has. omega arith)
 
 numbered_faults : IsNumbered (faults.BadMem 1) × IsNumbered faults.OpenQuote
 numbered_faults = (omega arith, tt)
@@ -331,27 +226,6 @@ one_wanted = record { word = 3; wanting = 1 }
 wanted_behind : (user_map_behind 3 ExactMap None ≡ Some two_wanted) × (user_map_behind 4 a_page (Some two_wanted) ≡ Some one_wanted)
     × (user_map_behind 4 (Other None) (Some two_wanted) ≡ Some two_wanted) × (user_map_behind 4 a_page None ≡ None)
 wanted_behind = (refl, refl, refl, refl)
-
-fewer_wanted : (one_fewer two_wanted ≡ one_wanted) × (one_fewer one_wanted ≡ record { word = 3; wanting = 0 })
-fewer_wanted = (refl, refl)
-
-complete_or_not : (when_complete nothing_chosen (Some one_wanted) ≡ Err (faults.UserMapInvalid 3))
-    × (when_complete nothing_chosen (Some (one_fewer one_wanted)) ≡ Ok nothing_chosen)
-    × (when_complete nothing_chosen None ≡ Ok nothing_chosen)
-complete_or_not = (refl, refl, refl)
-
-steps_of_a_word : (after_map_options 3 start [] ≡ start)
-    × (after_map_options 3 start (ExactMap ∷ a_page ∷ []) ≡ after_map_option 3 (after_map_option 3 start ExactMap) a_page)
-    × (after 2 start NumaOff ≡ record { edits = []; crash = no_crash; numa_off = true; add_efi = false; user_map = None })
-steps_of_a_word = (refl, refl, refl)
-
-read_or_fault : (read_on 2 start (Err (faults.BadMem 2)) ≡ Err (faults.BadMem 2))
-    × (read_on 2 start (Ok NumaOff) ≡ Ok (after 2 start NumaOff)) × (read_map_options 2 start None ≡ None)
-    × (read_map_options 2 start (Some []) ≡ Some start)
-read_or_fault = (refl, refl, refl, refl)
-
-read_all_or_fault : (read_all start (Err (faults.BadMem 2)) ≡ Err (faults.BadMem 2)) × (read_all start (Ok []) ≡ Ok start)
-read_all_or_fault = (refl, refl)
 
 -- the reader has the edits of its state; if it ran out of memory, its state has at least one edit
 edits_are_kept : (kept : Vec Edit Global) → kept.items ≡ Clear ∷ [] → KeepsItems (Ok kept) (Clear ∷ [])

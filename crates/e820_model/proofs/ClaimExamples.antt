@@ -1,7 +1,7 @@
 -- Worked examples: small maps, from their entries.
 use Rattle.std.proofs.Common.{◌≡◌, ℕ, ◌^◌, ◌<◌, ◌+◌, ◌==◌, Bool, true, false, ◌&&◌, ◌||◌, nat_lt, List, [], ◌∷◌, refl, arith}
 use Rattle.std.proofs.lemmas.Bool.Decides.{nat_tests}
-use Rattle.e820_model.specs.Claims.{Claims, no_claims, is_covered_by, EntriesFit, type_of, settled_claims, with_claims, claims_of_entries, after_edit, HasTypes, after_edits, after_bios_trim, zero_page_claims, with_extension, with_options, final_claims}
+use Rattle.e820_model.specs.Claims.{Claims, no_claims, is_covered_by, EntriesFit, type_of, settled_claims, with_claims, claims_of_entries, after_edit, HasTypes, after_edits, after_bios_trim, zero_page_claims, with_extension, final_claims}
 use Rattle.e820_model.specs.declared.entry.Entry.{Entry}
 use Rattle.e820_model.specs.declared.entry.Edit.{Edit}
 use Rattle.e820_model.specs.declared.entry.Edit.TheVariants as edit
@@ -58,9 +58,6 @@ remove_examples = (refl, refl, refl)
 remove_all_examples : (after_edit (edit.RemoveAll page) ram_and_nvs 0x1000 1 ≡ false)
     × (after_edit (edit.RemoveAll page) ram_and_nvs 0x1000 4 ≡ false) × (after_edit (edit.RemoveAll page) ram_and_nvs 0x2000 4 ≡ true)
 remove_all_examples = (refl, refl, refl)
-
-clear_examples : (after_edit edit.Clear ram_and_nvs 0x1000 1 ≡ false) × (after_edit edit.Clear ram_and_nvs 0x9000 4 ≡ false)
-clear_examples = (refl, refl)
 
 -- no edit has type 0
 type_0_is_none : (¬ HasTypes (edit.Add page 0)) × (¬ HasTypes (edit.Change page 1 0)) × (¬ HasTypes (edit.Change page 0 1))
@@ -129,10 +126,6 @@ changed : (x t u : ℕ) → type_of (with_claims first_claims (claims_of_entries
 changed x t u known small is_in none =
     greatest_is (third_claims x) u small (λ some. rw known (is_in some)) (λ k higher below. rw known (none k higher below))
 
--- the zero page alone: at 1 MiB ACPI data, and no longer RAM
-zero_page_examples : (zero_page_claims ram_and_acpi 0x100000 3 ≡ true) × (zero_page_claims ram_and_acpi 0x100000 1 ≡ false)
-zero_page_examples = (settled_examples.0, settled_examples.1)
-
 -- at 1.5 MiB the extension's type is greater than RAM, and then greater than the option's
 nvs_with_extension : type_of (with_claims first_claims (claims_of_entries extension)) 0x180000 ≡ 4
 nvs_with_extension =
@@ -145,10 +138,6 @@ extension_wins = (rw nvs_with_extension refl, rw nvs_with_extension refl)
 
 nvs_stays : type_of third_claims 0x180000 ≡ 4
 nvs_stays = changed 0x180000 4 4 nvs_with_extension (omega arith) (λ some. refl) (λ k higher small. grind (arith, nat_tests))
-
--- neither an option nor the EFI map lowers a type
-nvs_after_the_edits : (with_options edits efi second_claims 0x180000 2 ≡ false) × (with_options edits efi second_claims 0x180000 4 ≡ true)
-nvs_after_the_edits = (rw nvs_stays refl, rw nvs_stays refl)
 
 nvs_in_the_map : final_claims ram_and_acpi extension edits efi 0x180000 4 ≡ true
 nvs_in_the_map = rw nvs_stays refl
@@ -190,14 +179,3 @@ first_byte_in_the_map = let ram : type_of third_claims 0 ≡ 1 = ram_until_the_t
 ram_below_640K : (final_claims ram_and_acpi extension edits efi 0xA0000 1 ≡ false)
     × (final_claims ram_and_acpi extension edits efi 0x9FFFF 1 ≡ true)
 ram_below_640K = (rw (ram_until_the_trim 0xA0000 (omega arith)) refl, rw (ram_until_the_trim 0x9FFFF (omega arith)) refl)
-
--- the trim comes after options and the EFI map: if they add RAM below 1 MiB, it isn't RAM in the first page, nor at or above 640 KiB
-trimmed_of_ram : (c : Claims) → (after_bios_trim c 0 1 ≡ false) × (after_bios_trim c 0xA0000 1 ≡ false)
-trimmed_of_ram c = (grind (arith, nat_tests), grind (arith, nat_tests))
-
-abbrev ram_added : List Edit
-ram_added = edit.Add (record { base = 0; size = 0x100000 }) 1 ∷ []
-
-options_before_the_trim : (entries more : List Entry) → (final_claims entries more ram_added efi 0 1 ≡ false)
-    × (final_claims entries more ram_added efi 0xA0000 1 ≡ false)
-options_before_the_trim entries more = trimmed_of_ram (with_options ram_added efi (with_extension more (zero_page_claims entries)))

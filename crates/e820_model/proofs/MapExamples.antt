@@ -47,20 +47,3 @@ acpi_parts_ram = map_unique ram_and_acpi three_runs are_claims (record {
   );
   each = each_of_three;
 })
-
--- two ranges of one type that touch are one run
-abbrev two_halves : List (RunOf ℕ)
-two_halves = run 0 0x1000 1 ∷ (run 0x1000 0x1000 1 ∷ [])
-
-halves_are_claims : AreClaims two_halves
-unfolding run
-halves_are_claims = (omega arith, omega arith, omega arith, omega arith, (omega arith, omega arith, omega arith, omega arith, tt))
-
-each_of_one : (x : ℕ) → value_at (run 0 0x2000 1 ∷ []) x ≡ kinds (claims_of two_halves) x
-unfolding run
-each_of_one x = rw (type_top two_halves x halves_are_claims) (grind (arith, nat_tests))
-
-halves_are_one_run : run 0 0x2000 1 ∷ [] ≡ map_of (claims_of two_halves)
-unfolding run
-halves_are_one_run =
-    map_unique two_halves (run 0 0x2000 1 ∷ []) halves_are_claims (record { runs = (omega arith, tt, tt); each = each_of_one })
