@@ -1,40 +1,23 @@
 -- Worked examples of words, lines and scripts.
-use Rattle.std.proofs.Common.{◌≡◌, ℕ, ◌-◌, ◌^◌, true, false, List, Some, None, [], ◌∷◌, Ok, Err, codes, refl, ap, inl, inr, lit<, lit≤, arith}
+use Rattle.std.proofs.Common.{◌≡◌, ℕ, ◌-◌, ◌^◌, true, false, List, Some, None, [], ◌∷◌, Ok, Err, codes, refl, ap, lit<, lit≤, arith}
 use Rattle.text_words.specs.Spelling.{HasWords, no_byte, blank_first, word_alone, word_first}
 use Rattle.text_words.specs.Words.{words_in, IsWord}
 use Rattle.text_words.specs.declared.separators.Separators.TheVariants as separators
 use Rattle.script_reader.specs.declared.act.Act.TheVariants as acts
 use Rattle.script_reader.specs.declared.fault.Wrong.TheVariants as wrong
 use Rattle.script_reader.specs.declared.fault.ScriptFault.TheVariants as faults
-use Rattle.script_reader.specs.Numbers.{Words, IsOfWords, no_words, first_word, one_word, two_words, three_words, optional, whole, number, within, bounded, optional_number, power, some, range_at}
-use Rattle.script_reader.specs.Forms.{greatest, greatest_id, greatest_node, greatest_byte, greatest_len, optional_exact, alloc_words, alloc_line, reserve_line, free_line, trim_line, fill_line, peek_line, sections_line, by_name, HasBounds}
+use Rattle.script_reader.specs.Numbers.{Words, whole, number, within, bounded, optional_number, power, some, range_at}
+use Rattle.script_reader.specs.Forms.{greatest, greatest_id, greatest_node, greatest_byte, greatest_len, alloc_line, reserve_line, free_line, trim_line, fill_line, peek_line, by_name, HasBounds}
 use Rattle.script_reader.specs.Grammar.{IsPassedOver, no_words as no_word, comment, IsWithin, front_value, value, HasForm, SpellsNumbers, HasFault}
-use Rattle.script_reader.specs.Spelling.{no_node, near_node, exact_node, alloc, trim, peek, sections, keyed, node_words, node_number, is_exact, HasNumbers, act_of, IsAligned, HasSize, IsInSpace, script_grammar, SpellsAct, Fails}
+use Rattle.script_reader.specs.Spelling.{no_node, near_node, exact_node, alloc, trim, peek, sections, HasNumbers, act_of, IsAligned, HasSize, IsInSpace, script_grammar, SpellsAct, Fails}
 use Rattle.script_reader.specs.ScriptSpelling.{HasSectionsLine, LineAsksFor, LineHasFault, LinesAskFor, IsFirstFault}
 use Rattle.script_reader.proofs.StepLaws.{words_spelled}
-use Rattle.script_reader.specs.Lines.{is_comment, asked_by, seen_behind, asked, line_at, lines_from}
-use Rattle.script_reader.specs.Script.{fault_at, is_sections, script_lines, script_of}
+use Rattle.script_reader.specs.Lines.{asked_by, asked}
+use Rattle.script_reader.specs.Script.{script_lines, script_of}
 
 -- the words of a line, or of the rest of one
 abbrev in_words : List ℕ → Words
 in_words text = words_in separators.Script text
-
-of_words_or_not : IsOfWords wrong.Number × (IsOfWords wrong.Align → ⊥)
-of_words_or_not = (inr refl, λ is. elim is [ inl form ↦ cc form | inr number ↦ cc number ])
-
-words_taken : (no_words [] ≡ Ok tt) × (no_words (in_words (codes "a")) ≡ Err wrong.Form)
-    × (first_word (in_words (codes " a\tb")) ≡ Ok (codes "a", codes "b" ∷ [])) × (first_word [] ≡ Err wrong.Form)
-    × (one_word (in_words (codes "a")) ≡ Ok (codes "a")) × (one_word (in_words (codes "a b")) ≡ Err wrong.Form)
-    × (two_words (in_words (codes "a b")) ≡ Ok (codes "a", codes "b")) × (two_words (in_words (codes "a")) ≡ Err wrong.Form)
-    × (three_words (in_words (codes "a b c")) ≡ Ok (codes "a", codes "b", codes "c"))
-    × (three_words (in_words (codes "a b")) ≡ Err wrong.Form)
-words_taken = (refl, refl, refl, refl, refl, refl, refl, refl, refl, refl)
-
--- a key is followed by its word; a key without a word after it isn't a key
-key_and_word : (optional (codes "min") (in_words (codes "min 1 max 2")) ≡ (Some (codes "1"), in_words (codes "max 2")))
-    × (optional (codes "min") (in_words (codes "max 2")) ≡ (None, in_words (codes "max 2")))
-    × (optional (codes "min") (in_words (codes "min")) ≡ (None, in_words (codes "min")))
-key_and_word = (refl, refl, refl)
 
 -- a size must take its whole word
 whole_words : (number (codes "64K") ≡ Ok 65536) × (number (codes "64KB") ≡ Err wrong.Number) × (number (codes "x") ≡ Err wrong.Number)
@@ -53,16 +36,6 @@ powers_sizes_and_ranges : (power 4096 ≡ Ok 4096) × (power 3 ≡ Err wrong.Ali
     × (range_at 1 (2 ^ 64 - 1) ≡ Err wrong.TooFar)
 unfolding lib.Count.ones
 powers_sizes_and_ranges = (refl, refl, refl, refl, refl, refl, refl)
-
--- `exact` counts only after a node
-exact_or_not : (optional_exact (Some (codes "3")) (in_words (codes "exact")) ≡ (true, []))
-    × (optional_exact None (in_words (codes "exact")) ≡ (false, in_words (codes "exact")))
-exact_or_not = (refl, refl)
-
-allocation_words : (alloc_words (in_words (codes "1 2 4 max 5"))
-    ≡ Ok (record { id = codes "1"; size = codes "2"; align = codes "4"; min = None; max = Some (codes "5"); node = None; exact = false }))
-    × (alloc_words (in_words (codes "1 2 4 max 5 min 3")) ≡ Err wrong.Form)
-allocation_words = (refl, refl)
 
 -- an allocation, and one with each fault: the form is checked before the numbers, the numbers
 -- before the alignment, the alignment before the size
@@ -83,18 +56,6 @@ forms_of_lines : (reserve_line (in_words (codes "1 0x1000 1")) ≡ Ok (acts.Rese
     × (peek_line (in_words (codes "0 65")) ≡ Err wrong.Number) × (peek_line (in_words (codes "0xffffffffffffffc0 64")) ≡ Err wrong.TooFar)
 forms_of_lines = (refl, refl, refl, refl, refl, refl, refl, refl, refl, refl, refl, refl)
 
--- `sections` may occur once; with another word after it, the line has no form
-places_of_sections : (sections_line false [] ≡ Ok acts.Sections) × (sections_line true [] ≡ Err wrong.SecondSections)
-    × (sections_line true (in_words (codes "1")) ≡ Err wrong.Form)
-places_of_sections = (refl, refl, refl)
-
-names : (by_name false (codes "free") (in_words (codes "1")) ≡ Ok (acts.Free 1))
-    × (by_name false (codes "Free") (in_words (codes "1")) ≡ Err wrong.Form)
-names = (refl, refl)
-
-comments : (is_comment (codes "#free") ≡ true) × (is_comment (codes "free#") ≡ false)
-comments = (refl, refl)
-
 asked_examples : (asked_by (by_name false) [] ≡ Ok None) × (asked_by (by_name false) (in_words (codes "# free")) ≡ Ok None)
     × (asked script_lines false (codes "\t\r") ≡ Ok None) × (asked_by (by_name false) (in_words (codes "free 1")) ≡ Ok (Some (acts.Free 1)))
     × (asked script_lines false (codes " free\t1\r") ≡ Ok (Some (acts.Free 1)))
@@ -106,14 +67,6 @@ has_bounds = ((omega arith, omega arith, omega arith), omega arith)
 
 has_none : HasBounds (acts.Peek 0 65) → ⊥
 has_none bounds = let few = bounds.1 in omega (arith, few)
-
--- a fault with its line; `sections` counts from its line on
-lines_one_by_one : (fault_at 3 wrong.Form ≡ faults.BadLine 3) × (fault_at 7 wrong.TooFar ≡ faults.TooFar 7)
-    × (is_sections acts.Sections ≡ true) × (is_sections (acts.Free 1) ≡ false) × (seen_behind script_lines false (Some acts.Sections) ≡ true)
-    × (seen_behind script_lines true None ≡ true) × (seen_behind script_lines false None ≡ false) × (line_at script_lines 4 None ≡ None)
-    × (line_at script_lines 4 (Some (acts.Free 1)) ≡ Some (record { number = 4; act = acts.Free 1 }))
-    × (lines_from script_lines false 5 (codes "" ∷ codes "free 1" ∷ []) ≡ Ok (record { number = 6; act = acts.Free 1 } ∷ []))
-lines_one_by_one = (refl, refl, refl, refl, refl, refl, refl, refl, refl, refl)
 
 -- whole scripts: the last line may lack its newline; the fault of the lowest line is reported,
 -- whatever lines follow
@@ -137,14 +90,6 @@ spelled_words =
 -- a line without words, and a comment, have no command
 passed_over : IsPassedOver [] × IsPassedOver (codes "#free" ∷ codes "1" ∷ [])
 passed_over = (no_word, comment (codes "free") (codes "1" ∷ []))
-
--- the optional words of an `alloc`
-spelled_options : (keyed (codes "min") None ≡ []) × (keyed (codes "min") (Some (codes "1M")) ≡ codes "min" ∷ codes "1M" ∷ [])
-    × (node_words no_node ≡ []) × (node_words (near_node (codes "3")) ≡ codes "node" ∷ codes "3" ∷ [])
-    × (node_words (exact_node (codes "3")) ≡ codes "node" ∷ codes "3" ∷ codes "exact" ∷ []) × (node_number no_node ≡ None)
-    × (node_number (near_node (codes "3")) ≡ Some (codes "3")) × (is_exact (near_node (codes "3")) ≡ false)
-    × (is_exact (exact_node (codes "3")) ≡ true)
-spelled_options = (refl, refl, refl, refl, refl, refl, refl, refl, refl)
 
 -- any word may stand for a number: here `max` is a lower limit, and then the key after it
 any_word_for_a_number :
