@@ -9,23 +9,14 @@ use Rattle.srat_reader.specs.declared.table.SratBlock.{SratBlock}
 use Rattle.srat_reader.specs.Table.{Affinity}
 use Rattle.node_hulls.specs.declared.kept.KeptBlock.{KeptBlock}
 use Rattle.node_hulls.specs.declared.reasons.Why.TheVariants as why
-use Rattle.node_hulls.specs.Domains.{is_named, with_name, named_once, domains_named, node_of}
-use Rattle.node_hulls.specs.Hulls.{NumaBlock, meets, is_between, is_own, holds, joins, has, first_had, node_at, same_node}
-use Rattle.node_hulls.specs.Judgement.{left_over, frames_given, lower, lowest, unused, used, if_covering, if_apart, nodes_by, left_by, names_of, judged_kept, judged_table, judged}
+use Rattle.node_hulls.specs.Domains.{named_once, domains_named}
+use Rattle.node_hulls.specs.Hulls.{NumaBlock, node_at, same_node}
+use Rattle.node_hulls.specs.Judgement.{frames_given, lower, lowest, unused, used, if_covering, nodes_by, left_by, judged_kept, judged_table, judged}
 use Rattle.node_hulls.proofs.RestLaws.{frames_none, frames_step}
-use Rattle.node_hulls.specs.Kept.{in_any, frame_base, framed, meets_memory, of_node, kept_one, kept_from, kept_of, numa_blocks_of, is_node_of, any_kept, count_some, clash, overlap_at, first_clash}
+use Rattle.node_hulls.specs.Kept.{in_any, framed, meets_memory, of_node, kept_from, kept_of, clash, first_clash}
 
 abbrev block : ℕ → ℕ → ℕ → NumaBlock
 block n base size = record { base = base; size = size; value = n }
-
--- a range meets a block if it has an address of the block
-meets_examples : (meets 2 5 (block 0 4 3) ≡ true) × (meets 2 4 (block 0 4 3) ≡ false) × (meets 7 9 (block 0 4 3) ≡ false)
-meets_examples = (refl, refl, refl)
-
--- between two blocks, and not in either
-between_examples : (is_between (block 0 1 2) (block 0 5 1) 3 ≡ true) × (is_between (block 0 1 2) (block 0 5 1) 2 ≡ false)
-    × (is_between (block 0 1 2) (block 0 5 1) 5 ≡ false)
-between_examples = (refl, refl, refl)
 
 -- node 0 at 1 and 2 and at 8 and 9, node 1 at 5, not in the order of addresses
 abbrev one_between : List NumaBlock
@@ -35,27 +26,9 @@ one_between = block 0 8 2 ∷ block 1 5 1 ∷ block 0 1 2 ∷ []
 abbrev hole : List NumaBlock
 hole = block 0 1 2 ∷ block 1 9 2 ∷ block 0 5 2 ∷ []
 
-own_examples : (is_own hole 0 (block 0 1 2) (block 0 5 2) ≡ true) × (is_own one_between 0 (block 0 1 2) (block 0 8 2) ≡ false)
-own_examples = (refl, refl)
-
-holds_examples : (holds hole 0 2 ≡ true) × (holds hole 0 3 ≡ false) × (holds hole 1 2 ≡ false)
-holds_examples = (refl, refl, refl)
-
-joins_examples : (joins hole 0 3 ≡ true) × (joins hole 0 7 ≡ false) × (joins one_between 0 4 ≡ false)
-joins_examples = (refl, refl, refl)
-
-has_examples : (has hole 0 2 ≡ true) × (has hole 0 4 ≡ true) × (has hole 1 4 ≡ false) × (has hole 1 10 ≡ true)
-has_examples = (refl, refl, refl, refl)
-
-first_examples : (first_had hole 4 hole ≡ Some 0) × (first_had hole 8 hole ≡ None)
-first_examples = (refl, refl)
-
 node_examples : (node_at hole 10 ≡ Some 1) × (node_at one_between 5 ≡ Some 1) × (node_at one_between 6 ≡ None)
 unfolding node_at
 node_examples = (refl, refl, refl)
-
-same_examples : (same_node 3 3 ≡ true) × (same_node 3 4 ≡ false)
-same_examples = (refl, refl)
 
 -- the runs of nodes over twelve addresses: the hole is filled; a gap with another node in it
 -- isn't; and a block inside another of its node, with one that touches
@@ -64,17 +37,6 @@ filled_examples : (runs_from same_node (node_at hole) 0 12 ≡ block 0 1 6 ∷ b
     × (runs_from same_node (node_at (block 2 3 1 ∷ block 2 1 5 ∷ block 2 6 1 ∷ [])) 0 12 ≡ block 2 1 6 ∷ [])
 unfolding runs_from node_at
 filled_examples = (refl, refl, refl)
-
--- domains in the order in which they are first named, each once
-is_named_examples : (is_named (5 ∷ 2 ∷ []) 2 ≡ true) × (is_named (5 ∷ 2 ∷ []) 3 ≡ false)
-is_named_examples = (refl, refl)
-
-with_name_examples : (with_name (5 ∷ []) 2 ≡ 5 ∷ 2 ∷ []) × (with_name (5 ∷ 2 ∷ []) 5 ≡ 5 ∷ 2 ∷ [])
-with_name_examples = (refl, refl)
-
-named_once_examples : (named_once (7 ∷ 3 ∷ 7 ∷ 1 ∷ 3 ∷ []) ≡ 7 ∷ 3 ∷ 1 ∷ []) × (named_once [] ≡ [])
-unfolding named_once
-named_once_examples = (refl, refl)
 
 abbrev told : ℕ → ℕ → ℕ → SratBlock
 told domain base size = record { domain = domain; range = record { base = base; size = size } }
@@ -85,18 +47,9 @@ processors_first : (domains_named (12 ∷ 11 ∷ []) (told 3 0 1 ∷ told 12 1 1
 unfolding named_once
 processors_first = (refl, refl)
 
-node_of_examples : (node_of (12 ∷ 11 ∷ 3 ∷ []) 12 ≡ 0) × (node_of (12 ∷ 11 ∷ 3 ∷ []) 3 ≡ 2)
-node_of_examples = (refl, refl)
-
 -- memory as ranges: 0x1000 to 0x2FFF, and one byte at 0x5000
 abbrev memory : ℕ → Bool
 memory = in_any (record { base = 0x1000; size = 0x2000 } ∷ record { base = 0x5000; size = 1 } ∷ [])
-
-in_any_examples : (memory 0x1000 ≡ true) × (memory 0x3000 ≡ false) × (memory 0x5000 ≡ true) × (memory 0x5001 ≡ false)
-in_any_examples = (refl, refl, refl, refl)
-
-frame_base_examples : (frame_base 0x1FFF ≡ 0x1000) × (frame_base 0x2000 ≡ 0x2000)
-frame_base_examples = (refl, refl)
 
 abbrev range : ℕ → ℕ → RangeView
 range base size = record { base = base; size = size }
@@ -119,11 +72,6 @@ of_node_examples : (of_node (8 ∷ 5 ∷ []) (told 5 0x1800 0x1000) ≡ block 1 
     × (of_node (8 ∷ 5 ∷ []) (told 8 0 0xFFF) ≡ block 0 0 0)
 of_node_examples = (refl, refl)
 
-kept_one_examples : (kept_one memory 7 (block 3 0x5000 2) ≡ record { number = 7; block = block 3 0x5000 2 } ∷ [])
-    × (kept_one memory 7 (block 3 0x5001 2) ≡ [])
-unfolding each_in each_from
-kept_one_examples = (refl, refl)
-
 -- blocks that aren't kept are numbered too: here the first one, which is empty after rounding
 kept_examples : (kept_of some_frames (5 ∷ 6 ∷ []) (told 5 0 0xFFF ∷ told 6 0x1000 0x1000 ∷ [])
     ≡ record { number = 1; block = block 1 0x1000 0x1000 } ∷ [])
@@ -134,34 +82,12 @@ kept_examples = (refl, refl)
 abbrev kept : ℕ → NumaBlock → KeptBlock
 kept i b = record { number = i; block = b }
 
-blocks_examples : (numa_blocks_of (kept 2 (block 0 1 1) ∷ kept 4 (block 1 2 2) ∷ []) ≡ block 0 1 1 ∷ block 1 2 2 ∷ [])
-    × (numa_blocks_of [] ≡ [])
-blocks_examples = (refl, refl)
-
-is_node_of_examples : (is_node_of (kept 2 (block 0 1 1) ∷ kept 4 (block 1 2 2) ∷ []) 1 ≡ true) × (is_node_of [] 0 ≡ false)
-is_node_of_examples = (refl, refl)
-
-any_kept_examples : (any_kept some_frames (told 5 0 0xFFF ∷ told 6 0x1000 0x1000 ∷ []) ≡ true)
-    × (any_kept some_frames (told 5 0 0xFFF ∷ []) ≡ false)
-unfolding each_in each_from
-any_kept_examples = (refl, refl)
-
--- the size in the table counts, before rounding
-count_examples : (count_some (told 5 0 1 ∷ told 6 9 0 ∷ told 7 9 2 ∷ []) ≡ 2) × (count_some [] ≡ 0)
-count_examples = (refl, refl)
-
 -- blocks of different nodes that share an address; blocks that touch don't, and blocks of one node
 -- may overlap
 clash_examples : (clash (kept 0 (block 0 1 2)) (kept 1 (block 1 2 2)) ≡ true)
     × (clash (kept 0 (block 0 1 2)) (kept 1 (block 1 3 2)) ≡ false)
     × (clash (kept 0 (block 0 1 2)) (kept 1 (block 0 2 2)) ≡ false)
 clash_examples = (refl, refl, refl)
-
--- the pair is given by two numbers, the lower one first
-overlap_examples : (overlap_at (kept 3 (block 0 1 2) ∷ kept 7 (block 1 2 2) ∷ []) 3 7 ≡ true)
-    × (overlap_at (kept 3 (block 0 1 2) ∷ kept 7 (block 1 2 2) ∷ []) 7 3 ≡ false)
-    × (overlap_at (kept 3 (block 0 1 2) ∷ kept 7 (block 1 3 2) ∷ []) 3 7 ≡ false)
-overlap_examples = (refl, refl, refl)
 
 -- the least pair, by its first number and then by its second; and no pair
 pair_examples : (first_clash (kept 1 (block 0 9 1) ∷ kept 2 (block 0 1 4) ∷ kept 5 (block 1 7 1) ∷ kept 6 (block 1 3 1)
@@ -173,11 +99,6 @@ pair_examples = (refl, refl)
 -- none
 abbrev below_4 : ℕ → Bool
 below_4 x = nat_lt x 4
-
-left_over_examples : (left_over below_4 (node_at hole) 6 0 ≡ Some 6) × (left_over below_4 (node_at hole) 6 1 ≡ None)
-    × (left_over below_4 (node_at hole) 6 20 ≡ None)
-unfolding node_at
-left_over_examples = (refl, refl, refl)
 
 lowest_examples : (lower 3 (block 1 0 1) ≡ 1) × (lower 0 (block 1 0 1) ≡ 0) × (lowest (block 3 0 1 ∷ block 1 2 1 ∷ block 2 4 1 ∷ []) ≡ 1)
     × (lowest [] ≡ 0)
@@ -191,19 +112,9 @@ by_kept_examples : (nodes_by (kept 3 (block 2 1 1) ∷ kept 4 (block 2 3 1) ∷ 
 unfolding node_at
 by_kept_examples = (refl, refl, refl)
 
--- the reasons: `numa=off` before all, and those of the table before those of the kept blocks
-names_examples : (names_of (record { processors = 4 ∷ []; blocks = told 2 0 1 ∷ [] }) ≡ 4 ∷ 2 ∷ [])
-    × (names_of (record { processors = []; blocks = [] }) ≡ [])
-unfolding named_once
-names_examples = (refl, refl)
-
 two_overlap : judged_kept below_4 (5 ∷ 6 ∷ []) (kept 3 (block 0 1 2) ∷ kept 4 (block 1 2 1) ∷ []) ≡ unused (why.Overlap 3 4)
 unfolding judged_kept
 two_overlap = refl
-
-if_apart_examples : (if_apart (Some (3, 4)) (unused why.Used) ≡ unused (why.Overlap 3 4))
-    × (if_apart None (unused why.NoBlocks) ≡ unused why.NoBlocks)
-if_apart_examples = (refl, refl)
 
 off_or_absent : (judged below_4 true (Some (record { processors = []; blocks = [] })) ≡ unused why.Off)
     × (judged below_4 true None ≡ unused why.Off)
@@ -236,9 +147,6 @@ covering_examples = (rw one_mebibyte refl, rw one_frame_less refl, rw frames_non
 used_gives : ((used (5 ∷ []) (value_at []) (value_at (block 0 0 0x100000 ∷ []))).uncovered ≡ 256)
     × ((used (5 ∷ []) (value_at []) (value_at [])).domains ≡ 5 ∷ [])
 used_gives = (one_mebibyte, refl)
-
-unused_gives : ((unused why.NoBlocks).domains ≡ []) × ((unused (why.Overlap 1 2)).why ≡ why.Overlap 1 2)
-unused_gives = (refl, refl)
 
 -- a table with one empty block and this many others; and one with this many domains
 abbrev told_often : ℕ → Affinity
