@@ -114,10 +114,10 @@ struct bootmem_free_blocks {
 /* The program. `words` are those after its name, in their order. Answers the status: that of the one outcome that words and files determine,
  * or BOOTMEM_MEMORY.
  *
- * BOOTMEM_OK: `out` is given the reports that the words ask for, and the boot is one of which docs/HEADLINE.md holds; `err` is empty.
- * Any other: `out` is empty, and `err` is given one line, with its line feed, that says what is wrong, as the program prints it on
- * standard error. With a word that isn't UTF-8, or where memory is wanting for the line, it is empty, too; what it has after BOOTMEM_MEMORY no
- * clause says.
+ * BOOTMEM_OK: `out` has the reports that the words ask for, and docs/HEADLINE.md holds for the boot; `err` is empty.
+ * Any other: `out` is empty, and `err` has the whole line that the program prints on standard error, with its line feed. If a word isn't
+ * UTF-8 the program prints none, so `err` is empty. BOOTMEM_MEMORY also comes if memory ran out only for the line; `err` then has the line
+ * of out of memory, which needs none.
  *
  * Whether a text fits changes no status, so look at `needed` too. */
 uint8_t bootmem_run(const struct bootmem_bytes *words, size_t words_len, const struct bootmem_file *files, size_t files_len,

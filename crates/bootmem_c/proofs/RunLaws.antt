@@ -31,7 +31,8 @@ use Rattle.program_run.specs.Outcome.{given_by, or_stopped, outcome, reported}
 use Rattle.program_words.specs.Words.{Wanted, accepted, texts}
 use Rattle.bootmem_c.specs.Call.{are_utf8, asked, line_by, status_said}
 use Rattle.bootmem_c.specs.Fetches.{LentState, faults_at}
-use Rattle.bootmem_c.specs.Taken.{Written, wants_of, whole_text}
+use Rattle.bootmem_c.specs.Taken.{IsTaken, Written, wants_of}
+use Rattle.bootmem_c.specs.declared.crossing.Text.{Text}
 use Rattle.bootmem_c.specs.contracts.text_sink.TextSinkSink.TheImpl.{ghosts as text_sink}
 use Rattle.bootmem_c.proofs.ExactLaws.{fails_as}
 
@@ -111,39 +112,32 @@ appended l0 l1 line short empty not_short (inl is) = rw empty at is
 appended l0 l1 line short empty not_short (inr (inl rose)) = absurd (no_rise rose)
 appended l0 l1 line short empty not_short (inr (inr rose)) = absurd (no_rise (rw (not_short, short) at rose))
 
--- a line in memory is whole, unless memory ran out for it
-whole_by : (short : Bool) (l0 l1 : Written) (line : List ℕ) → l1.is_short ≡ short → l0.text ≡ [] → l0.is_short ≡ false
-    → PutsLine text_sink l0 l1 line → (whole_text l1 ≡ line) ⊎ (whole_text l1 ≡ [])
-whole_by true l0 l1 line short empty not_short told = inr (rw short refl)
-whole_by false l0 l1 line short empty not_short told = inl (rw short (appended l0 l1 line short empty not_short told.whole))
-
 line_of : (accepted : Option Wanted) (said : Result (List ℕ) Reason) (reason : Reason) → said ≡ Err reason
     → failure_line accepted (failures.NoResult (errors.Reason reason)) ≡ line_by accepted said
 line_of accepted said reason are = sym (ap (line_by accepted) are)
 
 line_ends : (old new : LentState) (accepted : Option Wanted) (failure : Failure Reason) (l0 l1 : Written) → status_of failure ≢ 4
-    → status_of failure ≢ 7 → l0.text ≡ [] → l0.is_short ≡ false → PutsLine text_sink l0 l1 (failure_line accepted failure)
+    → status_of failure ≢ 7 → l0.text ≡ [] → l0.is_short ≡ false → l1.is_short ≡ false → PutsLine text_sink l0 l1 (failure_line accepted failure)
     → FailureHasCause bootmem (faults_at old) (faults_at new) accepted failure
     → EndFits bootmem failure (outcome accepted (file_bytes old.files))
-    → (whole_text l1 ≡ line_by accepted (outcome accepted (file_bytes old.files))) ⊎ (whole_text l1 ≡ [])
-line_ends old new accepted (failures.NoResult (errors.Reason reason)) l0 l1 written other empty not_short told cause fits =
-    subst (λ (line : List ℕ). (whole_text l1 ≡ line) ⊎ (whole_text l1 ≡ []))
-    (line_of accepted (outcome accepted (file_bytes old.files)) reason
-    (fails_as old new accepted (errors.Reason reason) cause fits))
-    (whole_by l1.is_short l0 l1 (failure_line accepted (failures.NoResult (errors.Reason reason))) refl empty not_short told)
-line_ends old new accepted (failures.NoResult errors.Memory) l0 l1 written other empty not_short told cause fits = absurd (other refl)
-line_ends old new accepted (failures.Output put.Failed) l0 l1 written other empty not_short told cause fits = absurd (written refl)
-line_ends old new accepted (failures.Output put.Memory) l0 l1 written other empty not_short told cause fits = absurd (other refl)
+    → l1.text ≡ line_by accepted (outcome accepted (file_bytes old.files))
+line_ends old new accepted (failures.NoResult (errors.Reason reason)) l0 l1 written other empty not_short short told cause fits =
+    appended l0 l1 (failure_line accepted (failures.NoResult (errors.Reason reason))) short empty not_short told.whole
+    ∙ line_of accepted (outcome accepted (file_bytes old.files)) reason
+    (fails_as old new accepted (errors.Reason reason) cause fits)
+line_ends old new accepted (failures.NoResult errors.Memory) l0 l1 written other empty not_short short told cause fits = absurd (other refl)
+line_ends old new accepted (failures.Output put.Failed) l0 l1 written other empty not_short short told cause fits = absurd (written refl)
+line_ends old new accepted (failures.Output put.Memory) l0 l1 written other empty not_short short told cause fits = absurd (other refl)
 
 pub ran_line : (old new : LentState) (accepted : Option Wanted) (l0 l1 : Written) (status : ℕ) → (status ≡ 4 → Rose 0 0)
     → l0.text ≡ [] → l0.is_short ≡ false
     → (status ≢ 0 → IsFailure old new accepted status (λ failure. PutsLine text_sink l0 l1 (failure_line accepted failure)))
-    → status ≢ 0 → status ≢ 7
-    → (whole_text l1 ≡ line_by accepted (outcome accepted (file_bytes old.files))) ⊎ (whole_text l1 ≡ [])
-ran_line old new accepted l0 l1 status unwritten empty not_short line some other =
+    → status ≢ 0 → status ≢ 7 → l1.is_short ≡ false
+    → l1.text ≡ line_by accepted (outcome accepted (file_bytes old.files))
+ran_line old new accepted l0 l1 status unwritten empty not_short line some other short =
     let told = line some in
     line_ends old new accepted told.0 l0 l1 (λ four. no_rise (unwritten (told.1 ∙ four))) (λ seven. other (told.1 ∙ seven)) empty not_short
-    told.2 told.3 told.4
+    short told.2 told.3 told.4
 
 -- the words that were read, and the lent files, are those of the call
 pub same_asked : (taken : List (String Global)) (words : List (List ℕ)) → map string_bytes taken ≡ words → All IsUtf8 words
@@ -168,3 +162,19 @@ nothing_asked words held other = ap status_said (nothing_said words held other)
 
 pub line_asked : (words : List (List ℕ)) (line : List ℕ) → All IsUtf8 words → (if are_utf8 words then line else []) ≡ line
 line_asked words line all = rw (are-utf8 words all) refl
+
+-- if a word isn't UTF-8, there is no line
+pub none_asked : (words : List (List ℕ)) (line : List ℕ) → ¬ All IsUtf8 words → [] ≡ (if are_utf8 words then line else [])
+none_asked words line other = rw (not_utf8 words (are_utf8 words) refl other) refl
+
+-- a status other than 7 is that of the run, and memory didn't run out for the line
+pub whole_run : (short : Bool) (ran status : ℕ) → (short ≡ false → status ≡ ran) → (short ≡ true → status ≡ 7) → status ≢ 7
+    → (short ≡ false) × (status ≡ ran)
+whole_run true ran status whole is_short other = absurd (other (is_short refl))
+whole_run false ran status whole is_short other = (refl, whole refl)
+
+-- a text that was copied is that of the outcome
+pub taken_by : (said : Result (List ℕ) Reason) (text : List ℕ) (old new : Text) → IsOkAnd said (λ s. text ≡ s) → IsTaken text old new
+    → IsOkAnd said (λ s. IsTaken s old new)
+taken_by (Ok s) text old new same taken = subst (λ (t : List ℕ). IsTaken t old new) same taken
+taken_by (Err reason) text old new same taken = same

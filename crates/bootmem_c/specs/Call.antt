@@ -5,7 +5,8 @@ use Rattle.bm_io.specs.MemFiles.{file_bytes}
 use Rattle.boot_inputs.specs.Reason.{Reason}
 use Rattle.program_end.specs.declared.failure.Failure.TheVariants as failures
 use Rattle.program_end.specs.declared.failure.NoResult.TheVariants as errors
-use Rattle.program_run.specs.Line.{failure_line}
+use Rattle.program_end.specs.Line.{memory_line}
+use Rattle.program_run.specs.Line.{failure_line, program_name}
 use Rattle.program_run.specs.Outcome.{outcome}
 use Rattle.program_end.specs.Status.{reason_status}
 use Rattle.program_words.specs.Words.{Wanted, accepted}
@@ -40,3 +41,7 @@ line_by accepted (Err reason) = failure_line accepted (failures.NoResult (errors
 abbrev pub line_said : List Bytes → List File → List ℕ
 line_said words files =
     if are_utf8 (lent_words words) then line_by (asked (lent_words words)) (outcome_of words files) else []
+
+-- the line of out of memory
+abbrev pub memory_said : List ℕ
+memory_said = memory_line program_name

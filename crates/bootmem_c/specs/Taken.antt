@@ -1,5 +1,5 @@
 -- Texts that the program wrote, copied to buffers that the caller passes.
-use Rattle.std.specs.Prelude.{◌≡◌, ℕ, ◌-◌, ◌^◌, ◌≤◌, ◌<◌, Bool, if◌then◌else◌, List, [], ◌++◌, drop, length}
+use Rattle.std.specs.Prelude.{◌≡◌, ℕ, ◌-◌, ◌^◌, ◌≤◌, ◌<◌, Bool, if◌then◌else◌, List, ◌++◌, drop, length}
 use Rattle.bootmem_c.specs.declared.crossing.Text.{Text}
 
 -- the buffer begins with the text, and the bytes after it are as they were
@@ -17,10 +17,6 @@ pub record IsTaken (text : List ℕ) (old new : Text) : Type 0 where
 pub record Written : Type 0 where
   pub text : List ℕ
   pub is_short : Bool
-
--- the text, or the empty text if memory ran out for a part of it
-abbrev pub whole_text : Written → List ℕ
-whole_text written = if written.is_short then [] else written.text
 
 -- the counter of puts that ran out of memory: at its greatest value from the first one on
 abbrev pub wants_of : Written → ℕ

@@ -1,11 +1,11 @@
 //! The program as one call, over words and files that the caller passes.
 
-ghost use Rattle.std.specs.Prelude.{◌≡◌, ◌≢◌, ◌⊎◌, ℕ, IsOkAnd, List, [], false, Some};
+ghost use Rattle.std.specs.Prelude.{◌≡◌, ◌≢◌, ◌⊎◌, ℕ, IsOkAnd, List, [], false, true, Some};
 ghost use Rattle.bm_io.specs.MemFiles.{file_bytes};
 ghost use Rattle.program_run.specs.Headline.{IsReported};
 ghost use Rattle.bootmem_c.specs.Lent.{lent_files, lent_words};
-ghost use Rattle.bootmem_c.specs.Call.{asked, line_said, outcome_of, status_said};
-ghost use Rattle.bootmem_c.specs.Taken.{IsTaken, whole_text};
+ghost use Rattle.bootmem_c.specs.Call.{asked, line_said, memory_said, outcome_of, status_said};
+ghost use Rattle.bootmem_c.specs.Taken.{IsTaken};
 
 use crate::crossing::{Bytes, File, Text, hand_over};
 use crate::lent_files::LentFiles;
@@ -16,7 +16,7 @@ use std::alloc::Global;
 
 /// Runs `bootmem`: `words` are the words after the program's name, and `files` the files that they
 /// may name. The reports go to `out`, the line of a failure to `err`. Returns the exit status:
-/// that of the outcome (0, 2, 3, 5 or 6), or 7 if out of memory.
+/// that of the outcome (0, 2, 3, 5 or 6), or 7 if out of memory, also if only the line needed it.
 #[unsafe(no_mangle)]
 pub extern "C" fn bootmem_run(
     alloc: Global,
@@ -35,21 +35,23 @@ pub extern "C" fn bootmem_run(
         × IsReported (asked (lent_words words.now)) (file_bytes (lent_files files.now)) (Some []) (Some text) }
     ensures unwritten { result ≢ 0 → IsTaken [] out.old out.new }
 
-    // With status 0 `err` has the empty text. With any other status but 7 it has the line of the
-    // outcome, or the empty text if memory ran out for the line.
+    // With status 0 `err` has the empty text. With 7 it has the line of out of memory, and with
+    // any other status the whole line of the outcome.
     ensures silent { result ≡ 0 → IsTaken [] err.old err.new }
-    ensures line { result ≢ 0 → result ≢ 7
-        → IsTaken (line_said words.now files.now) err.old err.new ⊎ IsTaken [] err.old err.new }
+    ensures line { result ≢ 0 → result ≢ 7 → IsTaken (line_said words.now files.now) err.old err.new }
+    ensures memory { result ≡ 7 → IsTaken memory_said err.old err.new }
 {
     let mut report = TextSink::new(alloc);
     let mut line = TextSink::new(alloc);
-    let status = run_lent(alloc, words, files, &mut report, &mut line);
+    let ran = run_lent(alloc, words, files, &mut report, &mut line);
+    let status = status_with(ran, &line);
     hand_over(text_after(status, &report), out);
-    hand_over(line.whole(), err);
+    hand_over(line_after(status, &line), err);
     status
 }
 
-/// Runs the program over these words and files, with empty outputs. Returns the exit status.
+/// Runs the program over these words and files, with empty outputs. Returns the exit status. If
+/// memory ran out for the line, `line` says so.
 fn run_lent(
     alloc: Global,
     words: &[Bytes<'_>],
@@ -64,15 +66,22 @@ fn run_lent(
     ensures written { result ≡ 0 → IsOkAnd (outcome_of words.now files.now) (λ text. report.new.text ≡ text) }
     ensures headline { result ≡ 0 → IsReported
         (asked (lent_words words.now)) (file_bytes (lent_files files.now)) (Some []) (Some report.new.text) }
-    ensures silent { result ≡ 0 → whole_text line.new ≡ [] }
-    ensures line { result ≢ 0 → result ≢ 7
-        → (whole_text line.new ≡ line_said words.now files.now) ⊎ (whole_text line.new ≡ []) }
+    ensures line { result ≢ 0 → result ≢ 7 → line.new.is_short ≡ false
+        → line.new.text ≡ line_said words.now files.now }
 {
     match words_in(alloc, words) {
         Ok(texts) => run(alloc, &texts, &mut LentFiles::new(files), report, line),
         Err(NoTexts::NotUtf8) => 2,
         Err(NoTexts::Memory) => 7,
     }
+}
+
+/// Returns the status of a run that put this line: 7 if memory ran out for the line.
+fn status_with(ran: u8, line: &TextSink) -> u8
+    ensures whole { line.now.is_short ≡ false → result ≡ ran }
+    ensures short { line.now.is_short ≡ true → result ≡ 7 }
+{
+    if line.is_short() { 7 } else { ran }
 }
 
 /// Returns the reports if the status is 0, else the empty text.
@@ -84,4 +93,18 @@ fn text_after(status: u8, report: &TextSink) -> &[u8]
         return report.text();
     }
     &[]
+}
+
+/// Returns what `err` gets: nothing with status 0, the line of out of memory with 7, and else the
+/// line that was put.
+fn line_after(status: u8, line: &TextSink) -> &[u8]
+    ensures silent { status ≡ 0 → result.now ≡ [] }
+    ensures memory { status ≡ 7 → result.now ≡ memory_said }
+    ensures line { status ≢ 0 → status ≢ 7 → result.now ≡ line.now.text }
+{
+    match status {
+        0 => &[],
+        7 => b"bootmem: out of memory\n",
+        _ => line.text(),
+    }
 }

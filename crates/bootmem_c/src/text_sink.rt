@@ -1,7 +1,7 @@
 //! A text in memory that the program writes.
 
 ghost use Rattle.std.specs.Prelude.{◌≡◌, true, false, [], ◌++◌, Some, OnOk, OnErr, IsErrOf};
-ghost use Rattle.bootmem_c.specs.Taken.{wants_of, whole_text};
+ghost use Rattle.bootmem_c.specs.Taken.{wants_of};
 
 use bm_io::{Put, Sink};
 use std::alloc::Global;
@@ -40,14 +40,11 @@ impl TextSink {
         self.text.as_slice()
     }
 
-    /// Returns the text, or the empty text if memory ran out for one of its parts.
-    pub fn whole(&self) -> &[u8]
-        ensures { result.now ≡ whole_text self.now }
+    /// Tests whether memory ran out for a part of the text.
+    pub fn is_short(&self) -> bool
+        ensures { result ≡ self.now.is_short }
     {
-        if self.is_short {
-            return &[];
-        }
-        self.text.as_slice()
+        self.is_short
     }
 }
 

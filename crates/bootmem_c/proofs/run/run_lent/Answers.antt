@@ -9,8 +9,7 @@ use Rattle.program_words.specs.Words.{Wanted, accepted, texts}
 use Rattle.bootmem_c.specs.declared.words.NoTexts.{NoTexts}
 use Rattle.bootmem_c.specs.Lent.{lent_files, lent_words}
 use Rattle.bootmem_c.specs.Call.{asked, line_by, line_said, outcome_of, status_said}
-use Rattle.bootmem_c.specs.Taken.{whole_text}
-use Rattle.bootmem_c.proofs.RunLaws.{line_asked, nothing_asked, ran_line, ran_reported, ran_status, reported_text, same_asked, same_outcome}
+use Rattle.bootmem_c.proofs.RunLaws.{line_asked, none_asked, nothing_asked, ran_line, ran_reported, ran_status, reported_text, same_asked, same_outcome}
 use Rattle.bootmem_c.proofs.run.run_lent.Goals as goal
 
 -- the words that were read ask for what the call's words ask for
@@ -44,17 +43,22 @@ returns-in-Ok-clause-written c = λ zero.
     (returns-in-Ok-clause-headline c zero)
 
 pub returns-in-Ok-clause-line : goal.returns-in-Ok-clause-line
-returns-in-Ok-clause-line c = λ some other.
+returns-in-Ok-clause-line c = λ some other short.
     let was = accepted (texts c.deref.result.now) in
     let said = outcome was (file_bytes c.new.result.files) in
     let told = ran_line c.new.result c.run.new.files was c.args.line.now c.run.new.err c.run.result c.run.ensures.unwritten
-    c.requires.no_line c.requires.not_short c.run.ensures.line some other in
+    c.requires.no_line c.requires.not_short c.run.ensures.line some other short in
     let same : line_by was said ≡ line_said c.args.words.now c.args.files.now =
     ap (λ (a : Option Wanted). line_by a said) (asks c) ∙ ap (line_by (asked (lent_words c.args.words.now))) (is_outcome c)
     ∙ sym (line_asked (lent_words c.args.words.now) _ c.in-Ok.ensures.utf8) in
-    subst (λ (line : List ℕ). (whole_text c.run.new.err ≡ line) ⊎ (whole_text c.run.new.err ≡ [])) same told
+    told ∙ same
 
 pub returns-in-Err-NotUtf8-clause-status : goal.returns-in-Err-NotUtf8-clause-status
 returns-in-Err-NotUtf8-clause-status c =
     inl (sym (nothing_asked (lent_words c.args.words.now) (file_bytes (lent_files c.args.files.now))
     (c.in-Err-NotUtf8.ensures.other (ap (λ (e : NoTexts). Err e) c.in-Err-NotUtf8.field-0-is))))
+
+pub returns-in-Err-NotUtf8-clause-line : goal.returns-in-Err-NotUtf8-clause-line
+returns-in-Err-NotUtf8-clause-line c = λ some other short.
+    c.requires.no_line ∙ none_asked (lent_words c.args.words.now) _
+    (c.in-Err-NotUtf8.ensures.other (ap (λ (e : NoTexts). Err e) c.in-Err-NotUtf8.field-0-is))
