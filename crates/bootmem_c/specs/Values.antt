@@ -32,22 +32,31 @@ abbrev pub part_value : Option RangeView → RangeView
 part_value None = record { base = 0; size = 0 }
 part_value (Some part) = part
 
--- the crash area from its main and its low part
-abbrev pub parts_value : Option RangeView → Option RangeView → CrashArea
-parts_value main low = record {
+-- the crash area from the number of the outcome, its main and its low part
+abbrev pub parts_value : ℕ → Option RangeView → Option RangeView → CrashArea
+parts_value state main low = record {
   base = (part_value main).base;
   size = (part_value main).size;
   low_base = (part_value low).base;
   low_size = (part_value low).size;
+  state = state;
 }
+
+-- the number of an outcome of the reservation: 1 if there is an area, and else why there is none
+abbrev pub state_value : Crash → ℕ
+state_value crash.Nothing = 0
+state_value (crash.At main low) = 1
+state_value crash.NoArea = 2
+state_value crash.InUse = 3
+state_value crash.LowFailed = 4
 
 -- the crash area of each outcome of the reservation; only `At` has one
 abbrev pub area_value : Crash → CrashArea
-area_value crash.Nothing = parts_value None None
-area_value (crash.At main low) = parts_value (Some main) low
-area_value crash.NoArea = parts_value None None
-area_value crash.InUse = parts_value None None
-area_value crash.LowFailed = parts_value None None
+area_value crash.Nothing = parts_value (state_value crash.Nothing) None None
+area_value (crash.At main low) = parts_value (state_value (crash.At main low)) (Some main) low
+area_value crash.NoArea = parts_value (state_value crash.NoArea) None None
+area_value crash.InUse = parts_value (state_value crash.InUse) None None
+area_value crash.LowFailed = parts_value (state_value crash.LowFailed) None None
 
 -- the number of a zone (`enum zone_type`)
 abbrev pub zone_value : Zone → ℕ

@@ -47,9 +47,9 @@ pub extern "C" fn bootmem_map(
     }
 }
 
-/// Writes the crash area and its low part to `out`. Returns the exit status: that of the outcome,
-/// or 7 if out of memory. A part that the boot didn't reserve has base and size 0, and so do both
-/// with a status other than 0.
+/// Writes the crash area, its low part, and why there is none to `out`. Returns the exit status:
+/// that of the outcome, or 7 if out of memory. A part that the boot didn't reserve has base and
+/// size 0. With a status other than 0 every number is 0.
 #[unsafe(no_mangle)]
 pub extern "C" fn bootmem_crash(
     alloc: Global,
@@ -61,7 +61,7 @@ pub extern "C" fn bootmem_crash(
     ensures area { result ≡ 0 → (told : Told)
         × IsBoot (asked (lent_words words.now)) (file_bytes (lent_files files.now)) told
         × (out.new ≡ area_value told.crash) }
-    ensures none { result ≢ 0 → out.new ≡ parts_value None None }
+    ensures none { result ≢ 0 → out.new ≡ parts_value 0 None None }
 {
     match boot_lent(alloc, words, files) {
         Ok(booted) => {
@@ -69,7 +69,7 @@ pub extern "C" fn bootmem_crash(
             0
         }
         Err(failure) => {
-            *out = CrashArea::none();
+            *out = CrashArea::none(0);
             failure.status()
         }
     }

@@ -1,7 +1,7 @@
 //! The types that `include/bootmem.h` declares for what a boot made, and for buffers of them.
 
 ghost use Rattle.std.specs.Prelude.{◌≡◌, IfOk, None, map};
-ghost use Rattle.bootmem_c.specs.Values.{AreTaken, area_value, block_value, parts_value, run_value, zone_value};
+ghost use Rattle.bootmem_c.specs.Values.{AreTaken, area_value, block_value, parts_value, run_value, state_value, zone_value};
 
 use bm_base::{Memory, Range, Zone};
 use buddy_handover::Block;
@@ -30,7 +30,8 @@ pub struct MapRuns<'a> {
     pub count: usize,
 }
 
-/// The crash area and its low part, in bytes. A part that isn't reserved has base and size 0.
+/// The crash area and its low part, in bytes, and the number of the reservation's outcome. A part
+/// that isn't reserved has base and size 0.
 #[repr(C)]
 #[derive(Clone, Copy)]
 pub struct CrashArea {
@@ -38,6 +39,8 @@ pub struct CrashArea {
     pub size: u64,
     pub low_base: u64,
     pub low_size: u64,
+    /// The number of the outcome: 1 if the area is reserved, and else why it isn't.
+    pub state: u32,
 }
 
 /// A free block: 2^order frames of one node and zone.
@@ -75,15 +78,16 @@ impl MapRun {
 }
 
 impl CrashArea {
-    /// Returns the value for no crash area.
-    pub fn none() -> CrashArea
-        ensures { result ≡ parts_value None None }
+    /// Returns the value for no crash area, with the number of the outcome.
+    pub fn none(state: u32) -> CrashArea
+        ensures { result ≡ parts_value state None None }
     {
         CrashArea {
             base: 0,
             size: 0,
             low_base: 0,
             low_size: 0,
+            state,
         }
     }
 
@@ -91,7 +95,7 @@ impl CrashArea {
         ensures { result ≡ area_value crash.now }
     {
         let Crash::At { main, low } = crash else {
-            return CrashArea::none();
+            return CrashArea::none(crash_state(crash));
         };
         let low = low.unwrap_or(Range { base: 0, size: 0 });
         CrashArea {
@@ -99,7 +103,21 @@ impl CrashArea {
             size: main.size,
             low_base: low.base,
             low_size: low.size,
+            state: crash_state(crash),
         }
+    }
+}
+
+/// Returns the number of an outcome of the reservation (`BOOTMEM_CRASH_..` in C).
+fn crash_state(crash: &Crash) -> u32
+    ensures { result ≡ state_value crash.now }
+{
+    match crash {
+        Crash::Nothing => 0,
+        Crash::At { .. } => 1,
+        Crash::NoArea => 2,
+        Crash::InUse => 3,
+        Crash::LowFailed => 4,
     }
 }
 
