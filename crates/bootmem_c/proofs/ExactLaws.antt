@@ -1,5 +1,5 @@
 -- A file that can't be read is the one in the outcome: reading fails only if the file isn't lent.
-use Rattle.std.proofs.Common.{◌≡◌, ◌≢◌, ℕ, ◌<◌, List, [], ◌∷◌, Option, Some, None, Result, Ok, Err, refl, inl, inr, ap, arith, ◌∙◌}
+use Rattle.std.proofs.Common.{◌≡◌, ℕ, ◌<◌, List, [], ◌∷◌, Option, Some, None, Result, Ok, Err, refl, inl, inr, ap, arith, ◌∙◌}
 use Rattle.std.specs.Prelude.{◌⊎◌}
 use Rattle.bm_base.specs.ResultSteps.{◌>>=◌}
 use Rattle.bm_io.specs.MemFiles.{file_bytes}
@@ -12,8 +12,6 @@ use Rattle.boot_inputs.specs.Inputs.{Named, file_step, given_in, input_files, in
 use Rattle.program_end.specs.Program.{Held}
 use Rattle.boot_model.specs.declared.stop.Cause.{Cause}
 use Rattle.boot_model.specs.Boot.{Given}
-use Rattle.program_end.specs.declared.failure.Failure.{Failure}
-use Rattle.program_end.specs.declared.failure.Failure.TheVariants as failures
 use Rattle.program_end.specs.declared.failure.NoResult.TheVariants as errors
 use Rattle.program_end.specs.declared.failure.Reason.TheVariants as reasons
 use Rattle.program_end.specs.Causes.{ErrorHasCause, IsOf, RoseAt, RoseFor}

@@ -1,5 +1,6 @@
 -- What a boot made, as values for C.
 use Rattle.std.specs.Prelude.{◌≡◌, ℕ, List, ◌++◌, map, take, drop, length, Option, Some, None}
+use Rattle.std.specs.List.{slice_get}
 use Rattle.address_runs.specs.Runs.{RunOf}
 use Rattle.bm_base.specs.Range.{RangeView}
 use Rattle.bm_base.specs.declared.zone.Zone.{Zone}
@@ -9,9 +10,12 @@ use Rattle.conservation.specs.Headline.{told_blocks}
 use Rattle.crash_kernel.specs.declared.crash.Crash.{Crash}
 use Rattle.crash_kernel.specs.declared.crash.Crash.TheVariants as crash
 use Rattle.frame_blocks.specs.declared.block.Block.{Block}
+use Rattle.zone_spans.specs.declared.span.Span.{Span}
 use Rattle.bootmem_c.specs.declared.values.CrashArea.{CrashArea}
 use Rattle.bootmem_c.specs.declared.values.FreeBlock.{FreeBlock}
 use Rattle.bootmem_c.specs.declared.values.MapRun.{MapRun}
+use Rattle.bootmem_c.specs.declared.values.MemoryNode.{MemoryNode}
+use Rattle.bootmem_c.specs.declared.values.ZoneSpan.{ZoneSpan}
 
 -- `told` is the number of all values. The buffer begins with as many of them as it has room for,
 -- and the rest of it is as it was.
@@ -71,3 +75,25 @@ block_value b = record { first = b.first; order = b.order; node = b.node; zone =
 -- the free blocks of the boot
 abbrev pub block_values : Told → List FreeBlock
 block_values told = map block_value (told_blocks told)
+
+-- the frames that a node spans in a zone: the first, the one after the last, and how many of those
+-- between are the node's; then its node and zone
+abbrev pub span_value : Span → ZoneSpan
+span_value s = record { start = s.start; end = s.end; present = s.present; node = s.node; zone = zone_value s.zone }
+
+-- the spans of the boot
+abbrev pub zone_values : Told → List ZoneSpan
+zone_values told = map span_value told.spans
+
+-- a node with its domain; if the firmware's table isn't used there is none, and its number is 0
+abbrev pub domain_value : ℕ → Option ℕ → MemoryNode
+domain_value node None = record { node = node; domain = 0; has_domain = 0 }
+domain_value node (Some domain) = record { node = node; domain = domain; has_domain = 1 }
+
+-- a node, if the domains of the nodes are these
+abbrev pub node_value : List ℕ → ℕ → MemoryNode
+node_value domains node = domain_value node (slice_get domains node)
+
+-- the nodes with memory of the boot
+abbrev pub node_values : Told → List MemoryNode
+node_values told = map (node_value told.nodes.domains) told.nodes.with_memory

@@ -1,4 +1,4 @@
-//! What the boot made, as values: the map, the crash area and the free blocks.
+//! What the boot made, as values: the map, the crash area, the nodes, the zones and the free blocks.
 //!
 //! Each export takes the words and files of `bootmem_run` and returns the same status, except that
 //! either may run out of memory. The reports that the words ask for make no difference.
@@ -9,12 +9,13 @@ ghost use Rattle.boot_model.specs.Boot.{Told};
 ghost use Rattle.bootmem_c.specs.Boots.{FailsAs, IsBoot};
 ghost use Rattle.bootmem_c.specs.Call.{asked, outcome_of, status_said};
 ghost use Rattle.bootmem_c.specs.Lent.{lent_files, lent_words};
-ghost use Rattle.bootmem_c.specs.Values.{AreTaken, area_value, block_values, map_values, parts_value};
+ghost use Rattle.bootmem_c.specs.Values.{AreTaken, area_value, block_values, map_values, node_values, parts_value, zone_values};
 
 use crate::boots::boot_lent;
 use crate::crossing::{Bytes, File};
 use crate::values::{
-    CrashArea, FreeBlock, FreeBlocks, MapRun, MapRuns, block_values, fill, map_values,
+    CrashArea, FreeBlock, FreeBlocks, MapRun, MapRuns, MemoryNode, MemoryNodes, ZoneSpan,
+    ZoneSpans, block_values, fill, map_values, node_values, zone_values,
 };
 use program_run::NoReport;
 use std::alloc::Global;
@@ -104,6 +105,63 @@ pub extern "C" fn bootmem_blocks(
     }
 }
 
+/// Writes the frames that each node spans in each zone to `out`, by node and then by zone, as many
+/// as its buffer has room for, and sets `out.count` to the number of all. Returns the exit status:
+/// that of the outcome, or 7 if out of memory. With a status other than 0, `out.count` is 0 and
+/// the buffer stays as it was.
+#[unsafe(no_mangle)]
+pub extern "C" fn bootmem_zones(
+    alloc: Global,
+    words: &[Bytes<'_>],
+    files: &[File<'_>],
+    out: &mut ZoneSpans<'_>,
+) -> u8
+    ensures status { (result ≡ status_said (outcome_of words.now files.now)) ⊎ (result ≡ 7) }
+    ensures zones { result ≡ 0 → (told : Told)
+        × IsBoot (asked (lent_words words.now)) (file_bytes (lent_files files.now)) told
+        × AreTaken (zone_values told) out.old.room.now out.new.room.now out.new.count }
+    ensures none { result ≢ 0 → AreTaken [] out.old.room.now out.new.room.now out.new.count }
+{
+    match zones_lent(alloc, words, files) {
+        Ok(zones) => {
+            out.count = fill(&zones, out.room);
+            0
+        }
+        Err(failure) => {
+            out.count = 0;
+            failure.status()
+        }
+    }
+}
+
+/// Writes the nodes that have memory to `out`, ascending, as many as its buffer has room for, and
+/// sets `out.count` to the number of all. Returns the exit status: that of the outcome, or 7 if
+/// out of memory. With a status other than 0, `out.count` is 0 and the buffer stays as it was.
+#[unsafe(no_mangle)]
+pub extern "C" fn bootmem_nodes(
+    alloc: Global,
+    words: &[Bytes<'_>],
+    files: &[File<'_>],
+    out: &mut MemoryNodes<'_>,
+) -> u8
+    ensures status { (result ≡ status_said (outcome_of words.now files.now)) ⊎ (result ≡ 7) }
+    ensures nodes { result ≡ 0 → (told : Told)
+        × IsBoot (asked (lent_words words.now)) (file_bytes (lent_files files.now)) told
+        × AreTaken (node_values told) out.old.room.now out.new.room.now out.new.count }
+    ensures none { result ≢ 0 → AreTaken [] out.old.room.now out.new.room.now out.new.count }
+{
+    match nodes_lent(alloc, words, files) {
+        Ok(nodes) => {
+            out.count = fill(&nodes, out.room);
+            0
+        }
+        Err(failure) => {
+            out.count = 0;
+            failure.status()
+        }
+    }
+}
+
 /// Returns the runs of the map of the boot with these words and files. Errors are those of
 /// [`boot_lent`].
 fn map_lent(alloc: Global, words: &[Bytes<'_>], files: &[File<'_>]) -> Result<Vec<MapRun>, NoReport>
@@ -131,4 +189,35 @@ fn blocks_lent(
     let booted = boot_lent(alloc, words, files)?;
     let blocks = booted.buddy.blocks()?;
     Ok(block_values(alloc, &blocks)?)
+}
+
+/// Returns the zones of the boot with these words and files. Errors are those of [`boot_lent`].
+fn zones_lent(
+    alloc: Global,
+    words: &[Bytes<'_>],
+    files: &[File<'_>],
+) -> Result<Vec<ZoneSpan>, NoReport>
+    ensures zones { IfOk result (λ zones. (told : Told)
+        × IsBoot (asked (lent_words words.now)) (file_bytes (lent_files files.now)) told
+        × (zones.items ≡ zone_values told)) }
+    ensures fails { IfErr result (λ failure. FailsAs failure (outcome_of words.now files.now)) }
+{
+    let booted = boot_lent(alloc, words, files)?;
+    Ok(zone_values(alloc, &booted.spans)?)
+}
+
+/// Returns the nodes with memory of the boot with these words and files. Errors are those of
+/// [`boot_lent`].
+fn nodes_lent(
+    alloc: Global,
+    words: &[Bytes<'_>],
+    files: &[File<'_>],
+) -> Result<Vec<MemoryNode>, NoReport>
+    ensures nodes { IfOk result (λ nodes. (told : Told)
+        × IsBoot (asked (lent_words words.now)) (file_bytes (lent_files files.now)) told
+        × (nodes.items ≡ node_values told)) }
+    ensures fails { IfErr result (λ failure. FailsAs failure (outcome_of words.now files.now)) }
+{
+    let booted = boot_lent(alloc, words, files)?;
+    Ok(node_values(alloc, &booted.nodes)?)
 }

@@ -1,13 +1,15 @@
 //! The types that `include/bootmem.h` declares for what a boot made, and for buffers of them.
 
 ghost use Rattle.std.specs.Prelude.{◌≡◌, IfOk, None, map};
-ghost use Rattle.bootmem_c.specs.Values.{AreTaken, area_value, block_value, parts_value, run_value, state_value, zone_value};
+ghost use Rattle.bootmem_c.specs.Values.{AreTaken, area_value, block_value, node_value, parts_value, run_value, span_value, state_value, zone_value};
 
 use bm_base::{Memory, Range, Zone};
 use buddy_handover::Block;
 use crash_kernel::Crash;
 use e820_model::Run;
+use numa_nodes::Nodes;
 use std::alloc::Global;
+use zone_spans::Span;
 
 /// A run of the map: a range whose addresses all have the same type.
 #[repr(C)]
@@ -62,6 +64,50 @@ pub struct FreeBlock {
 #[derive(Drop)]
 pub struct FreeBlocks<'a> {
     pub room: &'a mut [FreeBlock],
+    pub count: usize,
+}
+
+/// The frames that a node spans in a zone. All numbers but the last two are of frames.
+#[repr(C)]
+#[derive(Clone, Copy)]
+pub struct ZoneSpan {
+    /// The first frame.
+    pub start: u64,
+    /// One more than the last frame.
+    pub end: u64,
+    /// The number of frames of this node and zone.
+    pub present: u64,
+    pub node: u32,
+    /// The number of the zone (`enum zone_type`): 0, 1 or 2.
+    pub zone: u32,
+}
+
+/// A buffer that the caller passes for zones (`room`), and the number of all zones with memory
+/// (`count`), which the call sets.
+#[repr(C)]
+#[derive(Drop)]
+pub struct ZoneSpans<'a> {
+    pub room: &'a mut [ZoneSpan],
+    pub count: usize,
+}
+
+/// A node with memory, and its domain in the firmware's table.
+#[repr(C)]
+#[derive(Clone, Copy)]
+pub struct MemoryNode {
+    pub node: u32,
+    /// The domain, or 0 if the table isn't used.
+    pub domain: u32,
+    /// 1 if the table is used, else 0.
+    pub has_domain: u32,
+}
+
+/// A buffer that the caller passes for nodes (`room`), and the number of all nodes with memory
+/// (`count`), which the call sets.
+#[repr(C)]
+#[derive(Drop)]
+pub struct MemoryNodes<'a> {
+    pub room: &'a mut [MemoryNode],
     pub count: usize,
 }
 
@@ -143,6 +189,60 @@ impl FreeBlock {
             zone: zone_number(block.zone),
         }
     }
+}
+
+impl ZoneSpan {
+    fn of(span: &Span) -> ZoneSpan
+        ensures { result ≡ span_value span.now }
+    {
+        ZoneSpan {
+            start: span.start,
+            end: span.end,
+            present: span.present,
+            node: span.node,
+            zone: zone_number(span.zone),
+        }
+    }
+}
+
+impl MemoryNode {
+    /// Returns the value of a node. `domains` has the domain of each node.
+    fn of(domains: &[u32], node: u32) -> MemoryNode
+        ensures { result ≡ node_value domains.now node }
+    {
+        match domains.get(node as usize) {
+            Some(domain) => MemoryNode {
+                node,
+                domain: *domain,
+                has_domain: 1,
+            },
+            None => MemoryNode {
+                node,
+                domain: 0,
+                has_domain: 0,
+            },
+        }
+    }
+}
+
+/// Returns the spans as values for C. Fails only if out of memory.
+pub fn zone_values(alloc: Global, spans: &[Span]) -> Result<Vec<ZoneSpan>, Memory>
+    ensures { IfOk result (λ values. values.items ≡ map span_value spans.now) }
+{
+    Ok(spans.iter().map(ZoneSpan::of).collect(alloc)?)
+}
+
+/// Returns the nodes with memory as values for C. Fails only if out of memory.
+pub fn node_values(alloc: Global, nodes: &Nodes) -> Result<Vec<MemoryNode>, Memory>
+    ensures { IfOk result (λ values. values.items
+        ≡ map (node_value nodes.now.domains.items) nodes.now.with_memory.items) }
+{
+    let domains = nodes.domains.as_slice();
+    Ok(nodes
+        .with_memory
+        .iter()
+        .map(|node| MemoryNode::of(domains, *node))
+        .collect(alloc)?)
 }
 
 /// Returns the runs as values for C. Fails only if out of memory.

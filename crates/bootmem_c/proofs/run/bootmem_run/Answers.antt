@@ -1,5 +1,5 @@
 -- With a status other than 7 memory didn't run out for the line, and the outputs are the run's.
-use Rattle.std.proofs.Common.{◌≡◌, ◌≢◌, ◌∙◌, ℕ, List, arith, subst, sym}
+use Rattle.std.proofs.Common.{◌∙◌, ℕ, List, arith, subst, sym}
 use Rattle.bootmem_c.specs.Call.{outcome_of}
 use Rattle.bootmem_c.specs.Taken.{IsTaken}
 use Rattle.bootmem_c.proofs.RunLaws.{taken_by, whole_run}
