@@ -3,3 +3,4 @@ pub mod ExactLaws
 pub mod FetchLaws
 pub mod LentLaws
 pub mod RunLaws
+pub mod ValueLaws

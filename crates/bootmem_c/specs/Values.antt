@@ -1,7 +1,13 @@
 -- What a boot made, as values for C.
-use Rattle.std.specs.Prelude.{◌≡◌, ℕ, List, ◌++◌, map, take, drop, length, Option, Some, None}
+use Rattle.std.specs.Prelude.{◌≡◌, ℕ, zero, suc, ◌+◌, List, [], ◌∷◌, ◌++◌, map, take, drop, length, Option, Some, None}
 use Rattle.std.specs.List.{slice_get}
+use Rattle.phys_store.specs.Bytes.{bytes_at}
 use Rattle.address_runs.specs.Runs.{RunOf}
+use Rattle.memblock_model.specs.Labels.{LabelView}
+use Rattle.memblock_model.specs.Tables.{records_of}
+use Rattle.memblock_model.specs.declared.owner.Which.TheVariants as which
+use Rattle.memblock_ranges.specs.declared.region.Region.{Region}
+use Rattle.memblock_ranges.specs.Spelling.{region_in, region_of}
 use Rattle.bm_base.specs.Range.{RangeView}
 use Rattle.bm_base.specs.declared.zone.Zone.{Zone}
 use Rattle.bm_base.specs.declared.zone.Zone.TheVariants as zone
@@ -15,6 +21,7 @@ use Rattle.bootmem_c.specs.declared.values.CrashArea.{CrashArea}
 use Rattle.bootmem_c.specs.declared.values.FreeBlock.{FreeBlock}
 use Rattle.bootmem_c.specs.declared.values.MapRun.{MapRun}
 use Rattle.bootmem_c.specs.declared.values.MemoryNode.{MemoryNode}
+use Rattle.bootmem_c.specs.declared.values.MemoryRange.{MemoryRange}
 use Rattle.bootmem_c.specs.declared.values.ZoneSpan.{ZoneSpan}
 
 -- `told` is the number of all values. The buffer begins with as many of them as it has room for,
@@ -97,3 +104,20 @@ node_value domains node = domain_value node (slice_get domains node)
 -- the nodes with memory of the boot
 abbrev pub node_values : Told → List MemoryNode
 node_values told = map (node_value told.nodes.domains) told.nodes.with_memory
+
+-- a record of memory: its range, its flags and its node (`struct memblock_region`)
+abbrev pub region_value : Region → MemoryRange
+region_value r = record { base = r.base; size = r.size; flags = r.flags; node = r.node }
+
+-- the n records whose bytes begin at `place`
+abbrev pub regions_at : (ℕ → ℕ) → ℕ → ℕ → List MemoryRange
+regions_at f place zero = []
+regions_at f place (suc n) = region_value (region_in (bytes_at f place 24)) ∷ regions_at f (place + 24) n
+
+-- a record that the journal gives
+abbrev pub record_value : RunOf LabelView → MemoryRange
+record_value r = region_value (region_of r)
+
+-- the records of memory that the boot's journal gives
+abbrev pub memory_values : Told → List MemoryRange
+memory_values told = map record_value (records_of which.Memory told.items)

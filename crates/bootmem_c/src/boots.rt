@@ -3,6 +3,8 @@
 ghost use Rattle.std.specs.Prelude.{Some, IfOk, IfErr};
 ghost use Rattle.bm_io.specs.MemFiles.{file_bytes};
 ghost use Rattle.boot_model.specs.View.{booted_view};
+ghost use Rattle.boot_stages.specs.Boots.{TableStands};
+ghost use Rattle.memblock_model.specs.declared.owner.Which.TheVariants as which;
 ghost use Rattle.program_run.specs.Outcome.{outcome};
 ghost use Rattle.program_words.specs.View.{wanted_view};
 ghost use Rattle.program_words.specs.Words.{accepted, texts};
@@ -29,6 +31,8 @@ use std::alloc::Global;
 pub fn boot_lent(alloc: Global, words: &[Bytes<'_>], files: &[File<'_>]) -> Result<Booted, NoReport>
     ensures boots { IfOk result (λ booted.
         IsBoot (asked (lent_words words.now)) (file_bytes (lent_files files.now)) (booted_view booted)) }
+    ensures memory { IfOk result (λ booted.
+        TableStands which.Memory booted.journal.items booted.store booted.heads.memory) }
     ensures fails { IfErr result (λ failure. FailsAs failure (outcome_of words.now files.now)) }
 {
     match words_in(alloc, words) {
@@ -43,6 +47,8 @@ pub fn boot_lent(alloc: Global, words: &[Bytes<'_>], files: &[File<'_>]) -> Resu
 fn boot_texts(alloc: Global, words: &[String], files: &[File<'_>]) -> Result<Booted, NoReport>
     ensures boots { IfOk result (λ booted.
         IsBoot (accepted (texts words.now)) (file_bytes (lent_files files.now)) (booted_view booted)) }
+    ensures memory { IfOk result (λ booted.
+        TableStands which.Memory booted.journal.items booted.store booted.heads.memory) }
     ensures fails { IfErr result (λ failure.
         FailsAs failure (outcome (accepted (texts words.now)) (file_bytes (lent_files files.now)))) }
 {
@@ -58,6 +64,8 @@ fn boot_texts(alloc: Global, words: &[String], files: &[File<'_>]) -> Result<Boo
 fn boot_wanted(alloc: Global, wanted: &Wanted<'_>, files: &[File<'_>]) -> Result<Booted, NoReport>
     ensures boots { IfOk result (λ booted.
         IsBoot (Some (wanted_view wanted.now)) (file_bytes (lent_files files.now)) (booted_view booted)) }
+    ensures memory { IfOk result (λ booted.
+        TableStands which.Memory booted.journal.items booted.store booted.heads.memory) }
     ensures fails { IfErr result (λ failure.
         FailsAs failure (outcome (Some (wanted_view wanted.now)) (file_bytes (lent_files files.now)))) }
 {

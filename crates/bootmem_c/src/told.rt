@@ -1,4 +1,5 @@
-//! What the boot made, as values: the map, the crash area, the nodes, the zones and the free blocks.
+//! What the boot made, as values: the map, the crash area, memory, the nodes, the zones and the free
+//! blocks.
 //!
 //! Each export takes the words and files of `bootmem_run` and returns the same status, except that
 //! either may run out of memory. The reports that the words ask for make no difference.
@@ -9,13 +10,14 @@ ghost use Rattle.boot_model.specs.Boot.{Told};
 ghost use Rattle.bootmem_c.specs.Boots.{FailsAs, IsBoot};
 ghost use Rattle.bootmem_c.specs.Call.{asked, outcome_of, status_said};
 ghost use Rattle.bootmem_c.specs.Lent.{lent_files, lent_words};
-ghost use Rattle.bootmem_c.specs.Values.{AreTaken, area_value, block_values, map_values, node_values, parts_value, zone_values};
+ghost use Rattle.bootmem_c.specs.Values.{AreTaken, area_value, block_values, map_values, memory_values, node_values, parts_value, zone_values};
 
 use crate::boots::boot_lent;
 use crate::crossing::{Bytes, File};
 use crate::values::{
-    CrashArea, FreeBlock, FreeBlocks, MapRun, MapRuns, MemoryNode, MemoryNodes, ZoneSpan,
-    ZoneSpans, block_values, fill, map_values, node_values, zone_values,
+    CrashArea, FreeBlock, FreeBlocks, MapRun, MapRuns, MemoryNode, MemoryNodes, MemoryRange,
+    MemoryRanges, ZoneSpan, ZoneSpans, block_values, fill, map_values, memory_values, node_values,
+    zone_values,
 };
 use program_run::NoReport;
 use std::alloc::Global;
@@ -134,6 +136,34 @@ pub extern "C" fn bootmem_zones(
     }
 }
 
+/// Writes the records of memory to `out`, ascending, as many as its buffer has room for, and sets
+/// `out.count` to the number of all. Returns the exit status: that of the outcome, or 7 if out of
+/// memory. With a status other than 0, `out.count` is 0 and the buffer stays as it was.
+#[unsafe(no_mangle)]
+pub extern "C" fn bootmem_memory(
+    alloc: Global,
+    words: &[Bytes<'_>],
+    files: &[File<'_>],
+    out: &mut MemoryRanges<'_>,
+) -> u8
+    ensures status { (result ≡ status_said (outcome_of words.now files.now)) ⊎ (result ≡ 7) }
+    ensures memory { result ≡ 0 → (told : Told)
+        × IsBoot (asked (lent_words words.now)) (file_bytes (lent_files files.now)) told
+        × AreTaken (memory_values told) out.old.room.now out.new.room.now out.new.count }
+    ensures none { result ≢ 0 → AreTaken [] out.old.room.now out.new.room.now out.new.count }
+{
+    match memory_lent(alloc, words, files) {
+        Ok(ranges) => {
+            out.count = fill(&ranges, out.room);
+            0
+        }
+        Err(failure) => {
+            out.count = 0;
+            failure.status()
+        }
+    }
+}
+
 /// Writes the nodes that have memory to `out`, ascending, as many as its buffer has room for, and
 /// sets `out.count` to the number of all. Returns the exit status: that of the outcome, or 7 if
 /// out of memory. With a status other than 0, `out.count` is 0 and the buffer stays as it was.
@@ -220,4 +250,20 @@ fn nodes_lent(
 {
     let booted = boot_lent(alloc, words, files)?;
     Ok(node_values(alloc, &booted.nodes)?)
+}
+
+/// Returns the records of memory of the boot with these words and files. Errors are those of
+/// [`boot_lent`].
+fn memory_lent(
+    alloc: Global,
+    words: &[Bytes<'_>],
+    files: &[File<'_>],
+) -> Result<Vec<MemoryRange>, NoReport>
+    ensures memory { IfOk result (λ ranges. (told : Told)
+        × IsBoot (asked (lent_words words.now)) (file_bytes (lent_files files.now)) told
+        × (ranges.items ≡ memory_values told)) }
+    ensures fails { IfErr result (λ failure. FailsAs failure (outcome_of words.now files.now)) }
+{
+    let booted = boot_lent(alloc, words, files)?;
+    Ok(memory_values(alloc, &booted.store, &booted.heads.memory)?)
 }

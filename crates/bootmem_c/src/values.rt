@@ -1,13 +1,16 @@
 //! The types that `include/bootmem.h` declares for what a boot made, and for buffers of them.
 
-ghost use Rattle.std.specs.Prelude.{◌≡◌, IfOk, None, map};
-ghost use Rattle.bootmem_c.specs.Values.{AreTaken, area_value, block_value, node_value, parts_value, run_value, span_value, state_value, zone_value};
+ghost use Rattle.std.specs.Prelude.{◌≡◌, ◌+◌, ◌*◌, ◌^◌, ◌<◌, IfOk, None, map};
+ghost use Rattle.phys_store.specs.Bytes.{byte_of};
+ghost use Rattle.bootmem_c.specs.Values.{AreTaken, area_value, block_value, node_value, parts_value, region_value, regions_at, run_value, span_value, state_value, zone_value};
 
 use bm_base::{Memory, Range, Zone};
 use buddy_handover::Block;
 use crash_kernel::Crash;
 use e820_model::Run;
+use memblock_ranges::{Head, Region, region_at};
 use numa_nodes::Nodes;
+use phys_store::Store;
 use std::alloc::Global;
 use zone_spans::Span;
 
@@ -108,6 +111,28 @@ pub struct MemoryNode {
 #[derive(Drop)]
 pub struct MemoryNodes<'a> {
     pub room: &'a mut [MemoryNode],
+    pub count: usize,
+}
+
+/// A record of memory (`struct memblock_region`): a range of whole frames on one node.
+#[repr(C)]
+#[derive(Clone, Copy)]
+pub struct MemoryRange {
+    /// The first address.
+    pub base: u64,
+    /// The number of bytes.
+    pub size: u64,
+    /// 2 for mirrored memory (`MEMBLOCK_MIRROR`), else 0.
+    pub flags: u32,
+    pub node: u32,
+}
+
+/// A buffer that the caller passes for records of memory (`room`), and the number of all records
+/// (`count`), which the call sets.
+#[repr(C)]
+#[derive(Drop)]
+pub struct MemoryRanges<'a> {
+    pub room: &'a mut [MemoryRange],
     pub count: usize,
 }
 
@@ -225,6 +250,31 @@ impl MemoryNode {
     }
 }
 
+impl MemoryRange {
+    fn of(region: &Region) -> MemoryRange
+        ensures { result ≡ region_value region.now }
+    {
+        MemoryRange {
+            base: region.base,
+            size: region.size,
+            flags: region.flags,
+            node: region.node,
+        }
+    }
+}
+
+/// Returns the records of the head's table as values for C. Fails only if out of memory.
+pub fn memory_values(alloc: Global, store: &Store, head: &Head) -> Result<Vec<MemoryRange>, Memory>
+    requires { head.now.place + 24 * head.now.count < 2 ^ 64 }
+    ensures { IfOk result (λ values. values.items ≡ regions_at (byte_of store.now) head.now.place head.now.count) }
+{
+    let mut values = Vec::new(alloc);
+    for index in 0..head.count {
+        values.push(MemoryRange::of(&region_at(store, head, index)))?;
+    }
+    Ok(values)
+}
+
 /// Returns the spans as values for C. Fails only if out of memory.
 pub fn zone_values(alloc: Global, spans: &[Span]) -> Result<Vec<ZoneSpan>, Memory>
     ensures { IfOk result (λ values. values.items ≡ map span_value spans.now) }
@@ -238,11 +288,13 @@ pub fn node_values(alloc: Global, nodes: &Nodes) -> Result<Vec<MemoryNode>, Memo
         ≡ map (node_value nodes.now.domains.items) nodes.now.with_memory.items) }
 {
     let domains = nodes.domains.as_slice();
-    Ok(nodes
-        .with_memory
-        .iter()
-        .map(|node| MemoryNode::of(domains, *node))
-        .collect(alloc)?)
+    Ok(
+        nodes
+            .with_memory
+            .iter()
+            .map(|node| MemoryNode::of(domains, *node))
+            .collect(alloc)?,
+    )
 }
 
 /// Returns the runs as values for C. Fails only if out of memory.
