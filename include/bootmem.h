@@ -1,9 +1,8 @@
 /* bootmem.h: the boot-time memory set-up of x86-64 Linux 6.1, proved, as a library.
  *
  * The library is the program bootmem (bootmem.1, bootmem.5) as one call over bytes: no file is opened, nothing is printed, no
- * process is started. bootmem_run hands over the program's reports, as text; bootmem_map, bootmem_crash and bootmem_blocks hand over what the
- * boot made, as values. What they answer is proved of the same text as the program's; their clauses are those of crates/bootmem_c/src, run.rt
- * and told.rt.
+ * process is started. bootmem_run hands over the program's reports, as text. bootmem_map, bootmem_crash, bootmem_memory, bootmem_nodes,
+ * bootmem_zones and bootmem_blocks hand over what the boot made, as values. Their contracts are in crates/bootmem_c/src, run.rt and told.rt.
  *
  * Units. Addresses, sizes and lengths are in bytes, frames are 4096 bytes, numbers have the byte order of the machine.
  *
@@ -83,12 +82,49 @@ struct bootmem_map_runs {
 	size_t count;
 };
 
-/* The crash area, and the part of it below 4 GiB: base and size in bytes, both 0 where there is none. */
+/* Whether there is a crash area, and else why not. */
+#define BOOTMEM_CRASH_NOT_REQUESTED 0 /* the command line requests no crash area */
+#define BOOTMEM_CRASH_RESERVED 1      /* there is one */
+#define BOOTMEM_CRASH_NO_AREA 2       /* no free range fits it (the kernel logs "No suitable area found") */
+#define BOOTMEM_CRASH_IN_USE 3        /* the requested range isn't free, or its base isn't a multiple of 1 MiB */
+#define BOOTMEM_CRASH_LOW_FAILED 4    /* no free range below 4 GiB fits its low part */
+
+/* The crash area, and the part of it below 4 GiB: base and size in bytes, both 0 if there is none. `state` is one of BOOTMEM_CRASH_. */
 struct bootmem_crash_area {
 	uint64_t base;
 	uint64_t size;
 	uint64_t low_base;
 	uint64_t low_size;
+	uint32_t state;
+};
+
+/* A record of memblock's table of memory: base and size in bytes, and the node. */
+struct bootmem_memory_range {
+	uint64_t base;
+	uint64_t size;
+	uint32_t flags; /* 2 for mirrored memory (MEMBLOCK_MIRROR), else 0 */
+	uint32_t node;
+};
+
+/* A buffer for records of memory, used as the one for runs of the map. */
+struct bootmem_memory_ranges {
+	struct bootmem_memory_range *at;
+	size_t room;
+	size_t count;
+};
+
+/* A node that has memory, and its proximity domain. */
+struct bootmem_memory_node {
+	uint32_t node;
+	uint32_t domain;     /* 0 if the SRAT isn't used */
+	uint32_t has_domain; /* 1 if the SRAT is used, else 0 */
+};
+
+/* A buffer for nodes, used as the one for runs of the map. */
+struct bootmem_memory_nodes {
+	struct bootmem_memory_node *at;
+	size_t room;
+	size_t count;
 };
 
 /* The zones of a block (`enum zone_type`): below 16 MiB, from there to 4 GiB, and behind that. */
@@ -107,6 +143,23 @@ struct bootmem_free_block {
 /* Room for free blocks, as for runs of the map. */
 struct bootmem_free_blocks {
 	struct bootmem_free_block *at;
+	size_t room;
+	size_t count;
+};
+
+/* The frames that a node spans in a zone: the number of the first, one more than that of the last, and how many of them are of this node and
+ * zone. */
+struct bootmem_zone_span {
+	uint64_t start;
+	uint64_t end;
+	uint64_t present;
+	uint32_t node;
+	uint32_t zone; /* one of BOOTMEM_ZONE_ */
+};
+
+/* A buffer for zones, used as the one for runs of the map. */
+struct bootmem_zone_spans {
+	struct bootmem_zone_span *at;
 	size_t room;
 	size_t count;
 };
@@ -130,12 +183,21 @@ uint8_t bootmem_run(const struct bootmem_bytes *words, size_t words_len, const s
  * `count` is 0, and of the crash area each number is.
  *
  * bootmem_map: the runs of the map that the kernel works with, ascending.
- * bootmem_crash: the crash area.
+ * bootmem_crash: the crash area, or why there is none.
+ * bootmem_memory: the records of memory, ascending.
+ * bootmem_nodes: the nodes that have memory, ascending.
+ * bootmem_zones: the zones that have memory, by node and then by zone.
  * bootmem_blocks: the free blocks at the handover, ascending. */
 uint8_t bootmem_map(const struct bootmem_bytes *words, size_t words_len, const struct bootmem_file *files, size_t files_len,
 	struct bootmem_map_runs *out);
 uint8_t bootmem_crash(const struct bootmem_bytes *words, size_t words_len, const struct bootmem_file *files, size_t files_len,
 	struct bootmem_crash_area *out);
+uint8_t bootmem_memory(const struct bootmem_bytes *words, size_t words_len, const struct bootmem_file *files, size_t files_len,
+	struct bootmem_memory_ranges *out);
+uint8_t bootmem_nodes(const struct bootmem_bytes *words, size_t words_len, const struct bootmem_file *files, size_t files_len,
+	struct bootmem_memory_nodes *out);
+uint8_t bootmem_zones(const struct bootmem_bytes *words, size_t words_len, const struct bootmem_file *files, size_t files_len,
+	struct bootmem_zone_spans *out);
 uint8_t bootmem_blocks(const struct bootmem_bytes *words, size_t words_len, const struct bootmem_file *files, size_t files_len,
 	struct bootmem_free_blocks *out);
 
@@ -150,6 +212,44 @@ static inline struct bootmem_bytes bootmem_word(const char *text)
 	while (text[word.len])
 		word.len++;
 	return word;
+}
+
+/* Two types of entries (`enum e820_type`). */
+#define BOOTMEM_E820_RAM 1
+#define BOOTMEM_E820_RESERVED 2
+
+/* An entry of the firmware's map (struct boot_e820_entry): base and size in bytes, and the type. */
+struct bootmem_entry {
+	uint64_t base;
+	uint64_t size;
+	uint32_t type;
+};
+
+#define BOOTMEM_ZERO_PAGE_SIZE 4096
+#define BOOTMEM_ZERO_PAGE_ENTRIES 128 /* E820_MAX_ENTRIES_ZEROPAGE */
+
+/* Writes `number` bytes of a value, the lowest first. */
+static inline void bootmem_put(uint8_t *at, uint64_t value, size_t number)
+{
+	for (size_t i = 0; i < number; i++)
+		at[i] = (uint8_t)(value >> 8 * i);
+}
+
+/* Makes a zero page (struct boot_params) that has these entries and nothing else. Returns 0. If there are more than 128 entries it writes
+ * nothing and returns -1: the further ones belong into an extension (--e820ext, docs/FORMATS.md). */
+static inline int bootmem_zero_page(uint8_t page[BOOTMEM_ZERO_PAGE_SIZE], const struct bootmem_entry *entries, size_t count)
+{
+	if (count > BOOTMEM_ZERO_PAGE_ENTRIES)
+		return -1;
+	for (size_t i = 0; i < BOOTMEM_ZERO_PAGE_SIZE; i++)
+		page[i] = 0;
+	page[0x1e8] = (uint8_t)count;
+	for (size_t i = 0; i < count; i++) {
+		bootmem_put(page + 0x2d0 + 20 * i, entries[i].base, 8);
+		bootmem_put(page + 0x2d8 + 20 * i, entries[i].size, 8);
+		bootmem_put(page + 0x2e0 + 20 * i, entries[i].type, 4);
+	}
+	return 0;
 }
 
 #ifdef __cplusplus

@@ -1,7 +1,8 @@
 /* by_library [--values NAME] WORD..: the program bootmem over the library: each word that names a file is read and lent under its name, the
  * reports go to standard output, the line to standard error, and the status is the call's. Room is given in two calls: none, and as much as
- * was needed. With --values the report NAME (map, crash, blocks) is printed of the values that the library hands over, in the form of the
- * program's, but 'crash none' for each reason of there being no area, and no line; a call with half of the room gives the first half. */
+ * was needed. With --values the report NAME (map, crash, memory, nodes, zones, blocks) is printed of the values that the library hands over, and
+ * no line; a call with half of the room gives the first half. The form is that of the program's reports, with two exceptions. A zone's line lacks
+ * the free frames. A node's line is 'node N domain D', or 'node N' if the node has no domain. */
 #include <bootmem.h>
 #include <inttypes.h>
 #include <stdio.h>
@@ -90,11 +91,34 @@ static void put_run(const struct bootmem_map_run *run)
 	printf(" %" PRIu32 " %s\n", run->type, name ? name : "other");
 }
 
+static void put_memory_range(const struct bootmem_memory_range *range)
+{
+	static unsigned index;
+
+	printf("%4u: ", index++);
+	put_range(range->base, range->size);
+	puts("");
+}
+
+static void put_node(const struct bootmem_memory_node *node)
+{
+	printf("node %" PRIu32, node->node);
+	if (node->has_domain)
+		printf(" domain %" PRIu32, node->domain);
+	puts("");
+}
+
+static const char *const zones[] = {[BOOTMEM_ZONE_DMA] = "DMA", [BOOTMEM_ZONE_DMA32] = "DMA32", [BOOTMEM_ZONE_NORMAL] = "Normal"};
+
+static void put_zone(const struct bootmem_zone_span *span)
+{
+	printf("Node %" PRIu32 ", zone %s start %" PRIu64 " end %" PRIu64 " present %" PRIu64 "\n", span->node, zones[span->zone], span->start,
+		span->end, span->present);
+}
+
 static void put_block(const struct bootmem_free_block *block)
 {
-	static const char *const names[] = {[BOOTMEM_ZONE_DMA] = "DMA", [BOOTMEM_ZONE_DMA32] = "DMA32", [BOOTMEM_ZONE_NORMAL] = "Normal"};
-
-	printf("node %" PRIu32 " zone %s order %" PRIu32 " 0x%016" PRIx64 "\n", block->node, names[block->zone], block->order, 4096 * block->first);
+	printf("node %" PRIu32 " zone %s order %" PRIu32 " 0x%016" PRIx64 "\n", block->node, zones[block->zone], block->order, 4096 * block->first);
 }
 
 /* defines a function that prints the values of a call, which it asks for without room, with half of what is needed, and with all of it */
@@ -123,17 +147,24 @@ static void put_block(const struct bootmem_free_block *block)
 	}
 
 PUT_VALUES(put_map, bootmem_map, bootmem_map_run, bootmem_map_runs, put_run)
+PUT_VALUES(put_memory, bootmem_memory, bootmem_memory_range, bootmem_memory_ranges, put_memory_range)
+PUT_VALUES(put_nodes, bootmem_nodes, bootmem_memory_node, bootmem_memory_nodes, put_node)
+PUT_VALUES(put_zones, bootmem_zones, bootmem_zone_span, bootmem_zone_spans, put_zone)
 PUT_VALUES(put_blocks, bootmem_blocks, bootmem_free_block, bootmem_free_blocks, put_block)
 
 static int put_crash(void)
 {
-	struct bootmem_crash_area area = {7, 7, 7, 7};
+	static const char *const reasons[] = {[BOOTMEM_CRASH_NOT_REQUESTED] = "none", [BOOTMEM_CRASH_NO_AREA] = "no area",
+		[BOOTMEM_CRASH_IN_USE] = "in use", [BOOTMEM_CRASH_LOW_FAILED] = "low failed"};
+	struct bootmem_crash_area area = {7, 7, 7, 7, 7};
 	int status = bootmem_crash(words, words_len, files, files_len, &area);
 
-	if (status && (area.base || area.size || area.low_base || area.low_size))
+	if (status && (area.base || area.size || area.low_base || area.low_size || area.state))
+		return 1;
+	if (!status && !area.size != (area.state != BOOTMEM_CRASH_RESERVED))
 		return 1;
 	if (!status && !area.size)
-		puts("crash none");
+		printf("crash %s\n", reasons[area.state]);
 	if (area.size) {
 		fputs("crash at ", stdout);
 		put_range(area.base, area.size);
@@ -147,6 +178,11 @@ static int put_crash(void)
 	return status;
 }
 
+static const struct {
+	const char *name;
+	int (*put)(void);
+} reports[] = {{"map", put_map}, {"crash", put_crash}, {"memory", put_memory}, {"nodes", put_nodes}, {"zones", put_zones}, {"blocks", put_blocks}};
+
 int main(int argc, char **argv)
 {
 	int values = argc > 2 && !strcmp(argv[1], "--values"), front = values ? 3 : 1;
@@ -156,9 +192,8 @@ int main(int argc, char **argv)
 	lend(argv + front, argc - front);
 	if (!values)
 		return put_reports();
-	if (!strcmp(argv[2], "map"))
-		return put_map();
-	if (!strcmp(argv[2], "crash"))
-		return put_crash();
-	return strcmp(argv[2], "blocks") ? 1 : put_blocks();
+	for (size_t i = 0; i < sizeof reports / sizeof *reports; i++)
+		if (!strcmp(argv[2], reports[i].name))
+			return reports[i].put();
+	return 1;
 }

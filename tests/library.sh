@@ -1,7 +1,7 @@
 #!/bin/sh
 # library.sh [PROGRAM]: the library against the program, and from C, Rust and Python. Every report of every machine of examples/ through the
-# library is the very bytes of the program, with its status and its line, and its map, its crash area and its blocks as values are what the
-# program's text says; then the example in C, 'cargo test' and the unit tests of Python. What lacks its tool is left out, with a line. Prints
+# library is the very bytes of the program, with its status and its line, and what it hands over as values is what the program's text
+# says; then the layout of the structs, the example in C, 'cargo test' and the unit tests of Python. What lacks its tool is left out, with a line. Prints
 # 'N passed, M failed' at its end.
 . "$(dirname "$0")/counted.sh"
 program=$(built "${1:-$top/bootmem}") || exit 2
@@ -18,18 +18,38 @@ has() {
 	return 1
 }
 
+# expected NAME WORD..: what by_library.c prints of these values, from the program's text, and the status. A zone has no free frames. A node
+# is one that has zones, with its domain if it has one.
+expected() {
+	name=$1
+	shift
+	case $name in
+	nodes) list=nodes,zones ;;
+	*) list=$name ;;
+	esac
+	(cd "$folder" && "$program" --report "$list" "$@" 2>/dev/null; echo "status $?") | case $name in
+	zones) sed 's/ free [0-9]*$//' ;;
+	nodes)
+		awk '/^domain / { domain[$4] = " domain " $2 }
+			/^Node / { node = $2 + 0; if (!seen[node]++) print "node " node domain[node] }
+			/^status / { print }'
+		;;
+	*) cat ;;
+	esac
+}
+
 # values FOLDER NAME WORD..: what the library hands over as values is what the program's report NAME says, with its status
 values() {
 	folder=$1
 	report=$2
 	shift 2
-	(cd "$folder" && "$program" --report "$report" "$@" 2>/dev/null; echo "status $?") |
-		sed -E 's/^crash (no area|in use|low failed)$/crash none/' >"$work/out"
+	expected "$report" "$@" >"$work/out"
 	(cd "$folder" && "$work/by_library" --values "$report" "$@"; echo "status $?") >"$work/got"
 	ok "$folder: the values of $report, of $*" cmp "$work/got" "$work/out"
 }
 
 reports=$(sed -n 's/^report //p' tools/bootmem_tools/words.txt)
+values="map crash memory nodes zones blocks"
 
 # of the names in the archive the exports alone are seen, and they are those of the header
 is "names" "$(nm -g --defined-only libbootmem.a | sed -n 's/.* T //p' | sort | tr '\n' ' ')" \
@@ -51,7 +71,7 @@ if has "${CC:-cc}" "the program's bytes and the example in C"; then
 			ok "$folder: $report" cmp "$work/got" "$work/out"
 			ok "$folder: $report: the line" cmp "$work/why" "$work/err"
 		done
-		for report in map crash blocks; do
+		for report in $values; do
 			# shellcheck disable=SC2086
 			values "$folder" "$report" $words
 		done
@@ -64,15 +84,23 @@ if has "${CC:-cc}" "the program's bytes and the example in C"; then
 		ok "words '$words'" cmp "$work/got" "$work/out"
 		ok "words '$words': the line" cmp "$work/why" "$work/err"
 	done
-	for report in map crash blocks; do
+	for report in $values; do
 		values examples "$report" --none
 		values examples "$report" zp.bin
 		values examples "$report" README.md
 		values examples/first "$report" --srat zp.bin zp.bin
 		values examples/first "$report" --kernel 0x1000000,0x3400000 --la57 zp.bin
 	done
+	ok "layout.c" $cc tests/layout.c -o "$work/layout"
+	for entries in 0 1 128; do
+		ok "a zero page of $entries entries" "$work/layout" "$entries"
+	done
+	status=0
+	"$work/layout" 129 || status=$?
+	is "a zero page of 129 entries" "$status" 2
 	ok "check_table.c" $cc bindings/c/check_table.c libbootmem.a -o "$work/check_table"
 	is "check_table" "$("$work/check_table" examples/first/zp.bin crashkernel=32M 2>&1 | tail -n 1)" "crash area of 33554432 bytes at 0x5000000"
+	is "check_table with no room" "$("$work/check_table" examples/first/zp.bin crashkernel=1G 2>&1 | tail -n 1)" "no crash area: no free range fits it"
 	is "check_table of a bad line" "$("$work/check_table" examples/first/zp.bin mem=x 2>&1)" "bootmem: cmdline: word 1: mem"
 fi
 if has cargo "the tests in Rust"; then

@@ -24,6 +24,21 @@ static void tell(const struct bootmem_bytes *words, const struct bootmem_file *f
 		fwrite(line, 1, err.needed, stderr);
 }
 
+/* Why there is no crash area. */
+static const char *why_none(uint32_t state)
+{
+	switch (state) {
+	case BOOTMEM_CRASH_NO_AREA:
+		return "no free range fits it";
+	case BOOTMEM_CRASH_IN_USE:
+		return "its range is in use";
+	case BOOTMEM_CRASH_LOW_FAILED:
+		return "no free range below 4 GiB fits its low part";
+	default:
+		return "none is requested";
+	}
+}
+
 int main(int argc, char **argv)
 {
 	const struct bootmem_bytes words[] = {bootmem_word("--cmdline"), bootmem_word("cmdline"), bootmem_word("zeropage")};
@@ -54,9 +69,9 @@ int main(int argc, char **argv)
 	}
 	for (size_t i = 0; i < map.count; i++)
 		printf("%" PRIu64 " bytes of type %" PRIu32 " at 0x%" PRIx64 "\n", runs[i].size, runs[i].type, runs[i].base);
-	if (crash.size)
+	if (crash.state == BOOTMEM_CRASH_RESERVED)
 		printf("crash area of %" PRIu64 " bytes at 0x%" PRIx64 "\n", crash.size, crash.base);
 	else
-		printf("no crash area\n");
+		printf("no crash area: %s\n", why_none(crash.state));
 	return 0;
 }

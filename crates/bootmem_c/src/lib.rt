@@ -4,7 +4,8 @@
 //!
 //! - [`run::bootmem_run`] is `run` of `program_run`, over words and files that the caller passes.
 //!   It writes the reports as text.
-//! - [`told::bootmem_map`], [`told::bootmem_crash`] and [`told::bootmem_blocks`] return what the
+//! - [`told::bootmem_map`], [`told::bootmem_crash`], [`told::bootmem_memory`],
+//!   [`told::bootmem_nodes`], [`told::bootmem_zones`] and [`told::bootmem_blocks`] return what the
 //!   boot of these words and files made, as values.
 //! - [`version::bootmem_version`] returns the library's version.
 //!
