@@ -1,11 +1,14 @@
-//! Finds `libbootmem.a`: in the folder that `BOOTMEM_LIB_DIR` names, or by `pkg-config bootmem`.
+//! Finds `libbootmem.a`: in the folder that `BOOTMEM_LIB_DIR` names, by `pkg-config bootmem`, or in
+//! `/usr/local/lib` and `/usr/lib`. Without it the build ends with what to do.
 
-use std::{env, process::Command};
+use std::{env, path::Path, process::Command};
 
-/// The folders that pkg-config tells.
+const ARCHIVE: &str = "libbootmem.a";
+
+/// The folders that pkg-config names.
 fn by_pkg_config() -> Vec<String> {
     let told = Command::new("pkg-config")
-        .args(["--libs-only-L", "bootmem"])
+        .args(["--libs-only-L", "--keep-system-libs", "bootmem"])
         .output();
     let Ok(told) = told else { return Vec::new() };
     let folders = String::from_utf8_lossy(&told.stdout).into_owned();
@@ -16,13 +19,34 @@ fn by_pkg_config() -> Vec<String> {
         .collect()
 }
 
+/// The folder of the archive, or the folders in which it isn't.
+fn folder() -> Result<String, Vec<String>> {
+    let folders = match env::var("BOOTMEM_LIB_DIR") {
+        Ok(folder) => vec![folder],
+        Err(_) => {
+            let mut folders = by_pkg_config();
+            folders.extend(["/usr/local/lib", "/usr/lib"].map(String::from));
+            folders
+        }
+    };
+    let found = folders
+        .iter()
+        .find(|folder| Path::new(folder).join(ARCHIVE).is_file());
+    found.cloned().ok_or(folders)
+}
+
 fn main() {
     println!("cargo:rerun-if-env-changed=BOOTMEM_LIB_DIR");
-    let folders = env::var("BOOTMEM_LIB_DIR")
-        .map(|folder| vec![folder])
-        .unwrap_or_else(|_| by_pkg_config());
-    for folder in folders {
-        println!("cargo:rustc-link-search=native={folder}");
-    }
+    println!("cargo:rerun-if-env-changed=PKG_CONFIG_PATH");
+    let folder = folder().unwrap_or_else(|folders| {
+        eprintln!("bootmem: there is no {ARCHIVE} in {}", folders.join(", "));
+        eprintln!("bootmem: one of these helps:");
+        eprintln!("  - set BOOTMEM_LIB_DIR to the folder that has it ('make lib' builds it at the top of bootmem's sources)");
+        eprintln!("  - install the package bootmem-dev ('make deb' makes it), or run 'make install' after 'make lib'");
+        eprintln!("  - without the library, run the program 'bootmem-json' as a process, which prints the reports as JSON");
+        std::process::exit(1);
+    });
+    println!("cargo:rerun-if-changed={folder}/{ARCHIVE}");
+    println!("cargo:rustc-link-search=native={folder}");
     println!("cargo:rustc-link-lib=static=bootmem");
 }

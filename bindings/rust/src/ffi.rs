@@ -1,4 +1,4 @@
-//! `include/bootmem.h`, as it stands there.
+//! What `include/bootmem.h` declares.
 
 #[repr(C)]
 pub struct Bytes {
@@ -20,7 +20,7 @@ pub struct Text {
 }
 
 #[repr(C)]
-#[derive(Clone, Copy)]
+#[derive(Clone, Copy, Default)]
 pub struct MapRun {
     pub base: u64,
     pub size: u64,
@@ -28,16 +28,44 @@ pub struct MapRun {
 }
 
 #[repr(C)]
-#[derive(Clone, Copy)]
+#[derive(Clone, Copy, Default)]
 pub struct CrashArea {
     pub base: u64,
     pub size: u64,
     pub low_base: u64,
     pub low_size: u64,
+    pub state: u32,
 }
 
 #[repr(C)]
-#[derive(Clone, Copy)]
+#[derive(Clone, Copy, Default)]
+pub struct MemoryRange {
+    pub base: u64,
+    pub size: u64,
+    pub flags: u32,
+    pub node: u32,
+}
+
+#[repr(C)]
+#[derive(Clone, Copy, Default)]
+pub struct MemoryNode {
+    pub node: u32,
+    pub domain: u32,
+    pub has_domain: u32,
+}
+
+#[repr(C)]
+#[derive(Clone, Copy, Default)]
+pub struct ZoneSpan {
+    pub start: u64,
+    pub end: u64,
+    pub present: u64,
+    pub node: u32,
+    pub zone: u32,
+}
+
+#[repr(C)]
+#[derive(Clone, Copy, Default)]
 pub struct FreeBlock {
     pub first: u64,
     pub order: u32,
@@ -45,7 +73,7 @@ pub struct FreeBlock {
     pub zone: u32,
 }
 
-/// `struct bootmem_map_runs`, and `struct bootmem_free_blocks`.
+/// A buffer for values, such as `struct bootmem_map_runs`: all of them have this layout.
 #[repr(C)]
 pub struct Values<T> {
     pub at: *mut T,
@@ -76,6 +104,27 @@ extern "C" {
         files_len: usize,
         out: *mut CrashArea,
     ) -> u8;
+    pub fn bootmem_memory(
+        words: *const Bytes,
+        words_len: usize,
+        files: *const File,
+        files_len: usize,
+        out: *mut Values<MemoryRange>,
+    ) -> u8;
+    pub fn bootmem_nodes(
+        words: *const Bytes,
+        words_len: usize,
+        files: *const File,
+        files_len: usize,
+        out: *mut Values<MemoryNode>,
+    ) -> u8;
+    pub fn bootmem_zones(
+        words: *const Bytes,
+        words_len: usize,
+        files: *const File,
+        files_len: usize,
+        out: *mut Values<ZoneSpan>,
+    ) -> u8;
     pub fn bootmem_blocks(
         words: *const Bytes,
         words_len: usize,
@@ -102,5 +151,60 @@ impl Text {
             room: room.len(),
             needed: 0,
         }
+    }
+}
+
+/// The layout of each struct, by the numbers of `tests/layout.c`.
+#[cfg(test)]
+mod tests {
+    use super::*;
+    use std::mem::{size_of, MaybeUninit};
+    use std::ptr::addr_of;
+
+    /// The size of a type and the offsets of its fields.
+    macro_rules! layout {
+        ($type:ty, $($field:ident),+) => {{
+            let value = MaybeUninit::<$type>::uninit();
+            let at = value.as_ptr();
+            // Takes the field's address and reads nothing.
+            let offsets = vec![$(unsafe { addr_of!((*at).$field) } as usize - at as usize),+];
+            (size_of::<$type>(), offsets)
+        }};
+    }
+
+    #[test]
+    fn words_files_and_texts_have_the_layout_of_c() {
+        assert_eq!(layout!(Bytes, at, len), (16, vec![0, 8]));
+        assert_eq!(layout!(File, name, bytes), (32, vec![0, 16]));
+        assert_eq!(layout!(Text, at, room, needed), (24, vec![0, 8, 16]));
+        assert_eq!(
+            layout!(Values<FreeBlock>, at, room, count),
+            (24, vec![0, 8, 16])
+        );
+    }
+
+    #[test]
+    fn values_have_the_layout_of_c() {
+        assert_eq!(layout!(MapRun, base, size, kind), (24, vec![0, 8, 16]));
+        assert_eq!(
+            layout!(CrashArea, base, size, low_base, low_size, state),
+            (40, vec![0, 8, 16, 24, 32])
+        );
+        assert_eq!(
+            layout!(MemoryRange, base, size, flags, node),
+            (24, vec![0, 8, 16, 20])
+        );
+        assert_eq!(
+            layout!(MemoryNode, node, domain, has_domain),
+            (12, vec![0, 4, 8])
+        );
+        assert_eq!(
+            layout!(ZoneSpan, start, end, present, node, zone),
+            (32, vec![0, 8, 16, 24, 28])
+        );
+        assert_eq!(
+            layout!(FreeBlock, first, order, node, zone),
+            (24, vec![0, 8, 12, 16])
+        );
     }
 }

@@ -1,21 +1,27 @@
 //! What x86-64 Linux 6.1 makes of a machine's memory at boot, from `libbootmem`.
 //!
-//! [`run`] is the program `bootmem` as one call over words and files in memory; [`map`], [`crash`] and [`blocks`] are what its boot makes, as
-//! values. [`Boot`] names what a boot is given: for a test that the E820 table which a VMM builds boots as its author thinks.
+//! [`run`] is the program `bootmem` as one call over words and files in memory. [`map`], [`crash`], [`memory`], [`nodes`], [`zones`] and
+//! [`blocks`] are what its boot makes, as values. [`Boot`] has a method for each input, for tests of the E820 table that a VMM builds.
+//!
+//! Any number of threads may call the library at once: it has no state.
 //!
 //! ```no_run
 //! use bootmem::{zero_page, Boot, E820_RAM, E820_RESERVED};
 //!
-//! let page = zero_page(&[(0, 0x9_fc00, E820_RAM), (0x10_0000, 0x7ff0_0000, E820_RAM), (0xfeff_c000, 0x4000, E820_RESERVED)]);
+//! let page = zero_page(&[(0, 0x9_fc00, E820_RAM), (0x10_0000, 0x7ff0_0000, E820_RAM), (0xfeff_c000, 0x4000, E820_RESERVED)])?;
 //! let boot = Boot::new(&page).cmdline("crashkernel=256M");
 //! assert_eq!(boot.map().unwrap()[1].kind, E820_RAM);
 //! assert_eq!(boot.crash().unwrap().high.unwrap().size(), 256 << 20);
+//! # Ok::<(), bootmem::TooManyEntries>(())
 //! ```
 
 mod ffi;
 mod values;
 
-pub use values::{zero_page, Block, Crash, Range, Run, Zone, E820_RAM, E820_RESERVED};
+pub use values::{
+    extension, zero_page, Block, Crash, CrashState, Entry, MemoryRange, Node, Range, Run,
+    TooManyEntries, Zone, ZoneSpan, E820_RAM, E820_RESERVED, EXTENSION_ENTRIES, ZERO_PAGE_ENTRIES,
+};
 
 use std::fmt;
 
@@ -94,9 +100,8 @@ impl Asked<'_> {
     }
 
     /// All values of a call that hands over some, where its status is 0.
-    fn values<T: Copy>(
+    fn values<T: Copy + Default>(
         &self,
-        none: T,
         call: unsafe extern "C" fn(
             *const ffi::Bytes,
             usize,
@@ -105,7 +110,7 @@ impl Asked<'_> {
             *mut ffi::Values<T>,
         ) -> u8,
     ) -> Result<Vec<T>, Refusal> {
-        let mut values = vec![none; 1 << 10];
+        let mut values = vec![T::default(); 1 << 10];
         loop {
             let mut out = ffi::Values {
                 at: values.as_mut_ptr(),
@@ -129,7 +134,7 @@ impl Asked<'_> {
                 values.truncate(out.count);
                 return Ok(values);
             }
-            values.resize(out.count, none);
+            values.resize(out.count, T::default());
         }
     }
 
@@ -179,24 +184,14 @@ pub fn run(words: &[&[u8]], files: &[(&[u8], &[u8])]) -> Result<Vec<u8>, Refusal
 
 /// The map that the kernel works with, ascending.
 pub fn map(words: &[&[u8]], files: &[(&[u8], &[u8])]) -> Result<Vec<Run>, Refusal> {
-    let none = ffi::MapRun {
-        base: 0,
-        size: 0,
-        kind: 0,
-    };
-    let runs = Asked { words, files }.values(none, ffi::bootmem_map)?;
+    let runs = Asked { words, files }.values(ffi::bootmem_map)?;
     Ok(runs.iter().filter_map(values::run).collect())
 }
 
-/// What came of the crash area.
+/// The crash area, or why there is none.
 pub fn crash(words: &[&[u8]], files: &[(&[u8], &[u8])]) -> Result<Crash, Refusal> {
     let asked = Asked { words, files };
-    let mut area = ffi::CrashArea {
-        base: 0,
-        size: 0,
-        low_base: 0,
-        low_size: 0,
-    };
+    let mut area = ffi::CrashArea::default();
     // As in `Asked::texts`.
     let status = asked.lent(|words, files| unsafe {
         ffi::bootmem_crash(
@@ -213,15 +208,27 @@ pub fn crash(words: &[&[u8]], files: &[(&[u8], &[u8])]) -> Result<Crash, Refusal
     Ok(values::crash(&area))
 }
 
+/// The records of memory, ascending.
+pub fn memory(words: &[&[u8]], files: &[(&[u8], &[u8])]) -> Result<Vec<MemoryRange>, Refusal> {
+    let ranges = Asked { words, files }.values(ffi::bootmem_memory)?;
+    Ok(ranges.iter().filter_map(values::memory).collect())
+}
+
+/// The nodes that have memory, ascending.
+pub fn nodes(words: &[&[u8]], files: &[(&[u8], &[u8])]) -> Result<Vec<Node>, Refusal> {
+    let nodes = Asked { words, files }.values(ffi::bootmem_nodes)?;
+    Ok(nodes.iter().filter_map(values::node).collect())
+}
+
+/// The zones that have memory, by node and then by zone.
+pub fn zones(words: &[&[u8]], files: &[(&[u8], &[u8])]) -> Result<Vec<ZoneSpan>, Refusal> {
+    let spans = Asked { words, files }.values(ffi::bootmem_zones)?;
+    Ok(spans.iter().filter_map(values::span).collect())
+}
+
 /// The free blocks at the handover, ascending.
 pub fn blocks(words: &[&[u8]], files: &[(&[u8], &[u8])]) -> Result<Vec<Block>, Refusal> {
-    let none = ffi::FreeBlock {
-        first: 0,
-        order: 0,
-        node: 0,
-        zone: 0,
-    };
-    let blocks = Asked { words, files }.values(none, ffi::bootmem_blocks)?;
+    let blocks = Asked { words, files }.values(ffi::bootmem_blocks)?;
     Ok(blocks.iter().filter_map(values::block).collect())
 }
 
@@ -252,6 +259,26 @@ impl<'a> Boot<'a> {
         self.file("--cmdline", "cmdline", line.as_bytes())
     }
 
+    /// The extension: the entries for which the zero page has no room ([`extension`] makes one).
+    pub fn e820ext(self, table: &[u8]) -> Boot<'a> {
+        self.file("--e820ext", "e820ext", table)
+    }
+
+    /// The firmware's own map of memory (`docs/FORMATS.md`).
+    pub fn efi(self, table: &[u8]) -> Boot<'a> {
+        self.file("--efi", "efi", table)
+    }
+
+    /// The early script: allocations before the handover.
+    pub fn script(self, lines: &str) -> Boot<'a> {
+        self.file("--script", "script", lines.as_bytes())
+    }
+
+    /// The page script: requests to the page allocator.
+    pub fn pages(self, lines: &str) -> Boot<'a> {
+        self.file("--pages", "pages", lines.as_bytes())
+    }
+
     /// The firmware's table of domains.
     pub fn srat(self, table: &[u8]) -> Boot<'a> {
         self.file("--srat", "srat", table)
@@ -266,6 +293,28 @@ impl<'a> Boot<'a> {
     pub fn kernel(mut self, base: u64, size: u64) -> Boot<'a> {
         self.words
             .extend(["--kernel".to_string(), format!("{base:#x},{size:#x}")]);
+        self
+    }
+
+    /// Ranges of mirrored memory, in bytes: the base and size of each.
+    pub fn mirror(mut self, ranges: &[(u64, u64)]) -> Boot<'a> {
+        let list: Vec<String> = ranges
+            .iter()
+            .map(|(base, size)| format!("{base:#x},{size:#x}"))
+            .collect();
+        self.words.extend(["--mirror".to_string(), list.join(":")]);
+        self
+    }
+
+    /// Physical addresses of 52 bits instead of 46.
+    pub fn la57(mut self) -> Boot<'a> {
+        self.words.push("--la57".to_string());
+        self
+    }
+
+    /// Searches for free memory go up from the lowest address.
+    pub fn bottom_up(mut self) -> Boot<'a> {
+        self.words.push("--bottom-up".to_string());
         self
     }
 
@@ -293,9 +342,24 @@ impl<'a> Boot<'a> {
         self.ask(&[], map)
     }
 
-    /// What came of the crash area.
+    /// The crash area, or why there is none.
     pub fn crash(&self) -> Result<Crash, Refusal> {
         self.ask(&[], crash)
+    }
+
+    /// The records of memory, ascending.
+    pub fn memory(&self) -> Result<Vec<MemoryRange>, Refusal> {
+        self.ask(&[], memory)
+    }
+
+    /// The nodes that have memory, ascending.
+    pub fn nodes(&self) -> Result<Vec<Node>, Refusal> {
+        self.ask(&[], nodes)
+    }
+
+    /// The zones that have memory, by node and then by zone.
+    pub fn zones(&self) -> Result<Vec<ZoneSpan>, Refusal> {
+        self.ask(&[], zones)
     }
 
     /// The free blocks at the handover, ascending.

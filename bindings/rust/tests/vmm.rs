@@ -1,7 +1,9 @@
 //! What a VMM's author asks of the table that their builder makes. `e820_table` builds it as `linux-loader`'s users do: RAM up to the EBDA, RAM
 //! from 1 MiB on up to the hole below 4 GiB, and what is left above 4 GiB.
 
-use bootmem::{run, zero_page, Boot, Range, Reason, Zone, E820_RAM, E820_RESERVED};
+use bootmem::{
+    extension, run, zero_page, Boot, CrashState, Range, Reason, Zone, E820_RAM, E820_RESERVED,
+};
 
 const EBDA_START: u64 = 0x9_fc00;
 const HIMEM_START: u64 = 0x10_0000;
@@ -32,7 +34,7 @@ fn usable(boot: &Boot) -> Vec<Range> {
 
 #[test]
 fn all_memory_is_usable() {
-    let boot = Boot::new(&zero_page(&e820_table(6 << 30)));
+    let boot = Boot::new(&zero_page(&e820_table(6 << 30)).unwrap());
     let ranges = usable(&boot);
     assert_eq!(
         ranges[1],
@@ -52,29 +54,115 @@ fn all_memory_is_usable() {
 
 #[test]
 fn a_crash_area_fits() {
-    let boot = Boot::new(&zero_page(&e820_table(4 << 30)))
+    let boot = Boot::new(&zero_page(&e820_table(4 << 30)).unwrap())
         .cmdline("quiet crashkernel=256M")
         .kernel(0x100_0000, 0x340_0000);
     let crash = boot.crash().unwrap();
     assert_eq!(crash.high.unwrap().size(), 256 << 20);
-    let small = Boot::new(&zero_page(&e820_table(128 << 20))).cmdline("crashkernel=256M");
-    assert_eq!(small.crash().unwrap().high, None);
+    assert_eq!(crash.state, CrashState::Reserved);
+    let small = Boot::new(&zero_page(&e820_table(128 << 20)).unwrap()).cmdline("crashkernel=256M");
+    let none = small.crash().unwrap();
+    assert_eq!((none.high, none.state), (None, CrashState::NoArea));
+}
+
+#[test]
+fn why_there_is_no_crash_area() {
+    let page = zero_page(&e820_table(1 << 30)).unwrap();
+    for (line, state) in [
+        ("quiet", CrashState::NotRequested),
+        ("crashkernel=64M", CrashState::Reserved),
+        ("crashkernel=2G", CrashState::NoArea),
+        ("crashkernel=64M@16M", CrashState::InUse),
+    ] {
+        let boot = Boot::new(&page)
+            .cmdline(line)
+            .kernel(0x100_0000, 0x340_0000);
+        let crash = boot.crash().unwrap();
+        assert_eq!(crash.state, state, "{line}");
+        assert_eq!(crash.high.is_some(), state == CrashState::Reserved);
+    }
+}
+
+#[test]
+fn memory_zones_and_nodes_agree() {
+    let boot = Boot::new(&zero_page(&e820_table(6 << 30)).unwrap())
+        .mirror(&[(HIMEM_START, 1 << 30), (MMIO_GAP_END, 1 << 30)]);
+    let memory = boot.memory().unwrap();
+    let frames: u64 = memory.iter().map(|one| one.range.size() / 4096).sum();
+    let zones = boot.zones().unwrap();
+    assert_eq!(frames, zones.iter().map(|span| span.present).sum::<u64>());
+    assert_eq!(
+        zones.iter().map(|span| span.zone).collect::<Vec<_>>(),
+        [Zone::Dma, Zone::Dma32, Zone::Normal]
+    );
+    let mirrored: u64 = memory
+        .iter()
+        .filter(|one| one.is_mirrored)
+        .map(|one| one.range.size())
+        .sum();
+    assert_eq!(mirrored, 2 << 30);
+    let nodes = boot.nodes().unwrap();
+    assert_eq!((nodes.len(), nodes[0].node, nodes[0].domain), (1, 0, None));
+}
+
+#[test]
+fn each_input_is_read() {
+    let page = zero_page(&e820_table(1 << 30)).unwrap();
+    let more = extension(&[(1 << 32, 1 << 20, E820_RAM)]).unwrap();
+    let boot = Boot::new(&page).e820ext(&more);
+    assert_eq!(usable(&boot).last().unwrap().first, 1 << 32);
+    // A file that is read and has a fault is named by its input.
+    let faulty = [
+        ("e820ext", Boot::new(&page).e820ext(b"x")),
+        ("srat", Boot::new(&page).srat(b"x")),
+        ("slit", Boot::new(&page).slit(b"x")),
+        ("efi", Boot::new(&page).efi(b"x")),
+        ("script", Boot::new(&page).script("x\n")),
+        ("pages", Boot::new(&page).pages("x\n")),
+    ];
+    for (input, boot) in faulty {
+        let refusal = boot.map().unwrap_err();
+        assert_eq!(refusal.reason, Reason::Faulty);
+        assert!(
+            refusal.line.starts_with(&format!("bootmem: {input}: ")),
+            "{refusal}"
+        );
+    }
+    let down = Boot::new(&page).cmdline("crashkernel=64M");
+    let up = down.clone().bottom_up();
+    assert!(up.crash().unwrap().high.unwrap().first < down.crash().unwrap().high.unwrap().first);
+    let far = zero_page(&[(0, 1 << 30, E820_RAM), (1 << 47, 1 << 30, E820_RAM)]).unwrap();
+    assert!(usable(&Boot::new(&far).la57()).len() >= usable(&Boot::new(&far)).len());
+}
+
+#[test]
+fn too_many_entries_are_an_error() {
+    let entries = vec![(0, 4096, E820_RAM); 129];
+    let error = zero_page(&entries).unwrap_err();
+    assert_eq!((error.count, error.limit), (129, 128));
+    assert!(error.to_string().contains("extension"));
+    assert!(extension(&entries).is_ok());
+    assert!(extension(&vec![(0, 4096, E820_RAM); 3073]).is_err());
 }
 
 #[test]
 fn the_table_in_the_wrong_order_is_the_same_table() {
     let mut table = e820_table(2 << 30);
-    let sorted = Boot::new(&zero_page(&table)).report("map,summary").unwrap();
+    let sorted = Boot::new(&zero_page(&table).unwrap())
+        .report("map,summary")
+        .unwrap();
     table.reverse();
     assert_eq!(
-        Boot::new(&zero_page(&table)).report("map,summary").unwrap(),
+        Boot::new(&zero_page(&table).unwrap())
+            .report("map,summary")
+            .unwrap(),
         sorted
     );
 }
 
 #[test]
 fn free_blocks_lie_in_usable_memory() {
-    let boot = Boot::new(&zero_page(&e820_table(1 << 30)));
+    let boot = Boot::new(&zero_page(&e820_table(1 << 30)).unwrap());
     let ranges = usable(&boot);
     let blocks = boot.blocks().unwrap();
     assert!(!blocks.is_empty());
@@ -92,7 +180,7 @@ fn free_blocks_lie_in_usable_memory() {
 
 #[test]
 fn values_are_those_of_the_reports() {
-    let boot = Boot::new(&zero_page(&e820_table(6 << 30)))
+    let boot = Boot::new(&zero_page(&e820_table(6 << 30)).unwrap())
         .cmdline("crashkernel=256M,high")
         .kernel(0x100_0000, 0x340_0000);
     let text = boot.report("map,crash,blocks").unwrap();
@@ -127,12 +215,8 @@ fn values_are_those_of_the_reports() {
 
 #[test]
 fn what_is_wrong_is_told() {
-    let none = Boot::new(&zero_page(&[
-        (0, 4096, E820_RESERVED),
-        (HIMEM_START, 4096, E820_RESERVED),
-    ]))
-    .map()
-    .unwrap_err();
+    let reserved = [(0, 4096, E820_RESERVED), (HIMEM_START, 4096, E820_RESERVED)];
+    let none = Boot::new(&zero_page(&reserved).unwrap()).map().unwrap_err();
     assert_eq!(
         (none.reason, none.line.as_str()),
         (Reason::Stopped, "bootmem: stopped: no usable frame")
@@ -142,7 +226,7 @@ fn what_is_wrong_is_told() {
         (short.reason, short.line.as_str()),
         (Reason::Faulty, "bootmem: zeropage: wrong length")
     );
-    let line = Boot::new(&zero_page(&e820_table(1 << 30)))
+    let line = Boot::new(&zero_page(&e820_table(1 << 30)).unwrap())
         .cmdline("quiet memmap=1G!4X")
         .map()
         .unwrap_err();
@@ -156,7 +240,7 @@ fn what_is_wrong_is_told() {
 
 #[test]
 fn calls_on_several_threads() {
-    let page = zero_page(&e820_table(3 << 30));
+    let page = zero_page(&e820_table(3 << 30)).unwrap();
     let alone = Boot::new(&page).report("summary").unwrap();
     std::thread::scope(|scope| {
         for _ in 0..8 {
