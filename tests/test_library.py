@@ -1,11 +1,14 @@
 """The library from Python: the calls of a VMM's author, and each status. Skipped if there is no libbootmem.so."""
 
+import os
+import subprocess
+import sys
 import threading
 import unittest
 
 import support
 from bootmem_tools import library
-from bootmem_tools.inputs import RAM, RESERVED, zero_page
+from bootmem_tools.inputs import RAM, RESERVED, srat, zero_page
 
 PAGE = zero_page([(0, 0x9FC00, RAM), (0x100000, 0x3FF00000, RAM)])
 NO_RAM = zero_page([(0, 4096, RESERVED), (0x100000, 4096, RESERVED)])
@@ -32,21 +35,47 @@ class Calls(unittest.TestCase):
             [(0x1000, 0x9EC00, RAM), (0x100000, 0x3FF00000, RAM)],
         )
         files = {"zp.bin": PAGE, "line": b"crashkernel=64M"}
-        self.assertEqual(library.crash_area(["zp.bin"], files), (0, 0, 0, 0))
+        self.assertEqual(library.crash_area(["zp.bin"], files), (0, 0, 0, 0, library.NOT_REQUESTED))
         self.assertEqual(library.crash_area(["--cmdline", "line", "zp.bin"], files).size, 64 << 20)
         for block in library.free_blocks(["zp.bin"], {"zp.bin": PAGE}):
             base, size = 4096 * block.first, 4096 << block.order
             self.assertTrue(any(run.base <= base and base + size <= run.base + run.size for run in runs if run.type == RAM))
             self.assertEqual(block.zone == library.DMA, base < 16 << 20)
 
+    def test_why_there_is_no_crash_area(self):
+        kernel = ["--kernel", "0x1000000,0x3400000"]
+        for line, state in [
+            (b"quiet", library.NOT_REQUESTED),
+            (b"crashkernel=64M", library.CRASH_RESERVED),
+            (b"crashkernel=2G", library.NO_AREA),
+            (b"crashkernel=64M@16M", library.IN_USE),
+        ]:
+            with self.subTest(line=line):
+                area = library.crash_area([*kernel, "--cmdline", "line", "zp.bin"], {"zp.bin": PAGE, "line": line})
+                self.assertEqual((area.state, area.size > 0), (state, state == library.CRASH_RESERVED))
+
+    def test_memory_nodes_and_zones(self):
+        files = {"zp.bin": PAGE, "srat": srat([(0, 512 << 20, 7), (512 << 20, 512 << 20, 9)], [7, 9])}
+        words = ["--srat", "srat", "zp.bin"]
+        self.assertEqual(library.nodes(words, files), [(0, 7), (1, 9)])
+        self.assertEqual(library.nodes(["zp.bin"], files), [(0, None)])
+        memory = library.memory_ranges(words, files)
+        self.assertEqual([one.node for one in memory], [0, 0, 1])
+        spans = library.zone_spans(words, files)
+        self.assertEqual([(one.node, one.zone) for one in spans], [(0, library.DMA), (0, library.DMA32), (1, library.DMA32)])
+        for node in 0, 1:
+            held = sum(one.size // 4096 for one in memory if one.node == node)
+            self.assertEqual(sum(one.present for one in spans if one.node == node), held)
+
     def test_values_with_little_room(self):
         page = example("q35-1g", "zp.bin")
-        for values in library.map_runs, library.free_blocks:
+        for values in library.map_runs, library.memory_ranges, library.nodes, library.zone_spans, library.free_blocks:
             with self.subTest(values=values):
                 self.assertEqual(values(["zp.bin"], {"zp.bin": page}, room=0), values(["zp.bin"], {"zp.bin": page}))
 
     def test_values_of_a_refusal(self):
-        for values in library.map_runs, library.crash_area, library.free_blocks:
+        for values in (library.map_runs, library.crash_area, library.memory_ranges, library.nodes, library.zone_spans,
+                       library.free_blocks):
             with self.subTest(values=values), self.assertRaises(library.Refused) as refused:
                 values(["zp.bin"], {"zp.bin": NO_RAM})
             self.assertEqual((refused.exception.reason, str(refused.exception)), ("stopped", "bootmem: stopped: no usable frame"))
@@ -94,6 +123,18 @@ class Calls(unittest.TestCase):
 
     def test_the_version(self):
         self.assertEqual(library.version(), (0, 1, 0))
+
+
+class Missing(unittest.TestCase):
+    """What a call says if there is no library."""
+
+    def test_what_to_do(self):
+        code = "from bootmem_tools import library; library.version()"
+        variables = {**os.environ, "BOOTMEM_LIB": "/nowhere/libbootmem.so", "PYTHONPATH": os.path.join(support.TOP, "tools")}
+        done = subprocess.run([sys.executable, "-c", code], env=variables, capture_output=True, text=True, check=False)
+        self.assertEqual(done.returncode, 1)
+        for what in "/nowhere/libbootmem.so", "BOOTMEM_LIB", "bootmem-dev", "bootmem-json":
+            self.assertIn(what, done.stderr)
 
 
 if __name__ == "__main__":

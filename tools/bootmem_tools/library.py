@@ -10,7 +10,7 @@ process.
     '0x0000000000100000..0x000000007fffffff 1 usable'
 
 The shared object is libbootmem.so of the system's folders, or the one that the environment's
-BOOTMEM_LIB names.
+BOOTMEM_LIB names. Any number of threads may call the library at once: it has no state.
 """
 
 from __future__ import annotations
@@ -19,8 +19,12 @@ import ctypes
 import os
 from typing import Any, Mapping, NamedTuple, Sequence, Union
 
-# The zones of a block: below 16 MiB, from there to 4 GiB, and above.
+# Zones: below 16 MiB, from there to 4 GiB, and above.
 DMA, DMA32, NORMAL = 0, 1, 2
+
+# Whether there is a crash area, and else why not: the command line requests none, no free range
+# fits it, its range is in use, or no range below 4 GiB fits its low part.
+NOT_REQUESTED, CRASH_RESERVED, NO_AREA, IN_USE, LOW_FAILED = range(5)
 
 # Words and names of files are texts or bytes.
 Text = Union[str, bytes]
@@ -39,12 +43,41 @@ class MapRun(NamedTuple):
 
 
 class CrashArea(NamedTuple):
-    """The crash area and its part below 4 GiB: base and size in bytes, 0 if there is none."""
+    """The crash area and its part below 4 GiB: base and size in bytes, 0 if there is none. `state`
+    is CRASH_RESERVED, or says why there is none."""
 
     base: int
     size: int
     low_base: int
     low_size: int
+    state: int
+
+
+class MemoryRange(NamedTuple):
+    """A record of memblock's table of memory: base and size in bytes, flags (2: mirrored), node."""
+
+    base: int
+    size: int
+    flags: int
+    node: int
+
+
+class Node(NamedTuple):
+    """A node that has memory, and its proximity domain, or None if the SRAT isn't used."""
+
+    node: int
+    domain: int | None
+
+
+class ZoneSpan(NamedTuple):
+    """The frames that a node spans in a zone: the first, one more than the last, and how many of
+    them are of this node and zone."""
+
+    start: int
+    end: int
+    present: int
+    node: int
+    zone: int
 
 
 class FreeBlock(NamedTuple):
@@ -101,7 +134,50 @@ class _MapRuns(ctypes.Structure):
 class _CrashArea(ctypes.Structure):
     """struct bootmem_crash_area."""
 
-    _fields_ = [(name, ctypes.c_uint64) for name in CrashArea._fields]
+    _fields_ = [(name, ctypes.c_uint64) for name in CrashArea._fields[:4]] + [
+        ("state", ctypes.c_uint32)]
+
+
+class _MemoryRange(ctypes.Structure):
+    """struct bootmem_memory_range."""
+
+    _fields_ = [("base", ctypes.c_uint64), ("size", ctypes.c_uint64), ("flags", ctypes.c_uint32),
+                ("node", ctypes.c_uint32)]
+
+
+class _MemoryRanges(ctypes.Structure):
+    """struct bootmem_memory_ranges."""
+
+    _fields_ = [("at", ctypes.POINTER(_MemoryRange)), ("room", ctypes.c_size_t),
+                ("count", ctypes.c_size_t)]
+
+
+class _MemoryNode(ctypes.Structure):
+    """struct bootmem_memory_node."""
+
+    _fields_ = [("node", ctypes.c_uint32), ("domain", ctypes.c_uint32),
+                ("has_domain", ctypes.c_uint32)]
+
+
+class _MemoryNodes(ctypes.Structure):
+    """struct bootmem_memory_nodes."""
+
+    _fields_ = [("at", ctypes.POINTER(_MemoryNode)), ("room", ctypes.c_size_t),
+                ("count", ctypes.c_size_t)]
+
+
+class _ZoneSpan(ctypes.Structure):
+    """struct bootmem_zone_span."""
+
+    _fields_ = [("start", ctypes.c_uint64), ("end", ctypes.c_uint64), ("present", ctypes.c_uint64),
+                ("node", ctypes.c_uint32), ("zone", ctypes.c_uint32)]
+
+
+class _ZoneSpans(ctypes.Structure):
+    """struct bootmem_zone_spans."""
+
+    _fields_ = [("at", ctypes.POINTER(_ZoneSpan)), ("room", ctypes.c_size_t),
+                ("count", ctypes.c_size_t)]
 
 
 class _FreeBlock(ctypes.Structure):
@@ -120,14 +196,33 @@ class _FreeBlocks(ctypes.Structure):
 
 _EXPORTS: dict[str, list[type[ctypes.Structure]]] = {
     "bootmem_run": [_Text, _Text], "bootmem_map": [_MapRuns], "bootmem_crash": [_CrashArea],
-    "bootmem_blocks": [_FreeBlocks]}
+    "bootmem_memory": [_MemoryRanges], "bootmem_nodes": [_MemoryNodes],
+    "bootmem_zones": [_ZoneSpans], "bootmem_blocks": [_FreeBlocks]}
+_MISSING = """{0}. One of these helps:
+  - set BOOTMEM_LIB to the path of libbootmem.so ('make lib' builds it at the top of bootmem's \
+sources)
+  - install the package bootmem-dev ('make deb' makes it), or run 'make install' after 'make lib'
+  - without the library, run the program as a process: bootmem_tools.runner, or 'bootmem-json', \
+which prints the reports as JSON"""
 _libraries: list[ctypes.CDLL] = []
+
+
+def _opened() -> ctypes.CDLL:
+    """Opens the shared object.
+
+    # Errors
+    An OSError that says what to do if there is none.
+    """
+    try:
+        return ctypes.CDLL(os.environ.get("BOOTMEM_LIB", "libbootmem.so"))
+    except OSError as error:
+        raise OSError(_MISSING.format(error)) from None
 
 
 def _loaded() -> ctypes.CDLL:
     """Returns the library, which the first call loads."""
     if not _libraries:
-        library = ctypes.CDLL(os.environ.get("BOOTMEM_LIB", "libbootmem.so"))
+        library = _opened()
         lent = [ctypes.POINTER(_Bytes), ctypes.c_size_t, ctypes.POINTER(_File), ctypes.c_size_t]
         for export, outs in _EXPORTS.items():
             getattr(library, export).restype = ctypes.c_uint8
@@ -229,14 +324,44 @@ def map_runs(words: Words, files: Files, room: int = 1 << 10) -> list[MapRun]:
 
 
 def crash_area(words: Words, files: Files) -> CrashArea:
-    """Returns the crash area.
+    """Returns the crash area, or why there is none.
 
     # Errors
     A Refused, as `run`.
     """
     out = _CrashArea()
     _accept(_loaded().bootmem_crash(*_lent_all(words, files), ctypes.byref(out)), words, files)
-    return CrashArea(out.base, out.size, out.low_base, out.low_size)
+    return CrashArea(out.base, out.size, out.low_base, out.low_size, out.state)
+
+
+def memory_ranges(words: Words, files: Files, room: int = 1 << 10) -> list[MemoryRange]:
+    """Returns the records of memory, ascending.
+
+    # Errors
+    A Refused, as `run`.
+    """
+    ranges = _values("bootmem_memory", _MemoryRanges, _MemoryRange, words, files, room)
+    return [MemoryRange(one.base, one.size, one.flags, one.node) for one in ranges]
+
+
+def nodes(words: Words, files: Files, room: int = 1 << 10) -> list[Node]:
+    """Returns the nodes that have memory, ascending.
+
+    # Errors
+    A Refused, as `run`.
+    """
+    found = _values("bootmem_nodes", _MemoryNodes, _MemoryNode, words, files, room)
+    return [Node(one.node, one.domain if one.has_domain else None) for one in found]
+
+
+def zone_spans(words: Words, files: Files, room: int = 1 << 10) -> list[ZoneSpan]:
+    """Returns the zones that have memory, by node and then by zone.
+
+    # Errors
+    A Refused, as `run`.
+    """
+    spans = _values("bootmem_zones", _ZoneSpans, _ZoneSpan, words, files, room)
+    return [ZoneSpan(one.start, one.end, one.present, one.node, one.zone) for one in spans]
 
 
 def free_blocks(words: Words, files: Files, room: int = 1 << 10) -> list[FreeBlock]:
