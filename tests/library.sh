@@ -18,6 +18,11 @@ has() {
 	return 1
 }
 
+# shown LANGUAGE: the block of docs/TOOLS.md in this language
+shown() {
+	sed -n "/^\`\`\`$1\$/,/^\`\`\`\$/p" docs/TOOLS.md | sed '1d;$d'
+}
+
 # expected NAME WORD..: what by_library.c prints of these values, from the program's text, and the status. A zone has no free frames. A node
 # is one that has zones, with its domain if it has one.
 expected() {
@@ -103,10 +108,30 @@ if has "${CC:-cc}" "the program's bytes and the example in C"; then
 	is "check_table with no room" "$("$work/check_table" examples/first/zp.bin crashkernel=1G 2>&1 | tail -n 1)" "no crash area: no free range fits it"
 	is "check_table of a bad line" "$("$work/check_table" examples/first/zp.bin mem=x 2>&1)" "bootmem: cmdline: word 1: mem"
 fi
+# the tests that docs/TOOLS.md shows
+if has "${CC:-cc}" "the test in C of TOOLS.md"; then
+	shown c >"$work/shown.c"
+	ok "the test in C of TOOLS.md" $cc "$work/shown.c" libbootmem.a -o "$work/shown"
+	ok "the test in C of TOOLS.md passes" "$work/shown"
+fi
 if has cargo "the tests in Rust"; then
+	mkdir -p "$work/vmm/src" "$work/vmm/tests"
+	shown toml | sed "s,/usr/local/share/bootmem,$top," >"$work/vmm/Cargo.toml"
+	: >"$work/vmm/src/lib.rs"
+	shown rust >"$work/vmm/tests/shown.rs"
+	ok "the test in Rust of TOOLS.md" env BOOTMEM_LIB_DIR="$top" CARGO_TARGET_DIR="$work/target" cargo test --offline --quiet --manifest-path "$work/vmm/Cargo.toml"
+	BOOTMEM_LIB_DIR=$work/vmm CARGO_TARGET_DIR=$work/target cargo check --offline --quiet --manifest-path bindings/rust/Cargo.toml 2>"$work/why" && echo built >>"$work/why"
+	is "what the build says without the library" "$(grep -c -e '^  bootmem: there is no libbootmem.a in ' -e 'set BOOTMEM_LIB_DIR' -e 'package bootmem-dev' \
+		-e "program 'bootmem-json'" -e '^built' "$work/why")" 4
 	ok "cargo test" env BOOTMEM_LIB_DIR="$top" CARGO_TARGET_DIR="$work/target" cargo test --offline --quiet --manifest-path bindings/rust/Cargo.toml
 fi
 if has python3 "the tests in Python"; then
+	{
+		shown python
+		echo
+		echo "test_a_crash_area_fits()"
+	} >"$work/shown.py"
+	ok "the test in Python of TOOLS.md" env BOOTMEM_LIB="$top/libbootmem.so" PYTHONPATH=tools PYTHONDONTWRITEBYTECODE=1 python3 "$work/shown.py"
 	ok "python3 -m unittest" env BOOTMEM_LIB="$top/libbootmem.so" PYTHONDONTWRITEBYTECODE=1 python3 -m unittest discover -s tests -p test_library.py
 fi
 version=$(sed -n 's/^VERSION := //p' Makefile)
