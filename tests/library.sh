@@ -1,7 +1,7 @@
 #!/bin/sh
 # library.sh [PROGRAM]: the library against the program, and from C, Rust and Python. Every report of every machine of examples/ through the
 # library is the very bytes of the program, with its status and its line, and what it hands over as values is what the program's text
-# says; then the layout of the structs, the example in C, 'cargo test' and the unit tests of Python. What lacks its tool is left out, with a line. Prints
+# says; then each allocation fails in turn; then the layout of the structs, the example in C, 'cargo test' and the unit tests of Python. What lacks its tool is left out, with a line. Prints
 # 'N passed, M failed' at its end.
 . "$(dirname "$0")/counted.sh"
 program=$(built "${1:-$top/bootmem}") || exit 2
@@ -96,6 +96,8 @@ if has "${CC:-cc}" "the program's bytes and the example in C"; then
 		values examples/first "$report" --srat zp.bin zp.bin
 		values examples/first "$report" --kernel 0x1000000,0x3400000 --la57 zp.bin
 	done
+	ok "out_of_memory.c" $cc -O1 tests/out_of_memory.c libbootmem.a -Wl,--wrap=malloc -Wl,--wrap=realloc -o "$work/out_of_memory"
+	ok "each allocation fails in turn" "$work/out_of_memory"
 	ok "layout.c" $cc tests/layout.c -o "$work/layout"
 	for entries in 0 1 128; do
 		ok "a zero page of $entries entries" "$work/layout" "$entries"
@@ -105,7 +107,8 @@ if has "${CC:-cc}" "the program's bytes and the example in C"; then
 	is "a zero page of 129 entries" "$status" 2
 	ok "check_table.c" $cc bindings/c/check_table.c libbootmem.a -o "$work/check_table"
 	is "check_table" "$("$work/check_table" examples/first/zp.bin crashkernel=32M 2>&1 | tail -n 1)" "crash area of 33554432 bytes at 0x5000000"
-	is "check_table with no room" "$("$work/check_table" examples/first/zp.bin crashkernel=1G 2>&1 | tail -n 1)" "no crash area: no free range fits it"
+	is "check_table with no room" "$("$work/check_table" examples/first/zp.bin crashkernel=1G 2>&1 | tail -n 1)" \
+		"no crash area: no free range fits it"
 	is "check_table of a bad line" "$("$work/check_table" examples/first/zp.bin mem=x 2>&1)" "bootmem: cmdline: word 1: mem"
 fi
 # the tests that docs/TOOLS.md shows
@@ -119,8 +122,10 @@ if has cargo "the tests in Rust"; then
 	shown toml | sed "s,/usr/local/share/bootmem,$top," >"$work/vmm/Cargo.toml"
 	: >"$work/vmm/src/lib.rs"
 	shown rust >"$work/vmm/tests/shown.rs"
-	ok "the test in Rust of TOOLS.md" env BOOTMEM_LIB_DIR="$top" CARGO_TARGET_DIR="$work/target" cargo test --offline --quiet --manifest-path "$work/vmm/Cargo.toml"
-	BOOTMEM_LIB_DIR=$work/vmm CARGO_TARGET_DIR=$work/target cargo check --offline --quiet --manifest-path bindings/rust/Cargo.toml 2>"$work/why" && echo built >>"$work/why"
+	ok "the test in Rust of TOOLS.md" env BOOTMEM_LIB_DIR="$top" CARGO_TARGET_DIR="$work/target" \
+		cargo test --offline --quiet --manifest-path "$work/vmm/Cargo.toml"
+	BOOTMEM_LIB_DIR=$work/vmm CARGO_TARGET_DIR=$work/target \
+		cargo check --offline --quiet --manifest-path bindings/rust/Cargo.toml 2>"$work/why" && echo built >>"$work/why"
 	is "what the build says without the library" "$(grep -c -e '^  bootmem: there is no libbootmem.a in ' -e 'set BOOTMEM_LIB_DIR' -e 'package bootmem-dev' \
 		-e "program 'bootmem-json'" -e '^built' "$work/why")" 4
 	ok "cargo test" env BOOTMEM_LIB_DIR="$top" CARGO_TARGET_DIR="$work/target" cargo test --offline --quiet --manifest-path bindings/rust/Cargo.toml
@@ -131,7 +136,8 @@ if has python3 "the tests in Python"; then
 		echo
 		echo "test_a_crash_area_fits()"
 	} >"$work/shown.py"
-	ok "the test in Python of TOOLS.md" env BOOTMEM_LIB="$top/libbootmem.so" PYTHONPATH=tools PYTHONDONTWRITEBYTECODE=1 python3 "$work/shown.py"
+	ok "the test in Python of TOOLS.md" env BOOTMEM_LIB="$top/libbootmem.so" PYTHONPATH=tools PYTHONDONTWRITEBYTECODE=1 \
+		python3 "$work/shown.py"
 	ok "python3 -m unittest" env BOOTMEM_LIB="$top/libbootmem.so" PYTHONDONTWRITEBYTECODE=1 python3 -m unittest discover -s tests -p test_library.py
 fi
 version=$(sed -n 's/^VERSION := //p' Makefile)

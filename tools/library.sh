@@ -11,7 +11,8 @@ version=$1
 top=$(cd "$(dirname "$0")/.." && pwd)
 crate=$top/crates/bootmem_c
 log=$crate/out/build.log
-exports="bootmem_run bootmem_map bootmem_crash bootmem_memory bootmem_nodes bootmem_zones bootmem_blocks bootmem_version"
+exports="bootmem_run bootmem_map bootmem_crash bootmem_memory bootmem_nodes bootmem_zones
+	bootmem_blocks bootmem_version"
 
 kit=$(dirname "$("$rt" doc)")
 

@@ -40,8 +40,9 @@ def zero_page(entries: Sequence[Entry], initrd: Initrd | None = None) -> bytes:
     A ValueError if there are more entries than a zero page has room for.
     """
     if len(entries) > ROOM:
-        raise ValueError(f"a zero page has room for {ROOM} entries, not {len(entries)}: the further "
-                         "ones belong into an extension (`map_files` makes both)")
+        raise ValueError(
+            f"a zero page has room for {ROOM} entries, not {len(entries)}: the further ones belong "
+            "into an extension (`map_files` makes both)")
     page = bytearray(PAGE_SIZE)
     page[COUNT] = len(entries)
     body = entry_bytes(entries)

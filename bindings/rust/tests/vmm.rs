@@ -132,7 +132,9 @@ fn each_input_is_read() {
     let up = down.clone().bottom_up();
     assert!(up.crash().unwrap().high.unwrap().first < down.crash().unwrap().high.unwrap().first);
     let far = zero_page(&[(0, 1 << 30, E820_RAM), (1 << 47, 1 << 30, E820_RAM)]).unwrap();
-    assert!(usable(&Boot::new(&far).la57()).len() >= usable(&Boot::new(&far)).len());
+    let last = |boot: Boot| boot.memory().unwrap().last().unwrap().range.last;
+    assert_eq!(last(Boot::new(&far)), (1 << 30) - 1);
+    assert_eq!(last(Boot::new(&far).la57()), (1 << 47) + (1 << 30) - 1);
 }
 
 #[test]
