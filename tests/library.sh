@@ -1,8 +1,8 @@
 #!/bin/sh
 # library.sh [PROGRAM]: the library against the program, and from C, Rust and Python. Every report of every machine of examples/ through the
 # library is the very bytes of the program, with its status and its line, and what it hands over as values is what the program's text
-# says; then each allocation fails in turn; then the layout of the structs, the example in C, 'cargo test' and the unit tests of Python. What lacks its tool is left out, with a line. Prints
-# 'N passed, M failed' at its end.
+# says. Then each allocation fails in turn. Then come the layout of the structs, the example in C, the tests that TOOLS.md shows, 'cargo
+# test' and the unit tests of Python. What lacks its tool is left out, with a line. Prints 'N passed, M failed' at its end.
 . "$(dirname "$0")/counted.sh"
 program=$(built "${1:-$top/bootmem}") || exit 2
 cd "$top" || exit 1

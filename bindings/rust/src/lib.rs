@@ -36,7 +36,7 @@ pub enum Reason {
     Faulty,
     /// The boot stops.
     Stopped,
-    /// Memory is wanting.
+    /// Out of memory.
     Memory,
 }
 
