@@ -93,7 +93,8 @@ done
 is "the first audit" "$("$root/bin/bootaudit" "$work/map" "$work/owners" "$work/blocks")" sound
 
 # what the pages point to: documents, machines, commands, places under the prefix, links
-pages="$share/man/man1/bootmem.1 $share/man/man1/bootaudit.1 $share/man/man5/bootmem.5 $share/doc/bootmem/README.md"
+documents="$share/doc/bootmem/README.md $share/doc/bootmem/TOOLS.md $share/doc/bootmem/RECIPES.md"
+pages="$share/man/man1/bootmem.1 $share/man/man1/bootaudit.1 $share/man/man5/bootmem.5 $documents"
 for page in $pages; do
 	name=$(basename "$page")
 	sed 's/\\-/-/g' "$page" >"$work/page"
@@ -113,7 +114,10 @@ for page in $pages; do
 		there "$name" "$share/doc/bootmem/$link"
 	done
 done
-is "the README has no link into docs/" "$(grep -c '](docs/' "$share/doc/bootmem/README.md")" 0
+paths='](docs/\|`docs/\|tools/[a-z]*-\|collect\.sh\|\./boot'
+for page in $documents; do
+	is "paths of the repository in $(basename "$page")" "$(grep -n "$paths" "$page")" ""
+done
 
 # the library, where it was built: a program finds it by pkg-config
 if [ -f libbootmem.a ]; then

@@ -105,6 +105,32 @@ examples() {
 	chmod -R u=rwX,go=rX "$1"
 }
 
+# document FILE TO PREFIX: installs a document. A page for users names what is installed: the other
+# documents lie beside it, programs and tools are on the PATH, the examples are below PREFIX.
+document() {
+	words=
+	case $1 in
+	README.md | examples/README.md | docs/TOOLS.md | docs/RECIPES.md | docs/KERNEL.md | docs/FORMATS.md)
+		words='s|](docs/|](|g; s|\[docs/|[|g; s| in `docs/`||; s|`docs/|`|g'
+		words="$words; s|\`\.\./CONTRIBUTING|\`CONTRIBUTING|"
+		for tool in $tools; do
+			words="$words; s|\(\.\./\)*tools/$tool|$tool|g"
+		done
+		# over ssh the script needs its path
+		collect=$3/bin/bootmem-collect
+		words="$words; s|-q tools/collect\.sh|-q $collect|; s|'tools/collect\.sh|'$collect|"
+		words="$words; s|; installed as .bootmem-collect.||"
+		words="$words; s|tools/collect\.sh|bootmem-collect|g; s|collect\.sh|bootmem-collect|g"
+		words="$words; s|\.\./\(\.\./\)*bootmem|bootmem|g"
+		words="$words; s|\./bootmem|bootmem|g; s|\./bootaudit|bootaudit|g"
+		words="$words; s|PYTHONPATH=tools|PYTHONPATH=$3/$packages|"
+		words="$words; s|\`share/bootmem\`|\`$3/share/bootmem\`|g"
+		;;
+	esac
+	sed "$words" "$1" >"$2"
+	chmod 644 "$2"
+}
+
 install_all() {
 	install -d "$bin" "$man/man1" "$man/man5" "$share/doc/bootmem" "$share/bootmem/examples"
 	programs "$1"
@@ -129,13 +155,12 @@ install_all() {
 			chmod 644 "$man/man1/$tool.1"
 		fi
 	done
-	for document in CHANGELOG.md CONTRIBUTING.md docs/*.md docs/*.svg docs/*.json; do
-		[ ! -f "$document" ] || install -m 644 "$document" "$share/doc/bootmem/$(basename "$document")"
+	for document in README.md CHANGELOG.md CONTRIBUTING.md docs/*.md; do
+		document "$document" "$share/doc/bootmem/$(basename "$document")" "$1"
 	done
-	# the documents lie beside the README there
-	sed 's|](docs/|](|g; s|`docs/|`|g' README.md >"$share/doc/bootmem/README.md"
-	chmod 644 "$share/doc/bootmem/README.md"
+	install -m 644 docs/*.svg docs/*.json "$share/doc/bootmem"
 	examples "$share/bootmem/examples"
+	document examples/README.md "$share/bootmem/examples/README.md" "$1"
 	[ ! -f libbootmem.a ] || library "$1"
 }
 
