@@ -1,8 +1,8 @@
 -- The edits of records: the room that they need, and that the resulting runs are the records.
-use Rattle.std.proofs.Common.{◌≡◌, ℕ, ◌+◌, ◌-◌, ◌^◌, ◌≤◌, false, Option, List, length, refl, sym, ◌∙◌, arith}
+use Rattle.std.proofs.Common.{◌≡◌, ℕ, ◌+◌, ◌-◌, ◌^◌, ◌≤◌, Bool, false, Option, List, length, refl, sym, ◌∙◌, arith}
 use Rattle.std.proofs.lemmas.Bool.Decides.{nat_tests}
 use Rattle.bm_base.specs.Range.{RangeView, covers}
-use Rattle.address_runs.specs.Runs.{RunOf, value_at, IsRunsOf}
+use Rattle.address_runs.specs.Runs.{RunOf, DecidesEquality, value_at, IsRunsOf}
 use Rattle.address_runs.specs.Edits.{change_range, cover_range, gaps_in_range}
 use Rattle.run_edits.specs.Ends.{edges, total, HasRoomToEdit}
 use Rattle.run_edits.proofs.EndLaws.{all_ends, total-split}
@@ -35,12 +35,13 @@ cover_room rs r v room known ends fits =
     omega (arith, parts, more))
     (omega (arith, count, fits))
 
--- the runs that an edit leaves are the records of the changed labels
-pub edited_list : (change : Option LabelView → Option LabelView) (r : RangeView) (rs now : List (RunOf LabelView)) → AreRecords rs →
-    r.base + r.size ≤ 2 ^ 64 →
-    IsRunsOf (change_range change r (value_at rs)) now → now ≡ records_for (change_range change r (value_at rs))
-edited_list change r rs now known ends runs =
-    records_for-is (change_range change r (value_at rs)) now (amended_ends change r (value_at rs) (2 ^ 64) ends known.within) runs
+-- the runs that an edit leaves are the records of the changed labels, in order
+pub edited : (change : Option LabelView → Option LabelView) (r : RangeView) (rs now : List (RunOf LabelView)) → AreRecords rs →
+    r.base + r.size ≤ 2 ^ 64 → IsRunsOf (change_range change r (value_at rs)) now →
+    AreRecords now × (now ≡ records_for (change_range change r (value_at rs)))
+edited change r rs now known ends is =
+    let within = amended_ends change r (value_at rs) (2 ^ 64) ends known.within in
+    (record { runs = is.runs; within = λ x le. is.each x ∙ within x le }, records_for-is (change_range change r (value_at rs)) now within is)
 
 -- an empty range changes nothing
 pub no_edit : (change : Option LabelView → Option LabelView) (r : RangeView) (rs : List (RunOf LabelView)) → AreRecords rs → r.size ≡ 0 →
@@ -49,3 +50,6 @@ no_edit change r rs known empty =
     let f = value_at rs in
     let same : (x : ℕ) → f x ≡ change_range change r f x = λ x. let off : covers r x ≡ false = grind (arith, nat_tests) in rw off refl in
     records_for-is (change_range change r f) rs (λ x le. sym (same x) ∙ known.within x le) (record { runs = known.runs; each = same })
+
+pub labels_tell : (same : LabelView → LabelView → Bool) × DecidesEquality same
+labels_tell = (same_label, label_tells)

@@ -1,6 +1,6 @@
 -- Two tables in one store: while one is edited, the other is unchanged.
-use Rattle.std.proofs.Common.{◌≡◌, ℕ, ◌+◌, ◌*◌, ◌^◌, ◌<◌, ◌≤◌, Bool, true, false, ◌||◌, Option, Some, None, List, refl, sym, ◌∙◌, ap, subst, arith, inl, inr}
-use Rattle.std.specs.Prelude.{unwrap_or}
+use Rattle.std.proofs.Common.{◌≡◌, ℕ, ◌+◌, ◌*◌, ◌^◌, ◌<◌, ◌≤◌, true, false, ◌||◌, Option, Some, None, List, refl, sym, ◌∙◌, ap, subst, arith, inl, inr}
+use Rattle.std.specs.Prelude.{if◌then◌else◌, unwrap_or}
 use Rattle.std.proofs.lemmas.Bool.{cases_Bool, false_from_ne_true, and_from, or_right}
 use Rattle.std.proofs.lemmas.Bool.Decides.{nat_tests}
 use Rattle.bm_base.specs.Range.{RangeView, covers, Meet}
@@ -13,7 +13,7 @@ use Rattle.memblock_model.proofs.TableLaws.{value_at-records}
 use Rattle.run_edits.proofs.AmendLaws.{amended_ends}
 use Rattle.memblock_model.specs.declared.owner.Which.TheVariants as which
 use Rattle.memblock_ranges.specs.declared.region.Head.{Head}
-use Rattle.memblock_ranges.specs.Tables.{HasTable, list_in, Contents, Overlaps, table_by, bytes_by, Table, Edits, Moves, AreRecords, AreTables, HaveNoNode}
+use Rattle.memblock_ranges.specs.Tables.{HasTable, list_in, Contents, Overlaps, table_by, bytes_by, Table, Kept, kept_of, Moves, AreRecords, AreTables, HaveNoNode}
 use Rattle.memblock_ranges.proofs.SpellLaws.{same_records}
 use Rattle.memblock_ranges.proofs.ByteEdits.{record_there}
 
@@ -45,16 +45,35 @@ stays s t h same ready table =
           (same_records (byte_of s) (byte_of t) h.place h.place h.count (λ k in_it. at (h.place + k) (omega arith) (omega arith))),
     )
 
--- outside the edited table no byte changes
-pub edited_at : (s t : List Stored) (g h : Head) (list : List (RunOf LabelView)) → Edits s t g h list → (x : ℕ) →
-    covers (bytes_by g) x ≡ false → byte_of t x ≡ byte_of s x
-edited_at s t g h list e x out = rw out at (ap (λ (o : ℕ → ℕ). o x) e.others)
+-- an edit of a table's records keeps its bytes' range, each byte outside it, and what is prepared
+same_bytes_by : (s t : List Stored) (g h : Head) → kept_of t h ≡ kept_of s g → bytes_by h ≡ bytes_by g
+same_bytes_by s t g h kept = ap (λ (o : Kept). let r : RangeView = record { base = o.place; size = 24 * o.room } in r) kept
 
-pub edited_ready : (s t : List Stored) (g h : Head) (list : List (RunOf LabelView)) → Edits s t g h list → (x : ℕ) → is_ready t x ≡ is_ready s x
-edited_ready s t g h list e x = ap (λ (o : ℕ → Bool). o x) e.ready
+edited_at : (s t : List Stored) (g h : Head) → kept_of t h ≡ kept_of s g → (x : ℕ) → covers (bytes_by g) x ≡ false → byte_of t x ≡ byte_of s x
+edited_at s t g h kept x out =
+    let e : (if covers (bytes_by h) x then 0 else byte_of t x) ≡ (if covers (bytes_by g) x then 0 else byte_of s x) =
+    ap (λ (o : Kept). o.others x) kept in
+    rw (ap (λ (r : RangeView). covers r x) (same_bytes_by s t g h kept) ∙ out, out) at e
 
-same_bytes_by : (s t : List Stored) (g h : Head) (list : List (RunOf LabelView)) → Edits s t g h list → bytes_by h ≡ bytes_by g
-same_bytes_by s t g h list e = rw (e.place_is, e.room_is) refl
+-- the table of head g becomes that of head h with these records, and all else is unchanged
+pub record Edits (s t : List Stored) (g h o : Head) (list : List (RunOf LabelView)) : Type 0 where
+  pub table : table_by t h ≡ record (table_by s g) { records = list }
+  pub other : table_by t o ≡ table_by s o
+  pub elsewhere : (x : ℕ) → covers (bytes_by g) x ≡ false → byte_of t x ≡ byte_of s x
+  pub ready : (x : ℕ) → is_ready t x ≡ is_ready s x
+
+-- the table with other records
+abbrev pub with_records : List Stored → Head → List (RunOf LabelView) → Table
+with_records s h list = record (table_by s h) { records = list }
+
+edits : (s t : List Stored) (g h o : Head) (list : List (RunOf LabelView)) → kept_of t h ≡ kept_of s g → list_in t h ≡ list →
+    table_by t o ≡ table_by s o → Edits s t g h o list
+edits s t g h o list kept is other = record {
+  table = rw (is, ap (λ (k : Kept). k.place) kept, ap (λ (k : Kept). k.room) kept) refl;
+  other = other;
+  elsewhere = edited_at s t g h kept;
+  ready = λ x. ap (λ (k : Kept). k.ready x) kept;
+}
 
 -- the reserved table stays if it is apart from the edited memory table
 beside_memory : (s t : List Stored) (m r h : Head) → AreTables s m r → HasTable t r × (table_by t r ≡ table_by s r) → HasTable t h →
@@ -74,32 +93,31 @@ beside_memory s t m r h both other table apart known =
       other.1,
     )
 
-pub pair_memory : (s t : List Stored) (m r h : Head) (list : List (RunOf LabelView)) → AreTables s m r → Edits s t m h list →
-    AreRecords (list_in t h) →
-    AreTables t h r × (table_by t r ≡ table_by s r)
-pair_memory s t m r h list both e known =
-    let other = stays s t r (λ x lies. edited_at s t m h list e x (beside (bytes_by m) (bytes_by r) x both.apart lies))
-    (λ x was. edited_ready s t m h list e x ∙ was) both.reserved in
-    beside_memory s t m r h both other e.table
-    (λ meet. both.apart (subst (λ (q : RangeView). Meet q (bytes_by r)) (same_bytes_by s t m h list e) meet)) known
+pub memory_edited : (s t : List Stored) (m r h : Head) (list : List (RunOf LabelView)) → AreTables s m r → HasTable t h →
+    kept_of t h ≡ kept_of s m → AreRecords (list_in t h) × (list_in t h ≡ list) → AreTables t h r × Edits s t m h r list
+memory_edited s t m r h list both table kept known =
+    let other = stays s t r (λ x lies. edited_at s t m h kept x (beside (bytes_by m) (bytes_by r) x both.apart lies))
+    (λ x was. ap (λ (k : Kept). k.ready x) kept ∙ was) both.reserved in
+    let pair = beside_memory s t m r h both other table
+    (λ meet. both.apart (subst (λ (q : RangeView). Meet q (bytes_by r)) (same_bytes_by s t m h kept) meet)) known.0 in
+    (pair.0, edits s t m h r list kept known.1 pair.1)
 
-pub pair_reserved : (s t : List Stored) (m r h : Head) (list : List (RunOf LabelView)) → AreTables s m r → Edits s t r h list →
-    AreRecords (list_in t h) →
-    HaveNoNode list → AreTables t m h × (table_by t m ≡ table_by s m)
-pair_reserved s t m r h list both e known plain =
-    let other = stays s t m (λ x lies. edited_at s t r h list e x
+pub reserved_edited : (s t : List Stored) (m r h : Head) (list : List (RunOf LabelView)) → AreTables s m r → HasTable t h →
+    kept_of t h ≡ kept_of s r → AreRecords (list_in t h) × (list_in t h ≡ list) → HaveNoNode list → AreTables t m h × Edits s t r h m list
+reserved_edited s t m r h list both table kept known plain =
+    let other = stays s t m (λ x lies. edited_at s t r h kept x
     (beside (bytes_by r) (bytes_by m) x (turned (bytes_by m) (bytes_by r) both.apart) lies))
-    (λ x was. edited_ready s t r h list e x ∙ was) both.memory in
+    (λ x was. ap (λ (k : Kept). k.ready x) kept ∙ was) both.memory in
     let same : list_in t m ≡ list_in s m = ap (λ (q : Table). q.records) other.1 in (
       record {
         memory = other.0;
-        reserved = e.table;
-        apart = λ meet. both.apart (subst (λ (q : RangeView). Meet (bytes_by m) q) (same_bytes_by s t r h list e) meet);
+        reserved = table;
+        apart = λ meet. both.apart (subst (λ (q : RangeView). Meet (bytes_by m) q) (same_bytes_by s t r h kept) meet);
         memory_records = rw same both.memory_records;
-        reserved_records = known;
-        plain = rw e.list_is plain;
+        reserved_records = known.0;
+        plain = rw known.1 plain;
       },
-      other.1,
+      edits s t r h m list kept known.1 other.1,
     )
 
 -- an edit of the reserved table gives no record a node, if the change gives none

@@ -41,15 +41,6 @@ list_in s h = records_at (byte_of s) h.place h.count
 abbrev pub HasTable : List Stored → Head → Type 0
 HasTable s h = IsTable (byte_of s) (is_ready s) h.place h.room h.count
 
--- the table of head g becomes that of head h with these records, and all else is unchanged
-pub record Edits (s t : List Stored) (g h : Head) (list : List (RunOf LabelView)) : Type 0 where
-  pub list_is : list_in t h ≡ list
-  pub table : HasTable t h
-  pub place_is : h.place ≡ g.place
-  pub room_is : h.room ≡ g.room
-  pub others : outside (byte_of t) g.place g.room ≡ outside (byte_of s) g.place g.room
-  pub ready : is_ready t ≡ is_ready s
-
 -- records in order: none is empty, no two that touch have the same label, and none ends past 2^64
 pub record AreRecords (rs : List (RunOf LabelView)) : Type 0 where
   pub runs : AreRuns rs

@@ -28,7 +28,7 @@
 //! table equal to that of a list of items.
 #![tactic(auto)]
 
-mod edits;
+mod changes;
 mod laws;
 mod lent;
 mod live;

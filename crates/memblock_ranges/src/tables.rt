@@ -1,5 +1,6 @@
-//! Both tables in one store. Each call edits one table as `lent` does; what is proved here is that
-//! the other table is unchanged.
+//! Both tables in one store. Each edit of a table's records borrows the store and that table's
+//! head, and passes a change of one address's label to the sweep of `run_edits`. The other table
+//! is unchanged.
 ghost use Rattle.std.specs.Prelude.{◌≡◌, ℕ, ◌+◌, ◌-◌, ◌*◌, ◌^◌, ◌<◌, ◌≤◌, ◌↔◌, ◌||◌, Bool, true, false, Some, [], length, get_or, OnOk, OnErr, IfOk, IsTrue};
 ghost use Rattle.bm_base.specs.Range.{covers, end_of, Meet};
 ghost use Rattle.phys_store.specs.Bytes.{byte_of, is_ready, AreReady, Wrote, bytes_at};
@@ -13,14 +14,18 @@ ghost use Rattle.memblock_model.specs.Tables.{records_for, pieces, built_in_plac
 ghost use Rattle.memblock_ranges.specs.Spelling.{label_of, region_of, FitsRecord};
 ghost use Rattle.memblock_ranges.specs.Tables.{table_in, other_in, records_in, place_in, room_in, bytes_of, bytes_in, head_of, Overlaps, StandsIn, IsNodeOf, HaveNoNode};
 
+use crate::changes::{SetMirror, SetNode};
 use crate::lent;
+use crate::live::{Live, Seen};
+use crate::pieces::count_pieces;
 use crate::record::label_of;
 use crate::records::Records;
 use crate::region::{Head, Heads, Region};
+use crate::trim::trim;
 use bm_base::{FRAME_SIZE, Memory, Range};
 use memblock_model::Which;
 use phys_store::Store;
-use run_edits::range_end_fits;
+use run_edits::{Cover, Uncover, amend, range_end_fits, rewrite};
 use std::alloc::Global;
 use std::marker::Model;
 
@@ -118,8 +123,20 @@ impl Tables {
         ensures { result ≡ pieces range (value_at (records_in which self.now)) }
     {
         match which {
-            Which::Memory => lent::pieces(&self.store, &self.heads.memory, &range),
-            Which::Reserved => lent::pieces(&self.store, &self.heads.reserved, &range),
+            Which::Memory => {
+                let seen = Seen {
+                    store: &self.store,
+                    head: &self.heads.memory,
+                };
+                count_pieces(&seen, &range)
+            }
+            Which::Reserved => {
+                let seen = Seen {
+                    store: &self.store,
+                    head: &self.heads.reserved,
+                };
+                count_pieces(&seen, &range)
+            }
         }
     }
 
@@ -138,19 +155,28 @@ impl Tables {
         ensures ready { (x : ℕ) → is_ready self.new.store x ≡ is_ready self.old.store x }
     {
         range_end_fits(&range);
-        let label = label_of(0, node);
+        let change = Cover(label_of(0, node));
         match which {
             Which::Memory => {
-                lent::cover(&mut self.store, &mut self.heads.memory, &range, label);
+                let mut live = Live {
+                    store: &mut self.store,
+                    head: &mut self.heads.memory,
+                };
+                rewrite(&mut live, &range, change);
             }
             Which::Reserved => {
-                lent::cover(&mut self.store, &mut self.heads.reserved, &range, label);
+                let mut live = Live {
+                    store: &mut self.store,
+                    head: &mut self.heads.reserved,
+                };
+                rewrite(&mut live, &range, change);
             }
         }
     }
 
     /// Removes the bytes of the range from the table, which must have room for two more records
     /// (`memblock_remove_range`).
+    #[tactic(auto, using(crate::proofs::EditLaws::labels_tell))]
     pub fn remove(&mut self, which: Which, range: Range)
         requires { length (records_in which self.old) + 2 ≤ room_in which self.old }
         ensures table { table_in which self.new ≡ record (table_in which self.old) {
@@ -160,19 +186,35 @@ impl Tables {
         ensures elsewhere { (x : ℕ) → covers (bytes_in which self.old) x ≡ false → byte_of self.new.store x ≡ byte_of self.old.store x }
         ensures ready { (x : ℕ) → is_ready self.new.store x ≡ is_ready self.old.store x }
     {
-        range_end_fits(&range);
         match which {
             Which::Memory => {
-                lent::uncover(&mut self.store, &mut self.heads.memory, &range);
+                let head = &mut self.heads.memory;
+                let mut live = Live {
+                    store: &mut self.store,
+                    head,
+                };
+                if range.size == 0 {
+                    return;
+                }
+                amend(&mut live, &range, Uncover);
             }
             Which::Reserved => {
-                lent::uncover(&mut self.store, &mut self.heads.reserved, &range);
+                let head = &mut self.heads.reserved;
+                let mut live = Live {
+                    store: &mut self.store,
+                    head,
+                };
+                if range.size == 0 {
+                    return;
+                }
+                amend(&mut live, &range, Uncover);
             }
         }
     }
 
     /// Gives the node to the memory of the range, which keeps its flags (`memblock_set_node`). The
     /// memory table must have room for two more records.
+    #[tactic(auto, using(crate::proofs::EditLaws::labels_tell))]
     pub fn set_node(&mut self, range: Range, node: u32)
         requires node { node < 1024 }
         requires room { length self.old.memory.records + 2 ≤ self.old.memory.room }
@@ -183,11 +225,19 @@ impl Tables {
         ensures elsewhere { (x : ℕ) → covers (bytes_of self.old.memory) x ≡ false → byte_of self.new.store x ≡ byte_of self.old.store x }
         ensures ready { (x : ℕ) → is_ready self.new.store x ≡ is_ready self.old.store x }
     {
-        lent::set_node(&mut self.store, &mut self.heads.memory, &range, node);
+        let mut live = Live {
+            store: &mut self.store,
+            head: &mut self.heads.memory,
+        };
+        if range.size == 0 {
+            return;
+        }
+        amend(&mut live, &range, SetNode { node });
     }
 
     /// Marks the memory of the range as mirrored; it keeps its node (`memblock_mark_mirror`). The
     /// memory table must have room for two more records.
+    #[tactic(auto, using(crate::proofs::EditLaws::labels_tell))]
     pub fn set_mirror(&mut self, range: Range)
         requires { length self.old.memory.records + 2 ≤ self.old.memory.room }
         ensures memory { self.new.memory ≡ record self.old.memory {
@@ -197,7 +247,14 @@ impl Tables {
         ensures elsewhere { (x : ℕ) → covers (bytes_of self.old.memory) x ≡ false → byte_of self.new.store x ≡ byte_of self.old.store x }
         ensures ready { (x : ℕ) → is_ready self.new.store x ≡ is_ready self.old.store x }
     {
-        lent::set_mirror(&mut self.store, &mut self.heads.memory, &range);
+        let mut live = Live {
+            store: &mut self.store,
+            head: &mut self.heads.memory,
+        };
+        if range.size == 0 {
+            return;
+        }
+        amend(&mut live, &range, SetMirror);
     }
 
     /// Cuts memory to whole frames: a byte keeps its label if all bytes of its frame have it, and
@@ -208,7 +265,11 @@ impl Tables {
         ensures elsewhere { (x : ℕ) → covers (bytes_of self.old.memory) x ≡ false → byte_of self.new.store x ≡ byte_of self.old.store x }
         ensures ready { (x : ℕ) → is_ready self.new.store x ≡ is_ready self.old.store x }
     {
-        lent::trim(&mut self.store, &mut self.heads.memory);
+        let mut live = Live {
+            store: &mut self.store,
+            head: &mut self.heads.memory,
+        };
+        trim(&mut live);
     }
 
     /// Prepares each address of the range, as `Store::prepare` does.

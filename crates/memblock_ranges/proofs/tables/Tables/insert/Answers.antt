@@ -1,50 +1,79 @@
-use Rattle.std.proofs.Common.{◌≡◌, ◌∙◌, ap, arith}
+use Rattle.std.proofs.Common.{◌≡◌, ◌∙◌, Some, Option, sym, ap, arith}
+use Rattle.std.specs.Prelude.{unwrap_or}
 use Rattle.address_runs.specs.Runs.{value_at}
 use Rattle.address_runs.specs.Edits.{cover_range}
-use Rattle.memblock_model.specs.Labels.{plain_label}
+use Rattle.memblock_model.specs.Labels.{LabelView, plain_label}
+use Rattle.memblock_model.specs.Same.{same_label}
 use Rattle.memblock_model.specs.Tables.{records_for}
+use Rattle.memblock_model.proofs.SameLaws.{label_tells}
 use Rattle.memblock_ranges.specs.Spelling.{label_of}
-use Rattle.memblock_ranges.specs.Tables.{list_in, HaveNoNode}
-use Rattle.memblock_ranges.proofs.PairLaws.{pair_memory, pair_reserved, edited_at, edited_ready, plain_covered}
+use Rattle.memblock_ranges.specs.Tables.{list_in, AreTables, HaveNoNode}
+use Rattle.memblock_ranges.proofs.EditLaws.{cover_room, edited}
+use Rattle.memblock_ranges.proofs.PairLaws.{Edits, memory_edited, reserved_edited, plain_covered}
 use Rattle.memblock_ranges.proofs.tables.Tables.insert.Goals as goal
-use Rattle.memblock_ranges.proofs.tables.Tables.insert.Goals.{In-Reserved}
+use Rattle.memblock_ranges.proofs.tables.Tables.insert.Goals.{After-rewrite, In-Reserved}
 
 -- no record of the reserved table gets a node
-plain : (c : In-Reserved) → HaveNoNode (records_for (cover_range c.args.range c.label_of-label.result
+plain : (c : In-Reserved) → HaveNoNode (records_for (cover_range c.args.range c.label_of.result
     (value_at (list_in c.self.inside.store c.self.inside.heads.reserved))))
 plain c =
     let none = rw c.in-Reserved.is at c.requires.node in
-    let label : c.label_of-label.result ≡ plain_label = c.label_of-label.ensures ∙ ap (label_of 0) none in
+    let label : c.label_of.result ≡ plain_label = c.label_of.ensures ∙ ap (label_of 0) none in
     rw label
     (plain_covered c.args.range _ c.self.invariant.reserved_records c.self.invariant.plain (omega (arith, c.range_end_fits.ensures)))
 
+pub rewrite-requires-clause-room : goal.rewrite-requires-clause-room
+rewrite-requires-clause-room c = (
+  same_label,
+  label_tells,
+  cover_room _ c.args.range c.label_of.result c.self.inside.heads.memory.room c.self.invariant.memory_records
+      (omega (arith, c.range_end_fits.ensures)) (rw (← c.self.view_is, c.in-Memory.is) at c.requires.room),
+)
+
+pub rewrite-requires-in-Reserved-clause-room : goal.rewrite-requires-in-Reserved-clause-room
+rewrite-requires-in-Reserved-clause-room c = (
+  same_label,
+  label_tells,
+  cover_room _ c.args.range c.label_of.result c.self.inside.heads.reserved.room
+      c.self.invariant.reserved_records (omega (arith, c.range_end_fits.ensures))
+      (rw (← c.self.view_is, c.in-Reserved.is) at c.requires.room),
+)
+
+-- the memory table after the edit
+edit : (c : After-rewrite) → AreTables c.rewrite.new.table.store.now c.rewrite.new.table.head.now c.self.inside.heads.reserved
+    × Edits c.self.inside.store c.rewrite.new.table.store.now c.self.inside.heads.memory c.rewrite.new.table.head.now
+    c.self.inside.heads.reserved (records_for (cover_range c.args.range c.label_of.result (value_at (list_in c.self.inside.store c.self.inside.heads.memory))))
+edit c =
+    memory_edited _ _ _ _ _ _ c.self.invariant c.rewrite.new.table.table c.rewrite.ensures.keeps.2
+    (edited (λ (carried : Option LabelView). Some (unwrap_or carried c.label_of.result)) c.args.range _ _ c.self.invariant.memory_records (omega (arith, c.range_end_fits.ensures)) c.rewrite.ensures.list)
+
 pub invariant_of-self : goal.invariant_of-self
-invariant_of-self c = (pair_memory _ _ _ _ _ _ c.self.invariant c.cover.ensures.edits c.cover.ensures.records).0
+invariant_of-self c = (edit c).0
+
+pub returns-in-Memory-clause-table : goal.returns-in-Memory-clause-table
+returns-in-Memory-clause-table c =
+    rw (← c.self.view_is, c.in-Memory.is, sym c.label_of.ensures) (memory_edited _ _ _ _ _ _ c.self.invariant c.rewrite.new.table.table
+    c.rewrite.ensures.keeps.2 (edited (λ (carried : Option LabelView). Some (unwrap_or carried c.label_of.result)) c.args.range _ _
+    c.self.invariant.memory_records (omega (arith, c.range_end_fits.ensures)) c.rewrite.ensures.list)).1.table
 
 pub returns-in-Memory-clause-other : goal.returns-in-Memory-clause-other
-returns-in-Memory-clause-other c =
-    rw (← c.self.view_is, c.in-Memory.is) (pair_memory _ _ _ _ _ _ c.self.invariant c.cover.ensures.edits c.cover.ensures.records).1
+returns-in-Memory-clause-other c = rw (← c.self.view_is, c.in-Memory.is) (edit c).1.other
 
 pub returns-in-Memory-clause-elsewhere : goal.returns-in-Memory-clause-elsewhere
-returns-in-Memory-clause-elsewhere c = rw (← c.self.view_is, c.in-Memory.is) (edited_at _ _ _ _ _ c.cover.ensures.edits)
+returns-in-Memory-clause-elsewhere c = rw (← c.self.view_is, c.in-Memory.is) (edit c).1.elsewhere
 
 pub returns-in-Memory-clause-ready : goal.returns-in-Memory-clause-ready
-returns-in-Memory-clause-ready c = rw (← c.self.view_is) (edited_ready _ _ _ _ _ c.cover.ensures.edits)
+returns-in-Memory-clause-ready c = rw (← c.self.view_is) (edit c).1.ready
 
 pub invariant_of-self-in-Reserved : goal.invariant_of-self-in-Reserved
 invariant_of-self-in-Reserved c =
-    (pair_reserved _ _ _ _ _ _ c.self.invariant c.cover-in-Reserved.ensures.edits c.cover-in-Reserved.ensures.records
+    (reserved_edited _ _ _ _ _ _ c.self.invariant c.rewrite-in-Reserved.new.table.table c.rewrite-in-Reserved.ensures.keeps.2
+    (edited (λ (carried : Option LabelView). Some (unwrap_or carried c.label_of.result)) c.args.range _ _ c.self.invariant.reserved_records (omega (arith, c.range_end_fits.ensures)) c.rewrite-in-Reserved.ensures.list)
     (plain (goal.at.invariant_of-self-in-Reserved c).In-Reserved)).0
 
-pub returns-in-Reserved-clause-other : goal.returns-in-Reserved-clause-other
-returns-in-Reserved-clause-other c =
-    rw (← c.self.view_is, c.in-Reserved.is)
-    (pair_reserved _ _ _ _ _ _ c.self.invariant c.cover-in-Reserved.ensures.edits c.cover-in-Reserved.ensures.records
-    (plain (goal.at.returns-in-Reserved-clause-other c).In-Reserved)).1
-
-pub returns-in-Reserved-clause-elsewhere : goal.returns-in-Reserved-clause-elsewhere
-returns-in-Reserved-clause-elsewhere c =
-    rw (← c.self.view_is, c.in-Reserved.is) (edited_at _ _ _ _ _ c.cover-in-Reserved.ensures.edits)
-
-pub returns-in-Reserved-clause-ready : goal.returns-in-Reserved-clause-ready
-returns-in-Reserved-clause-ready c = rw (← c.self.view_is) (edited_ready _ _ _ _ _ c.cover-in-Reserved.ensures.edits)
+pub returns-in-Reserved : goal.returns-in-Reserved
+returns-in-Reserved c =
+    let e = (reserved_edited _ _ _ _ _ _ c.self.invariant c.rewrite-in-Reserved.new.table.table c.rewrite-in-Reserved.ensures.keeps.2
+    (edited (λ (carried : Option LabelView). Some (unwrap_or carried c.label_of.result)) c.args.range _ _ c.self.invariant.reserved_records (omega (arith, c.range_end_fits.ensures)) c.rewrite-in-Reserved.ensures.list)
+    (plain (goal.at.returns-in-Reserved c).In-Reserved)).1 in
+    rw (← c.self.view_is, c.in-Reserved.is, sym c.label_of.ensures) (record { table = e.table; other = e.other; elsewhere = e.elsewhere; ready = e.ready })

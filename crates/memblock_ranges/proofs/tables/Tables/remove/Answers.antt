@@ -1,46 +1,59 @@
-use Rattle.std.proofs.Common.{arith}
+use Rattle.std.proofs.Common.{None, Option, ap, arith}
+use Rattle.std.proofs.lemmas.Grind.{common_steps}
+use Rattle.memblock_model.specs.Labels.{LabelView}
 use Rattle.address_runs.specs.Runs.{value_at}
 use Rattle.address_runs.specs.Edits.{uncover_range}
 use Rattle.memblock_model.specs.Tables.{records_for}
-use Rattle.memblock_ranges.specs.Tables.{list_in, HaveNoNode}
-use Rattle.memblock_ranges.proofs.PairLaws.{pair_memory, pair_reserved, edited_at, edited_ready, plain_uncovered}
+use Rattle.memblock_ranges.specs.Tables.{list_in, AreTables}
+use Rattle.memblock_ranges.proofs.EditLaws.{edited, no_edit}
+use Rattle.memblock_ranges.proofs.PairLaws.{Edits, memory_edited, reserved_edited, with_records, plain_uncovered}
 use Rattle.memblock_ranges.proofs.tables.Tables.remove.Goals as goal
-use Rattle.memblock_ranges.proofs.tables.Tables.remove.Goals.{In-Reserved}
+use Rattle.memblock_ranges.proofs.tables.Tables.remove.Goals.{After-amend}
 
--- no record of the reserved table has a node
-plain : (c : In-Reserved) →
-    HaveNoNode (records_for (uncover_range c.args.range (value_at (list_in c.self.inside.store c.self.inside.heads.reserved))))
-plain c =
-    plain_uncovered c.args.range (list_in c.self.inside.store c.self.inside.heads.reserved) c.self.invariant.reserved_records
-    c.self.invariant.plain (omega (arith, c.range_end_fits.ensures))
+pub returns-then-range-eq0-clause-table : goal.returns-then-range-eq0-clause-table
+returns-then-range-eq0-clause-table c =
+    rw (← c.self.view_is, c.in-Memory.is) (ap (with_records c.self.inside.store c.self.inside.heads.memory)
+    (no_edit (λ (carried : Option LabelView). None) c.args.range _ c.self.invariant.memory_records (grind (arith, common_steps))))
 
-pub invariant_of-self : goal.invariant_of-self
-invariant_of-self c = (pair_memory _ _ _ _ _ _ c.self.invariant c.uncover.ensures.edits c.uncover.ensures.records).0
+pub returns-then-range-eq0-2-clause-table : goal.returns-then-range-eq0-2-clause-table
+returns-then-range-eq0-2-clause-table c =
+    rw (← c.self.view_is, c.in-Reserved.is) (ap (with_records c.self.inside.store c.self.inside.heads.reserved)
+    (no_edit (λ (carried : Option LabelView). None) c.args.range _ c.self.invariant.reserved_records (grind (arith, common_steps))))
 
-pub returns-in-Memory-clause-other : goal.returns-in-Memory-clause-other
-returns-in-Memory-clause-other c =
-    rw (← c.self.view_is, c.in-Memory.is) (pair_memory _ _ _ _ _ _ c.self.invariant c.uncover.ensures.edits c.uncover.ensures.records).1
+-- the memory table after the edit
+edit : (c : After-amend) → AreTables c.amend.new.table.store.now c.amend.new.table.head.now c.self.inside.heads.reserved
+    × Edits c.self.inside.store c.amend.new.table.store.now c.self.inside.heads.memory c.amend.new.table.head.now
+    c.self.inside.heads.reserved (records_for (uncover_range c.args.range (value_at (list_in c.self.inside.store c.self.inside.heads.memory))))
+edit c =
+    memory_edited _ _ _ _ _ _ c.self.invariant c.amend.new.table.table c.amend.ensures.keeps.2
+    (edited (λ (carried : Option LabelView). None) c.args.range _ _ c.self.invariant.memory_records (grind (arith, common_steps)) c.amend.ensures.list)
 
-pub returns-in-Memory-clause-elsewhere : goal.returns-in-Memory-clause-elsewhere
-returns-in-Memory-clause-elsewhere c = rw (← c.self.view_is, c.in-Memory.is) (edited_at _ _ _ _ _ c.uncover.ensures.edits)
+pub invariant_of-self-in-Memory : goal.invariant_of-self-in-Memory
+invariant_of-self-in-Memory c = (edit c).0
 
-pub returns-in-Memory-clause-ready : goal.returns-in-Memory-clause-ready
-returns-in-Memory-clause-ready c = rw (← c.self.view_is) (edited_ready _ _ _ _ _ c.uncover.ensures.edits)
+pub returns-else-range-eq0-clause-table : goal.returns-else-range-eq0-clause-table
+returns-else-range-eq0-clause-table c = rw (← c.self.view_is, c.in-Memory.is) (edit c).1.table
+
+pub returns-else-range-eq0-clause-other : goal.returns-else-range-eq0-clause-other
+returns-else-range-eq0-clause-other c =
+    rw (← c.self.view_is, c.in-Memory.is) (memory_edited _ _ _ _ _ _ c.self.invariant c.amend.new.table.table c.amend.ensures.keeps.2
+    (edited (λ (carried : Option LabelView). None) c.args.range _ _ c.self.invariant.memory_records (grind (arith, common_steps)) c.amend.ensures.list)).1.other
+
+pub returns-else-range-eq0-clause-elsewhere : goal.returns-else-range-eq0-clause-elsewhere
+returns-else-range-eq0-clause-elsewhere c = rw (← c.self.view_is, c.in-Memory.is) (edit c).1.elsewhere
+
+pub returns-else-range-eq0-clause-ready : goal.returns-else-range-eq0-clause-ready
+returns-else-range-eq0-clause-ready c = rw (← c.self.view_is) (edit c).1.ready
 
 pub invariant_of-self-in-Reserved : goal.invariant_of-self-in-Reserved
 invariant_of-self-in-Reserved c =
-    (pair_reserved _ _ _ _ _ _ c.self.invariant c.uncover-in-Reserved.ensures.edits c.uncover-in-Reserved.ensures.records
-    (plain (goal.at.invariant_of-self-in-Reserved c).In-Reserved)).0
+    (reserved_edited _ _ _ _ _ _ c.self.invariant c.amend-in-Reserved.new.table.table c.amend-in-Reserved.ensures.keeps.2
+    (edited (λ (carried : Option LabelView). None) c.args.range _ _ c.self.invariant.reserved_records (grind (arith, common_steps)) c.amend-in-Reserved.ensures.list)
+    (plain_uncovered c.args.range _ c.self.invariant.reserved_records c.self.invariant.plain (grind (arith, common_steps)))).0
 
-pub returns-in-Reserved-clause-other : goal.returns-in-Reserved-clause-other
-returns-in-Reserved-clause-other c =
-    rw (← c.self.view_is, c.in-Reserved.is)
-    (pair_reserved _ _ _ _ _ _ c.self.invariant c.uncover-in-Reserved.ensures.edits c.uncover-in-Reserved.ensures.records
-    (plain (goal.at.returns-in-Reserved-clause-other c).In-Reserved)).1
-
-pub returns-in-Reserved-clause-elsewhere : goal.returns-in-Reserved-clause-elsewhere
-returns-in-Reserved-clause-elsewhere c =
-    rw (← c.self.view_is, c.in-Reserved.is) (edited_at _ _ _ _ _ c.uncover-in-Reserved.ensures.edits)
-
-pub returns-in-Reserved-clause-ready : goal.returns-in-Reserved-clause-ready
-returns-in-Reserved-clause-ready c = rw (← c.self.view_is) (edited_ready _ _ _ _ _ c.uncover-in-Reserved.ensures.edits)
+pub returns-else-range-eq0-2 : goal.returns-else-range-eq0-2
+returns-else-range-eq0-2 c =
+    let e = (reserved_edited _ _ _ _ _ _ c.self.invariant c.amend-in-Reserved.new.table.table c.amend-in-Reserved.ensures.keeps.2
+    (edited (λ (carried : Option LabelView). None) c.args.range _ _ c.self.invariant.reserved_records (grind (arith, common_steps)) c.amend-in-Reserved.ensures.list)
+    (plain_uncovered c.args.range _ c.self.invariant.reserved_records c.self.invariant.plain (grind (arith, common_steps)))).1 in
+    rw (← c.self.view_is, c.in-Reserved.is) (record { table = e.table; other = e.other; elsewhere = e.elsewhere; ready = e.ready })

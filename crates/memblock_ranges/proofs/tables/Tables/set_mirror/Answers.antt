@@ -1,15 +1,23 @@
-use Rattle.memblock_ranges.proofs.PairLaws.{pair_memory, edited_at, edited_ready}
+use Rattle.std.proofs.Common.{ap, arith}
+use Rattle.std.proofs.lemmas.Grind.{common_steps}
+use Rattle.std.specs.Option.{option_map}
+use Rattle.memblock_model.specs.Labels.{with_mirror}
+use Rattle.memblock_ranges.proofs.EditLaws.{edited, no_edit}
+use Rattle.memblock_ranges.proofs.PairLaws.{memory_edited, with_records}
 use Rattle.memblock_ranges.proofs.tables.Tables.set_mirror.Goals as goal
 
-pub invariant_of-self : goal.invariant_of-self
-invariant_of-self c = (pair_memory _ _ _ _ _ _ c.self.invariant c.set_mirror.ensures.edits c.set_mirror.ensures.records).0
+pub returns-then-range-eq0-clause-memory : goal.returns-then-range-eq0-clause-memory
+returns-then-range-eq0-clause-memory c =
+    rw (← c.self.view_is) (ap (with_records c.self.inside.store c.self.inside.heads.memory)
+    (no_edit (option_map with_mirror) c.args.range _ c.self.invariant.memory_records (grind (arith, common_steps))))
 
-pub returns-clause-reserved : goal.returns-clause-reserved
-returns-clause-reserved c =
-    rw (← c.self.view_is) (pair_memory _ _ _ _ _ _ c.self.invariant c.set_mirror.ensures.edits c.set_mirror.ensures.records).1
+pub invariant_of-self-2 : goal.invariant_of-self-2
+invariant_of-self-2 c =
+    (memory_edited _ _ _ _ _ _ c.self.invariant c.amend.new.table.table c.amend.ensures.keeps.2
+    (edited (option_map with_mirror) c.args.range _ _ c.self.invariant.memory_records (grind (arith, common_steps)) c.amend.ensures.list)).0
 
-pub returns-clause-elsewhere : goal.returns-clause-elsewhere
-returns-clause-elsewhere c = rw (← c.self.view_is) (edited_at _ _ _ _ _ c.set_mirror.ensures.edits)
-
-pub returns-clause-ready : goal.returns-clause-ready
-returns-clause-ready c = rw (← c.self.view_is) (edited_ready _ _ _ _ _ c.set_mirror.ensures.edits)
+pub returns : goal.returns
+returns c =
+    let e = (memory_edited _ _ _ _ _ _ c.self.invariant c.amend.new.table.table c.amend.ensures.keeps.2
+    (edited (option_map with_mirror) c.args.range _ _ c.self.invariant.memory_records (grind (arith, common_steps)) c.amend.ensures.list)).1 in
+    rw (← c.self.view_is) (record { memory = e.table; reserved = e.other; elsewhere = e.elsewhere; ready = e.ready })

@@ -1,0 +1,47 @@
+//! The changes of a single address's label that `run_edits` doesn't have: a node, and mirrored
+//! memory.
+ghost use Rattle.std.specs.Prelude.{◌≡◌, ◌<◌, Some};
+ghost use Rattle.std.specs.Option.{option_map};
+ghost use Rattle.memblock_model.specs.Labels.{with_node, with_mirror};
+
+use memblock_model::Label;
+use run_edits::Change;
+
+/// The change that gives a label the node, and leaves an address without a label as it is
+/// (`memblock_set_node`).
+#[derive(Clone, Copy)]
+pub struct SetNode {
+    pub node: u32,
+    ghost small: { node < 1024 },
+}
+
+impl Change<Label> for SetNode {
+    ghost makes = { λ c carried. option_map (with_node (Some c.node)) carried };
+
+    fn apply(self, carried: Option<Label>) -> Option<Label>
+        ensures { result ≡ option_map (with_node (Some self.node)) carried }
+    {
+        match carried {
+            Some(label) => Some(label.with_node(self.node)),
+            None => None,
+        }
+    }
+}
+
+/// The change that makes a label that of mirrored memory, and leaves an address without a label as
+/// it is (`memblock_mark_mirror`).
+#[derive(Clone, Copy)]
+pub struct SetMirror;
+
+impl Change<Label> for SetMirror {
+    ghost makes = { λ c carried. option_map with_mirror carried };
+
+    fn apply(self, carried: Option<Label>) -> Option<Label>
+        ensures { result ≡ option_map with_mirror carried }
+    {
+        match carried {
+            Some(label) => Some(label.with_mirror()),
+            None => None,
+        }
+    }
+}
