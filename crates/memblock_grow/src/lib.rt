@@ -28,7 +28,6 @@
 #![tactic(auto)]
 
 mod aim;
-mod edits;
 mod laws;
 mod memblock;
 mod memory;
@@ -38,6 +37,7 @@ mod request;
 mod reserved;
 mod section;
 mod stop;
+mod table_laws;
 
 pub use growth_model::{Refusal, Request};
 pub use laws::no_items_no_change;

@@ -31,7 +31,8 @@ ghost use Rattle.memblock_grow.specs.Prepared.{Prepares, PreparesBy};
 ghost use Rattle.memblock_grow.specs.Touch.{TouchesTable};
 
 use crate::aim::Aim;
-use crate::{edits, memory, places, request, reserved};
+use crate::table_laws::tables_stand;
+use crate::{memory, places, request, reserved};
 use bm_base::{Memory, Range};
 use boot_journal::{Item, Journal, Owner, Which};
 use growth_model::{Refusal, Request};
@@ -239,7 +240,8 @@ impl Memblock {
         ensures prepared { (x : ℕ) → is_ready self.new.tables.store x ≡ is_ready self.old.tables.store x }
     {
         self.journal.push(Item::Trim)?;
-        edits::trim(&mut self.tables);
+        self.tables.trim();
+        tables_stand(&self.tables);
         Ok(())
     }
 
@@ -380,7 +382,7 @@ impl Memblock {
             (24 * room_of w self.now.journal.items)
             ≡ spelled_table (records_of w self.now.journal.items) (room_of w self.now.journal.items) }
     {
-        edits::tables_stand(&self.tables);
+        tables_stand(&self.tables);
         &self.tables
     }
 

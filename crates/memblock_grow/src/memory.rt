@@ -17,14 +17,15 @@ ghost use Rattle.memblock_grow.specs.Prepared.{Prepares, PreparesWith, PreparesB
 ghost use Rattle.memblock_grow.specs.More.{more_by, HasRoom, EndsInSpace};
 
 use crate::aim::Aim;
-use crate::edits::{cover, mirror, relabel, relocate};
 use crate::more::{More, is_full};
 use crate::places::{left_place, place_between};
 use crate::reserved::{claim, free, may_claim};
+use crate::table_laws::tables_stand;
 use bm_base::Range;
 use boot_journal::{Item, Journal, Owner, Which};
 use growth_model::Refusal;
-use memblock_ranges::Tables;
+use memblock_ranges::{NO_NODE, Tables};
+use run_edits::range_end_fits;
 
 /// Frees the old place, if there is one. A refused growth is ignored; the only error is `Memory`.
 fn leave(
@@ -98,7 +99,8 @@ fn grow_memory(journal: &mut Journal, tables: &mut Tables, aim: Aim) -> Result<(
         place: place.base,
         room: 2 * head.room,
     })?;
-    relocate(tables, Which::Memory, place.base);
+    tables.relocate(Which::Memory, place.base);
+    tables_stand(tables);
     leave(journal, tables, aim, old)
 }
 
@@ -171,7 +173,9 @@ pub fn add(
 {
     make_memory_room(journal, tables, aim, &More::PiecesOf(range))?;
     journal.push(Item::Mem { range })?;
-    cover(tables, Which::Memory, range);
+    range_end_fits(&range);
+    tables.insert(Which::Memory, range, NO_NODE);
+    tables_stand(tables);
     Ok(())
 }
 
@@ -197,7 +201,9 @@ pub fn set_node(
 {
     make_memory_room(journal, tables, aim, &More::Two)?;
     journal.push(Item::Node { range, node })?;
-    relabel(tables, range, node);
+    range_end_fits(&range);
+    tables.set_node(range, node);
+    tables_stand(tables);
     Ok(())
 }
 
@@ -221,6 +227,8 @@ pub fn set_mirror(
 {
     make_memory_room(journal, tables, aim, &More::Two)?;
     journal.push(Item::Mirror { range })?;
-    mirror(tables, range);
+    range_end_fits(&range);
+    tables.set_mirror(range);
+    tables_stand(tables);
     Ok(())
 }

@@ -17,13 +17,14 @@ ghost use Rattle.memblock_grow.specs.Prepared.{Prepares};
 ghost use Rattle.memblock_grow.specs.More.{more_by, HasRoom, EndsInSpace};
 
 use crate::aim::Aim;
-use crate::edits::{cover, relocate, uncover};
 use crate::more::{More, is_full};
 use crate::places::{left_place, place_beside};
+use crate::table_laws::tables_stand;
 use bm_base::Range;
 use boot_journal::{Item, Journal, Owner, Which};
 use growth_model::Refusal;
-use memblock_ranges::Tables;
+use memblock_ranges::{NO_NODE, Tables};
+use run_edits::range_end_fits;
 
 /// Doubles the reserved table's room, at a place apart from `avoid` (`memblock_double_array`).
 /// This is one step of three items, or of two if the table was in the kernel's image. Everything
@@ -53,7 +54,8 @@ fn grow_reserved(
     let left = left_place(head);
     journal.ready(3)?;
     tables.prepare(place)?;
-    relocate(tables, Which::Reserved, place.base);
+    tables.relocate(Which::Reserved, place.base);
+    tables_stand(tables);
     journal.push_ready(Item::Grown {
         which: Which::Reserved,
         place: place.base,
@@ -63,11 +65,14 @@ fn grow_reserved(
         range: place,
         owner: Owner::Table(Which::Reserved),
     });
-    cover(tables, Which::Reserved, place);
+    tables.insert(Which::Reserved, place, NO_NODE);
+    tables_stand(tables);
     match left {
         Some(range) => {
             journal.push_ready(Item::Free { range });
-            uncover(tables, range);
+            range_end_fits(&range);
+            tables.remove(Which::Reserved, range);
+            tables_stand(tables);
             Ok(())
         }
         None => Ok(()),
@@ -174,7 +179,9 @@ pub fn claim(
 {
     make_reserved_room(journal, tables, aim, range, &More::PiecesOf(range))?;
     journal.push(Item::Claim { range, owner })?;
-    cover(tables, Which::Reserved, range);
+    range_end_fits(&range);
+    tables.insert(Which::Reserved, range, NO_NODE);
+    tables_stand(tables);
     Ok(())
 }
 
@@ -199,6 +206,8 @@ pub fn free(
 {
     make_reserved_room(journal, tables, aim, range, &More::Two)?;
     journal.push(Item::Free { range })?;
-    uncover(tables, range);
+    range_end_fits(&range);
+    tables.remove(Which::Reserved, range);
+    tables_stand(tables);
     Ok(())
 }

@@ -6,13 +6,14 @@ use Rattle.growth_model.specs.Growth.{old_frames}
 use Rattle.growth_model.proofs.PlacedMemoryLaws.{IsTaken}
 use Rattle.memblock_grow.specs.Kept.{Keeps, KeepsBytes}
 use Rattle.memblock_grow.specs.Prepared.{Prepares}
+use Rattle.growth_model.proofs.ToldLaws.{move-told}
 use Rattle.memblock_grow.proofs.WholeLaws.{keeps-then, bytes-then}
 use Rattle.memblock_grow.proofs.PreparedLaws.{with-growth, prepares-then, by-exact}
 use Rattle.memblock_grow.proofs.PlaceLaws.{knows-mirrors, left-far}
 use Rattle.memblock_grow.proofs.ReservedLaws.{room-some, frames-some, left-found, twice-is, still-bytes}
 use Rattle.memblock_grow.proofs.MemoryLaws.{IsBest, best_place-found, best_place-free, memory-none, memory-fails, memory-wants, memory-done, best_place-taken, MovedMemory, memory-apart, memory-keeps, memory-tells, memory-free, left-some}
 use Rattle.memblock_grow.proofs.memory.grow_memory.Goals as goal
-use Rattle.memblock_grow.proofs.memory.grow_memory.Goals.{In-Some, In_ok-take_place, After-relocate}
+use Rattle.memblock_grow.proofs.memory.grow_memory.Goals.{In-Some, In_ok-take_place, After-tables_stand}
 
 -- the place was found below the limit
 found : (c : In-Some) → IsBest c.args.journal.now.items c.in-Some.place
@@ -27,24 +28,25 @@ taken c known =
     c.in_ok-take_place.ensures.ends
 
 -- the state after the table has moved there
-record HasMoved (c : After-relocate) : Type 0 where
-  tables : MovedMemory c.args.journal.now.items c.args.tables.now c.take_place.new.tables c.relocate.new.tables c.place.inside.base
+record HasMoved (c : After-tables_stand) : Type 0 where
+  tables : MovedMemory c.args.journal.now.items c.args.tables.now c.take_place.new.tables c.relocate.new.self c.place.inside.base
       c.in-Some.place
   left : c.left_place-old.result
       ≡ old_frames (room_of which.Memory c.args.journal.now.items) (moved_to which.Memory c.args.journal.now.items)
   twice : 2 * c.head-head.result.room ≡ 2 * room_of which.Memory c.args.journal.now.items
-  kept : Keeps c.args.journal.now.items c.args.tables.now c.push.new.self.items c.relocate.new.tables c.args.aim
-  bytes : KeepsBytes c.args.journal.now.items c.args.tables.now c.push.new.self.items c.relocate.new.tables c.args.aim
-  prepared : Prepares c.args.journal.now.items c.push.new.self.items c.args.tables.now.store c.relocate.new.tables.store
+  kept : Keeps c.args.journal.now.items c.args.tables.now c.push.new.self.items c.relocate.new.self c.args.aim
+  bytes : KeepsBytes c.args.journal.now.items c.args.tables.now c.push.new.self.items c.relocate.new.self c.args.aim
+  prepared : Prepares c.args.journal.now.items c.push.new.self.items c.args.tables.now.store c.relocate.new.self.store
 
-moved : (c : After-relocate) → IsBest c.args.journal.now.items c.in-Some.place → HasMoved c
+moved : (c : After-tables_stand) → IsBest c.args.journal.now.items c.in-Some.place → HasMoved c
 moved c known =
-    let tables : MovedMemory c.args.journal.now.items c.args.tables.now c.take_place.new.tables c.relocate.new.tables c.place.inside.base
+    let tables : MovedMemory c.args.journal.now.items c.args.tables.now c.take_place.new.tables c.relocate.new.self c.place.inside.base
     c.in-Some.place = record {
       claimed = c.take_place.ensures.memory;
       table = c.relocate.ensures.table;
       other = c.relocate.ensures.other;
-      told = c.relocate.ensures.bytes;
+      told = move-told which.Memory c.take_place.new.tables c.relocate.new.self c.relocate.ensures.left c.relocate.ensures.elsewhere
+          c.tables_stand.ensures.memory c.tables_stand.ensures.reserved;
       here = ap (λ (e : RangeView). e.base) c.place.view_is;
       is = known.is;
       ends = subst (λ (e : RangeView). end_of e < 2 ^ 64) c.place.view_is c.place.invariant;
@@ -105,33 +107,33 @@ relocate-requires-clause-apart c =
 pub leave-requires-clause-some : goal.leave-requires-clause-some
 leave-requires-clause-some c =
     let at = goal.at.leave-requires-clause-some c in
-    left-some c.args.journal.now.items c.left_place-old.result (moved at.After-relocate (found at.In-Some)).left
+    left-some c.args.journal.now.items c.left_place-old.result (moved at.After-tables_stand (found at.In-Some)).left
 
 pub leave-requires-clause-away : goal.leave-requires-clause-away
 leave-requires-clause-away c =
     let at = goal.at.leave-requires-clause-away c in
-    let m = moved at.After-relocate (found at.In-Some) in
+    let m = moved at.After-tables_stand (found at.In-Some) in
     memory-free c.place.inside.base (2 * c.head-head.result.room) m.tables c.take_place.ensures.kept c.in_ok-push.ensures.ok
     c.take_place.ensures.bytes m.twice c.requires.kept.1 (taken at.In_ok-take_place (found at.In-Some)) c.left_place-old.result m.left
 
 pub returns-clause-ends : goal.returns-clause-ends
 returns-clause-ends c =
     let at = goal.at.returns-clause-ends c in
-    let m = moved at.After-relocate (found at.In-Some) in
+    let m = moved at.After-tables_stand (found at.In-Some) in
     memory-done (found at.In-Some) _ _ _ c.place.inside.base (2 * c.head-head.result.room) c.left_place-old.result _ m.tables.here m.twice
     m.left c.in_ok-take_place.ensures.ends c.in_ok-push.ensures.ok c.leave.ensures.ends
 
 pub returns-clause-kept : goal.returns-clause-kept
 returns-clause-kept c =
-    let at = goal.at.returns-clause-kept c in keeps-then (moved at.After-relocate (found at.In-Some)).kept c.leave.ensures.kept
+    let at = goal.at.returns-clause-kept c in keeps-then (moved at.After-tables_stand (found at.In-Some)).kept c.leave.ensures.kept
 
 pub returns-clause-bytes : goal.returns-clause-bytes
 returns-clause-bytes c =
     let at = goal.at.returns-clause-bytes c in
-    let m = moved at.After-relocate (found at.In-Some) in
+    let m = moved at.After-tables_stand (found at.In-Some) in
     bytes-then c.leave.new.tables m.kept m.bytes c.leave.ensures.bytes
 
 pub returns-clause-prepared : goal.returns-clause-prepared
 returns-clause-prepared c =
     let at = goal.at.returns-clause-prepared c in
-    by-exact c.leave.result (prepares-then (moved at.After-relocate (found at.In-Some)).prepared c.leave.ensures.prepared)
+    by-exact c.leave.result (prepares-then (moved at.After-tables_stand (found at.In-Some)).prepared c.leave.ensures.prepared)

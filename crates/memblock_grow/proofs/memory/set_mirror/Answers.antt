@@ -2,6 +2,7 @@ use Rattle.std.proofs.Common.{refl}
 use Rattle.memblock_model.specs.declared.owner.Which.TheVariants as which
 use Rattle.memblock_model.specs.declared.item.Item.TheVariants as item
 use Rattle.growth_model.specs.Growth.{memory_growth, two, grown, mirrored}
+use Rattle.growth_model.proofs.ToldLaws.{edit-told}
 use Rattle.memblock_grow.proofs.KeptLaws.{kept-mirror}
 use Rattle.memblock_grow.proofs.PreparedLaws.{prepares-item, by-item}
 use Rattle.memblock_grow.proofs.ChangeLaws.{change-fails, change-wants, change-done, change-bytes}
@@ -32,15 +33,16 @@ returns-clause-ends c =
 
 pub returns-clause-kept : goal.returns-clause-kept
 returns-clause-kept c = λ kernel kept.
-    rw c.in_ok-push.ensures.ok (kept-mirror (c.make_memory_room.ensures.kept kernel kept) c.mirror.new.tables c.args.range
-    c.mirror.ensures.within c.in_ok-make_memory_room.ensures.room c.mirror.ensures.memory c.mirror.ensures.reserved)
+    rw c.in_ok-push.ensures.ok (kept-mirror (c.make_memory_room.ensures.kept kernel kept) c.set_mirror.new.self c.args.range
+    c.range_end_fits.ensures c.in_ok-make_memory_room.ensures.room c.set_mirror.ensures.memory c.set_mirror.ensures.reserved)
 
 pub returns-clause-bytes : goal.returns-clause-bytes
 returns-clause-bytes c =
     change-bytes (item.Mirror c.args.range) c.make_memory_room.new.tables c.in_ok-push.ensures.ok (λ kernel x. refl)
-    (returns-clause-kept c) c.mirror.ensures.bytes c.make_memory_room.ensures.bytes
+    (returns-clause-kept c) (edit-told which.Memory c.make_memory_room.new.tables c.set_mirror.new.self _ c.set_mirror.ensures.memory c.set_mirror.ensures.elsewhere
+    c.tables_stand.ensures.memory c.tables_stand.ensures.reserved) c.make_memory_room.ensures.bytes
 
 pub returns-clause-prepared : goal.returns-clause-prepared
 returns-clause-prepared c =
     prepares-item (item.Mirror c.args.range) c.in_ok-make_memory_room.ensures.prepared c.in_ok-push.ensures.ok (λ x. refl)
-    c.mirror.ensures.ready
+    c.set_mirror.ensures.ready

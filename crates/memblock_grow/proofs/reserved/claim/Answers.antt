@@ -2,6 +2,7 @@ use Rattle.std.proofs.Common.{refl}
 use Rattle.memblock_model.specs.declared.owner.Which.TheVariants as which
 use Rattle.memblock_model.specs.declared.item.Item.TheVariants as item
 use Rattle.growth_model.specs.Growth.{reserved_growth, new_in, grown, claimed}
+use Rattle.growth_model.proofs.ToldLaws.{edit-told}
 use Rattle.memblock_grow.proofs.KeptLaws.{kept-claim}
 use Rattle.memblock_grow.proofs.PreparedLaws.{prepares-item}
 use Rattle.memblock_grow.proofs.ChangeLaws.{change-fails, change-wants, change-done, change-bytes}
@@ -28,15 +29,16 @@ returns-clause-ends c =
 
 pub returns-clause-kept : goal.returns-clause-kept
 returns-clause-kept c = λ kernel kept.
-    rw c.in_ok-push.ensures.ok (kept-claim (c.make_reserved_room.ensures.kept kernel kept) c.cover.new.tables c.args.range c.args.owner
-    c.cover.ensures.within c.in_ok-make_reserved_room.ensures.room c.cover.ensures.table c.cover.ensures.other)
+    rw c.in_ok-push.ensures.ok (kept-claim (c.make_reserved_room.ensures.kept kernel kept) c.insert.new.self c.args.range c.args.owner
+    c.range_end_fits.ensures c.in_ok-make_reserved_room.ensures.room c.insert.ensures.table c.insert.ensures.other)
 
 pub returns-clause-bytes : goal.returns-clause-bytes
 returns-clause-bytes c =
     change-bytes (item.Claim c.args.range c.args.owner) c.make_reserved_room.new.tables c.in_ok-push.ensures.ok (λ kernel x. refl)
-    (returns-clause-kept c) c.cover.ensures.bytes c.make_reserved_room.ensures.bytes
+    (returns-clause-kept c) (edit-told which.Reserved c.make_reserved_room.new.tables c.insert.new.self _ c.insert.ensures.table c.insert.ensures.elsewhere
+    c.tables_stand.ensures.memory c.tables_stand.ensures.reserved) c.make_reserved_room.ensures.bytes
 
 pub returns-clause-prepared : goal.returns-clause-prepared
 returns-clause-prepared c =
     prepares-item (item.Claim c.args.range c.args.owner) c.make_reserved_room.ensures.prepared c.in_ok-push.ensures.ok (λ x. refl)
-    c.cover.ensures.ready
+    c.insert.ensures.ready

@@ -2,6 +2,7 @@ use Rattle.std.proofs.Common.{refl}
 use Rattle.memblock_model.specs.declared.owner.Which.TheVariants as which
 use Rattle.memblock_model.specs.declared.item.Item.TheVariants as item
 use Rattle.growth_model.specs.Growth.{reserved_growth, two, grown, freed}
+use Rattle.growth_model.proofs.ToldLaws.{edit-told}
 use Rattle.memblock_grow.proofs.KeptLaws.{kept-free}
 use Rattle.memblock_grow.proofs.PreparedLaws.{prepares-item}
 use Rattle.memblock_grow.proofs.ChangeLaws.{change-fails, change-wants, change-done, change-bytes}
@@ -27,15 +28,16 @@ returns-clause-ends c =
 
 pub returns-clause-kept : goal.returns-clause-kept
 returns-clause-kept c = λ kernel kept.
-    rw c.in_ok-push.ensures.ok (kept-free (c.make_reserved_room.ensures.kept kernel kept) c.uncover.new.tables c.args.range
-    c.uncover.ensures.within c.in_ok-make_reserved_room.ensures.room c.uncover.ensures.reserved c.uncover.ensures.memory)
+    rw c.in_ok-push.ensures.ok (kept-free (c.make_reserved_room.ensures.kept kernel kept) c.remove.new.self c.args.range
+    c.range_end_fits.ensures c.in_ok-make_reserved_room.ensures.room c.remove.ensures.table c.remove.ensures.other)
 
 pub returns-clause-bytes : goal.returns-clause-bytes
 returns-clause-bytes c =
     change-bytes (item.Free c.args.range) c.make_reserved_room.new.tables c.in_ok-push.ensures.ok (λ kernel x. refl)
-    (returns-clause-kept c) c.uncover.ensures.bytes c.make_reserved_room.ensures.bytes
+    (returns-clause-kept c) (edit-told which.Reserved c.make_reserved_room.new.tables c.remove.new.self _ c.remove.ensures.table c.remove.ensures.elsewhere
+    c.tables_stand.ensures.memory c.tables_stand.ensures.reserved) c.make_reserved_room.ensures.bytes
 
 pub returns-clause-prepared : goal.returns-clause-prepared
 returns-clause-prepared c =
     prepares-item (item.Free c.args.range) c.make_reserved_room.ensures.prepared c.in_ok-push.ensures.ok (λ x. refl)
-    c.uncover.ensures.ready
+    c.remove.ensures.ready

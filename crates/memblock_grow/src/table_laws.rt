@@ -1,0 +1,14 @@
+//! A law of the tables, from which a growth knows every byte after an edit.
+ghost use Rattle.memblock_ranges.specs.Tables.{StandsIn};
+
+use memblock_model::Which;
+use memblock_ranges::Tables;
+
+/// Law: the bytes of both tables are the encoding of their records.
+pub fn tables_stand(tables: &Tables)
+    ensures memory { StandsIn tables.now.memory tables.now.store }
+    ensures reserved { StandsIn tables.now.reserved tables.now.store }
+{
+    tables.head(Which::Memory);
+    tables.head(Which::Reserved);
+}
