@@ -3,7 +3,6 @@
 
 ghost use Rattle.std.specs.Prelude.{◌≡◌, ◌<◌, IfErr, IfOk, IfSome, IsErr, IsSomeAnd, Some};
 ghost use Rattle.boot_model.specs.View.{inputs_view};
-ghost use Rattle.program_end.specs.declared.failure.NoResult.TheVariants as errors;
 ghost use Rattle.program_end.specs.Causes.{IsOfFile};
 ghost use Rattle.program_end.specs.Fetches.{Fetches};
 ghost use Rattle.boot_inputs.specs.Input.{place};
@@ -36,21 +35,11 @@ pub fn read_given<F: Files>(
         Fetches place inputs_view result (given_by held (wanted_view wanted.now))) }
     ensures cause { IfErr result (IsOfFile (F.faults files.old) (F.faults files.new) (wanted_view wanted.now).named) }
 {
-    let begun = begun_by(alloc, wanted)?;
+    let Ok(begun) = wanted.begun(alloc) else {
+        return Err(NoInputs::Memory);
+    };
     let inputs = read_inputs::<F, Wanted<'_>>(alloc, files, wanted, begun)?;
     match with_made(alloc, inputs, wanted.made) {
-        Ok(inputs) => Ok(inputs),
-        Err(_) => Err(NoInputs::Memory),
-    }
-}
-
-/// Returns the inputs that the command line itself gives, to which the files add. Fails only if
-/// out of memory.
-fn begun_by(alloc: Global, wanted: &Wanted<'_>) -> Result<Inputs, NoInputs>
-    ensures begun { IfOk result (λ inputs. inputs_view inputs ≡ (wanted_view wanted.now).begun) }
-    ensures only { IfErr result (λ error. error ≡ errors.Memory) }
-{
-    match wanted.begun(alloc) {
         Ok(inputs) => Ok(inputs),
         Err(_) => Err(NoInputs::Memory),
     }

@@ -7,11 +7,10 @@ use Rattle.program_run.proofs.given.read_given.Goals as goal
 
 pub returns-in_err-inputs-clause-fetches : goal.returns-in_err-inputs-clause-fetches
 returns-in_err-inputs-clause-fetches g c =
-    given_none inputs_view c.from_residual-in_err-inputs.result c.in_err-inputs.field-0.0 (g.F.Files.holds c.args.files.now)
-    (wanted_view c.args.wanted.now) c.from_residual-in_err-inputs.ensures.1
-    (rw c.in_ok-begun.ensures.begun at c.in_err-inputs.ensures.fetches)
+    given_none inputs_view c.from_residual.result c.in_err-inputs.field-0.0 (g.F.Files.holds c.args.files.now)
+    (wanted_view c.args.wanted.now) c.from_residual.ensures.1 (rw c.in-Ok.ensures at c.in_err-inputs.ensures.fetches)
 
-pub returns-in-Ok-clause-fetches : goal.returns-in-Ok-clause-fetches
-returns-in-Ok-clause-fetches g c =
+pub returns-in-Ok-with_made-clause-fetches : goal.returns-in-Ok-with_made-clause-fetches
+returns-in-Ok-with_made-clause-fetches g c =
     given_some (g.F.Files.holds c.args.files.now) (wanted_view c.args.wanted.now) (inputs_view c.in_ok-inputs.inputs)
-    (inputs_view c.in-Ok.inputs) c.in-Ok.ensures.made (rw c.in_ok-begun.ensures.begun at c.in_ok-inputs.ensures.fetches)
+    (inputs_view c.in-Ok-with_made.inputs) c.in-Ok-with_made.ensures.made (rw c.in-Ok.ensures at c.in_ok-inputs.ensures.fetches)
