@@ -135,8 +135,8 @@ are_between_if : (from until : ℕ) (kind : Option ℕ) → until < 2 ^ 64 → I
 are_between_if from until None space type = tt
 are_between_if from until (Some kind) space type = are_between from until kind space type.0 type.1
 
-type_inside : (meant instead : Option ℕ) (kind : ℕ) → IsType instead → 0 < kind → kind < 2 ^ 32 → IsType (left_inside meant instead kind)
-type_inside meant instead kind type some small =
+inside_is_type : (meant instead : Option ℕ) (kind : ℕ) → IsType instead → 0 < kind → kind < 2 ^ 32 → IsType (left_inside meant instead kind)
+inside_is_type meant instead kind type some small =
     elim (cases_Bool (is_meant meant kind)) as (λ _. IsType (left_inside meant instead kind)) [
       | inl one ↦ rw one type
       | inr other ↦ rw other (some, small)
@@ -148,7 +148,7 @@ are_cut range meant instead [] type claims = tt
 are_cut range meant instead (r ∷ rs) type claims =
     are_append _ _ (are_append _ _ (are_append _ _ (are_between r.base (min range.base (run_end r)) r.value (omega arith) claims.2 claims.3)
     (are_between_if (max range.base r.base) (min (end_of range) (run_end r)) (left_inside meant instead r.value) (omega arith)
-    (type_inside meant instead r.value type claims.2 claims.3)))
+    (inside_is_type meant instead r.value type claims.2 claims.3)))
     (are_between (max (end_of range) r.base) (run_end r) r.value (omega arith) claims.2 claims.3))
     (are_cut range meant instead rs type claims.4)
 
