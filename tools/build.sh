@@ -25,8 +25,5 @@ if ! (cd "$top/crates/$crate" && exec "$rt" run -- "$@") >"$log" 2>&1; then
 	exit 1
 fi
 cp "$top/crates/$crate/out/$crate" "$program"
-# what --version of the installed program tells
-commit=$(git -C "$top" rev-parse --short=12 HEAD 2>/dev/null) || commit=unknown
-[ -z "$(git -C "$top" status --porcelain -- crates 2>/dev/null)" ] || commit="$commit, changed"
-kit=$(head -n 1 "$(dirname "$("$rt" doc)")/KIT-ID" 2>/dev/null) || kit=
-echo "commit $commit; kit ${kit:-unknown}" >"$program.built"
+# what --version of the installed program prints
+"$top/tools/built.sh" >"$program.built"

@@ -4,7 +4,7 @@
 # why. Nothing here is proved.
 # What runs on every call comes first and starts no process besides the program's.
 program=${0%/*}/../libexec/bootmem/@PROGRAM@
-[ -x "$program" ] || program=@PREFIX@/libexec/bootmem/@PROGRAM@
+[ -x "$program" ] || program="@PREFIX@/libexec/bootmem/@PROGRAM@"
 case ${1-} in
 --help | -h | --version) ;;
 *)
@@ -41,7 +41,7 @@ esac
 case ${1-} in
 --help | -h)
 	help=${0%/*}/../share/bootmem/@PROGRAM@.help
-	[ -r "$help" ] || help=@PREFIX@/share/bootmem/@PROGRAM@.help
+	[ -r "$help" ] || help="@PREFIX@/share/bootmem/@PROGRAM@.help"
 	exec cat "$help"
 	;;
 --version)

@@ -55,7 +55,7 @@ if [ -f "$root/usr/lib/libbootmem.a" ]; then
 	mv "$root/usr/include" "$dev/usr"
 	mv "$root/usr/share/bootmem/bindings" "$dev/usr/share/bootmem"
 	strip --strip-unneeded "$dev/usr/lib/libbootmem.so.$version"
-	cp "$doc/copyright" "$doc/changelog.gz" "$dev/usr/share/doc/bootmem-dev"
+	cp "$doc/copyright" "$doc/changelog.gz" "$doc/BUILD" "$dev/usr/share/doc/bootmem-dev"
 	package "$dev" bootmem-dev "libc6" <<END
 libbootmem: the memory set-up of x86-64 Linux 6.1 from C
  The program bootmem as one call over bytes in memory, proved as it is: a static

@@ -5,7 +5,7 @@
 #   PREFIX/bin                bootmem and bootaudit, short scripts over the programs (tools/command.sh), the tools that are there, and tools/collect.sh as bootmem-collect
 #   PREFIX/libexec/bootmem    the proved programs, as they were built, and explain, which the scripts start after a refusal
 #   MANDIR/man1, MANDIR/man5  the manual pages; those of the tools are made of their --help, where they run
-#   PREFIX/share/doc/bootmem  the documents
+#   PREFIX/share/doc/bootmem  the documents, and BUILD: the commit and the kit of programs and library
 #   PREFIX/lib/python3*/*-packages/bootmem_tools  the Python package of the tools: in the folder there that python3 looks into, if it
 #                             looks into one, else in lib/python3/dist-packages, which the installed tools name
 #   PREFIX/share/bootmem      the machines of examples/, words.txt for the completions, and what --help of the programs prints
@@ -56,18 +56,33 @@ put() {
 	chmod 755 "$2"
 }
 
-# programs PREFIX: the proved programs as they are, and the scripts that hand them their words
+# built NAME: the commit and the kit that a program, or the library, was built with
+built() {
+	cat "$1.built" 2>/dev/null || echo "commit and kit unknown"
+}
+
+# build_file: the version, and the commit and the kit of all that was built
+build_file() {
+	echo "bootmem $VERSION"
+	for name in ${PROGRAMS:-bootmem bootaudit}; do
+		echo "$name: $(built "$name")"
+	done
+	[ ! -f libbootmem.a ] || echo "libbootmem: $(built libbootmem)"
+}
+
+# programs PREFIX: the proved programs as they are, the scripts that hand them their words, and BUILD
 programs() {
 	install -d "$libexec"
 	for program in ${PROGRAMS:-bootmem bootaudit}; do
 		install -m 755 "$program" "$libexec"
-		built="commit and kit unknown"
-		[ ! -f "$program.built" ] || built=$(cat "$program.built")
-		sed "s|@PROGRAM@|$program|g; s|@PREFIX@|$1|g; s|@VERSION@|$VERSION|; s|@BUILT@|$built|" tools/command.sh >"$bin/$program"
+		sed "s|@PROGRAM@|$program|g; s|@PREFIX@|$1|g; s|@VERSION@|$VERSION|; s|@BUILT@|$(built "$program")|" \
+			tools/command.sh >"$bin/$program"
 		chmod 755 "$bin/$program"
 		install -m 644 "tools/$program.help" "$share/bootmem"
 	done
 	put tools/bootmem-explain "$libexec/explain" "/../../$(packages "$1")"
+	build_file >"$share/doc/bootmem/BUILD"
+	chmod 644 "$share/doc/bootmem/BUILD"
 }
 
 # tools PREFIX: the tools, and the package that they are made of

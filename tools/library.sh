@@ -1,6 +1,7 @@
 #!/bin/sh
 # library.sh VERSION [gate]: proves bootmem_c and the crates below it, and makes libbootmem.a and libbootmem.so.VERSION at the top. The
 # archive has one object: the crate's, with the kit's three lines over malloc, realloc and free. Of its names the exports alone are seen.
+# libbootmem.built has the commit and the kit.
 # With "gate" the crates below are those that `rt ci` proved and left in this clone, so that bootmem_c alone is proved once more; where one
 # isn't there, the status is 3.
 set -eu
@@ -62,3 +63,4 @@ ar rcs "$top/libbootmem.a" "$work/bootmem.o"
 for name in libbootmem.so.0 libbootmem.so; do
 	ln -sf "libbootmem.so.$version" "$top/$name"
 done
+"$top/tools/built.sh" >"$top/libbootmem.built"
