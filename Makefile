@@ -15,7 +15,9 @@
 #                             (DESTDIR and MANDIR are honoured)
 #   make install PROGRAMS=bootmem  the same with one of the two programs alone
 #   make uninstall PREFIX=DIR removes what 'make install' put there
-#   make deb                  makes a Debian package of what 'make install' installs (needs dpkg-deb)
+#   make dist                 makes an archive of what 'make install' installs, with a script that installs it without the
+#                             toolchain, for other machines; like 'make deb', it stops if sources are newer than what was built
+#   make deb                  makes Debian packages of what 'make install' installs (needs dpkg-deb)
 #   make clean                removes what was built
 #   make help                 prints these lines
 #
@@ -44,7 +46,8 @@ PROGRAMS := bootmem bootaudit
 
 LIBRARY := libbootmem.a
 
-.PHONY: all lib run try test check install uninstall deb clean help
+.PHONY: all lib run try test check install uninstall dist deb clean help
+.PHONY: current
 
 all: $(PROGRAMS)
 
@@ -87,12 +90,27 @@ install:
 uninstall:
 	@tools/install.sh uninstall "$(DESTDIR)" "$(PREFIX)" "$(MANDIR)"
 
-deb:
+dist: current
+	@tools/dist.sh "$(VERSION)" "$(MAKE)"
+
+deb: current
 	@tools/deb.sh "$(VERSION)" "$(MAKE)"
 
+# what is handed on was built from these sources, and names the commit and the kit
+current:
+	@for file in $(PROGRAMS) $(wildcard $(LIBRARY)); do \
+		built=$${file%.a}.built; \
+		if [ ! -f $$file ]; then \
+			echo "$$file: there is no ./$$file to pack: 'make $$file' proves and builds it, which takes a while" >&2; exit 1; \
+		elif ! $(MAKE) -q --no-print-directory $$file >/dev/null 2>&1; then \
+			echo "$$file: some sources are newer than ./$$file: 'make $$file' builds it anew" >&2; exit 1; \
+		elif [ ! -f $$built ] || [ -n "$$(find $$file -newer $$built)" ]; then \
+			echo "$$file: no ./$$built names its commit and kit: 'make -B $$file' builds both anew" >&2; exit 1; fi; \
+	done
+
 clean:
-	rm -f $(PROGRAMS) $(PROGRAMS:=.built) libbootmem.* bootmem_*.deb bootmem-dev_*.deb test.log
+	rm -f $(PROGRAMS) $(PROGRAMS:=.built) libbootmem.* bootmem-*.tar.gz bootmem_*.deb bootmem-dev_*.deb test.log
 	rm -rf crates/*/out
 
 help:
-	@sed -n '3,22s/^# *//p' Makefile | sed '/^$$/d; s/^/  /'
+	@sed -n '3,24s/^# *//p' Makefile | sed '/^$$/d; s/^/  /'
