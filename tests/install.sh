@@ -105,10 +105,17 @@ for page in $pages; do
 		there "$name" "$share/bootmem/${machine%.}"
 	done
 	for command in $(grep -o 'bootmem-[a-z][a-z]*\|zp-from-log' "$work/page" | sort -u); do
-		there "$name" "$root/bin/$command"
+		case $command in
+		bootmem-dev) ok "$name: the package $command" grep -q "package .* $command " tools/deb.sh ;;
+		*) there "$name" "$root/bin/$command" ;;
+		esac
 	done
 	for place in $(grep -o 'share/[a-z/]*' "$work/page" | sort -u); do
-		there "$name" "$root/$place"
+		case $place in
+		# these are installed with the library, which this tree doesn't have yet
+		share/bootmem/bindings/*) there "$name" "${place#share/bootmem/}" ;;
+		*) there "$name" "$root/$place" ;;
+		esac
 	done
 	for link in $(grep -o '](\([^)#]*\)' "$work/page" | sed 's/^](//' | grep -v '^https*:' | sort -u); do
 		there "$name" "$share/doc/bootmem/$link"
