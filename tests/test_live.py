@@ -167,6 +167,15 @@ class Live(Case):
         self.check("kept by EFI", found(folder, 0), ["known    iomem 0x000000003fe00000-0x000000003fe03fff (16 KiB): usable by bootmem, no System "
                                                      "RAM here: boot services' data that the kernel keeps"])
         write(os.path.join(folder, "efi.bin"), inputs.efi_map([(4, 0x3FD00000, 0x110, 0)]))
+        hole = text_of(os.path.join(folder, "iomem"))
+        for kind, first, end, here in ((4, 0x3FD00000, 0x3FE10000, "known  "), (4, 0x3FE00000, 0x3FE04000, "known  "),
+                                       (3, 0x3FD00000, 0x3FE10000, "differs"), (4, 0x3FD00000, 0x3FE03000, "differs")):
+            write(os.path.join(folder, "efi.bin"), inputs.efi_map([(kind, first, (end - first) // 4096, 0)]))
+            write(os.path.join(folder, "iomem"), hole.replace("3fe04000-3ffdefff", "3fe00000-3fe03fff : Reserved\n3fe04000-3ffdefff"))
+            self.check(f"reserved by iomem, {kind} {first:#x}-{end:#x}", [text[:7] for text in found(folder, int(here == "differs"))], [here])
+        write(os.path.join(folder, "iomem"), hole)
+        write(os.path.join(folder, "efi.bin"), inputs.efi_map([(4, 0x3FD00000, 0x110, 0)]))
+        self.check("no RAM by iomem, and not reserved", [text[:7] for text in found(folder, 1)], ["differs"])
         write(self.path("log"), b"[    0.000000] e820: update [mem 0x3fe00000-0x3fe03fff] usable ==> reserved\n")
         self.check("kept by EFI, by a log", [text[:7] for text in found(folder, 0, "--log", self.path("log"))], ["known  "])
         for descriptor in ((4, 0x3FE00000, 4, 0), (6, 0x3FE00000, 4, 1 << 63), (4, 0x3FE00000, 3, 1 << 63)):

@@ -152,8 +152,9 @@ class Shown(NamedTuple):
 
 def kept_data(folder: str, reserved: Sequence[ranges.Range] = ()) -> list[ranges.Range]:
     """Returns boot services' data with the attribute of runtime services, by the folder's EFI
-    memory map: what the kernel keeps of it has this attribute (efi_arch_mem_reserve). In a map
-    from before it kept any, it is what a log has as RAM that became `reserved`."""
+    memory map: what the kernel keeps of it has this attribute (efi_arch_mem_reserve). A map that
+    the kernel listed before (efi=debug) lacks the attribute. There it is what became `reserved`,
+    by a log or by /proc/iomem, inside one descriptor of such data."""
     path = os.path.join(folder, "efi.bin")
     if not os.path.isfile(path):
         return []
@@ -402,6 +403,7 @@ def compare(given: argparse.Namespace, folder: str, words: Sequence[str], texts:
         usable = [(entry.first, entry.last) for entry in reports.spans("map", texts["map"]) if entry.fields["type"] in reports.MEMORY]
         made = ranges_outside(*image, usable) if image else []
         reserved = [(first, end - 1) for first, end in given.settings.told.reserved]
+        reserved += [(one.first, one.last) for one in resources if one.name == "Reserved"]
         yield from compare_ram(resources, reports.spans("map", texts["map"]), kept_data(folder, reserved))
         yield compare_crash(resources, texts["crash"], machine.is_uefi(os.path.join(folder, "zp.bin")))
     if zoneinfo is None:
