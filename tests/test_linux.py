@@ -286,6 +286,75 @@ class Linux(Case):
                 self.check(f"{name}, its log: {owners[0]}", boot.places(*owners), wanted)
         self.check("linux: claims by logs", all(counts[rule] for rule in LOGGED), True)
 
+    def test_owned(self):
+        """A running kernel's map has the attribute of runtime services for boot services that hold
+        an earlier claim: these stay free. A kept part of a descriptor, a descriptor of one frame
+        and one outside memory are claimed, as are all if the map has only such."""
+        name, log = "ovmf-2g-tpm", text_of(example("ovmf-2g-tpm", "log"))
+        theirs = re.findall(rf"memblock_reserve: \[(0x\w+)-(0x\w+)\] {BOOT_SERVICES}\+", log)
+        map_data = bytes_of(example(name, "efi.bin"))
+        words = [word for word in words_of(name) if word not in ("--efi", "efi.bin")]
+        # the descriptor of EFI's memory attributes, which the kernel leaves free
+        first, last, runtime = 0x7DC20000, 0x7DC29FFF, 1 << 63
+        for what, end, over in (("whole", last + 1, 0), ("a part", last + 1 - FRAME, 1)):
+            more = inputs.efi_map([(4, first, (end - first) // FRAME, runtime | 0xF)])[8:]
+            write(self.path("efi"), map_data + more)
+            options = ["--explain", "--report", "crash", "--efi", self.path("efi")]
+            _, out, err = tool("bootmem-linux", *options, *words, folder=example(name))
+            ours = re.findall(rf"claim: (0x\w+)-(0x\w+) .*\({BOOT_SERVICES}\)", err)
+            lacking = len(set(ours) - set(theirs))
+            self.check(f"owned, {what}: claims that the log lacks", lacking, over)
+            self.check(f"owned, {what}: the log's claims", set(theirs) <= set(ours), True)
+            said = f"{first:#018x}-{last:#018x} stay free" in err
+            self.check(f"owned, {what}: it is said", said, not over)
+            self.check(f"owned, {what}: the crash area", "0x0000000073000000.." in out, True)
+        for what, descriptors, lacks in (
+            ("a kept part alone", [(4, first, 9, runtime)], True),
+            ("boot services", [(4, first, 9, runtime), (3, MIB, 1, 0)], False),
+        ):
+            write(self.path("efi"), inputs.efi_map(descriptors))
+            options = ["--report", "crash", "--efi", self.path("efi")]
+            _, _, err = tool("bootmem-linux", *options, *words, folder=example(name))
+            said = "no boot services but those that a kernel keeps" in err
+            self.check(f"owned, {what}", said, lacks)
+        kept, rest, code = (4, 0x3F0000, 3, runtime), (4, 0x3F3000, 5, 0), (3, 0x3EF000, 1, 0)
+        for what, descriptors, owned in (
+            ("an earlier claim", [kept, code], [(0x3F0000, 0x3F3000)]),
+            ("code, too", [(3, *kept[1:]), rest], [(0x3F0000, 0x3F3000)]),
+            ("a part of what ends above it", [kept, rest], []),
+            ("a part of what begins below it", [(4, 0x3EF000, 1, 0), kept], []),
+            ("a part of one around it", [(4, 0x3EF000, 9, 0), kept], []),
+            ("listed twice", [(*kept[:3], 0), kept], [(0x3F0000, 0x3F3000)]),
+            ("one frame", [(4, 0x3F0000, 1, runtime), code], []),
+            ("outside memory in part", [(4, 0x7FFE000, 3, runtime), code], []),
+            ("nothing else", [kept], []),
+            ("no boot services", [(6, *kept[1:]), code], []),
+        ):
+            write(self.path("efi"), inputs.efi_map(descriptors))
+            machine = self.machine_with(linux_claims.read_descriptors(bytes_of(self.path("efi"))))
+            self.check(f"owned: {what}", linux_claims.owned_services(machine), owned)
+            claimed = [(one.first, one.end) for one in linux_claims.boot_services(machine, [])]
+            self.check(f"claimed: {what}", set(owned) & set(claimed), set())
+
+    def machine_with(self, descriptors):
+        """A machine of 128 MiB with an EFI memory map."""
+        memory, image = [(MIB, 128 * MIB)], (16 * MIB, 48 * MIB)
+        return linux_claims.Machine(
+            bytes(4096),
+            "",
+            memory,
+            128 * MIB,
+            [],
+            image,
+            linux_claims.BRK,
+            descriptors,
+            0,
+            PMD,
+            False,
+            0,
+            linux_log.NOTHING,
+        )
+
     def test_alone(self):
         """With UEFI firmware the crash area of the program alone lies elsewhere."""
         words = ["--report", "crash", *boot_words("ovmf-4g-numa2")]

@@ -578,16 +578,25 @@ class Boot:
                 ),
             )
         elif not any(
-            one.kind in linux_claims.BOOT_SERVICES
+            one.kind in linux_claims.BOOT_SERVICES and not one.attributes & linux_claims.RUNTIME
             for one in linux_claims.read_descriptors(self.files["efi"])
         ):
             self.say(
                 "unknown",
                 (
-                    "EFI's memory map has no boot services, so none of their memory is"
-                    " claimed; the log of a boot with efi=debug has it"
+                    "EFI's memory map has no boot services but those that a kernel keeps, so the"
+                    " rest isn't claimed; the log of a boot with efi=debug has it"
                 ),
             )
+        for first, end in linux_claims.owned_services(self.machine()):
+            if not any(first < one.end and one.first < end for one in self.claims):
+                self.say(
+                    "assumed",
+                    (
+                        f"boot services {ranges.range_text(first, end - 1)} stay free: by EFI's"
+                        " memory map a part, whose place it doesn't have, was claimed before"
+                    ),
+                )
         self.say(
             "unknown",
             (

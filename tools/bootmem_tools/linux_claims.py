@@ -29,7 +29,7 @@ DESCRIPTOR, INFO = (
 SETUP_DATA, EFI_INFO, LOAD_FLAGS = 0x250, 0x1C0, 0x211  # places in the zero page
 KASLR_FLAG = 2
 BOOT_SERVICES, LOADER_DATA, CONVENTIONAL = (3, 4), 2, 7  # types of EFI descriptors
-SPECIFIC_PURPOSE = 0x40000  # EFI_MEMORY_SP
+SPECIFIC_PURPOSE, RUNTIME = 0x40000, 1 << 63  # EFI_MEMORY_SP, EFI_MEMORY_RUNTIME
 
 
 class Claim(NamedTuple):
@@ -162,15 +162,49 @@ def efi_tables(machine: Machine) -> Iterator[Claim]:
 
 def boot_services(machine: Machine, held: Sequence[Span]) -> Iterator[Claim]:
     """Yields each descriptor of boot services of which nothing is claimed yet."""
-    taken = Free([(0, 1 << 64)])
+    taken, owned = Free([(0, 1 << 64)]), owned_services(machine)
     for first, end in held:
         taken.claim(first, end)
     for one in machine.efi:
-        if one.kind in BOOT_SERVICES and is_within(taken.spans, one.first, one.end):
+        if one.kind not in BOOT_SERVICES or (one.first, one.end) in owned:
+            continue
+        if is_within(taken.spans, one.first, one.end):
             taken.claim(one.first, one.end)
             yield Claim(
                 one.first, one.end, f"boot services, type {one.kind}", "efi_reserve_boot_services"
             )
+
+
+def owned_services(machine: Machine) -> list[Span]:
+    """Returns the descriptors of boot services that hold a claim from before, by the map of a
+    running kernel: it gives them the attribute of runtime services and leaves them free but for
+    that claim (efi_reserve_boot_services).
+
+    A part of a descriptor that a driver keeps has the attribute, too (efi_arch_mem_reserve). It
+    overlaps or touches the rest of its descriptor, which lacks it. Without such rests in the map
+    the two can't be told apart, and none is returned. Of a descriptor of one frame nothing stays
+    free."""
+    services = [one for one in machine.efi if one.kind in BOOT_SERVICES]
+    others = [one for one in services if not one.attributes & RUNTIME]
+    whole = [
+        one
+        for one in services
+        if one.attributes & RUNTIME
+        and one.end - one.first > FRAME
+        and is_within(machine.memory, one.first, one.end)
+        and not any(is_rest(other, one) for other in others)
+    ]
+    return [(one.first, one.end) for one in whole] if others else []
+
+
+def is_rest(other: Descriptor, part: Descriptor) -> bool:
+    """Tells whether a descriptor could have a part, or be the rest of what the part was in."""
+    return (
+        other.kind == part.kind
+        and other.first <= part.end
+        and part.first <= other.end
+        and (other.first, other.end) != (part.first, part.end)
+    )
 
 
 def log_sizes(line: str) -> list[int]:
