@@ -22,7 +22,8 @@ that bootmem reads:
   srat.bin     the ACPI table SRAT, /sys/firmware/acpi/tables/SRAT (root alone)
   efi.bin      EFI's memory map, made from /sys/firmware/efi/runtime-map where
                one is there (root alone): its descriptors of runtime services,
-               since the kernel shows no others
+               and those of boot services if the kernel was booted with
+               efi=debug, since it shows no others
   kernel       the place of the kernel's image as --kernel takes it: Kernel code
                to Kernel bss of /proc/iomem, in whole frames (root alone)
 
