@@ -58,7 +58,7 @@ LOGGED = (
     "acpi_reserve_initial_tables",
     BOOT_SERVICES,
 )
-# Who makes the claims of the kernels' logs, from the first dump of memblock up to the sections:
+# Who makes the claims of the kernels' logs, from the first dump of memblock to sparse_init's end:
 # the kernel function by whose rule bootmem-linux makes one without a log, the owner by whom bootmem
 # does, or why neither does; and how many there are.
 RULES = rows_of(
@@ -74,9 +74,14 @@ bootmem: low-1m | 95
 bootmem: initrd | 47
 bootmem: node-data | 64
 bootmem: crash | 20
+bootmem: roots | 47
+bootmem: root | 48
+bootmem: usage | 64
+bootmem: map | 64
 reason: given back | 108
 reason: not in memory | 322
 reason: a table of EFI, whose place no input tells | 4
+reason: a page table of the memory map, which bootmem has none of | 94
 """
 )
 
@@ -94,21 +99,43 @@ def linux_words(name):
     return text_of(example(name, "linux")).split() if has_file(name, "linux") else []
 
 
+USAGE, OWN_USAGE = 56, 40  # bytes of a section's usage data in these kernels and in bootmem
+
+
+def part_of_sections(words):
+    """Who makes an allocation of sparse_init, as RULES has it, by the form of its words; None for
+    other words."""
+    if words[0] != "alloc":
+        return None
+    size, form = int(words[2]), re.sub(r"0x\w+", "X", " ".join(words[3:]))
+    if form == "64" and size in (32768, 2097152):  # the table of roots (memory_present)
+        return "bootmem: roots"
+    if size == FRAME and re.fullmatch(r"64 node \d+", form):  # sparse_index_alloc
+        return "bootmem: root"
+    if size % USAGE == 0 and re.fullmatch(r"64 (min X )?max X node \d+", form):
+        return "bootmem: usage"
+    if size % PMD == 0 and re.fullmatch(rf"{PMD} min X node \d+ exact", form):  # sparse_buffer_init
+        return "bootmem: map"
+    if size == FRAME and re.fullmatch(rf"{FRAME} min X node \d+", form):  # vmemmap_alloc_block
+        return "reason: a page table of the memory map, which bootmem has none of"
+    return None
+
+
 def kernel_claims(name):
-    """The claims of a kernel up to its sections, in their order: first byte, the one past the
-    last, what asked as words, and whether it was freed."""
+    """The claims of a kernel up to the end of sparse_init, in their order: first byte, the one past
+    the last, what asked as words, and whether it was freed."""
     script = [line.split() for line in text_of(example(name, "replay/script")).splitlines()]
     answers = dict(
         line.split(": ", 1) for line in text_of(example(name, "replay/script.txt")).splitlines()
     )
+    has_roots = False
     for number, words in enumerate(script, 1):
         if int(words[1]) >= ROOMS:  # room for what the program claims by itself
             continue
-        if words[:1] == ["alloc"] and words[2:4] in (
-            ["32768", "64"],
-            ["2097152", "64"],
-        ):  # the table of roots
+        part = part_of_sections(words)
+        if has_roots and words[0] == "alloc" and part is None:
             return
+        has_roots = has_roots or part == "bootmem: roots"
         freed = words[0] == "reserve" and script[number : number + 1] == [["free", words[1]]]
         if words[0] == "reserve":
             yield int(words[2], 16), int(words[2], 16) + int(words[3], 16), words, freed
@@ -178,6 +205,8 @@ def rule_of(claim, boot, given_back):
     first, end, words, freed = claim
     if freed or (first, end) in given_back:
         return "reason: given back"
+    if part_of_sections(words):
+        return part_of_sections(words)
     if is_crash(words) or is_node_data(words):
         return "bootmem: crash" if is_crash(words) else "bootmem: node-data"
     for low, high, rule in boot.claims:
@@ -203,8 +232,8 @@ class Linux(Case):
     """Boots as Linux 6.1 makes them."""
 
     def test_boots(self):
-        """Crash area and node data are the kernel's own; each of its claims up to the sections has
-        a rule or a reason."""
+        """Crash area and node data are the kernel's own, and maps and usage data as many; each of
+        its claims up to the end of sparse_init has a rule or a reason."""
         counts, nodes, crashes, over = collections.Counter(), 0, 0, 0
         for name in machines():
             if not has_file(name, "replay/script"):
@@ -217,6 +246,14 @@ class Linux(Case):
             self.check(f"{name}: status", boot.status, 0)
             self.check(f"{name}: node data", boot.places("node-data"), wanted[0])
             self.check(f"{name}: crash area", boot.places("crash", "crash-low"), wanted[1])
+            for owner, own, theirs in (("map", 1, 1), ("usage", OWN_USAGE, USAGE)):
+                sizes = [
+                    end - first
+                    for first, end, words, _ in claims
+                    if part_of_sections(words) == f"bootmem: {owner}"
+                ]
+                made = sum(end - first for first, end in boot.places(owner))
+                self.check(f"{name}: {owner}", made // own, sum(sizes) // theirs)
             nodes, crashes = nodes + len(wanted[0]), crashes + len(wanted[1])
             given_back = {(first, end) for first, end, _, freed in claims if freed}
             for claim in claims:
