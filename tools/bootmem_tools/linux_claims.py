@@ -177,8 +177,8 @@ def boot_services(machine: Machine, held: Sequence[Span]) -> Iterator[Claim]:
 
 def owned_services(machine: Machine) -> list[Span]:
     """Returns the descriptors of boot services that hold a claim from before, by the map of a
-    running kernel: it gives them the attribute of runtime services and leaves them free but for
-    that claim (efi_reserve_boot_services).
+    running kernel: it gives them the attribute of runtime services and leaves the rest of them free
+    (efi_reserve_boot_services).
 
     A part of a descriptor that a driver keeps has the attribute, too (efi_arch_mem_reserve). It
     overlaps or touches the rest of its descriptor, which lacks it. Without such rests in the map
