@@ -89,7 +89,7 @@ same "descriptors" "$work/efi/efi.bin" "3000000001000000$(
 	)060000000000000000d0bc9a78563412000000000000000001000000000000000f000000000000800000000000000000$(
 	)0b000000000000000000c0ff000000000000000000000000000400000000000001000000000000800000000000000000"
 says "words with descriptors" "$(cat "$work/said")" "--srat srat.bin --efi efi.bin --kernel"
-says "descriptors that are told" "$(cat "$work/said")" "efi.bin: EFI's descriptors of runtime services, 152 bytes"
+says "descriptors that are told" "$(cat "$work/said")" "efi.bin: the EFI descriptors that this kernel shows, 152 bytes"
 says "descriptors that aren't there" "$(cat "$work/err")" "efi.bin: the kernel shows no other descriptors"
 rm "$map/10/num_pages"
 collect efi

@@ -182,7 +182,7 @@ descriptors() {
 	done
 	cat "$data" >"$folder/efi.bin"
 	rm -f "$data"
-	echo "efi.bin: EFI's descriptors of runtime services, $(size efi.bin) bytes"
+	echo "efi.bin: the EFI descriptors that this kernel shows, $(size efi.bin) bytes"
 	complain "efi.bin: the kernel shows no other descriptors; the log of a boot with efi=debug has all of them (zp-from-log --efi)"
 }
 
